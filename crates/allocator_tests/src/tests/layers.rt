@@ -130,39 +130,16 @@ fn removed<A: Allocator + Drop>(slab: &mut Slab<A>, at: usize) -> Words<'static>
     alone("done")
 }
 
-/// A call of a slab: `insert LEN BYTES`, `write AT LEN BYTES`, `read AT`, `remove AT` or `len`.
-#[derive(Drop)]
-enum SlabCall {
-    Insert,
-    Write,
-    Read,
-    Remove,
-    Len,
-    Unknown,
-}
-
-impl SlabCall {
-    fn of(word: &str) -> SlabCall {
-        match word {
-            "insert" => SlabCall::Insert,
-            "write" => SlabCall::Write,
-            "read" => SlabCall::Read,
-            "remove" => SlabCall::Remove,
-            "len" => SlabCall::Len,
-            _ => SlabCall::Unknown,
-        }
-    }
-}
-
 impl<A: Allocator + Drop> Answers for Slab<A> {
+    /// `insert LEN BYTES`, `write AT LEN BYTES`, `read AT`, `remove AT`, `len`.
     fn answer(&mut self, call: Words<'_>) -> Words<'static> {
-        match SlabCall::of(call.0) {
-            SlabCall::Insert => inserted(self, call.1),
-            SlabCall::Write => written(self, call.1),
-            SlabCall::Read => read(self, call.1[0]),
-            SlabCall::Remove => removed(self, call.1[0]),
-            SlabCall::Len => counted("is", self.len()),
-            SlabCall::Unknown => alone("no-call"),
+        match call.0 {
+            "insert" => inserted(self, call.1),
+            "write" => written(self, call.1),
+            "read" => read(self, call.1[0]),
+            "remove" => removed(self, call.1[0]),
+            "len" => counted("is", self.len()),
+            _ => alone("no-call"),
         }
     }
 }
@@ -198,36 +175,15 @@ fn finished<A: Allocator + Drop>(ring: &mut MessageRing<A>) -> Words<'static> {
     yes_or_no(ring.finish())
 }
 
-/// A call of a ring: `send LEN BYTES`, `front`, `finish` or `waiting`.
-#[derive(Drop)]
-enum RingCall {
-    Send,
-    Front,
-    Finish,
-    Waiting,
-    Unknown,
-}
-
-impl RingCall {
-    fn of(word: &str) -> RingCall {
-        match word {
-            "send" => RingCall::Send,
-            "front" => RingCall::Front,
-            "finish" => RingCall::Finish,
-            "waiting" => RingCall::Waiting,
-            _ => RingCall::Unknown,
-        }
-    }
-}
-
 impl<A: Allocator + Drop> Answers for MessageRing<A> {
+    /// `send LEN BYTES`, `front`, `finish`, `waiting`.
     fn answer(&mut self, call: Words<'_>) -> Words<'static> {
-        match RingCall::of(call.0) {
-            RingCall::Send => sent(self, call.1),
-            RingCall::Front => front(self),
-            RingCall::Finish => finished(self),
-            RingCall::Waiting => counted("is", self.waiting()),
-            RingCall::Unknown => alone("no-call"),
+        match call.0 {
+            "send" => sent(self, call.1),
+            "front" => front(self),
+            "finish" => finished(self),
+            "waiting" => counted("is", self.waiting()),
+            _ => alone("no-call"),
         }
     }
 }
@@ -278,49 +234,20 @@ impl<A: Allocator + Drop> Renting<A> {
     }
 }
 
-/// A call of tenants: `admit LIMIT`, `alloc TENANT SIZE`, `free TENANT` or `holds TENANT` (of the chunk given last), or a getter.
-#[derive(Drop)]
-enum TenantsCall {
-    Admit,
-    Alloc,
-    Free,
-    Holds,
-    Used,
-    Limit,
-    Out,
-    Whole,
-    Unknown,
-}
-
-impl TenantsCall {
-    fn of(word: &str) -> TenantsCall {
-        match word {
-            "admit" => TenantsCall::Admit,
-            "alloc" => TenantsCall::Alloc,
-            "free" => TenantsCall::Free,
-            "holds" => TenantsCall::Holds,
-            "used" => TenantsCall::Used,
-            "limit" => TenantsCall::Limit,
-            "out" => TenantsCall::Out,
-            "whole" => TenantsCall::Whole,
-            _ => TenantsCall::Unknown,
-        }
-    }
-}
-
 impl<A: Allocator + Drop> Answers for Renting<A> {
+    /// `admit LIMIT`, `alloc TENANT SIZE`, `free TENANT` and `holds TENANT` (of the chunk given last), and the getters.
     fn answer(&mut self, call: Words<'_>) -> Words<'static> {
         let [tenant, size, ..] = call.1;
-        match TenantsCall::of(call.0) {
-            TenantsCall::Admit => self.admit(tenant),
-            TenantsCall::Alloc => self.allocate(tenant, size),
-            TenantsCall::Free => self.deallocate(tenant),
-            TenantsCall::Holds => yes_or_no(self.tenants.holds(tenant, self.last)),
-            TenantsCall::Used => counted("is", self.tenants.used(tenant)),
-            TenantsCall::Limit => counted("is", self.tenants.limit(tenant)),
-            TenantsCall::Out => counted("is", self.tenants.out()),
-            TenantsCall::Whole => counted("is", self.tenants.whole()),
-            TenantsCall::Unknown => alone("no-call"),
+        match call.0 {
+            "admit" => self.admit(tenant),
+            "alloc" => self.allocate(tenant, size),
+            "free" => self.deallocate(tenant),
+            "holds" => yes_or_no(self.tenants.holds(tenant, self.last)),
+            "used" => counted("is", self.tenants.used(tenant)),
+            "limit" => counted("is", self.tenants.limit(tenant)),
+            "out" => counted("is", self.tenants.out()),
+            "whole" => counted("is", self.tenants.whole()),
+            _ => alone("no-call"),
         }
     }
 }
@@ -390,36 +317,15 @@ impl<A: Allocator + Drop> Growing<A> {
     }
 }
 
-/// A call of a vector: `push BYTE`, `len`, `held` (the bytes of the chunk that the vector began with) or `copied` (those of a copy).
-#[derive(Drop)]
-enum VectorCall {
-    Push,
-    Len,
-    Held,
-    Copied,
-    Unknown,
-}
-
-impl VectorCall {
-    fn of(word: &str) -> VectorCall {
-        match word {
-            "push" => VectorCall::Push,
-            "len" => VectorCall::Len,
-            "held" => VectorCall::Held,
-            "copied" => VectorCall::Copied,
-            _ => VectorCall::Unknown,
-        }
-    }
-}
-
 impl<A: Allocator + Drop> Answers for Growing<A> {
+    /// `push BYTE`, `len`, `held` (the bytes of the chunk that the vector began with), `copied` (those of a copy).
     fn answer(&mut self, call: Words<'_>) -> Words<'static> {
-        match VectorCall::of(call.0) {
-            VectorCall::Push => self.push(byte_of(call.1[0])),
-            VectorCall::Len => counted("is", self.bytes.len()),
-            VectorCall::Held => of_record(self.region.chunk(self.chunk)),
-            VectorCall::Copied => self.copy(),
-            VectorCall::Unknown => alone("no-call"),
+        match call.0 {
+            "push" => self.push(byte_of(call.1[0])),
+            "len" => counted("is", self.bytes.len()),
+            "held" => of_record(self.region.chunk(self.chunk)),
+            "copied" => self.copy(),
+            _ => alone("no-call"),
         }
     }
 }

@@ -8,8 +8,8 @@ use self::kinds::{Figures, Kind, Row, Run};
 use super::checks::{check, check_row, ends_unmade, fail};
 use crate::tests::marks::{none_was_asked, refuse_memory, some_was_refused};
 use crate::tests::rows::{
-    Answers, Words, alone, call_and_answer, counted, field_and_rest, first_wrong, layout_of,
-    may_be_told, of_chunk, of_growth, of_refusal, of_reply, of_shrinking, yes_or_no,
+    Answers, PASSED_OVER, Words, alone, call_and_answer, counted, field_and_rest, first_wrong,
+    layout_of, of_chunk, of_growth, of_refusal, of_reply, of_shrinking, yes_or_no,
 };
 use bb_memory::allocator::{Allocator, BaseAllocator, Command, Reply, run_base, run_full};
 use bb_memory::layout::{Chunk, Layout};
@@ -374,10 +374,6 @@ fn commands_of(alloc: Global, calls: &str) -> Option<Vec<Command>> {
 struct Replies<'a> {
     left: &'a [Reply],
     run: Run,
-    /// The place of the first allocated chunk, or 0.
-    first: usize,
-    /// True where the last call was passed over.
-    passed_over: bool,
 }
 
 fn is_resize(word: &str) -> bool {
@@ -389,31 +385,20 @@ impl<'a> Answers for Replies<'a> {
         let Some((reply, left)) = self.left.split_first() else {
             return alone("no reply");
         };
-        let told = of_reply(*reply);
         self.left = left;
-        self.passed_over = !self.run.resizes && is_resize(call.0);
-        if self.first == 0 && told.0 == "chunk" {
-            self.first = told.1[0];
+        if self.run.resizes || !is_resize(call.0) {
+            return of_reply(*reply);
         }
-        told
-    }
-
-    fn is_wanted(&self, told: Words<'_>, wanted: Words<'_>) -> bool {
-        if self.passed_over {
-            return told == alone("passed");
+        match reply {
+            Reply::Passed => alone(PASSED_OVER),
+            _ => alone("a run without resizes made one"),
         }
-        may_be_told(told, wanted, self.first)
     }
 }
 
 /// Returns whether a run replies what a row's calls want.
 fn are_replies(run: Run, replies: &[Reply], calls: &str) -> bool {
-    let mut replies = Replies {
-        left: replies,
-        run,
-        first: 0,
-        passed_over: false,
-    };
+    let mut replies = Replies { left: replies, run };
     first_wrong(&mut replies, calls).is_none() && replies.left.is_empty()
 }
 
@@ -426,10 +411,6 @@ impl<A: Kind> Answers for Owner<A> {
         self.allocator.stands_for_some_list();
         self.allocator.answers_fit();
         ("are", self.allocator.figures())
-    }
-
-    fn is_wanted(&self, told: Words<'_>, wanted: Words<'_>) -> bool {
-        may_be_told(told, wanted, self.first)
     }
 }
 

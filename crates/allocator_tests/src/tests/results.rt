@@ -13,9 +13,10 @@ fn is_refused(made: Result<PoolAllocator<Global>, GiveError>) -> bool {
 
 #[test]
 fn errors_go_through(rt: HostRuntime) -> Result<(), Fail> {
+    let alloc = rt.alloc();
     check(&rt, by_enum()? == 4096);
-    let pool = open(rt.alloc(), Layout::from_size_align(128, 8)?)?;
+    let pool = open(alloc, Layout::from_size_align(128, 8)?)?;
     check(&rt, pool.number_of_buckets() == 8);
-    check(&rt, is_refused(open(rt.alloc(), Layout::empty())));
+    check(&rt, is_refused(open(alloc, Layout::empty())));
     Ok(())
 }

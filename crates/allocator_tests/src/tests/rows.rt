@@ -6,8 +6,11 @@ use bb_memory::layout::{Chunk, Layout};
 /// A word and its numbers, then zeros.
 pub type Words<'a> = (&'a str, [usize; 6]);
 
+/// The answer of a call that a driver passes over, whatever its row wants.
+pub const PASSED_OVER: &str = "passed over";
+
 /// Compares words, proved once.
-pub fn are_same(words: Words<'_>, others: Words<'_>) -> bool {
+fn are_same(words: Words<'_>, others: Words<'_>) -> bool {
     words == others
 }
 
@@ -15,24 +18,23 @@ pub fn are_same(words: Words<'_>, others: Words<'_>) -> bool {
 pub trait Answers {
     /// Makes a call.
     fn answer(&mut self, call: Words<'_>) -> Words<'static>;
-
-    /// Returns whether the answer to the last call is one that a row wants.
-    fn is_wanted(&self, told: Words<'_>, wanted: Words<'_>) -> bool {
-        are_same(told, wanted)
-    }
 }
 
-/// Makes a call, and returns whether its answer is what the row wants.
-fn is_right<A: Answers>(caller: &mut A, call: &str) -> bool {
+/// Makes a call, and returns whether its answer is what the row wants. The place of the first chunk goes into `first`, which was 0.
+fn is_right<A: Answers>(caller: &mut A, call: &str, first: &mut usize) -> bool {
     let (call, wanted) = call_and_answer(call);
     let told = caller.answer(call);
-    caller.is_wanted(told, wanted)
+    if *first == 0 && told.0 == "chunk" {
+        *first = told.1[0];
+    }
+    may_be_told(told, wanted, *first)
 }
 
 /// Makes a row's calls in order, up to the first one that is answered otherwise. Returns that call.
 pub fn first_wrong<'a, A: Answers>(caller: &mut A, calls: &'a str) -> Option<&'a str> {
+    let mut first = 0;
     for call in calls.split("; ") {
-        if !is_right(caller, call) {
+        if !is_right(caller, call, &mut first) {
             return Some(call);
         }
     }
@@ -139,14 +141,14 @@ pub fn of_reply(reply: Reply) -> Words<'static> {
     }
 }
 
-/// Returns whether an answer is what a row wants: `first LEN` is a chunk at the place of the first allocated one, `any LEN`
-/// a chunk at any place.
-pub fn may_be_told(told: Words<'_>, wanted: Words<'_>, first: usize) -> bool {
+/// Returns whether an answer is what a row wants: `first LEN` is a chunk at the place of the first chunk, `any LEN` a chunk at any
+/// place. A call that was rightly passed over may want anything.
+fn may_be_told(told: Words<'_>, wanted: Words<'_>, first: usize) -> bool {
     let len = wanted.1[0];
     match wanted.0 {
         "first" => are_same(told, ("chunk", [first, len, 0, 0, 0, 0])),
         "any" => told.0 == "chunk" && told.1[1] == len,
-        _ => are_same(told, wanted),
+        _ => told.0 == PASSED_OVER || are_same(told, wanted),
     }
 }
 

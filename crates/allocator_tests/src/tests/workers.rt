@@ -21,8 +21,9 @@ fn used_by_four<R: Threads + Sync>(rt: &R, alloc: Global, size: usize) -> Option
 /// Where four chunks fit all four are served, and else three, whichever of the four comes last.
 #[test]
 fn four_carve_a_region(rt: HostRuntime) {
-    check(&rt, used_by_four(&rt, rt.alloc(), 100) == Some(400));
-    check(&rt, used_by_four(&rt, rt.alloc(), 300) == Some(900));
+    let alloc = rt.alloc();
+    check(&rt, used_by_four(&rt, alloc, 100) == Some(400));
+    check(&rt, used_by_four(&rt, alloc, 300) == Some(900));
 }
 
 /// Takes one more bucket for the party, which keeps it, where there is one.

@@ -231,32 +231,6 @@ impl Kind for ChunkBudget<FixedSizePoolAllocator<16>> {
     }
 }
 
-/// An allocator's name in a row.
-#[derive(Drop)]
-enum Name {
-    Bump,
-    One,
-    Pool,
-    Fixed,
-    Four,
-    Budget,
-    Unknown,
-}
-
-impl Name {
-    fn of(word: &str) -> Name {
-        match word {
-            "bump" => Name::Bump,
-            "one" => Name::One,
-            "pool" => Name::Pool,
-            "fixed" => Name::Fixed,
-            "four" => Name::Four,
-            "budget" => Name::Budget,
-            _ => Name::Unknown,
-        }
-    }
-}
-
 /// Makes the allocator that a row's second field names, and the row's calls by a run or one by one. A `fixed` pool has at most 512
 /// buckets, a `four` at most four; the last number of a `budget` is its chunks.
 pub(crate) fn keeps_row(rt: &impl Abort, alloc: Global, run: Option<Run>, row: &str) {
@@ -264,13 +238,13 @@ pub(crate) fn keeps_row(rt: &impl Abort, alloc: Global, run: Option<Run>, row: &
     let (made, calls) = field_and_rest(row);
     let (kind, of) = words(made);
     let row = Row { name, of, calls };
-    match Name::of(kind) {
-        Name::Bump => keeps::<BumpAllocator>(rt, alloc, run, row),
-        Name::One => keeps::<OneChunkAllocator>(rt, alloc, run, row),
-        Name::Pool => keeps::<PoolAllocator<Global>>(rt, alloc, run, row),
-        Name::Fixed => keeps::<FixedSizePoolAllocator<512>>(rt, alloc, run, row),
-        Name::Four => keeps::<FixedSizePoolAllocator<4>>(rt, alloc, run, row),
-        Name::Budget => keeps::<ChunkBudget<FixedSizePoolAllocator<16>>>(rt, alloc, run, row),
-        Name::Unknown => fail(rt, name),
+    match kind {
+        "bump" => keeps::<BumpAllocator>(rt, alloc, run, row),
+        "one" => keeps::<OneChunkAllocator>(rt, alloc, run, row),
+        "pool" => keeps::<PoolAllocator<Global>>(rt, alloc, run, row),
+        "fixed" => keeps::<FixedSizePoolAllocator<512>>(rt, alloc, run, row),
+        "four" => keeps::<FixedSizePoolAllocator<4>>(rt, alloc, run, row),
+        "budget" => keeps::<ChunkBudget<FixedSizePoolAllocator<16>>>(rt, alloc, run, row),
+        _ => fail(rt, name),
     }
 }

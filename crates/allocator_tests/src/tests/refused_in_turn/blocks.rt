@@ -187,11 +187,12 @@ fn is_grown(rt: &impl Abort, alloc: Global, word: &str, align: usize, size: usiz
 
 #[test]
 fn heap_of_many_sizes(rt: HostRuntime) {
+    let alloc = rt.alloc();
     for size in &[5, 6, 7, 64, 1024, 4096, 65536, 1048575, 1048576] {
-        is_made(&rt, rt.alloc(), "alloc", *size);
-        is_made(&rt, rt.alloc(), "alloc-zeroed", *size);
-        is_grown(&rt, rt.alloc(), "grow", 1 << 62, *size);
-        is_grown(&rt, rt.alloc(), "grow-zeroed", 1, *size);
+        is_made(&rt, alloc, "alloc", *size);
+        is_made(&rt, alloc, "alloc-zeroed", *size);
+        is_grown(&rt, alloc, "grow", 1 << 62, *size);
+        is_grown(&rt, alloc, "grow-zeroed", 1, *size);
     }
 }
 

@@ -41,8 +41,9 @@ a full pool | insert 1 1 = done; insert 1 2 = done; insert 1 3 = done; insert 1 
 
 #[test]
 fn slabs(rt: HostRuntime) {
+    let alloc = rt.alloc();
     for row in SLAB.split('\n') {
-        keeps_row(&rt, rt.alloc(), slab(rt.alloc()), row);
+        keeps_row(&rt, alloc, slab(alloc), row);
     }
 }
 
@@ -60,7 +61,8 @@ two readers | front = none; send 2 1 2 = sent; send 1 3 = sent; waiting = is 2; 
 
 #[test]
 fn rings(rt: HostRuntime) {
-    keeps_row(&rt, rt.alloc(), ring(rt.alloc()), RING);
+    let alloc = rt.alloc();
+    keeps_row(&rt, alloc, ring(alloc), RING);
 }
 
 /// Makes tenants of an allocator, who may use `whole` bytes together.
@@ -94,15 +96,17 @@ a longer chunk stays within the limit | admit 1023 = tenant 0; admit 1024 = tena
 
 #[test]
 fn tenants_of_an_allocator(rt: HostRuntime) {
+    let alloc = rt.alloc();
     for row in LIMITS.split('\n') {
-        keeps_row(&rt, rt.alloc(), tenants_of_a_pool(rt.alloc()), row);
+        keeps_row(&rt, alloc, tenants_of_a_pool(alloc), row);
     }
 }
 
 #[test]
 fn tenants_of_one_chunk(rt: HostRuntime) {
-    let layer = tenants(rt.alloc(), OneChunkAllocator::new(4096, 1024), 4096);
-    keeps_row(&rt, rt.alloc(), Some(layer), LONGER);
+    let alloc = rt.alloc();
+    let layer = tenants(alloc, OneChunkAllocator::new(4096, 1024), 4096);
+    keeps_row(&rt, alloc, Some(layer), LONGER);
 }
 
 /// Makes an empty vector in a bucket of four bytes.
@@ -120,5 +124,6 @@ a vector grows in its bucket | len = is 0; push 7 = pushed; push 8 = pushed; pus
 
 #[test]
 fn byte_vectors(rt: HostRuntime) {
-    keeps_row(&rt, rt.alloc(), vector(rt.alloc()), VECTOR);
+    let alloc = rt.alloc();
+    keeps_row(&rt, alloc, vector(alloc), VECTOR);
 }

@@ -100,11 +100,12 @@ fn at_last(
 /// Row `loan-over-one-chunk`.
 #[test]
 fn loan_over_one_chunk(rt: HostRuntime) {
+    let alloc = rt.alloc();
     let whole = chunk(&rt, 4096, 64);
-    let mut book = one_book(rt.alloc());
-    let first = at_last(&rt, rt.alloc(), &mut book, 64, 0);
+    let mut book = one_book(alloc);
+    let first = at_last(&rt, alloc, &mut book, 64, 0);
     check(&rt, first == Loaned(0, whole));
-    check(&rt, at_last(&rt, rt.alloc(), &mut book, 1, 1) == FULL);
+    check(&rt, at_last(&rt, alloc, &mut book, 1, 1) == FULL);
     replies(&rt, &mut book, GiveBack(0), Returned);
     replies(&rt, &mut book, Loan(1), Loaned(1, whole));
 }
@@ -125,13 +126,14 @@ fn is_made(alloc: Global, book: &mut impl Book, whole: Chunk) -> Option<bool> {
 /// A list of calls is made, a second time where memory was refused.
 #[test]
 fn a_list_of_loans_keeps_the_book(rt: HostRuntime) {
-    let (mut book, whole) = (one_book(rt.alloc()), chunk(&rt, 4096, 64));
-    if let Some(is_made) = is_made(rt.alloc(), &mut book, whole) {
+    let alloc = rt.alloc();
+    let (mut book, whole) = (one_book(alloc), chunk(&rt, 4096, 64));
+    if let Some(is_made) = is_made(alloc, &mut book, whole) {
         return check(&rt, is_made);
     }
-    check(&rt, some_was_refused(rt.alloc()));
+    check(&rt, some_was_refused(alloc));
     is_out(&rt, &mut book, 0, false);
-    check(&rt, is_made(rt.alloc(), &mut book, whole) == Some(true));
+    check(&rt, is_made(alloc, &mut book, whole) == Some(true));
 }
 
 /// Publishes each of these samples to two readers.
@@ -173,9 +175,10 @@ fn sixteen_of<A: Allocator + Drop>(rt: &impl Abort, alloc: Global, allocator: A)
 
 #[test]
 fn samples_go_back_in_any_order(rt: HostRuntime) {
-    match pool_over(rt.alloc(), layout(&rt, 64, 8), 4096, 1024) {
-        Some(pool) => sixteen_of(&rt, rt.alloc(), pool),
-        None => ends_unmade(&rt, rt.alloc()),
+    let alloc = rt.alloc();
+    match pool_over(alloc, layout(&rt, 64, 8), 4096, 1024) {
+        Some(pool) => sixteen_of(&rt, alloc, pool),
+        None => ends_unmade(&rt, alloc),
     }
 }
 

@@ -76,13 +76,14 @@ fn unshared(rt: &impl Abort, alloc: Global, bump: BumpAllocator) -> Option<BumpA
 /// Shares a bump, a second time where memory was refused: then the bump comes back with the same text.
 #[test]
 fn share_hands_the_bump_back(rt: HostRuntime) {
+    let alloc = rt.alloc();
     let mut bump = BumpAllocator::new(4096, 1024);
     check(&rt, bump.allocate(layout(&rt, 48, 4)).is_ok());
-    let Some(handed_back) = unshared(&rt, rt.alloc(), bump) else {
+    let Some(handed_back) = unshared(&rt, alloc, bump) else {
         return;
     };
     check(&rt, handed_back.used_space() == 48);
     let text = "BumpAllocator { start: 4096, size: 1024, current_position: 48 }";
-    has_text(&rt, rt.alloc(), &handed_back, text);
-    check(&rt, unshared(&rt, rt.alloc(), handed_back).is_none());
+    has_text(&rt, alloc, &handed_back, text);
+    check(&rt, unshared(&rt, alloc, handed_back).is_none());
 }

@@ -34,6 +34,7 @@ fn replayed_by_bump(
 
 #[test]
 fn steps_bump_race(rt: HostRuntime) {
+    let alloc = rt.alloc();
     let layout = layout(&rt, 40, 1);
     let steps = [
         BumpStep::Read { party: 0, layout },
@@ -47,10 +48,10 @@ fn steps_bump_race(rt: HostRuntime) {
         BumpOutcome::Wins(chunk(&rt, 4096, 40)),
         BumpOutcome::RefusedAtLoss(40),
     ];
-    let Some(mut world) = bump_world(rt.alloc(), 64) else {
-        return ends_unmade(&rt, rt.alloc());
+    let Some(mut world) = bump_world(alloc, 64) else {
+        return ends_unmade(&rt, alloc);
     };
-    let told = replayed_by_bump(&rt, rt.alloc(), &mut world, &steps);
+    let told = replayed_by_bump(&rt, alloc, &mut world, &steps);
     check(&rt, told.as_slice() == outcomes.as_slice());
     check(&rt, world.used_space() == 40);
 }
@@ -135,10 +136,11 @@ fn replayed_by_pool(
 
 #[test]
 fn steps_pool_never_full(rt: HostRuntime) {
-    let Some(mut world) = pool_world(rt.alloc(), 64) else {
-        return ends_unmade(&rt, rt.alloc());
+    let alloc = rt.alloc();
+    let Some(mut world) = pool_world(alloc, 64) else {
+        return ends_unmade(&rt, alloc);
     };
-    let told = replayed_by_pool(&rt, rt.alloc(), &mut world, &STEPS);
+    let told = replayed_by_pool(&rt, alloc, &mut world, &STEPS);
     check(&rt, told.as_slice() == OUTCOMES.as_slice());
     let held = "holder 0 = none; holder 1 = is 1";
     check_row(&rt, first_wrong(&mut world, held), "held - 1");

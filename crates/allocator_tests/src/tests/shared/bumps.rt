@@ -191,37 +191,15 @@ impl Sharers {
     }
 }
 
-/// A call of the parties of a bump, by its word.
-#[derive(Drop)]
-enum Word {
-    Region,
-    Meet,
-    MeetAll,
-    Swap,
-    OfParty,
-}
-
-impl Word {
-    fn of(word: &str) -> Word {
-        match word {
-            "region" => Word::Region,
-            "meet" => Word::Meet,
-            "meet-all" => Word::MeetAll,
-            "swap" => Word::Swap,
-            _ => Word::OfParty,
-        }
-    }
-}
-
 impl Answers for Sharers {
     fn answer(&mut self, call: Words<'_>) -> Words<'static> {
         let [first, second, ..] = call.1;
-        match Word::of(call.0) {
-            Word::Region => self.region(),
-            Word::Meet => self.meet(first),
-            Word::MeetAll => self.meet_all(),
-            Word::Swap => self.swap(first, second),
-            Word::OfParty => self.of_party(call),
+        match call.0 {
+            "region" => self.region(),
+            "meet" => self.meet(first),
+            "meet-all" => self.meet_all(),
+            "swap" => self.swap(first, second),
+            _ => self.of_party(call),
         }
     }
 }

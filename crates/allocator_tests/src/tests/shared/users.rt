@@ -388,49 +388,19 @@ impl<'a> Users<'a> {
     }
 }
 
-/// A call of the users of a pool, by its word.
-#[derive(Drop)]
-enum Word {
-    Figures,
-    NumberAt,
-    PlaceAt,
-    Meet,
-    MeetAll,
-    Detach,
-    Attach,
-    Drop,
-    OfUser,
-}
-
-impl Word {
-    fn of(word: &str) -> Word {
-        match word {
-            "figures" => Word::Figures,
-            "number-at" => Word::NumberAt,
-            "place-at" => Word::PlaceAt,
-            "meet" => Word::Meet,
-            "meet-all" => Word::MeetAll,
-            "detach" => Word::Detach,
-            "attach" => Word::Attach,
-            "drop" => Word::Drop,
-            _ => Word::OfUser,
-        }
-    }
-}
-
 impl<'a> Answers for Users<'a> {
     fn answer(&mut self, call: Words<'_>) -> Words<'static> {
         let at = call.1[0];
-        match Word::of(call.0) {
-            Word::Figures => ("are", self.pool.figures()),
-            Word::NumberAt => short_or_none(self.pool.number_at(at)),
-            Word::PlaceAt => number_or_none(self.pool.place_at(short(at))),
-            Word::Meet => self.meet(at),
-            Word::MeetAll => self.meet_all(),
-            Word::Detach => self.detach(at),
-            Word::Attach => self.attach(at),
-            Word::Drop => self.drop_one(),
-            Word::OfUser => self.of_user(call),
+        match call.0 {
+            "figures" => ("are", self.pool.figures()),
+            "number-at" => short_or_none(self.pool.number_at(at)),
+            "place-at" => number_or_none(self.pool.place_at(short(at))),
+            "meet" => self.meet(at),
+            "meet-all" => self.meet_all(),
+            "detach" => self.detach(at),
+            "attach" => self.attach(at),
+            "drop" => self.drop_one(),
+            _ => self.of_user(call),
         }
     }
 }

@@ -198,8 +198,9 @@ fn ends_of(rt: &impl Abort, alloc: Global, all: &[Taken]) -> Vec<(usize, usize)>
 
 #[test]
 fn threads_bump_exact_places(rt: HostRuntime) {
-    let all = four_take_ten(&rt, rt.alloc());
-    let ends = ends_of(&rt, rt.alloc(), &all);
+    let alloc = rt.alloc();
+    let all = four_take_ten(&rt, alloc);
+    let ends = ends_of(&rt, alloc, &all);
     check(&rt, ends.len() == 400);
     let mut behind: usize = 4096;
     for (place, end) in &ends {
@@ -267,28 +268,25 @@ fn three_take_all(
 
 #[test]
 fn threads_bump_mixed_layouts(rt: HostRuntime) {
+    let alloc = rt.alloc();
     let layouts = [layout(&rt, 24, 16), layout(&rt, 5, 1), layout(&rt, 8, 8)];
-    let all = three_take_all(&rt, rt.alloc(), layouts);
+    let all = three_take_all(&rt, alloc, layouts);
     have_layouts(&rt, &all, layouts);
-    lie_apart(&rt, &ends_of(&rt, rt.alloc(), &all));
+    lie_apart(&rt, &ends_of(&rt, alloc, &all));
 }
 
 /// Each of two threads takes a chunk and watches for what the other takes, so threads that ran one after the other would fail.
 #[test]
 fn threads_really_at_once(rt: HostRuntime) {
+    let alloc = rt.alloc();
     let takes = Takes {
-        alloc: rt.alloc(),
+        alloc,
         layouts: [layout(&rt, 8, 1); 3],
         times: 1,
         until: Some(16),
     };
     let calls = "meet 0 = met; used 0 = is 16 | all 4096 64 16";
-    let all = chunks_of_threads(
-        &rt,
-        rt.alloc(),
-        ("at once", "bump 4096 64 0 2", calls),
-        &takes,
-    );
+    let all = chunks_of_threads(&rt, alloc, ("at once", "bump 4096 64 0 2", calls), &takes);
     check(&rt, all.len() == 2);
     for taken in &all {
         check(&rt, taken.came && taken.chunks.len() == 1);

@@ -132,22 +132,13 @@ fn take_and_return(
 
 #[test]
 fn threads_pool_take_and_return(rt: HostRuntime) {
+    let alloc = rt.alloc();
     let calls =
         "meet-all = met; take 0 48 4 = bucket 0 4096 48; take 0 48 4 = bucket 1 4224 48; take 0 48 4 = bucket 2 4352 48; \
         take 0 48 4 = bucket 3 4480 48; take 0 48 4 = bucket 4 4608 48; take 0 48 4 = bucket 5 4736 48; \
         take 0 48 4 = bucket 6 4864 48; take 0 48 4 = bucket 7 4992 48; take 0 48 4 = OutOfMemory";
-    take_and_return(
-        &rt,
-        rt.alloc(),
-        false,
-        ("by passes", "pool 4096 1024 4", calls),
-    );
-    take_and_return(
-        &rt,
-        rt.alloc(),
-        true,
-        ("by next fit", "pool 4096 1024 4", calls),
-    );
+    take_and_return(&rt, alloc, false, ("by passes", "pool 4096 1024 4", calls));
+    take_and_return(&rt, alloc, true, ("by next fit", "pool 4096 1024 4", calls));
 }
 
 /// There are fewer buckets than threads, so that they meet at each.

@@ -137,10 +137,11 @@ fn counts(rt: &impl Abort, alloc: Global, made: Option<impl Buckets>, buckets: u
 /// More buckets than a word has bits; one; and none.
 #[test]
 fn pools_count_what_they_hold(rt: HostRuntime) {
+    let alloc = rt.alloc();
     let sixteen = layout(&rt, 16, 8);
     for buckets in &[70u32, 64, 1, 0] {
-        let pool = pool_over(rt.alloc(), sixteen, 4096, 16 * *buckets as usize);
-        counts(&rt, rt.alloc(), pool, *buckets);
+        let pool = pool_over(alloc, sixteen, 4096, 16 * *buckets as usize);
+        counts(&rt, alloc, pool, *buckets);
     }
 }
 

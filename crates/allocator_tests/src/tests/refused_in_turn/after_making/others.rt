@@ -7,6 +7,7 @@ use crate::tests::marks::{none_was_asked, refuse_memory};
 use crate::tests::owner::kinds::pool_over;
 use crate::tests::rows::{field_and_rest, first_wrong};
 use bb_memory::steps::{BumpOutcome, BumpStep, BumpWorld};
+use std::alloc::Global;
 use std::process::Abort;
 
 #[test]
@@ -21,9 +22,10 @@ fn a_loan_book(rt: HostRuntime) {
 
 #[test]
 fn a_loan_of_a_full_pool(rt: HostRuntime) {
-    match pool_over(rt.alloc(), layout(&rt, 64, 8), 4096, 1024) {
-        Some(pool) => is_full(&rt, rt.alloc(), pool),
-        None => ends_unmade(&rt, rt.alloc()),
+    let alloc = rt.alloc();
+    match pool_over(alloc, layout(&rt, 64, 8), 4096, 1024) {
+        Some(pool) => is_full(&rt, alloc, pool),
+        None => ends_unmade(&rt, alloc),
     }
 }
 
@@ -43,12 +45,13 @@ fn takes_a_chunk(rt: &impl Abort, world: &mut BumpWorld) {
 /// More parties than a script has.
 #[test]
 fn a_bump_world(rt: HostRuntime) {
-    let Some(mut world) = bump_world(rt.alloc(), 1000) else {
-        return ends_unmade(&rt, rt.alloc());
+    let alloc = rt.alloc();
+    let Some(mut world) = bump_world(alloc, 1000) else {
+        return ends_unmade(&rt, alloc);
     };
-    refuse_memory(rt.alloc());
+    refuse_memory(alloc);
     takes_a_chunk(&rt, &mut world);
-    check(&rt, none_was_asked(rt.alloc()));
+    check(&rt, none_was_asked(alloc));
 }
 
 /// Each row is of a fresh world of two buckets, for as many parties as the second field says.
@@ -69,16 +72,21 @@ one party detaches nothing | 1 | \
     try-at 0 0 = takes 0; detach 0 0 = passed; attach 0 0 = passed; holder 0 = is 0; give 0 0 = gives 0; holder 0 = none
 more parties than a script has | 1000 | try 1000 = passed; try 999 = takes 0; holder 0 = is 999; holder 1 = none";
 
+/// Makes a row's calls in a fresh world.
+fn keeps_world(rt: &impl Abort, alloc: Global, row: &str) {
+    let (name, row) = field_and_rest(row);
+    let (parties, calls) = field_and_rest(row);
+    let Some(mut world) = pool_world(alloc, parties.parse().unwrap_or(0)) else {
+        return ends_unmade(rt, alloc);
+    };
+    refuse_memory(alloc);
+    check_row(rt, first_wrong(&mut world, calls), name);
+    check(rt, none_was_asked(alloc));
+}
+
 #[test]
 fn pool_worlds(rt: HostRuntime) {
     for row in POOL_ROWS.split('\n') {
-        let (name, row) = field_and_rest(row);
-        let (parties, calls) = field_and_rest(row);
-        let Some(mut world) = pool_world(rt.alloc(), parties.parse().unwrap_or(0)) else {
-            return ends_unmade(&rt, rt.alloc());
-        };
-        refuse_memory(rt.alloc());
-        check_row(&rt, first_wrong(&mut world, calls), name);
-        check(&rt, none_was_asked(rt.alloc()));
+        keeps_world(&rt, rt.alloc(), row);
     }
 }

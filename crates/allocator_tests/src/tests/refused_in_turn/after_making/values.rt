@@ -109,12 +109,13 @@ impl Answers for NoObject {
 
 #[test]
 fn values(rt: HostRuntime) {
-    refuse_memory(rt.alloc());
+    let alloc = rt.alloc();
+    refuse_memory(alloc);
     for row in ROWS.split('\n') {
         let (name, calls) = field_and_rest(row);
         check_row(&rt, first_wrong(&mut NoObject, calls), name);
     }
-    check(&rt, none_was_asked(rt.alloc()));
+    check(&rt, none_was_asked(alloc));
 }
 
 /// Checks all bytes of a region.
@@ -125,10 +126,11 @@ fn has_bytes(rt: &impl Abort, region: &Region, bytes: &[u8]) {
 /// A region of eight bytes, call by call.
 #[test]
 fn a_region(rt: HostRuntime) {
-    let Ok(bytes) = vec![in rt.alloc(); b'7'; 8] else {
-        return ends_unmade(&rt, rt.alloc());
+    let alloc = rt.alloc();
+    let Ok(bytes) = vec![in alloc; b'7'; 8] else {
+        return ends_unmade(&rt, alloc);
     };
-    refuse_memory(rt.alloc());
+    refuse_memory(alloc);
     check(&rt, Region::can_make(4096, 8));
     let mut region = Region::new(4096, bytes);
     check(&rt, (region.start_address(), region.size()) == (4096, 8));
@@ -139,13 +141,14 @@ fn a_region(rt: HostRuntime) {
     has_bytes(&rt, &region, b"77153777");
     region.zero(chunk);
     has_bytes(&rt, &region, b"77\0\0\0777");
-    check(&rt, none_was_asked(rt.alloc()));
+    check(&rt, none_was_asked(alloc));
 }
 
 /// The laws and theorems, each of which is called once.
 #[test]
 fn laws_do_nothing(rt: HostRuntime) {
-    refuse_memory(rt.alloc());
+    let alloc = rt.alloc();
+    refuse_memory(alloc);
     layout_law();
     least_place_law();
     given_law();
@@ -170,5 +173,5 @@ fn laws_do_nothing(rt: HostRuntime) {
     one_answer_law();
     bb_memory_base::equality::equality_law();
     loan_book::equality_law();
-    check(&rt, none_was_asked(rt.alloc()));
+    check(&rt, none_was_asked(alloc));
 }
