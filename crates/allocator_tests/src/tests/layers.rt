@@ -21,15 +21,15 @@ use uses::ring::{MessageRing, SendError};
 use uses::slab::{InsertError, Slab};
 use uses::tenants::{AdmitError, LeaseError, Tenants};
 
-/// A layer whose calls are made a second time where memory was refused, which they answer by `no-memory`. The answers behind it show
-/// that a refused call changes nothing.
+/// A layer whose calls are made a second time where memory was refused, which they answer by `no-memory`. The answers behind it
+/// show that a refused call changes nothing.
 #[derive(Drop)]
-struct Patient<L: Answers + Drop> {
+struct Retried<L: Answers + Drop> {
     layer: L,
     alloc: Global,
 }
 
-impl<L: Answers + Drop> Answers for Patient<L> {
+impl<L: Answers + Drop> Answers for Retried<L> {
     fn answer(&mut self, call: Words<'_>) -> Words<'static> {
         let told = self.layer.answer(call);
         if told.0 == "no-memory" && some_was_refused(self.alloc) {
@@ -50,7 +50,7 @@ pub(crate) fn keeps_row<L: Answers + Drop>(
         return ends_unmade(rt, alloc);
     };
     let (name, calls) = field_and_rest(row);
-    check_row(rt, first_wrong(&mut Patient { layer, alloc }, calls), name);
+    check_row(rt, first_wrong(&mut Retried { layer, alloc }, calls), name);
 }
 
 /// Returns a number as a byte.

@@ -20,7 +20,8 @@ pub trait Answers {
     fn answer(&mut self, call: Words<'_>) -> Words<'static>;
 }
 
-/// Makes a call, and returns whether its answer is what the row wants. The place of the first chunk goes into `first`, which was 0.
+/// Makes a call, and returns whether its answer is what the row wants. The place of a first chunk goes into `first`, which is 0
+/// before.
 fn is_right<A: Answers>(caller: &mut A, call: &str, first: &mut usize) -> bool {
     let (call, wanted) = call_and_answer(call);
     let told = caller.answer(call);
@@ -141,8 +142,8 @@ pub fn of_reply(reply: Reply) -> Words<'static> {
     }
 }
 
-/// Returns whether an answer is what a row wants: `first LEN` is a chunk at the place of the first chunk, `any LEN` a chunk at any
-/// place. A call that was rightly passed over may want anything.
+/// Returns whether an answer is what a row wants: `first LEN` is a chunk at the place of the first one, `any LEN` a chunk at any
+/// place. Of a call that was passed over a row may want anything.
 fn may_be_told(told: Words<'_>, wanted: Words<'_>, first: usize) -> bool {
     let len = wanted.1[0];
     match wanted.0 {

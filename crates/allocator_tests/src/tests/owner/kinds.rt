@@ -231,8 +231,8 @@ impl Kind for ChunkBudget<FixedSizePoolAllocator<16>> {
     }
 }
 
-/// Makes the allocator that a row's second field names, and the row's calls by a run or one by one. A `fixed` pool has at most 512
-/// buckets, a `four` at most four; the last number of a `budget` is its chunks.
+/// Makes the allocator that a row's second field names, and the row's calls by a run or one by one. A `fixed` pool has at most
+/// 512 buckets, a `four` at most four. The last number of a `budget` is its most chunks.
 pub(crate) fn keeps_row(rt: &impl Abort, alloc: Global, run: Option<Run>, row: &str) {
     let (name, row) = field_and_rest(row);
     let (made, calls) = field_and_rest(row);

@@ -1,5 +1,6 @@
 //! Heap blocks, each row by its name. Where memory is refused, no block is made, and a growth hands its block back unchanged. An
-//! answer's numbers are the length of the block after the call and its bytes as digits: `block 4 1234`. Without a block both are 0.
+//! answer's numbers are the length of the block after the call and its bytes as digits: `block 4 1234`. Both are 0 where there is
+//! no block.
 ghost use Rattle.std.specs.Prelude.{◌≡◌, length};
 
 use crate::tests::checks::{check, check_row};

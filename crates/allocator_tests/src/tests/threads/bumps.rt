@@ -147,8 +147,8 @@ fn in_threads(
     Some((sharers, all))
 }
 
-/// Shares the bump that a row names, and takes in a thread for each party. Then the parties make the row's calls. Returns what the
-/// threads took.
+/// Shares the bump that a row names, and takes in a thread for each party. Then the parties make the row's calls. Returns what
+/// the threads took.
 fn chunks_of_threads(
     rt: &(impl Threads + Sync + Abort),
     alloc: Global,

@@ -54,8 +54,8 @@ fn marked(marks: &Marks, number: u32) -> u64 {
 }
 
 /// The work of each thread: it takes a bucket, by a next-fit search or by a pass, `times` times, and goes on where it is refused.
-/// Where it `returns` its buckets it counts how often one was somebody else's, or none of the eight; where it drops the tokens, how
-/// many it took.
+/// Where it `returns` its buckets it counts how often one was somebody else's, or none of the eight. Where it drops the tokens it
+/// counts how many it took.
 #[derive(Drop)]
 struct Takes {
     marks: Marks,

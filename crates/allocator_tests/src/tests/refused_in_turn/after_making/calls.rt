@@ -2,9 +2,9 @@
 //!
 //! `figures` answers the getters. Of a bump: start, used, free, total. Of a one chunk: start, size, 1 where a chunk is
 //! available, 1 where a chunk is held at 4100. Of a pool: first place, buckets, size, bucket size, alignment, reads of the last
-//! request. Of a fixed pool: buckets, size, bucket size, alignment. Of a budget: chunks that are out. `zeros BEHIND COUNT` asks whether just COUNT bytes are zero,
-//! from BEHIND bytes after the first chunk's place on. `at PLACE STRIDE COUNT` asks whether just COUNT chunks are live, at PLACE
-//! and each STRIDE further on.
+//! request. Of a fixed pool: buckets, size, bucket size, alignment. Of a budget: chunks that are out. `zeros BEHIND COUNT` asks
+//! whether just COUNT bytes are zero, from BEHIND bytes after the first chunk's place on. `at PLACE STRIDE COUNT` asks whether
+//! just COUNT chunks are live, at PLACE and each STRIDE further on.
 use crate::tests::owner::kinds::keeps_row;
 
 const CALLS: &str = "\
