@@ -8,7 +8,7 @@ use Rattle.std.proofs.lemmas.Option.{unwrap_or-slice_get}
 use Rattle.bb_memory_base.specs.PoolMachine.{holder_in}
 use Rattle.bb_memory_base.specs.declared.steps.pool.Flag.{Flag}
 use Rattle.bb_memory_base.specs.declared.steps.pool.Flag.TheVariants.{Free}
-use Rattle.script_runner.specs.kinds.PoolSteps.{flag_text, holder_text}
+use Rattle.script_runner.specs.Steps.{flag_text, holder_text}
 
 -- the texts of one flag more
 texts-more : (flags : List Flag) (i : ℕ) → i < length flags

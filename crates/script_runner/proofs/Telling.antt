@@ -4,9 +4,8 @@ use Rattle.std.proofs.Common.{Result, Ok, Err, OnOk}
 use Rattle.std.specs.List.{flat_map}
 use Rattle.std.proofs.lemmas.List.{append_assoc, append-nil, take_more, take-append-drop, drop_more}
 use Rattle.std.proofs.lemmas.Grind.{flat_map-append}
-use Rattle.script_runner.specs.engine.Rules.{Rules}
+use Rattle.script_runner.specs.Scripts.{Rules, IsStep, IsTold}
 use Rattle.script_runner.specs.declared.engine.script.Line.{Line}
-use Rattle.script_runner.specs.engine.Transcript.{IsStep, IsTold}
 
 -- one text more
 pub texts_push : {V : Type 0} (bytes : V → List ℕ) (before grown : List V) (value : V) (text : List ℕ)

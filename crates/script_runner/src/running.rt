@@ -2,12 +2,10 @@
 ghost use Rattle.std.specs.Prelude.{◌≡◌, ◌⊎◌, ℕ, List, true};
 ghost use Rattle.std.specs.List.{flat_map};
 ghost use Rattle.std.specs.Io.KnownBytes.{Keeps, Appends};
-ghost use Rattle.script_runner.specs.Status.{IsCutShort};
+ghost use Rattle.script_runner.specs.Scripts.{IsCutShort, are_apart, Sends, unreadable_text};
 ghost use Rattle.script_runner.specs.Inputs.{IsAnswered, IsUnreadable, BeginsOutput, IsLeft, IsOutcome, Ends, kinds};
 ghost use Rattle.script_runner.specs.declared.status.Status.TheVariants.{OutputFailed};
-ghost use Rattle.script_runner.specs.engine.Lines.{lines_of};
-ghost use Rattle.script_runner.specs.engine.Rules.{are_apart};
-ghost use Rattle.script_runner.specs.engine.Transcript.{Sends, unreadable_text};
+ghost use Rattle.script_runner.specs.Words.{lines_of};
 
 use crate::engine::driving::Outcome;
 use crate::engine::script::first_line;

@@ -6,8 +6,8 @@ ghost use Rattle.std.specs.Option.{SomeIff};
 ghost use Rattle.std.specs.Str.Parse.{AllDigits, digits_value};
 ghost use Rattle.bb_memory_base.specs.Chunk.{IsRegion};
 ghost use Rattle.bb_memory_base.specs.declared.layout.Layout.{Layout};
-ghost use Rattle.script_runner.specs.Words.{Words, words, words_then, text_bytes, list_of, AreWords, StartsWith, IsParty};
-ghost use Rattle.script_runner.specs.Words.{region_of, bounds_numbers};
+ghost use Rattle.script_runner.specs.Words.{Words, words, words_then, figures_then, text_bytes, list_of, AreWords, StartsWith};
+ghost use Rattle.script_runner.specs.Words.{IsParty, region_of, bounds_numbers};
 
 use bb_memory_core::layout::Layout;
 use bb_memory_core::region::Region;
@@ -171,6 +171,23 @@ pub fn write_words(name: &[u8], numbers: Numbers, end: &[u8], line: &mut Vec<u8>
     let mut left = numbers;
     while let Some((number, rest)) = left.split_first() {
         write!(line, " {number}")?;
+        left = rest;
+    }
+    line.write_all(end)
+}
+
+/// A label, and the figure behind it.
+#[derive(Clone, Copy)]
+pub struct Figure(pub &'static [u8], pub usize);
+
+/// Writes each label with its figure behind it, and then a text.
+pub fn write_figures(figures: &[Figure], end: &[u8], line: &mut Vec<u8>) -> io::Result<()>
+    ensures { OnOk result (line.new.items ≡ line.old.items ++ figures_then figures.now end.now) }
+{
+    let mut left = figures;
+    while let Some((Figure(label, value), rest)) = left.split_first() {
+        line.write_all(label)?;
+        write!(line, "{value}")?;
         left = rest;
     }
     line.write_all(end)

@@ -2,7 +2,7 @@
 ghost use Rattle.std.specs.Prelude.{◌≡◌, IfSome, Some, codes};
 ghost use Rattle.bb_memory_base.specs.declared.allocator.Command.{Command};
 ghost use Rattle.script_runner.specs.Words.{words_then, text_bytes};
-ghost use Rattle.script_runner.specs.kinds.Allocators.{command_words, refusal_name, grow_refusal_name, shrink_refusal_name};
+ghost use Rattle.script_runner.specs.Allocators.{command_words, refusal_name, grow_refusal_name, shrink_refusal_name};
 
 use crate::engine::driving::Driven;
 use crate::words::{Numbers, Text, is, layout};
@@ -18,7 +18,7 @@ use std::marker::Model;
 pub trait Scripted: Drop {
     ghost use Rattle.std.specs.Prelude.{◌≡◌, ◌++◌, [], List, Some, OnOk, OnErr, IfOk, IfSome};
     ghost use Rattle.bb_memory_base.specs.Chunk.{Chunk};
-    ghost use Rattle.script_runner.specs.kinds.Allocators.{AllocatorRules};
+    ghost use Rattle.script_runner.specs.Allocators.{AllocatorRules};
 
     /// The value that a header names.
     type Header: Drop;
@@ -63,7 +63,7 @@ pub struct Live<A: Scripted> {
 }
 
 impl<A: Scripted> Model for Live<A> {
-    ghost use Rattle.script_runner.specs.kinds.Allocators.{LiveState};
+    ghost use Rattle.script_runner.specs.Allocators.{LiveState};
 
     ghost Value = { LiveState A };
 
@@ -75,7 +75,7 @@ impl<A: Scripted> Model for Live<A> {
 impl<A: Scripted> Driven for Live<A> {
     ghost use Rattle.std.specs.Prelude.{true};
     ghost use Rattle.std.proofs.Common.{refl};
-    ghost use Rattle.script_runner.specs.kinds.Allocators.{live_rules};
+    ghost use Rattle.script_runner.specs.Allocators.{live_rules};
 
     type Header = A::Header;
 

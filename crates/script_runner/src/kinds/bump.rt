@@ -11,7 +11,7 @@ use std::io::Write;
 
 impl Scripted for BumpAllocator {
     ghost use Rattle.bb_memory_base.specs.BumpObject.{StandsFor};
-    ghost use Rattle.script_runner.specs.kinds.Bump.{bump_rules};
+    ghost use Rattle.script_runner.specs.Allocators.{bump_rules};
 
     type Header = Bounds;
 

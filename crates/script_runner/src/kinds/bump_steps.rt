@@ -9,7 +9,7 @@ use std::io;
 impl Driven for BumpWorld {
     ghost use Rattle.std.specs.Prelude.{true};
     ghost use Rattle.std.proofs.Common.{refl};
-    ghost use Rattle.script_runner.specs.kinds.BumpSteps.{bump_step_rules};
+    ghost use Rattle.script_runner.specs.Steps.{bump_step_rules};
 
     type Header = Bounds;
 

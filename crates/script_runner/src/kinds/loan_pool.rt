@@ -1,6 +1,6 @@
 //! A loan book over a pool that a script drives.
 ghost use Rattle.std.specs.Prelude.{◌≡◌};
-ghost use Rattle.script_runner.specs.kinds.LoanPool.{loan_refusal_name};
+ghost use Rattle.script_runner.specs.LoanPool.{loan_refusal_name};
 
 use crate::engine::driving::Driven;
 use crate::kinds::allocators::refusal;
@@ -17,7 +17,7 @@ pub type LoanPool = LoanBook<PoolAllocator<Global>>;
 impl Driven for LoanPool {
     ghost use Rattle.std.specs.Prelude.{false};
     ghost use Rattle.std.proofs.Common.{refl};
-    ghost use Rattle.script_runner.specs.kinds.LoanPool.{loan_pool_rules};
+    ghost use Rattle.script_runner.specs.LoanPool.{loan_pool_rules};
 
     type Header = PoolPlan;
 

@@ -1,7 +1,7 @@
 //! A pool world that a script drives by its steps.
 ghost use Rattle.std.specs.Prelude.{◌≡◌, ◌++◌, OnOk};
 ghost use Rattle.std.specs.List.{flat_map};
-ghost use Rattle.script_runner.specs.kinds.PoolSteps.{flag_text};
+ghost use Rattle.script_runner.specs.Steps.{flag_text};
 
 use crate::engine::driving::Driven;
 use crate::words::{Numbers, PARTIES, Text, is, party_of, small, write_words};
@@ -16,7 +16,7 @@ const MOST_BUCKETS: usize = 4096;
 impl Driven for PoolWorld {
     ghost use Rattle.std.specs.Prelude.{true};
     ghost use Rattle.std.proofs.Common.{refl};
-    ghost use Rattle.script_runner.specs.kinds.PoolSteps.{pool_step_rules};
+    ghost use Rattle.script_runner.specs.Steps.{pool_step_rules};
 
     type Header = u32;
 

@@ -1,6 +1,6 @@
 use Rattle.std.proofs.Common.{inl, inr, refl, ◌∙◌}
 use Rattle.std.specs.List.{flat_map}
-use Rattle.script_runner.specs.engine.Transcript.{unreadable_text}
+use Rattle.script_runner.specs.Scripts.{unreadable_text}
 use Rattle.script_runner.specs.declared.status.Status.TheVariants.{Done, Unreadable}
 use Rattle.script_runner.proofs.Sending.{ends_sent, ends_done, ends_unreadable, ends_refused}
 use Rattle.script_runner.proofs.running.answer.Goals as goal

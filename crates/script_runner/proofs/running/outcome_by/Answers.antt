@@ -1,4 +1,4 @@
-use Rattle.script_runner.specs.engine.Lines.{lines_of}
+use Rattle.script_runner.specs.Words.{lines_of}
 use Rattle.script_runner.proofs.Tables.{unreadable_first, unreadable_empty, no_words}
 use Rattle.script_runner.proofs.running.outcome_by.Goals as goal
 

@@ -2,7 +2,7 @@ use Rattle.std.proofs.Common.{arith, ◌≡◌, ◌<◌, ◌++◌, ◌∙◌, ap
 use Rattle.std.proofs.lemmas.List.{append-nil}
 use Rattle.script_runner.specs.Words.{words, words_text}
 use Rattle.script_runner.specs.declared.words.Numbers.TheVariants.{One}
-use Rattle.script_runner.specs.kinds.PoolSteps.{holder_text}
+use Rattle.script_runner.specs.Steps.{holder_text}
 use Rattle.script_runner.proofs.PoolShows.{holders_more}
 use Rattle.script_runner.proofs.kinds.pool_steps.write_holders.Goals as goal
 use Rattle.script_runner.proofs.kinds.pool_steps.write_holders.Goals.{in-Some+in_ok-write_words-in-Some}

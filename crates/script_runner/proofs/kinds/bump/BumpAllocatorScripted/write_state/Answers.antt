@@ -1,6 +1,6 @@
 use Rattle.std.proofs.Common.{◌-◌, codes, append_assoc}
 use Rattle.bb_memory_core.specs.Bump.{bump_text}
-use Rattle.script_runner.specs.kinds.Bump.{figures_line}
+use Rattle.script_runner.specs.Allocators.{figures_line}
 use Rattle.script_runner.proofs.Numbers.{what_is_free}
 use Rattle.script_runner.proofs.kinds.bump.BumpAllocatorScripted.write_state.Goals as goal
 

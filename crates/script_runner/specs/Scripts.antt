@@ -1,12 +1,69 @@
--- What a run writes.
-use Rattle.std.specs.Prelude.{ℕ, ◌≡◌, List, [], ◌∷◌, ◌++◌, All, Bool, true, false, Option, Some, codes, map, slice_get, take}
+-- Scripts of any kind: the rules of a kind, what a run writes, and how it ends.
 use Rattle.std.specs.Io.KnownBytes.{Appends}
 use Rattle.std.specs.List.{flat_map}
-use Rattle.script_runner.specs.Words.{words_then}
+use Rattle.std.specs.Prelude.{List, ◌⊎◌, [], ◌∷◌, ℕ, codes, Bool, true, not, ◌&&◌, IsTrue, ◌≡◌, ◌++◌, All, false, Option, Some}
+use Rattle.std.specs.Prelude.{map, slice_get, take, None}
+use Rattle.std.specs.Str.{bytes_eq}
+use Rattle.script_runner.specs.Words.{Words, words, words_text, MayStand, words_then}
 use Rattle.script_runner.specs.declared.engine.script.Line.{Line}
 use Rattle.script_runner.specs.declared.engine.script.Line.TheVariants.{Command, Show}
+use Rattle.script_runner.specs.declared.status.Status.{Status}
+use Rattle.script_runner.specs.declared.status.Status.TheVariants.{Done, Unreadable, InputFailed, OutputFailed, OutOfMemory}
+use Rattle.script_runner.specs.declared.words.Numbers.{Numbers}
 use Rattle.script_runner.specs.declared.words.Numbers.TheVariants.{One}
-use Rattle.script_runner.specs.engine.Rules.{Rules, IsLine, line_text}
+
+-- the rules of the scripts that drive what has states S, is made by headers O, and takes commands C, each with a reply R
+pub record Rules (S O C R : Type 0) : Type 1 where
+  pub name : List ℕ
+  pub is_header : O → Type 0
+  pub header_numbers : O → Numbers
+  pub is_command : C → Type 0
+  pub command_words : C → Words
+  pub can_show : Bool
+  pub starts : O → S → Type 0
+  pub runs : S → List C → List R → S → Type 0
+  pub reply_text : R → List ℕ
+  pub state_text : S → List ℕ
+
+-- the first line: the kind's name, and the numbers of what is to be made
+abbrev pub header_words : {S O C R : Type 0} → Rules S O C R → O → Words
+header_words rules header = words rules.name (rules.header_numbers header)
+
+-- a line after the first: a command, or a show where the kind has it
+abbrev pub IsLine : {S O C R : Type 0} → Rules S O C R → Line C → Type 0
+IsLine rules (Command command) = rules.is_command command × MayStand (rules.command_words command)
+IsLine rules Show = IsTrue rules.can_show
+
+abbrev pub line_text : {S O C R : Type 0} → Rules S O C R → Line C → List ℕ
+line_text rules (Command command) = words_text (rules.command_words command)
+line_text rules Show = codes "show"
+
+-- a kind of script: its rules, over types of its own
+pub record Kind : Type 1 where
+  pub State : Type 0
+  pub Header : Type 0
+  pub Command : Type 0
+  pub Reply : Type 0
+  pub rules : Rules State Header Command Reply
+
+abbrev pub kind : {S O C R : Type 0} → Rules S O C R → Kind
+kind {S} {O} {C} {R} rules =
+    record { State = S; Header = O; Command = C; Reply = R; rules = rules }
+
+-- some kind of the table has the property
+abbrev pub SomeOf : List Kind → (Kind → Type 0) → Type 0
+SomeOf [] Holds = ⊥
+SomeOf (one ∷ others) Holds = Holds one ⊎ SomeOf others Holds
+
+-- the name is no kind's of the table
+abbrev pub is_new : List ℕ → List Kind → Bool
+is_new name [] = true
+is_new name (one ∷ others) = not (bytes_eq name one.rules.name) && is_new name others
+
+-- no two kinds have one name: a line is the first line of at most one kind
+abbrev pub are_apart : List Kind → Bool
+are_apart [] = true
+are_apart (one ∷ others) = is_new one.rules.name others && are_apart others
 
 -- the bytes begin the text
 abbrev pub Begins : List ℕ → List ℕ → Type 0
@@ -59,3 +116,23 @@ IsPlayed {S} {O} {C} {R} rules old script text new =
 -- what is written of the first unreadable line, a line feed included
 abbrev pub unreadable_text : ℕ → List ℕ
 unreadable_text number = words_then (codes "line") (One number) (codes ": refused\n")
+
+-- the exit status
+abbrev pub code_of : Status → ℕ
+code_of Done = 0
+code_of Unreadable = 2
+code_of InputFailed = 3
+code_of OutputFailed = 3
+code_of OutOfMemory = 4
+
+-- what is told on standard error
+abbrev pub message_of : Status → Option (List ℕ)
+message_of Done = None
+message_of Unreadable = None
+message_of InputFailed = Some (codes "input failed")
+message_of OutputFailed = Some (codes "output failed")
+message_of OutOfMemory = Some (codes "out of memory")
+
+-- a failed write or refused memory ended it
+abbrev pub IsCutShort : Status → Type 0
+IsCutShort status = (status ≡ OutputFailed) ⊎ (status ≡ OutOfMemory)
