@@ -7,7 +7,8 @@ use Rattle.std.proofs.lemmas.List.{append_assoc, append-nil, take-append-drop, t
 use Rattle.script_runner.specs.Inputs.{Ends, IsAnswered, IsOutput, IsUnreadable}
 use Rattle.script_runner.specs.declared.status.Status.{Status}
 use Rattle.script_runner.specs.declared.status.Status.TheVariants.{Done, Unreadable, InputFailed, OutputFailed, OutOfMemory}
-use Rattle.script_runner.specs.Scripts.{IsCutShort, AppendsPart, Sends, unreadable_text}
+use Rattle.script_runner.specs.Scripts.{IsCutShort, AppendsPart, Sends}
+use Rattle.script_runner.specs.Words.{unreadable_text}
 
 -- known bytes grow by no byte
 pub appends_nothing : (known : Option (List ℕ)) → Appends known known []

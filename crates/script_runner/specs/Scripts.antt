@@ -113,10 +113,6 @@ IsPlayed {S} {O} {C} {R} rules old script text new =
     (mid : S) × (waiting : List C) × (front : List ℕ) × (replies : List R) × IsTold rules old [] script front mid waiting
     × rules.runs mid waiting replies new × (text ≡ front ++ flat_map rules.reply_text replies)
 
--- what is written of the first unreadable line, a line feed included
-abbrev pub unreadable_text : ℕ → List ℕ
-unreadable_text number = words_then (codes "line") (One number) (codes ": refused\n")
-
 -- the exit status
 abbrev pub code_of : Status → ℕ
 code_of Done = 0

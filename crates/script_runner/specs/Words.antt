@@ -8,6 +8,7 @@ use Rattle.script_runner.specs.declared.words.Figure.{Figure}
 use Rattle.script_runner.specs.declared.words.Numbers.{Numbers}
 use Rattle.script_runner.specs.declared.words.Numbers.TheVariants.{Zero, One, Two, Three, Four, Five}
 use Rattle.script_runner.specs.declared.words.Text.{Text}
+use Rattle.script_runner.specs.declared.words.Text.TheVariants.{Line, Refused, Unreadable}
 
 -- the lines of an input: a line feed ends each, and the last may do without
 abbrev pub lines_of : List ℕ → List (List ℕ)
@@ -68,9 +69,15 @@ abbrev pub figures_then : List Figure → List ℕ → List ℕ
 figures_then [] text = text
 figures_then (figure ∷ figures) text = figure.0.now ++ (decimal figure.1 ++ figures_then figures text)
 
--- the bytes of a text
+-- what is written of the first unreadable line, a line feed included
+abbrev pub unreadable_text : ℕ → List ℕ
+unreadable_text number = words_then (codes "line") (One number) (codes ": refused\n")
+
+-- the bytes of a line
 abbrev pub text_bytes : Text → List ℕ
-text_bytes text = words_then text.name.now text.numbers text.end.now
+text_bytes (Line name numbers) = words_then name.now numbers (codes "\n")
+text_bytes (Refused name numbers) = words_then name.now numbers (codes " refused OutOfMemory\n")
+text_bytes (Unreadable number) = unreadable_text number
 
 -- each of them may be written
 abbrev pub AreNumbers : List ℕ → Type 0

@@ -2,16 +2,16 @@
 ghost use Rattle.std.specs.Prelude.{◌≡◌, ◌⊎◌, ℕ, List, true};
 ghost use Rattle.std.specs.List.{flat_map};
 ghost use Rattle.std.specs.Io.KnownBytes.{Keeps, Appends};
-ghost use Rattle.script_runner.specs.Scripts.{IsCutShort, are_apart, Sends, unreadable_text};
+ghost use Rattle.script_runner.specs.Scripts.{IsCutShort, are_apart, Sends};
 ghost use Rattle.script_runner.specs.Inputs.{IsAnswered, IsUnreadable, BeginsOutput, IsLeft, IsOutcome, Ends, kinds};
 ghost use Rattle.script_runner.specs.declared.status.Status.TheVariants.{OutputFailed};
-ghost use Rattle.script_runner.specs.Words.{lines_of};
+ghost use Rattle.script_runner.specs.Words.{lines_of, unreadable_text};
 
 use crate::engine::driving::Outcome;
 use crate::engine::script::first_line;
 use crate::kinds::{AllKinds, Kinds};
 use crate::status::Status;
-use crate::words::{Numbers, Text, words};
+use crate::words::{Text, words};
 use std::alloc::Global;
 use std::io::{ErrorKind, Read, Write};
 
@@ -50,7 +50,7 @@ fn answer<W: Write>(alloc: Global, input: &[u8], writer: &mut W) -> Status
             finish(sent, Status::Done, writer)
         }
         Outcome::Unreadable(number) => {
-            match Text::new(b"line", Numbers::One(number), b": refused\n").written(alloc) {
+            match Text::Unreadable(number).written(alloc) {
                 Ok(line) => {
                     let sent = send(&line, writer);
                     finish(sent, Status::Unreadable, writer)

@@ -135,30 +135,47 @@ fn value(digits: &[u8]) -> Option<usize>
     Some(value)
 }
 
-/// A text to write: a name and numbers, and then an end.
+/// A line to write.
 #[derive(Clone, Copy)]
-pub struct Text {
-    pub name: &'static [u8],
-    pub numbers: Numbers,
-    pub end: &'static [u8],
+pub enum Text {
+    /// A name and numbers.
+    Line(&'static [u8], Numbers),
+    /// A name and numbers, of a step that was refused memory.
+    Refused(&'static [u8], Numbers),
+    /// The number of the first unreadable line.
+    Unreadable(usize),
 }
 
 impl Text {
-    /// Returns the text of these parts.
-    pub fn new(name: &'static [u8], numbers: Numbers, end: &'static [u8]) -> Text
-        ensures { text_bytes result ≡ words_then name.now numbers end.now }
-    {
-        Text { name, numbers, end }
-    }
-
-    /// Returns the bytes of the text.
+    /// Returns the bytes of the line.
     pub fn written(self, alloc: Global) -> Result<Vec<u8>, AllocError>
         ensures { IfOk result (λ line. line.items ≡ text_bytes self) }
     {
         let mut line = Vec::new(alloc);
-        match write_words(self.name, self.numbers, self.end, &mut line) {
+        match self.write(&mut line) {
             Ok(()) => Ok(line),
             Err(_) => Err(AllocError),
+        }
+    }
+
+    /// Adds the bytes of the line.
+    fn write(self, line: &mut Vec<u8>) -> io::Result<()>
+        ensures { OnOk result (line.new.items ≡ line.old.items ++ text_bytes self) }
+    {
+        match self {
+            Text::Line(name, numbers) => write_words(name, numbers, b"\n", line),
+            Text::Refused(name, numbers) => write_words(
+                name,
+                numbers,
+                b" refused OutOfMemory\n",
+                line,
+            ),
+            Text::Unreadable(number) => write_words(
+                b"line",
+                Numbers::One(number),
+                b": refused\n",
+                line,
+            ),
         }
     }
 }

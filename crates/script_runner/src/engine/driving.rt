@@ -17,11 +17,11 @@ pub trait Driven: Drop {
     ghost use Rattle.script_runner.specs.Words.{text_bytes};
 
     /// The value that a header names.
-    type Header: Drop;
+    type Header: Copy;
 
     type Command: Copy;
 
-    type Reply: Drop;
+    type Reply: Copy;
 
     /// Says that a script may show the state.
     const CAN_SHOW: bool;

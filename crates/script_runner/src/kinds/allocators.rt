@@ -21,7 +21,7 @@ pub trait Scripted: Drop {
     ghost use Rattle.script_runner.specs.Allocators.{AllocatorRules};
 
     /// The value that a header names.
-    type Header: Drop;
+    type Header: Copy;
 
     /// The rules of its scripts, but for what all allocators share.
     ghost rules: { AllocatorRules Self Self.Header };
@@ -111,16 +111,12 @@ impl<A: Scripted> Driven for Live<A> {
 
     fn reply_text(reply: &Reply) -> Text {
         match reply {
-            Reply::Chunk(chunk) => Text::new(
-                b"chunk",
-                Numbers::Two(chunk.place(), chunk.len()),
-                b"\n",
-            ),
-            Reply::Released => Text::new(b"released", Numbers::Zero, b"\n"),
-            Reply::Passed => Text::new(b"passed", Numbers::Zero, b"\n"),
-            Reply::Refused(error) => Text::new(refusal(*error), Numbers::Zero, b"\n"),
-            Reply::GrowRefused(error) => Text::new(grow_refusal(*error), Numbers::Zero, b"\n"),
-            Reply::ShrinkRefused(error) => Text::new(shrink_refusal(*error), Numbers::Zero, b"\n"),
+            Reply::Chunk(chunk) => Text::Line(b"chunk", Numbers::Two(chunk.place(), chunk.len())),
+            Reply::Released => Text::Line(b"released", Numbers::Zero),
+            Reply::Passed => Text::Line(b"passed", Numbers::Zero),
+            Reply::Refused(error) => Text::Line(refusal(*error), Numbers::Zero),
+            Reply::GrowRefused(error) => Text::Line(grow_refusal(*error), Numbers::Zero),
+            Reply::ShrinkRefused(error) => Text::Line(shrink_refusal(*error), Numbers::Zero),
         }
     }
 

@@ -1,7 +1,7 @@
 //! A bump that a script drives.
 
 use crate::kinds::allocators::Scripted;
-use crate::words::{Bounds, Numbers, region};
+use crate::words::{Bounds, Figure, Numbers, region, write_figures};
 use bb_memory_core::allocator::{Command, Reply};
 use bb_memory_core::bump_allocator::{BumpAllocator, run_bump};
 use bb_memory_core::layout::Chunk;
@@ -36,9 +36,12 @@ impl Scripted for BumpAllocator {
     }
 
     fn write_state(&self, _live: usize, line: &mut Vec<u8>) -> io::Result<()> {
-        let used = self.used_space();
-        let free = self.free_space();
-        let total = self.total_space();
-        writeln!(line, "{self}\nused {used} free {free} total {total}")
+        writeln!(line, "{self}")?;
+        let figures = [
+            Figure(b"used ", self.used_space()),
+            Figure(b" free ", self.free_space()),
+            Figure(b" total ", self.total_space()),
+        ];
+        write_figures(&figures, b"\n", line)
     }
 }

@@ -57,26 +57,16 @@ impl Driven for BumpWorld {
 
     fn reply_text(outcome: &BumpOutcome) -> Text {
         match outcome {
-            BumpOutcome::Sees(used) => Text::new(b"sees", Numbers::One(*used), b"\n"),
-            BumpOutcome::RefusedAtRead(used) => Text::new(
-                b"sees",
-                Numbers::One(*used),
-                b" refused OutOfMemory\n",
-            ),
-            BumpOutcome::Wins(chunk) => Text::new(
-                b"wins",
-                Numbers::Two(chunk.place(), chunk.len()),
-                b"\n",
-            ),
-            BumpOutcome::Loses(used) => Text::new(b"loses", Numbers::One(*used), b"\n"),
-            BumpOutcome::RefusedAtLoss(used) => Text::new(
-                b"loses",
-                Numbers::One(*used),
-                b" refused OutOfMemory\n",
-            ),
-            BumpOutcome::Loaded(used) => Text::new(b"used", Numbers::One(*used), b"\n"),
-            BumpOutcome::Cleared => Text::new(b"cleared", Numbers::Zero, b"\n"),
-            BumpOutcome::Passed => Text::new(b"passed", Numbers::Zero, b"\n"),
+            BumpOutcome::Sees(used) => Text::Line(b"sees", Numbers::One(*used)),
+            BumpOutcome::RefusedAtRead(used) => Text::Refused(b"sees", Numbers::One(*used)),
+            BumpOutcome::Wins(chunk) => {
+                Text::Line(b"wins", Numbers::Two(chunk.place(), chunk.len()))
+            }
+            BumpOutcome::Loses(used) => Text::Line(b"loses", Numbers::One(*used)),
+            BumpOutcome::RefusedAtLoss(used) => Text::Refused(b"loses", Numbers::One(*used)),
+            BumpOutcome::Loaded(used) => Text::Line(b"used", Numbers::One(*used)),
+            BumpOutcome::Cleared => Text::Line(b"cleared", Numbers::Zero),
+            BumpOutcome::Passed => Text::Line(b"passed", Numbers::Zero),
         }
     }
 

@@ -78,14 +78,14 @@ impl Driven for LoanPool {
         match reply {
             LoanReply::Loaned(id, chunk) => {
                 let numbers = Numbers::Three(*id as usize, chunk.place(), chunk.len());
-                Text::new(b"loan", numbers, b"\n")
+                Text::Line(b"loan", numbers)
             }
-            LoanReply::Published => Text::new(b"published", Numbers::Zero, b"\n"),
-            LoanReply::Returned => Text::new(b"returned", Numbers::Zero, b"\n"),
-            LoanReply::Kept => Text::new(b"kept", Numbers::Zero, b"\n"),
-            LoanReply::Out(true) => Text::new(b"yes", Numbers::Zero, b"\n"),
-            LoanReply::Out(false) => Text::new(b"no", Numbers::Zero, b"\n"),
-            LoanReply::Refused(error) => Text::new(loan_refusal(*error), Numbers::Zero, b"\n"),
+            LoanReply::Published => Text::Line(b"published", Numbers::Zero),
+            LoanReply::Returned => Text::Line(b"returned", Numbers::Zero),
+            LoanReply::Kept => Text::Line(b"kept", Numbers::Zero),
+            LoanReply::Out(true) => Text::Line(b"yes", Numbers::Zero),
+            LoanReply::Out(false) => Text::Line(b"no", Numbers::Zero),
+            LoanReply::Refused(error) => Text::Line(loan_refusal(*error), Numbers::Zero),
         }
     }
 

@@ -68,43 +68,21 @@ impl Driven for PoolWorld {
 
     fn reply_text(outcome: &PoolOutcome) -> Text {
         match outcome {
-            PoolOutcome::Takes(bucket) => Text::new(
-                b"takes",
-                Numbers::One(*bucket as usize),
-                b"\n",
-            ),
-            PoolOutcome::Loses(bucket) => Text::new(
-                b"loses",
-                Numbers::One(*bucket as usize),
-                b"\n",
-            ),
+            PoolOutcome::Takes(bucket) => Text::Line(b"takes", Numbers::One(*bucket as usize)),
+            PoolOutcome::Loses(bucket) => Text::Line(b"loses", Numbers::One(*bucket as usize)),
             PoolOutcome::RefusedAtLoss(bucket) => {
-                Text::new(
-                    b"loses",
-                    Numbers::One(*bucket as usize),
-                    b" refused OutOfMemory\n",
-                )
+                Text::Refused(b"loses", Numbers::One(*bucket as usize))
             }
-            PoolOutcome::Gives(bucket) => Text::new(
-                b"gives",
-                Numbers::One(*bucket as usize),
-                b"\n",
-            ),
-            PoolOutcome::Passed => Text::new(b"passed", Numbers::Zero, b"\n"),
-            PoolOutcome::Misses(bucket) => Text::new(
-                b"misses",
-                Numbers::One(*bucket as usize),
-                b"\n",
-            ),
-            PoolOutcome::Detaches(bucket) => Text::new(
+            PoolOutcome::Gives(bucket) => Text::Line(b"gives", Numbers::One(*bucket as usize)),
+            PoolOutcome::Passed => Text::Line(b"passed", Numbers::Zero),
+            PoolOutcome::Misses(bucket) => Text::Line(b"misses", Numbers::One(*bucket as usize)),
+            PoolOutcome::Detaches(bucket) => Text::Line(
                 b"detaches",
                 Numbers::One(*bucket as usize),
-                b"\n",
             ),
-            PoolOutcome::Attaches(bucket) => Text::new(
+            PoolOutcome::Attaches(bucket) => Text::Line(
                 b"attaches",
                 Numbers::One(*bucket as usize),
-                b"\n",
             ),
         }
     }
