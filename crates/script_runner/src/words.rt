@@ -12,7 +12,6 @@ ghost use Rattle.script_runner.specs.Words.{IsParty, region_of, bounds_numbers};
 use bb_memory_core::layout::Layout;
 use bb_memory_core::region::Region;
 use std::alloc::{AllocError, Global};
-use std::io;
 use std::io::Write;
 
 /// The number of parties in scripts of steps.
@@ -152,14 +151,12 @@ impl Text {
         ensures { IfOk result (λ line. line.items ≡ text_bytes self) }
     {
         let mut line = Vec::new(alloc);
-        match self.write(&mut line) {
-            Ok(()) => Ok(line),
-            Err(_) => Err(AllocError),
-        }
+        self.write(&mut line)?;
+        Ok(line)
     }
 
     /// Adds the bytes of the line.
-    fn write(self, line: &mut Vec<u8>) -> io::Result<()>
+    fn write(self, line: &mut Vec<u8>) -> Result<(), AllocError>
         ensures { OnOk result (line.new.items ≡ line.old.items ++ text_bytes self) }
     {
         match self {
@@ -181,16 +178,21 @@ impl Text {
 }
 
 /// Writes a name and numbers, and then a text.
-pub fn write_words(name: &[u8], numbers: Numbers, end: &[u8], line: &mut Vec<u8>) -> io::Result<()>
+pub fn write_words(
+    name: &[u8],
+    numbers: Numbers,
+    end: &[u8],
+    line: &mut Vec<u8>,
+) -> Result<(), AllocError>
     ensures { OnOk result (line.new.items ≡ line.old.items ++ words_then name.now numbers end.now) }
 {
-    line.write_all(name)?;
+    line.extend_from_slice(name)?;
     let mut left = numbers;
     while let Some((number, rest)) = left.split_first() {
-        write!(line, " {number}")?;
+        write_figure(b" ", number, line)?;
         left = rest;
     }
-    line.write_all(end)
+    line.extend_from_slice(end)
 }
 
 /// A label, and the figure behind it.
@@ -198,16 +200,26 @@ pub fn write_words(name: &[u8], numbers: Numbers, end: &[u8], line: &mut Vec<u8>
 pub struct Figure(pub &'static [u8], pub usize);
 
 /// Writes each label with its figure behind it, and then a text.
-pub fn write_figures(figures: &[Figure], end: &[u8], line: &mut Vec<u8>) -> io::Result<()>
+pub fn write_figures(figures: &[Figure], end: &[u8], line: &mut Vec<u8>) -> Result<(), AllocError>
     ensures { OnOk result (line.new.items ≡ line.old.items ++ figures_then figures.now end.now) }
 {
     let mut left = figures;
     while let Some((Figure(label, value), rest)) = left.split_first() {
-        line.write_all(label)?;
-        write!(line, "{value}")?;
+        write_figure(label, *value, line)?;
         left = rest;
     }
-    line.write_all(end)
+    line.extend_from_slice(end)
+}
+
+/// Writes a label, and a number behind it.
+fn write_figure(label: &[u8], value: usize, line: &mut Vec<u8>) -> Result<(), AllocError>
+    ensures { OnOk result (line.new.items ≡ line.old.items ++ (label.now ++ decimal value)) }
+{
+    line.extend_from_slice(label)?;
+    match write!(line, "{value}") {
+        Ok(()) => Ok(()),
+        Err(_) => Err(AllocError),
+    }
 }
 
 /// Tests that a name is this text.

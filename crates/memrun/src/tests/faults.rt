@@ -176,26 +176,29 @@ fn is_answered(alloc: Global, cut: usize, end: Result<usize, &[u8]>) -> bool {
     }
 }
 
+/// Cut in front of the bytes from the first number to the second, the script ends so: with the line of this number unreadable
+/// (`alloc 10 3` too, as 3 is no power of two), or done with so many bytes of the whole script's lines (`bump 4096 1` is a region,
+/// too).
+const CUTS: [(usize, usize, Result<usize, &[u8]>); 14] = [
+    (0, 10, Err(b"line 1: refused\n")),
+    (11, 15, Ok(0)),
+    (16, 24, Err(b"line 2: refused\n")),
+    (25, 26, Ok(14)),
+    (27, 29, Err(b"line 3: refused\n")),
+    (30, 31, Ok(106)),
+    (32, 41, Err(b"line 4: refused\n")),
+    (42, 43, Ok(120)),
+    (44, 53, Err(b"line 5: refused\n")),
+    (54, 55, Ok(135)),
+    (56, 63, Err(b"line 6: refused\n")),
+    (64, 65, Ok(147)),
+    (66, 68, Err(b"line 7: refused\n")),
+    (69, 70, Ok(FIRST_PATH_LINES.len())),
+];
+
 #[test]
 fn script_cut_at_every_byte(rt: HostRuntime) {
-    // Cut in front of these bytes, a script ends so: with the line of this number unreadable (`alloc 10 3` too, as 3 is no
-    // power of two), or done with so many bytes of the whole script's lines (`bump 4096 1` is a region, too).
-    for (from, to, end) in [
-        (0, 10, Err(b"line 1: refused\n".as_slice())),
-        (11, 15, Ok(0)),
-        (16, 24, Err(b"line 2: refused\n".as_slice())),
-        (25, 26, Ok(14)),
-        (27, 29, Err(b"line 3: refused\n".as_slice())),
-        (30, 31, Ok(106)),
-        (32, 41, Err(b"line 4: refused\n".as_slice())),
-        (42, 43, Ok(120)),
-        (44, 53, Err(b"line 5: refused\n".as_slice())),
-        (54, 55, Ok(135)),
-        (56, 63, Err(b"line 6: refused\n".as_slice())),
-        (64, 65, Ok(147)),
-        (66, 68, Err(b"line 7: refused\n".as_slice())),
-        (69, 70, Ok(FIRST_PATH_LINES.len())),
-    ] {
+    for (from, to, end) in CUTS {
         for cut in from..to + 1 {
             check_at(&rt, is_answered(rt.alloc(), cut, end), cut);
         }

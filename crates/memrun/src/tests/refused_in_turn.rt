@@ -2,8 +2,8 @@
 //! it writes where none is refused. `.ci/refuse-in-turn` runs each test with its first request refused, then its second, and
 //! so on, until none is left to refuse.
 use super::check;
-use super::table::{field_and_rest, lines};
-use script_runner::{Status, run};
+use super::table::{add_answer, field_and_rest, lines};
+use script_runner::Status;
 use std::alloc::Global;
 use std::process::Abort;
 
@@ -15,19 +15,24 @@ fn some_was_refused(alloc: Global) -> bool {
     Vec::<u8>::with_capacity(alloc, REFUSED_MARK).is_err()
 }
 
+/// Checks that memory was refused, and that the status says so.
+fn was_refused(rt: &impl Abort, alloc: Global, status: Status) {
+    assert!(rt; some_was_refused(alloc), "{status:?} with ample memory");
+    check(rt, status == Status::OutOfMemory && status.code() == 4);
+}
+
 /// Runs a script, a second time where memory was refused, and checks its status and its output.
 fn ends_with_status_4(rt: &impl Abort, alloc: Global, ends: Status, script: &[u8], lines: &[u8]) {
     let mut told = Vec::new(alloc);
     if told.reserve(lines.len()).is_err() {
         return;
     }
-    let status = run(alloc, script, &mut told);
+    let status = add_answer(alloc, script, &mut told);
     if status != ends {
-        assert!(rt; some_was_refused(alloc), "{status:?} with ample memory");
-        check(rt, status == Status::OutOfMemory && status.code() == 4);
+        was_refused(rt, alloc, status);
         check(rt, lines.starts_with(told.as_slice()));
         told.clear();
-        check(rt, run(alloc, script, &mut told) == ends);
+        check(rt, add_answer(alloc, script, &mut told) == ends);
     }
     check(rt, told.as_slice() == lines);
 }
@@ -36,7 +41,7 @@ fn ends_with_status_4(rt: &impl Abort, alloc: Global, ends: Status, script: &[u8
 fn keeps(rt: &impl Abort, alloc: Global, ends: Status, row: &str) {
     let (script, wrote) = field_and_rest(row);
     if let (Ok(script), Ok(wrote)) = (lines(alloc, script), lines(alloc, wrote)) {
-        ends_with_status_4(rt, alloc, ends, &script, &wrote);
+        ends_with_status_4(rt, alloc, ends, script.as_bytes(), wrote.as_bytes());
     }
 }
 

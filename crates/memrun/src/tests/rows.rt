@@ -1,6 +1,6 @@
 //! Scripts with what they write, each row by its name. Scripts of thousands of lines and of many buckets, `.ci/run-memrun` has.
-use super::check;
 use super::table::{answer, check_rows};
+use super::{check, check_named};
 use script_runner::{Status, equality_law, lines_law};
 use std::alloc::Global;
 
@@ -153,9 +153,11 @@ an id past the greatest | loan-pool 4096 128 128 8; back 18446744073709551616 | 
 a layout | loan-pool 4096 128 128 8; loan 1 1 | line 2: refused
 an allocator's line | loan-pool 4096 128 128 8; alloc 1 1 | line 2: refused";
 
+const DONE: [&str; 6] = [BUMP, ONE_CHUNK, POOLS, STEPS, LOANS, LARGE];
+
 #[test]
 fn scripts_that_are_done(rt: HostRuntime) {
-    for table in [BUMP, ONE_CHUNK, POOLS, STEPS, LOANS, LARGE] {
+    for table in DONE {
         check_rows(&rt, rt.alloc(), Status::Done, table);
     }
 }
@@ -171,48 +173,53 @@ fn ends(alloc: Global, script: &[u8], status: Status, lines: &[u8]) -> bool {
     ended == status && told.as_slice() == lines
 }
 
-/// Scripts that no row of a table can have, each row by its name.
+/// Scripts that no row of a table can have, each with its name, its status and its output.
+const OTHER_BYTES: [(&str, &[u8], Status, &[u8]); 4] = [
+    (
+        "script-no-last-line-feed",
+        b"bump 4096 8\nalloc 1 1",
+        Status::Done,
+        b"chunk 4096 1\n",
+    ),
+    (
+        "script-empty",
+        b"",
+        Status::Unreadable,
+        b"line 1: refused\n",
+    ),
+    (
+        "one line feed",
+        b"\n",
+        Status::Unreadable,
+        b"line 1: refused\n",
+    ),
+    (
+        "script-stray-byte",
+        b"bump 4096 8\n\xff\n",
+        Status::Unreadable,
+        b"line 2: refused\n",
+    ),
+];
+
 #[test]
 fn scripts_of_other_bytes(rt: HostRuntime) {
-    for (name, script, status, lines) in [
-        (
-            "script-no-last-line-feed",
-            b"bump 4096 8\nalloc 1 1".as_slice(),
-            Status::Done,
-            b"chunk 4096 1\n".as_slice(),
-        ),
-        (
-            "script-empty",
-            b"",
-            Status::Unreadable,
-            b"line 1: refused\n",
-        ),
-        (
-            "one line feed",
-            b"\n",
-            Status::Unreadable,
-            b"line 1: refused\n",
-        ),
-        (
-            "script-stray-byte",
-            b"bump 4096 8\n\xff\n",
-            Status::Unreadable,
-            b"line 2: refused\n",
-        ),
-    ] {
-        assert!(&rt; ends(rt.alloc(), script, status, lines), "{name}");
+    for (name, script, status, lines) in OTHER_BYTES {
+        check_named(&rt, ends(rt.alloc(), script, status, lines), name);
     }
 }
 
+/// Each status, with its code and its message.
+const STATUSES: [(Status, u8, Option<&str>); 5] = [
+    (Status::Done, 0, None),
+    (Status::Unreadable, 2, None),
+    (Status::InputFailed, 3, Some("input failed")),
+    (Status::OutputFailed, 3, Some("output failed")),
+    (Status::OutOfMemory, 4, Some("out of memory")),
+];
+
 #[test]
 fn statuses(rt: HostRuntime) {
-    for (status, code, message) in [
-        (Status::Done, 0, None),
-        (Status::Unreadable, 2, None),
-        (Status::InputFailed, 3, Some("input failed")),
-        (Status::OutputFailed, 3, Some("output failed")),
-        (Status::OutOfMemory, 4, Some("out of memory")),
-    ] {
+    for (status, code, message) in STATUSES {
         check(&rt, status.code() == code && status.message() == message);
     }
 }

@@ -8,7 +8,6 @@ ghost use Rattle.script_runner.specs.Scripts.{kind, header_words, IsPlayed, IsSt
 use crate::engine::script::{Line, read_script};
 use crate::words::{Numbers, Text};
 use std::alloc::{AllocError, Global};
-use std::io;
 
 /// A kind of script: it is made by a header, takes commands, and gives one reply to each.
 pub trait Driven: Drop {
@@ -17,11 +16,11 @@ pub trait Driven: Drop {
     ghost use Rattle.script_runner.specs.Words.{text_bytes};
 
     /// The value that a header names.
-    type Header: Copy;
+    type Header: Drop;
 
     type Command: Copy;
 
-    type Reply: Copy;
+    type Reply: Drop;
 
     /// Says that a script may show the state.
     const CAN_SHOW: bool;
@@ -67,7 +66,7 @@ pub trait Driven: Drop {
         ensures { text_bytes result ≡ rules.reply_text reply.now };
 
     /// Adds the text of the state to a line.
-    fn write_state(&self, line: &mut Vec<u8>) -> io::Result<()>
+    fn write_state(&self, line: &mut Vec<u8>) -> Result<(), AllocError>
         ensures { OnOk result (line.new.items ≡ line.old.items ++ rules.state_text self.now) };
 }
 

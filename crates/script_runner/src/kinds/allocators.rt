@@ -11,7 +11,6 @@ use bb_memory_core::allocator::{
 };
 use bb_memory_core::layout::Chunk;
 use std::alloc::{AllocError, Global};
-use std::io;
 use std::marker::Model;
 
 /// An allocator that a script drives: how it is made by a header, run, and shown.
@@ -21,7 +20,7 @@ pub trait Scripted: Drop {
     ghost use Rattle.script_runner.specs.Allocators.{AllocatorRules};
 
     /// The value that a header names.
-    type Header: Copy;
+    type Header: Drop;
 
     /// The rules of its scripts, but for what all allocators share.
     ghost rules: { AllocatorRules Self Self.Header };
@@ -51,7 +50,7 @@ pub trait Scripted: Drop {
         ensures kept { OnErr result (live.new.items ≡ live.old.items) };
 
     /// Adds the text of the state to a line.
-    fn write_state(&self, live: usize, line: &mut Vec<u8>) -> io::Result<()>
+    fn write_state(&self, live: usize, line: &mut Vec<u8>) -> Result<(), AllocError>
         ensures { OnOk result (line.new.items ≡ line.old.items ++ rules.state_text self.now live) };
 }
 
@@ -120,7 +119,7 @@ impl<A: Scripted> Driven for Live<A> {
         }
     }
 
-    fn write_state(&self, line: &mut Vec<u8>) -> io::Result<()> {
+    fn write_state(&self, line: &mut Vec<u8>) -> Result<(), AllocError> {
         self.allocator.write_state(self.live.len(), line)
     }
 }

@@ -6,7 +6,6 @@ use bb_memory_core::allocator::{Command, Reply};
 use bb_memory_core::bump_allocator::{BumpAllocator, run_bump};
 use bb_memory_core::layout::Chunk;
 use std::alloc::{AllocError, Global};
-use std::io;
 use std::io::Write;
 
 impl Scripted for BumpAllocator {
@@ -35,8 +34,10 @@ impl Scripted for BumpAllocator {
         run_bump(self, live, commands)
     }
 
-    fn write_state(&self, _live: usize, line: &mut Vec<u8>) -> io::Result<()> {
-        writeln!(line, "{self}")?;
+    fn write_state(&self, _live: usize, line: &mut Vec<u8>) -> Result<(), AllocError> {
+        let Ok(()) = writeln!(line, "{self}") else {
+            return Err(AllocError);
+        };
         let figures = [
             Figure(b"used ", self.used_space()),
             Figure(b" free ", self.free_space()),

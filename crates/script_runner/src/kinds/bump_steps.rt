@@ -4,7 +4,6 @@ use crate::engine::driving::Driven;
 use crate::words::{Bounds, Numbers, PARTIES, Text, is, layout, party_of, region, write_words};
 use bb_memory_core::steps::{BumpOutcome, BumpStep, BumpWorld};
 use std::alloc::{AllocError, Global};
-use std::io;
 
 impl Driven for BumpWorld {
     ghost use Rattle.std.specs.Prelude.{true};
@@ -70,7 +69,7 @@ impl Driven for BumpWorld {
         }
     }
 
-    fn write_state(&self, line: &mut Vec<u8>) -> io::Result<()> {
+    fn write_state(&self, line: &mut Vec<u8>) -> Result<(), AllocError> {
         write_words(b"used", Numbers::One(self.used_space()), b"\n", line)
     }
 }

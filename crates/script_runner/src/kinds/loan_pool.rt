@@ -9,7 +9,6 @@ use crate::words::{Numbers, Text, is, small};
 use bb_memory_core::pool_allocator::PoolAllocator;
 use loan_book::{LoanBook, LoanCall, LoanError, LoanReply, run_loans};
 use std::alloc::{AllocError, Global};
-use std::io;
 
 /// A loan book over a pool.
 pub type LoanPool = LoanBook<PoolAllocator<Global>>;
@@ -89,7 +88,7 @@ impl Driven for LoanPool {
         }
     }
 
-    fn write_state(&self, _line: &mut Vec<u8>) -> io::Result<()> {
+    fn write_state(&self, _line: &mut Vec<u8>) -> Result<(), AllocError> {
         Ok(())
     }
 }

@@ -6,7 +6,6 @@ use bb_memory_core::allocator::{Command, Reply};
 use bb_memory_core::layout::Chunk;
 use bb_memory_core::one_chunk_allocator::{OneChunkAllocator, run_one_chunk};
 use std::alloc::{AllocError, Global};
-use std::io;
 
 impl Scripted for OneChunkAllocator {
     ghost use Rattle.bb_memory_core.specs.OneChunk.{StandsFor};
@@ -34,7 +33,7 @@ impl Scripted for OneChunkAllocator {
         run_one_chunk(self, live, commands)
     }
 
-    fn write_state(&self, _live: usize, line: &mut Vec<u8>) -> io::Result<()> {
+    fn write_state(&self, _live: usize, line: &mut Vec<u8>) -> Result<(), AllocError> {
         let figures = [
             Figure(b"one start ", self.start_address()),
             Figure(b" size ", self.size()),

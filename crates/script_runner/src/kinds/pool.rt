@@ -11,7 +11,6 @@ use bb_memory_core::pool_allocator::{
     FixedSizePoolAllocator, PoolAllocator, run_fixed_pool, run_pool,
 };
 use std::alloc::{AllocError, Global};
-use std::io;
 
 /// The region that a pool cuts, and the layout of each of its buckets.
 #[derive(Clone, Copy)]
@@ -71,7 +70,7 @@ impl Scripted for PoolAllocator<Global> {
         run_pool(self, live, commands)
     }
 
-    fn write_state(&self, live: usize, line: &mut Vec<u8>) -> io::Result<()> {
+    fn write_state(&self, live: usize, line: &mut Vec<u8>) -> Result<(), AllocError> {
         let figures = [
             Figure(b"pool start ", self.start_address()),
             Figure(b" size ", self.size()),
@@ -127,7 +126,7 @@ impl Scripted for Fixed {
         run_fixed_pool(self, live, commands)
     }
 
-    fn write_state(&self, live: usize, line: &mut Vec<u8>) -> io::Result<()> {
+    fn write_state(&self, live: usize, line: &mut Vec<u8>) -> Result<(), AllocError> {
         let figures = [
             Figure(b"fixed size ", self.size()),
             Figure(b" bucket ", self.bucket_size()),

@@ -7,8 +7,6 @@ use crate::engine::driving::Driven;
 use crate::words::{Numbers, PARTIES, Text, is, party_of, small, write_words};
 use bb_memory_core::steps::{PoolOutcome, PoolStep, PoolWorld};
 use std::alloc::{AllocError, Global};
-use std::io;
-use std::io::Write;
 
 /// The most buckets that a script may ask for.
 const MOST_BUCKETS: usize = 4096;
@@ -87,21 +85,21 @@ impl Driven for PoolWorld {
         }
     }
 
-    fn write_state(&self, line: &mut Vec<u8>) -> io::Result<()> {
-        line.write_all(b"held")?;
+    fn write_state(&self, line: &mut Vec<u8>) -> Result<(), AllocError> {
+        line.extend_from_slice(b"held")?;
         write_holders(self, line)?;
-        line.write_all(b"\n")
+        line.extend_from_slice(b"\n")
     }
 }
 
 /// Writes the holder of each bucket.
-fn write_holders(world: &PoolWorld, line: &mut Vec<u8>) -> io::Result<()>
+fn write_holders(world: &PoolWorld, line: &mut Vec<u8>) -> Result<(), AllocError>
     ensures { OnOk result (line.new.items ≡ line.old.items ++ flat_map flag_text world.now.flags) }
 {
     for bucket in 0..world.number_of_buckets() {
         match world.holder(bucket) {
             Some(party) => write_words(b"", Numbers::One(party as usize), b"", line)?,
-            None => line.write_all(b" -")?,
+            None => line.extend_from_slice(b" -")?,
         }
     }
     Ok(())
