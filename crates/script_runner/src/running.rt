@@ -2,7 +2,7 @@
 ghost use Rattle.std.specs.Prelude.{◌≡◌, ◌⊎◌, ℕ, List, true};
 ghost use Rattle.std.specs.List.{flat_map};
 ghost use Rattle.std.specs.Io.KnownBytes.{Keeps, Appends};
-ghost use Rattle.script_runner.specs.Scripts.{IsCutShort, are_apart, Sends};
+ghost use Rattle.script_runner.specs.Scripts.{IsCutShort, Sends};
 ghost use Rattle.script_runner.specs.Inputs.{IsAnswered, IsUnreadable, BeginsOutput, IsLeft, IsOutcome, Ends, kinds};
 ghost use Rattle.script_runner.specs.declared.status.Status.TheVariants.{OutputFailed};
 ghost use Rattle.script_runner.specs.Words.{lines_of, unreadable_text};
@@ -66,19 +66,11 @@ fn answer<W: Write>(alloc: Global, input: &[u8], writer: &mut W) -> Status
 fn outcome_of(alloc: Global, input: &[u8]) -> Outcome
     ensures { IsOutcome kinds (lines_of input.now) result }
 {
-    outcome_by::<AllKinds>(alloc, input)
-}
-
-/// Checks every line of an input, and then runs it, by a table of kinds.
-fn outcome_by<K: Kinds>(alloc: Global, input: &[u8]) -> Outcome
-    requires { are_apart K.table ≡ true }
-    ensures { IsOutcome K.table (lines_of input.now) result }
-{
     let Some((first, rest)) = first_line(input) else {
         return Outcome::Unreadable(1);
     };
     match words(first) {
-        Some((name, numbers)) => K::run(alloc, name, numbers, rest),
+        Some((name, numbers)) => AllKinds::run(alloc, name, numbers, rest),
         None => Outcome::Unreadable(1),
     }
 }

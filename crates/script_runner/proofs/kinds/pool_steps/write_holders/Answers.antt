@@ -3,7 +3,7 @@ use Rattle.std.proofs.lemmas.List.{append-nil}
 use Rattle.script_runner.specs.Words.{words, words_text}
 use Rattle.script_runner.specs.declared.words.Numbers.TheVariants.{One}
 use Rattle.script_runner.specs.Steps.{holder_text}
-use Rattle.script_runner.proofs.PoolShows.{holders_more}
+use Rattle.script_runner.proofs.Telling.{holders_more}
 use Rattle.script_runner.proofs.kinds.pool_steps.write_holders.Goals as goal
 use Rattle.script_runner.proofs.kinds.pool_steps.write_holders.Goals.{in-Some+in_ok-write_words-in-Some}
 use Rattle.script_runner.proofs.kinds.pool_steps.write_holders.Goals.{in-None+in_ok-extend_from_slice-in-None}
