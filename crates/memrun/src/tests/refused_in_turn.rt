@@ -62,7 +62,7 @@ loan-pool 4096 128 128 8; out 0; loan 48; loan 1; publish 0 2; back 0; back 0; l
 
 #[test]
 fn a_script_of_each_kind(rt: HostRuntime) {
-    for row in SCRIPTS.split("\n") {
+    for row in SCRIPTS.lines() {
         keeps(&rt, rt.alloc(), Status::Done, row);
     }
 }

@@ -1,5 +1,5 @@
 //! Scripts with what they write, each row by its name. Scripts of thousands of lines and of many buckets, `.ci/run-memrun` has.
-use super::table::{answer, check_rows};
+use super::table::{check_rows, ends};
 use super::{check, check_named};
 use script_runner::{Status, equality_law, lines_law};
 use std::alloc::Global;
@@ -157,7 +157,7 @@ const DONE: [&str; 6] = [BUMP, ONE_CHUNK, POOLS, STEPS, LOANS, LARGE];
 
 #[test]
 fn scripts_that_are_done(rt: HostRuntime) {
-    for table in DONE {
+    for table in &DONE {
         check_rows(&rt, rt.alloc(), Status::Done, table);
     }
 }
@@ -165,12 +165,6 @@ fn scripts_that_are_done(rt: HostRuntime) {
 #[test]
 fn unreadable_scripts(rt: HostRuntime) {
     check_rows(&rt, rt.alloc(), Status::Unreadable, UNREADABLE);
-}
-
-/// Returns whether a script ends with this status and writes just these lines.
-fn ends(alloc: Global, script: &[u8], status: Status, lines: &[u8]) -> bool {
-    let (ended, told) = answer(alloc, script);
-    ended == status && told.as_slice() == lines
 }
 
 /// Scripts that no row of a table can have, each with its name, its status and its output.
@@ -203,8 +197,8 @@ const OTHER_BYTES: [(&str, &[u8], Status, &[u8]); 4] = [
 
 #[test]
 fn scripts_of_other_bytes(rt: HostRuntime) {
-    for (name, script, status, lines) in OTHER_BYTES {
-        check_named(&rt, ends(rt.alloc(), script, status, lines), name);
+    for row in &OTHER_BYTES {
+        check_named(&rt, ends(rt.alloc(), row.1, row.2, row.3), row.0);
     }
 }
 
@@ -217,10 +211,15 @@ const STATUSES: [(Status, u8, Option<&str>); 5] = [
     (Status::OutOfMemory, 4, Some("out of memory")),
 ];
 
+/// Returns whether a status has this code and this message.
+fn says(status: Status, code: u8, message: Option<&str>) -> bool {
+    status.code() == code && status.message() == message
+}
+
 #[test]
 fn statuses(rt: HostRuntime) {
-    for (status, code, message) in STATUSES {
-        check(&rt, status.code() == code && status.message() == message);
+    for row in &STATUSES {
+        check(&rt, says(row.0, row.1, row.2));
     }
 }
 

@@ -23,10 +23,16 @@ pub(super) fn add_answer(alloc: Global, script: &[u8], told: &mut Vec<u8>) -> St
 }
 
 /// Runs a script. Returns its status and its output.
-pub(super) fn answer(alloc: Global, script: &[u8]) -> (Status, Vec<u8>) {
+fn answer(alloc: Global, script: &[u8]) -> (Status, Vec<u8>) {
     let mut told = Vec::new(alloc);
     let status = add_answer(alloc, script, &mut told);
     (status, told)
+}
+
+/// Returns whether a script ends with this status and writes just these lines.
+pub(super) fn ends(alloc: Global, script: &[u8], status: Status, lines: &[u8]) -> bool {
+    let (ended, told) = answer(alloc, script);
+    ended == status && told.as_slice() == lines
 }
 
 /// Splits a row behind its first field.
@@ -71,15 +77,19 @@ fn is_word<'a>(
     Ok(is_new && is_among(places, told))
 }
 
-/// Returns whether the output is `wanted`.
-fn is_told(alloc: Global, places: &str, told: &str, wanted: &str) -> Result<bool, AllocError> {
-    let mut named = Vec::new(alloc);
+/// Returns whether the output is `wanted`, where the places have these names.
+fn is_told<'a>(
+    named: &mut Vec<&'a str>,
+    places: &str,
+    told: &'a str,
+    wanted: &str,
+) -> Result<bool, AllocError> {
     let mut told = told.split(' ');
     for wanted in wanted.split(' ') {
         let Some(word) = told.next() else {
             return Ok(false);
         };
-        if !is_word(&mut named, places, word, wanted)? {
+        if !is_word(named, places, word, wanted)? {
             return Ok(false);
         }
     }
@@ -95,7 +105,7 @@ fn is_answered(
 ) -> Result<bool, AllocError> {
     let (status, told) = answer(alloc, script.as_bytes());
     match str::from_utf8(&told) {
-        Ok(told) if status == ends => is_told(alloc, places, told, wanted),
+        Ok(told) if status == ends => is_told(&mut Vec::new(alloc), places, told, wanted),
         _ => Ok(false),
     }
 }
@@ -111,7 +121,7 @@ fn keeps_row(alloc: Global, ends: Status, row: &str) -> Result<bool, AllocError>
 
 /// Runs the script of each row, and checks its status and its output.
 pub(super) fn check_rows(rt: &impl Abort, alloc: Global, ends: Status, table: &str) {
-    for row in table.split("\n") {
+    for row in table.lines() {
         let (name, row) = field_and_rest(row);
         check_named(rt, keeps_row(alloc, ends, row).unwrap_or(false), name);
     }
