@@ -140,10 +140,13 @@ fn writes(
 ) {
     let mut told = Vec::new(alloc);
     let found = counts(alloc, script, &mut told, (fails_write, fails_flush));
-    let told = told.as_slice();
-    check_at(rt, found == ends, fails_write.0);
-    check_at(rt, lines.starts_with(told), fails_write.0);
-    check_at(rt, found.2 == 0 || told.len() == lines.len(), fails_write.0);
+    let is_begun = lines.starts_with(told.as_slice());
+    let is_whole = told.len() == lines.len();
+    check_at(
+        rt,
+        found == ends && is_begun && (is_whole || found.2 == 0),
+        fails_write.0,
+    );
 }
 
 /// Runs a script over a writer. Returns the status and the numbers of writes and flushes.

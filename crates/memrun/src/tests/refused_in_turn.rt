@@ -1,8 +1,8 @@
 //! Scripts that hold with any one request for memory refused: the program ends with status 4, and what it wrote begins what
 //! it writes where none is refused. `.ci/refuse-in-turn` runs each test with its first request refused, then its second, and
 //! so on, until none is left to refuse.
-use super::check;
 use super::table::{add_answer, field_and_rest, lines};
+use super::{check, check_named};
 use script_runner::Status;
 use std::alloc::Global;
 use std::process::Abort;
@@ -17,7 +17,11 @@ fn some_was_refused(alloc: Global) -> bool {
 
 /// Checks that memory was refused, and that the status says so.
 fn was_refused(rt: &impl Abort, alloc: Global, status: Status) {
-    assert!(rt; some_was_refused(alloc), "{status:?} with ample memory");
+    check_named(
+        rt,
+        some_was_refused(alloc),
+        "another status with ample memory",
+    );
     check(rt, status == Status::OutOfMemory && status.code() == 4);
 }
 
@@ -40,8 +44,10 @@ fn ends_with_status_4(rt: &impl Abort, alloc: Global, ends: Status, script: &[u8
 /// Runs a row's script. Where memory for the test itself is refused, passes over the row.
 fn keeps(rt: &impl Abort, alloc: Global, ends: Status, row: &str) {
     let (script, wrote) = field_and_rest(row);
-    if let (Ok(script), Ok(wrote)) = (lines(alloc, script), lines(alloc, wrote)) {
-        ends_with_status_4(rt, alloc, ends, script.as_bytes(), wrote.as_bytes());
+    if let Ok(script) = lines(alloc, script) {
+        if let Ok(wrote) = lines(alloc, wrote) {
+            ends_with_status_4(rt, alloc, ends, script.as_bytes(), wrote.as_bytes());
+        }
     }
 }
 

@@ -60,69 +60,61 @@ fn is_among(words: &str, word: &str) -> bool {
 }
 
 /// Returns whether a word of the output is `wanted`. A name's first place becomes its place: one of `places` without a name.
-fn is_word<'a>(
-    named: &mut Vec<&'a str>,
-    places: &str,
-    told: &'a str,
-    wanted: &str,
-) -> Result<bool, AllocError> {
+fn is_word<'a>(named: &mut [&'a str], places: &str, told: &'a str, wanted: &str) -> bool {
     let Some(number) = number_of(wanted) else {
-        return Ok(told == wanted);
+        return told == wanted;
     };
-    if let Some(place) = named.get(number) {
-        return Ok(told == *place);
+    if number >= named.len() {
+        return false;
     }
-    let is_new = number == named.len() && !named.contains(&told);
-    named.push(told)?;
-    Ok(is_new && is_among(places, told))
+    if !named[number].is_empty() {
+        return told == named[number];
+    }
+    let is_new = !named.contains(&told) && is_among(places, told);
+    named[number] = told;
+    is_new
 }
 
 /// Returns whether the output is `wanted`, where the places have these names.
-fn is_told<'a>(
-    named: &mut Vec<&'a str>,
-    places: &str,
-    told: &'a str,
-    wanted: &str,
-) -> Result<bool, AllocError> {
+fn is_told<'a>(named: &mut [&'a str], places: &str, told: &'a str, wanted: &str) -> bool {
     let mut told = told.split(' ');
     for wanted in wanted.split(' ') {
         let Some(word) = told.next() else {
-            return Ok(false);
+            return false;
         };
-        if !is_word(named, places, word, wanted)? {
-            return Ok(false);
+        if !is_word(named, places, word, wanted) {
+            return false;
         }
     }
-    Ok(told.next().is_none())
+    told.next().is_none()
 }
 
 /// Returns whether a script ends with this status and writes just the output.
-fn is_answered(
-    alloc: Global,
-    ends: Status,
-    script: &str,
-    (wanted, places): (&str, &str),
-) -> Result<bool, AllocError> {
+fn is_answered(alloc: Global, ends: Status, script: &str, (wanted, places): (&str, &str)) -> bool {
     let (status, told) = answer(alloc, script.as_bytes());
     match str::from_utf8(&told) {
-        Ok(told) if status == ends => is_told(&mut Vec::new(alloc), places, told, wanted),
-        _ => Ok(false),
+        Ok(told) => status == ends && is_told(&mut [""; 8], places, told, wanted),
+        Err(_) => false,
     }
 }
 
 /// Returns whether a row's script ends with this status and writes just the row's output.
-fn keeps_row(alloc: Global, ends: Status, row: &str) -> Result<bool, AllocError> {
+fn keeps_row(alloc: Global, ends: Status, row: &str) -> bool {
     let (script, row) = field_and_rest(row);
     let (wrote, places) = field_and_rest(row);
-    let script = lines(alloc, script)?;
-    let wanted = lines(alloc, wrote)?;
-    is_answered(alloc, ends, &script, (&wanted, places))
+    let Ok(script) = lines(alloc, script) else {
+        return false;
+    };
+    match lines(alloc, wrote) {
+        Ok(wanted) => is_answered(alloc, ends, &script, (&wanted, places)),
+        Err(_) => false,
+    }
 }
 
 /// Runs the script of each row, and checks its status and its output.
 pub(super) fn check_rows(rt: &impl Abort, alloc: Global, ends: Status, table: &str) {
     for row in table.lines() {
         let (name, row) = field_and_rest(row);
-        check_named(rt, keeps_row(alloc, ends, row).unwrap_or(false), name);
+        check_named(rt, keeps_row(alloc, ends, row), name);
     }
 }
