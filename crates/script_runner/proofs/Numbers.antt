@@ -1,5 +1,5 @@
 -- Numbers in decimal, without a sign or a leading zero.
-use Rattle.std.proofs.Common.{arith, ◌≡◌, ℕ, ◌+◌, ◌-◌, ◌*◌, ◌<◌, ◌≤◌, ◌^◌, zero, suc, List, [], length, take, take_all}
+use Rattle.std.proofs.Common.{arith, ◌≡◌, ℕ, ◌+◌, ◌*◌, ◌<◌, ◌≤◌, ◌^◌, zero, suc, List, [], length, take, take_all}
 use Rattle.std.proofs.Common.{get_or, slice_index, Option, Some, None, IfSome, sym, ap, ◌∙◌, ◌∷◌}
 use Rattle.std.specs.Char.{digit_value}
 use Rattle.std.specs.Fmt.{decimal}

@@ -28,7 +28,7 @@ use Rattle.script_runner.specs.Scripts.{Rules}
 use Rattle.script_runner.specs.declared.kinds.pool.PoolPlan.{PoolPlan}
 use Rattle.script_runner.specs.declared.words.Bounds.{Bounds}
 use Rattle.script_runner.specs.declared.words.Numbers.{Numbers}
-use Rattle.script_runner.specs.declared.words.Numbers.TheVariants.{Zero, One, Two, Five, Four}
+use Rattle.script_runner.specs.declared.words.Numbers.TheVariants.{One, Two, Five, Four}
 
 -- the words that write a command
 abbrev pub command_words : Command → Words
