@@ -101,17 +101,3 @@ ends_refused input old = record {
   cut_short = λ short. inl (keeps_same old);
   input_read = λ is. cc;
 }
-
--- statuses are apart
-pub refused_apart : {P : Type 0} (status : Status) → (status ≡ Done) ⊎ (status ≡ Unreadable) ⊎ (status ≡ InputFailed)
-    → status ≡ OutOfMemory → P
-refused_apart status (inl done) refused = absurd (cc)
-refused_apart status (inr (inl unread)) refused = absurd (cc)
-refused_apart status (inr (inr failed)) refused = absurd (cc)
-
-pub failed_apart : {P : Type 0} (status : Status) → (status ≡ Done) ⊎ (status ≡ Unreadable) ⊎ IsCutShort status
-    → status ≡ InputFailed → P
-failed_apart status (inl done) failed = absurd (cc)
-failed_apart status (inr (inl unread)) failed = absurd (cc)
-failed_apart status (inr (inr (inl sent))) failed = absurd (cc)
-failed_apart status (inr (inr (inr refused))) failed = absurd (cc)

@@ -94,7 +94,7 @@ pool_outcome_line (pool.Misses bucket) = words_then (codes "misses") (One bucket
 pool_outcome_line (pool.Detaches bucket) = words_then (codes "detaches") (One bucket) (codes "\n")
 pool_outcome_line (pool.Attaches bucket) = words_then (codes "attaches") (One bucket) (codes "\n")
 
--- a pool world that a script drives by its steps, with outcomes and a last world as above
+-- A pool world that a script drives by its steps. The outcomes are those of the steps, and the world is the one that they leave.
 abbrev pub pool_step_rules : Rules PoolWorld ℕ PoolStep PoolOutcome
 pool_step_rules = record {
   name = codes "steps-pool";
