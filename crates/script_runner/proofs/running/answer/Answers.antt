@@ -19,9 +19,10 @@ returns-in-Ok g c =
     let number = c.in-Unreadable.number in
     let text = unreadable_text number in
     let unread = c.in-Unreadable.ensures in
+    let sends = rw (c.deref-in-Ok.ensures.value, c.in-Ok.ensures) at c.send-sent.ensures in
     ends_sent c.args.input.now (g.W.Write.contents c.args.writer.now) (g.W.Write.contents c.send-sent.new.writer)
     (g.W.Write.contents c.finish-in-Ok.new.writer) text c.send-sent.result c.finish-in-Ok.result Unreadable
-    (rw (c.deref-in-Ok.ensures.value, c.in-Ok.ensures) at c.send-sent.ensures) c.finish-in-Ok.ensures.kept c.finish-in-Ok.ensures.status
+    sends c.finish-in-Ok.ensures.kept c.finish-in-Ok.ensures.status
     (inr (number, unread, refl)) (λ wrote. ends_unreadable _ _ _ number unread wrote)
 
 pub returns-in-Err : goal.returns-in-Err
