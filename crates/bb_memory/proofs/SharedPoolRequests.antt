@@ -1,14 +1,14 @@
 -- What a request has of its party once its exchanges have ended, whichever buckets it tried.
-use Rattle.std.proofs.Common.{◌≡◌, ◌≢◌, ℕ, ◌<◌, ◌≤◌, ◌++◌, Bool, true, false, refl, sym, ap, ◌∙◌, subst, arith, Option, Some, None}
+use Rattle.std.proofs.Common.{◌≡◌, ◌≢◌, ℕ, ◌<◌, ◌≤◌, ◌++◌, Bool, true, false, refl, sym, ap, ◌∙◌, subst, arith, Option, Some}
+use Rattle.std.proofs.Common.{None}
 use Rattle.std.specs.Prelude.{MatchOption, Ok, Err, ◌==◌, if◌then◌else◌, ◌%◌}
 use Rattle.std.proofs.lemmas.Bool.Decides.{nat_tests}
 use Rattle.atomic_table.specs.Seated.{TableId}
 use Rattle.atomic_table.specs.Table.{Me}
 use Rattle.bb_memory_base.specs.Chunk.{IsInside}
-use Rattle.bb_memory_base.specs.PoolGeometry.{IsPoolGeometry}
+use Rattle.bb_memory_base.specs.PoolObject.{IsPoolGeometry}
 use Rattle.bb_memory_base.specs.PoolMachine.{PoolScene}
-use Rattle.bb_memory_base.specs.PoolHistory.{PoolLog}
-use Rattle.bb_memory_base.specs.PoolLogs.{IsHeldAfter}
+use Rattle.bb_memory_base.specs.PoolLogs.{PoolLog, IsHeldAfter}
 use Rattle.bb_memory_base.specs.declared.layout.Layout.{Layout}
 use Rattle.bb_memory_base.specs.declared.allocator.AllocationError.{AllocationError}
 use Rattle.bb_memory_base.proofs.PoolHolders.{held_through}
@@ -91,7 +91,7 @@ module _ (pool : SharedPool) (table new_table : TableId) (me new : Me ℕ SeatVi
           is_party = is_party new_table number next new now;
           held = now_holds (Some bucket) asked bucket
               ∙ ap (λ (b : Bool). if b then true else held_through bucket false party.log) same;
-          still_held = still (Some bucket) asked;
+          others_kept = still (Some bucket) asked;
           others = others (Some bucket) asked;
           inside = subst (λ (p : SharedPool). IsInside pool.scene.geometry.region (chunk_of (taken_bucket p bucket len)))
               (sym its_is) (bucket-inside pool.scene.geometry bucket len geometry asked.found.0 (omega (arith, len_is, short)));
@@ -115,7 +115,7 @@ module _ (pool : SharedPool) (table new_table : TableId) (me new : Me ℕ SeatVi
       number = ap (λ (p : PoolParty). p.number) view_is;
       is_party = is_party new_table number next new now;
       held = tt;
-      still_held = still None asked;
+      others_kept = still None asked;
       others = others None asked;
       inside = tt;
       aligned = tt;

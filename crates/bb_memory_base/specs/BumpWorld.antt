@@ -4,7 +4,7 @@ use Rattle.std.specs.declared.vec.Vec.{Vec}
 use Rattle.bb_memory_base.specs.Chunk.{Region, IsRegion}
 use Rattle.bb_memory_base.specs.BumpMachine.{OngoingCall, BumpState, BumpScene, PartyMove, AllFitting, IsFitting, opening_state}
 use Rattle.bb_memory_base.specs.BumpMachine.{bump_step, bump_after, BumpStep, BumpOutcome}
-use Rattle.bb_memory_base.specs.BumpHistory as histories
+use Rattle.bb_memory_base.specs.BumpLogs as histories
 
 -- the region, and the machine's state
 pub record BumpWorld : Type 0 where
@@ -68,4 +68,4 @@ pub record Replays {Z E : Type 0} (old : BumpWorld) (steps : List BumpStep) (ans
     (new : BumpWorld) : Type 0 where
   pub outcomes : IfOk answer (λ found. found.items ≡ outcomes_of old steps)
   pub state : OnOk answer (new ≡ after_steps old steps)
-  pub still : OnErr answer (new ≡ old)
+  pub unchanged : OnErr answer (new ≡ old)

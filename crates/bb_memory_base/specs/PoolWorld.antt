@@ -2,7 +2,7 @@
 use Rattle.std.specs.Prelude.{◌≡◌, ℕ, ◌<◌, ◌^◌, List, Option, Result, IfOk, OnErr, OnOk, length}
 use Rattle.std.specs.declared.vec.Vec.{Vec}
 use Rattle.bb_memory_base.specs.PoolMachine.{PoolState, all_free, pool_step, pool_after, Flag, PoolStep, PoolOutcome}
-use Rattle.bb_memory_base.specs.PoolHistory as histories
+use Rattle.bb_memory_base.specs.PoolLogs as histories
 
 -- the machine's state
 abbrev pub PoolWorld : Type 0
@@ -43,4 +43,4 @@ pub record Replays {Z E : Type 0} (old : PoolWorld) (steps : List PoolStep) (ans
     (new : PoolWorld) : Type 0 where
   pub outcomes : IfOk answer (λ found. found.items ≡ outcomes_of old steps)
   pub state : OnOk answer (new ≡ after_steps old steps)
-  pub still : OnErr answer (new ≡ old)
+  pub unchanged : OnErr answer (new ≡ old)

@@ -95,8 +95,7 @@ pub enum Reply {
 /// crate may bring an allocator with an object of its own.
 pub trait BaseAllocator {
     ghost use Rattle.std.specs.Prelude.{◌≡◌, ◌∷◌, ◌++◌, ◌≤◌, ◌%◌, ℕ, Some, [], List, Result, Ok, Bool, IfOk, OnErr, slice_get};
-    ghost use Rattle.bb_memory_base.specs.Chunk.{Region, IsRegion, Chunk, IsInside, Layout, AllocationError};
-    ghost use Rattle.bb_memory_base.specs.LiveList.{IsSound};
+    ghost use Rattle.bb_memory_base.specs.Chunk.{Region, IsRegion, Chunk, IsInside, Layout, AllocationError, IsSound};
     ghost use Rattle.bb_memory_base.specs.Object.{released};
     ghost use Rattle.bb_memory_base.specs.Request.{Requested};
     ghost use Rattle.bb_memory_base.specs.HeldBytes.{held_region, ZeroesAnswered};
@@ -220,7 +219,7 @@ pub trait Allocator: BaseAllocator {
     ghost use Rattle.bb_memory_base.specs.Chunk.{Chunk, IsInside, Layout};
     ghost use Rattle.bb_memory_base.specs.HeldBytes.{held_region, part_behind, ZeroesAnswered};
     ghost use Rattle.bb_memory_base.specs.Request.{Grown};
-    ghost use Rattle.bb_memory_base.specs.ResizableObject.{PlacesDiffer};
+    ghost use Rattle.bb_memory_base.specs.Object.{PlacesDiffer};
     ghost use Rattle.bb_memory_base.specs.declared.allocator.AllocationGrowError.{AllocationGrowError};
     ghost use Rattle.bb_memory_base.specs.declared.allocator.AllocationShrinkError.{AllocationShrinkError};
 
@@ -270,7 +269,7 @@ pub trait Allocator: BaseAllocator {
         ensures long_enough { IfOk result (λ grown. new.size ≤ grown.len) }
         ensures within { IfOk result (λ grown. grown.len ≤ reserved_at (figures self.old) place) }
         ensures inside { IfOk result (IsInside (Self.region_of (Self.geometry self.old))) }
-        ensures still { self.new ≡ self.old }
+        ensures unchanged { self.new ≡ self.old }
         ensures value { grows self.old place old new result self.new };
 
     /// Gives the live chunk at this place a smaller size. The place has to be a multiple of the old alignment, and the old
@@ -296,7 +295,7 @@ pub trait Allocator: BaseAllocator {
         ensures long_enough { IfOk result (λ shrunk. new.size ≤ shrunk.len) }
         ensures within { IfOk result (λ shrunk. shrunk.len ≤ reserved_at (figures self.old) place) }
         ensures inside { IfOk result (IsInside (Self.region_of (Self.geometry self.old))) }
-        ensures still { self.new ≡ self.old }
+        ensures unchanged { self.new ≡ self.old }
         ensures value { shrinks self.old place old new result self.new };
 
     /// Grows a chunk as `grow` does, with all that it promises (`Grown`), and makes the bytes behind its old size zero, up to the

@@ -1,7 +1,7 @@
 //! Traits of each kind that a call serves which is written once.
 ghost use Rattle.std.specs.Prelude.{◌≡◌, ◌↔◌, ℕ, IsFalse, IsTrue, Result};
 ghost use Rattle.bb_memory_base.specs.Chunk.{Chunk};
-ghost use Rattle.bb_memory_base.specs.PoolGeometry.{PoolGeometry};
+ghost use Rattle.bb_memory_base.specs.PoolObject.{PoolGeometry};
 ghost use Rattle.bb_memory_base.specs.declared.layout.Layout.{Layout as Asked};
 ghost use Rattle.bb_memory_base.specs.declared.allocator.AllocationError.{AllocationError};
 ghost use Rattle.bb_memory.specs.Buckets.{TellsNumber, TellsPlace};
@@ -47,7 +47,7 @@ pub(crate) trait Keeps: Gives {
     fn give_back(&mut self, place: usize) -> bool
         ensures held { IsTrue result ↔ holds self.old place }
         ensures freed { IsTrue result → frees self.old place self.new }
-        ensures still { IsFalse result → self.new ≡ self.old };
+        ensures unchanged { IsFalse result → self.new ≡ self.old };
 }
 
 /// Is cut into buckets.

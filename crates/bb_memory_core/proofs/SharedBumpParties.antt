@@ -3,8 +3,7 @@ use Rattle.std.proofs.Common.{◌≡◌, ℕ, ◌<◌, ◌≤◌, [], ◌∷◌,
 use Rattle.atomic_table.specs.Seated.{TableId}
 use Rattle.atomic_table.specs.Table.{Me, Step}
 use Rattle.bb_memory_base.specs.BumpMachine.{BumpScene}
-use Rattle.bb_memory_base.specs.BumpHistory.{BumpLog, entry_of}
-use Rattle.bb_memory_base.specs.BumpLogs.{call_in}
+use Rattle.bb_memory_base.specs.BumpLogs.{BumpLog, entry_of, call_in}
 use Rattle.bb_memory_base.specs.declared.layout.Layout.{Layout}
 use Rattle.bb_memory_base.specs.declared.steps.bump.BumpStep.TheVariants.{Load}
 use Rattle.bb_memory_base.specs.declared.steps.bump.BumpOutcome.TheVariants.{Loaded}
@@ -97,4 +96,4 @@ loaded_seat scene number found me new fields same told =
     party_seat scene number (view_log me.0 ++ entry_of (Load number) (Loaded found) ∷ []) new
     record { seat = here.seat; idle = load_rests number found (view_log me.0) fields.seat.idle }
     (subst (λ (s : BumpScene). number < s.parties) same fields.below) (subst IsSharedScene same fields.shared)
-    (omega (arith, here.still, here.above, here.within))
+    (omega (arith, here.unchanged, here.above, here.within))

@@ -1,13 +1,12 @@
 -- What each step on a shared bump's word tells the party that makes it, and a request as it stands at its party's seat.
-use Rattle.std.specs.Prelude.{◌≡◌, ◌≢◌, ℕ, ◌+◌, ◌<◌, ◌≤◌, ◌%◌, true, false, List, [], ◌∷◌, ◌++◌, Option, Some, None, All}
-use Rattle.std.specs.Prelude.{length, max}
+use Rattle.std.specs.Prelude.{◌≡◌, ◌≢◌, ℕ, ◌+◌, ◌<◌, ◌≤◌, ◌%◌, true, false, List, [], ◌∷◌, ◌++◌, Option, Some, None, All, length}
+use Rattle.std.specs.Prelude.{max}
 use Rattle.atomic_table.specs.Seated.{TableId}
 use Rattle.atomic_table.specs.Table.{Me, Step}
 use Rattle.bb_memory_base.specs.Chunk.{Region, region_end, Chunk, IsInside, chunk_end}
 use Rattle.bb_memory_base.specs.BumpMachine.{BumpScene, OngoingCall, chunk_at, fits, read_move, exchange_move}
-use Rattle.bb_memory_base.specs.BumpHistory.{BumpLog, chunks_won, entry_of, losses_in}
-use Rattle.bb_memory_base.specs.BumpLogs.{HasPositionFrom, CommonInterleaving, HasPositionUpTo, LogsAgree, call_in}
-use Rattle.bb_memory_base.specs.BumpLogs.{seen_in}
+use Rattle.bb_memory_base.specs.BumpLogs.{BumpLog, chunks_won, entry_of, losses_in, HasPositionFrom, CommonInterleaving}
+use Rattle.bb_memory_base.specs.BumpLogs.{HasPositionUpTo, LogsAgree, call_in, seen_in}
 use Rattle.bb_memory_base.specs.declared.layout.Layout.{Layout}
 use Rattle.bb_memory_base.specs.declared.steps.bump.BumpStep.{BumpStep}
 use Rattle.bb_memory_base.specs.declared.steps.bump.BumpStep.TheVariants.{Read, Exchange, Load}
@@ -25,7 +24,7 @@ use Rattle.bb_memory_core.specs.SharedBumpRule.{scene_of}
 pub record Tells (scene : BumpScene) (number : ℕ) (log : BumpLog) (met : ℕ) (step : BumpStep)
     (outcome : BumpOutcome) (found : ℕ) (new : Me ℕ SeatView) : Type 0 where
   pub seat : IsSeatOf scene number (log ++ entry_of step outcome ∷ []) new
-  pub still : met_by new.0 ≡ met
+  pub unchanged : met_by new.0 ≡ met
   pub seen : seen_in scene log ≤ found
   pub above : met ≤ found
   pub within : found ≤ scene.region.size
@@ -127,7 +126,7 @@ pub record IsCounted (scene : BumpScene) (log : BumpLog) (met : ℕ) (added : Bu
 pub record HasEnded (scene : BumpScene) (number : ℕ) (log : BumpLog) (met : ℕ) (added : BumpLog)
     (new : Me ℕ SeatView) : Type 0 where
   pub seat : IsSeatOfIdle scene number (log ++ added) new
-  pub still : met_by new.0 ≡ met
+  pub unchanged : met_by new.0 ≡ met
   pub counted : IsCounted scene log met added
 
 -- a request that won this chunk, which lies behind the party's floor; where the party is the only one, it is the one at what it

@@ -13,7 +13,7 @@ pub use crate::index_set::index_words::Counter;
 pub trait IndexSet: Drop {
     ghost use Rattle.std.specs.Prelude.{◌≡◌, ◌<◌, ◌↔◌, ℕ, Bool, true, false, List};
     ghost use Rattle.std.specs.Prelude.{length, min, slice_set, IsTrue, IfSome, IfNone};
-    ghost use Rattle.bb_memory_core.specs.NumberSet.{Has, Lacks, IsFull};
+    ghost use Rattle.bb_memory_core.specs.IndexSets.{Has, Lacks, IsFull};
 
     /// A flag for each number below the bound: whether it is in the set.
     ghost numbers: { Self → List Bool };
@@ -29,7 +29,7 @@ pub trait IndexSet: Drop {
         ensures taken { IfSome result (λ number. numbers self.new
             ≡ slice_set (numbers self.old) number true) }
         ensures full { IfNone result (IsFull (numbers self.old)) }
-        ensures still { IfNone result (numbers self.new ≡ numbers self.old) }
+        ensures unchanged { IfNone result (numbers self.new ≡ numbers self.old) }
         ensures counted { counter.new ≡ min (words (length (numbers self.old))) 1 };
 
     /// Takes a number, which has to be in the set, out of it, and no other.

@@ -1,8 +1,7 @@
 //! Loan books.
 ghost use Rattle.std.specs.Prelude.{◌≡◌, ◌↔◌, ◌<◌, ◌≤◌, ◌^◌, ℕ, false, [], List, Result};
 ghost use Rattle.std.specs.Prelude.{length, slice_get, Some, IfErr, IfOk, OnOk, OnErr, IfSome, IfNone, IsTrue};
-ghost use Rattle.bb_memory_base.specs.Chunk.{Chunk};
-ghost use Rattle.bb_memory_base.specs.LiveList.{IsSound};
+ghost use Rattle.bb_memory_base.specs.Chunk.{Chunk, IsSound};
 ghost use Rattle.loan_book.specs.Sample.{Sample, returns_to_come};
 ghost use Rattle.loan_book.specs.declared.error.LoanError.{LoanError};
 ghost use Rattle.loan_book.specs.Book.{Book, IsBook, IsAt, IsOut, HasReturns, IsPublished, IsUnpublished, chunks_out};
@@ -130,7 +129,7 @@ impl<A: Allocator> LoanBook<A> {
         ensures stands { StillStands A.stands_for A.geometry self.old self.new }
         ensures waits { OnOk result (HasReturns self.new.book id (Some readers)) }
         ensures same_allocator { self.new.allocator ≡ self.old.allocator }
-        ensures still { OnErr result (self.new ≡ self.old) }
+        ensures unchanged { OnErr result (self.new ≡ self.old) }
     {
         // Proof hint: brings the type's invariant into scope.
         let _ = &self.next;
@@ -160,7 +159,7 @@ impl<A: Allocator> LoanBook<A> {
         ensures stands { StillStands A.stands_for A.geometry self.old self.new }
         ensures same_allocator { IfOk result
             (λ left. left ≡ false → self.new.allocator ≡ self.old.allocator) }
-        ensures still { OnErr result (self.new ≡ self.old) }
+        ensures unchanged { OnErr result (self.new ≡ self.old) }
     {
         // Proof hint: brings the type's invariant into scope.
         let _ = &self.next;

@@ -1,9 +1,8 @@
 //! Calls of a loan book one after the other.
 ghost use Rattle.std.specs.Prelude.{◌≡◌, ◌+◌, ◌<◌, ◌↔◌, ℕ, Some, drop, length, slice_get, IfOk, OnOk, OnErr};
 ghost use Rattle.std.specs.List.{range_with_len};
-ghost use Rattle.bb_memory_base.specs.Run.{IsRun};
-ghost use Rattle.bb_memory_base.specs.LiveList.{IsSound};
-ghost use Rattle.bb_memory_base.specs.Chunk.{Chunk as GivenChunk};
+ghost use Rattle.bb_memory_base.specs.Object.{IsRun};
+ghost use Rattle.bb_memory_base.specs.Chunk.{IsSound, Chunk as GivenChunk};
 ghost use Rattle.loan_book.specs.Book.{chunks_out, IsBook, IsOut, HasReturns, IsUnpublished};
 ghost use Rattle.loan_book.specs.Runs.{BookStep, ids_in, returns_in, publishes_in};
 ghost use Rattle.loan_book.specs.declared.run.LoanCall.TheVariants.{Publish};
@@ -107,7 +106,7 @@ pub fn run_loans<A: Allocator>(
     ensures sound { OnOk result (IsSound (A.region_of (A.geometry book.old.allocator))
         (chunks_out book.new.book)) }
     ensures geometry { A.geometry book.new.allocator ≡ A.geometry book.old.allocator }
-    ensures still { OnErr result (book.new ≡ book.old) }
+    ensures unchanged { OnErr result (book.new ≡ book.old) }
 {
     book.law();
     let mut replies = Vec::with_capacity(alloc, calls.len())?;

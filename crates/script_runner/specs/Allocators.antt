@@ -2,13 +2,10 @@
 use Rattle.std.specs.Fmt.{decimal}
 use Rattle.std.specs.Prelude.{ℕ, ◌≡◌, List, [], codes, length, true, ◌-◌, ◌++◌, Option, Some, None}
 use Rattle.bb_memory_base.specs.BumpObject.{bump_object, StandsFor as BumpStandsFor}
-use Rattle.bb_memory_base.specs.Chunk.{Chunk, IsRegion, Region, region_at}
-use Rattle.bb_memory_base.specs.FirstPlace.{first_place}
+use Rattle.bb_memory_base.specs.Chunk.{Chunk, IsRegion, Region, region_at, first_place}
 use Rattle.bb_memory_base.specs.OneChunkObject.{one_chunk_object}
-use Rattle.bb_memory_base.specs.PoolGeometry.{PoolGeometry, IsCut, at_most}
-use Rattle.bb_memory_base.specs.PoolObject.{pool_object}
-use Rattle.bb_memory_base.specs.ResizableObject.{ResizableStep}
-use Rattle.bb_memory_base.specs.Run.{Step, IsRun}
+use Rattle.bb_memory_base.specs.PoolObject.{PoolGeometry, IsCut, at_most, pool_object}
+use Rattle.bb_memory_base.specs.Object.{ResizableStep, Step, IsRun}
 use Rattle.bb_memory_base.specs.declared.allocator.AllocationError.{AllocationError}
 use Rattle.bb_memory_base.specs.declared.allocator.AllocationError.TheVariants as refused
 use Rattle.bb_memory_base.specs.declared.allocator.AllocationGrowError.{AllocationGrowError}
@@ -20,7 +17,7 @@ use Rattle.bb_memory_base.specs.declared.allocator.Command.TheVariants.{Allocate
 use Rattle.bb_memory_base.specs.declared.allocator.Reply.{Reply}
 use Rattle.bb_memory_base.specs.declared.allocator.Reply.TheVariants as reply
 use Rattle.bb_memory_core.specs.Bump.{Bump, bump_text}
-use Rattle.bb_memory_core.specs.IndexWords.{index_words}
+use Rattle.bb_memory_core.specs.IndexSets.{index_words}
 use Rattle.bb_memory_core.specs.OneChunk.{OneChunk, StandsFor as OneChunkStandsFor}
 use Rattle.bb_memory_core.specs.Pool.{Pool, StandsFor as PoolStandsFor, fresh_pool, CountedPool, counted, reads_after, MayBeCut}
 use Rattle.script_runner.specs.Words.{Words, words, words_then, region_of, bounds_numbers, name_line}

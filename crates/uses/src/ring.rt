@@ -1,8 +1,7 @@
 //! Messages for several readers, each in a sample of a loan book.
 ghost use Rattle.std.specs.Prelude.{◌≡◌, ◌∷◌, ◌++◌, ◌<◌, ◌+◌, [], Some, Ok, IfSome, IfNone, IfOk, IfErr};
 ghost use Rattle.std.specs.Prelude.{OnErr, OnOk, get_or, length, slice_get};
-ghost use Rattle.bb_memory_base.specs.Chunk.{Chunk};
-ghost use Rattle.bb_memory_base.specs.LiveList.{IsSound};
+ghost use Rattle.bb_memory_base.specs.Chunk.{Chunk, IsSound};
 ghost use Rattle.bb_memory_base.specs.HeldBytes.{held_region};
 ghost use Rattle.loan_book.specs.Book.{Book, IsBook, chunks_out};
 ghost use Rattle.loan_book.specs.Calls.{with_sample};
@@ -106,7 +105,7 @@ impl<A: Allocator + Drop> MessageRing<A> {
             (A.may_allocate (A.geometry self.old.allocator) self.old.chunks)
             self.old.sent (length bytes.now)) }
         ensures unasked { IfErr result (λ error. IsUnasked error → self.new ≡ self.old) }
-        ensures still { OnErr result
+        ensures unchanged { OnErr result
             (self.new ≡ record self.old { allocator = self.new.allocator }) }
         ensures geometry { A.geometry self.new.allocator ≡ A.geometry self.old.allocator }
     {
@@ -169,7 +168,7 @@ fn loan_exactly<A: Allocator>(
         (chunks_out book.new.book) }
     ensures geometry { A.geometry book.new.allocator ≡ A.geometry book.old.allocator }
     ensures book { IsBook book.old.book }
-    ensures still { OnErr result (book.new.book ≡ book.old.book) }
+    ensures unchanged { OnErr result (book.new.book ≡ book.old.book) }
 {
     book.law();
     book.loan(size)

@@ -2,8 +2,7 @@ use Rattle.std.proofs.Common.{◌≡◌, ℕ, ◌<◌, ◌≤◌, ◌&&◌, List
 use Rattle.std.proofs.lemmas.Bool.{le-leb, lt-leb}
 use Rattle.std.proofs.lemmas.Option.{slice_get_within}
 use Rattle.bb_memory_base.specs.Chunk.{Chunk}
-use Rattle.bb_memory_base.specs.PoolGeometry.{PoolGeometry, bucket_place}
-use Rattle.bb_memory_base.specs.PoolObject.{IsWithin}
+use Rattle.bb_memory_base.specs.PoolObject.{PoolGeometry, bucket_place, IsWithin}
 use Rattle.bb_memory_base.specs.declared.layout.Layout.{Layout}
 use Rattle.bb_memory_core.specs.Pool.{pool_of, reads_of}
 use Rattle.bb_memory_core.proofs.pool_allocator.bucket_pool.take.Goals as goal
@@ -60,7 +59,7 @@ returns-in_default g c =
       taken = (
         within,
         c.in_default.ensures.full,
-        ap (λ (held : List Bool). pool_of geometry held) c.in_default.ensures.still,
+        ap (λ (held : List Bool). pool_of geometry held) c.in_default.ensures.unchanged,
       );
       reads = c.in_default.ensures.counted
           ∙ within_reads g.S.IndexSet.words _ geometry c.args.layout within c.requires.as_many;

@@ -1,6 +1,5 @@
 use Rattle.std.proofs.Common.{refl, subst}
-use Rattle.bb_memory_core.specs.Pool.{HoldsPlace}
-use Rattle.bb_memory_core.specs.PoolLaws.{held_place}
+use Rattle.bb_memory_core.specs.Pool.{HoldsPlace, held_place}
 use Rattle.bb_memory_core.proofs.PoolCalls.{FreesBucket-is, released-stands}
 use Rattle.bb_memory_core.proofs.pool_allocator.bucket_pool.BucketPool.deallocate_if_held.Goals as goal
 
@@ -25,5 +24,5 @@ returns-clause-released g c =
 pub returns-clause-given_back : goal.returns-clause-given_back
 returns-clause-given_back g c = (returns-clause-freed g c refl).given_back
 
-pub returns-clause-still_held : goal.returns-clause-still_held
-returns-clause-still_held g c = (returns-clause-freed g c refl).still_held
+pub returns-clause-others_kept : goal.returns-clause-others_kept
+returns-clause-others_kept g c = (returns-clause-freed g c refl).others_kept
