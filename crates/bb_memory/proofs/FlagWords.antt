@@ -1,14 +1,13 @@
 -- Each bucket of a shared pool has a word of its own, and what a step on that word makes of the flags.
-use Rattle.std.proofs.Common.{◌≡◌, ℕ, zero, suc, ◌<◌, List, [], ◌∷◌, set, get_or, replicate}
-use Rattle.std.proofs.Common.{Bool, true, false, Some, Option, refl, sym, ap, ◌∙◌, subst, arith}
+use Rattle.std.proofs.Common.{◌≡◌, ℕ, zero, suc, ◌<◌, List, [], ◌∷◌, set, get_or, replicate, Bool, true, false, Some, Option}
+use Rattle.std.proofs.Common.{refl, sym, ap, ◌∙◌, subst, arith}
 use Rattle.std.specs.Prelude.{slice_get, slice_set, unwrap_or}
 use Rattle.std.proofs.lemmas.Option.{slice_get_within, unwrap_or-slice_get}
 use Rattle.std.proofs.lemmas.List.{length-replicate}
 use native.Mathlib.Decide.{ℕ_discrete}
 use Rattle.atomic_table.specs.Table.{State, Me, Allows}
 use Rattle.bb_memory_base.proofs.SliceGets.{slice_get-replicate, slice_get-replicated, slice_get-set_other, slice_get-set_same}
-use Rattle.bb_memory.specs.FlagWords.{HaveFlags, as_word, bucket_of, word_of, words_for}
-use Rattle.bb_memory.specs.SharedPoolRule.{SeatView}
+use Rattle.bb_memory.specs.SharedPoolRule.{HaveFlags, as_word, bucket_of, word_of, words_for, SeatView}
 
 -- THE WORD OF A BUCKET
 

@@ -1,13 +1,13 @@
 -- What is detached: which buckets stand in the views of seats, and how they stay detached while parties step.
-use Rattle.std.proofs.Common.{◌≡◌, ◌≢◌, ℕ, zero, suc, ◌+◌, ◌≤◌, Bool, true, false, true≢false, List, [], ◌∷◌, ◌++◌, set}
-use Rattle.std.proofs.Common.{Some, eqb, refl, sym, ap, ◌∙◌, subst, arith, inl, inr}
+use Rattle.std.proofs.Common.{◌≡◌, ◌≢◌, ℕ, zero, suc, ◌+◌, ◌≤◌, Bool, true, false, true≢false, List, [], ◌∷◌, ◌++◌, set, Some}
+use Rattle.std.proofs.Common.{eqb, refl, sym, ap, ◌∙◌, subst, arith, inl, inr}
 use Rattle.std.specs.Prelude.{slice_get, slice_set, nat_lt, if◌then◌else◌}
 use Rattle.std.proofs.lemmas.Bool.{cases_eq}
 use Rattle.std.proofs.lemmas.Option.{same_Some}
 use mathlib.Core.Option.{some}
 use lib.ListN.{get_elem?}
-use Rattle.bb_memory_base.specs.PoolHistory.{PoolEntry, PoolLog}
-use Rattle.bb_memory_base.specs.PoolLogs.{HasLog, IsHeldAfter, IsDetachedAfter, held_after, loss_at, with_entry}
+use Rattle.bb_memory_base.specs.PoolLogs.{PoolEntry, PoolLog, HasLog, IsHeldAfter, IsDetachedAfter, held_after, loss_at}
+use Rattle.bb_memory_base.specs.PoolLogs.{with_entry}
 use Rattle.bb_memory_base.specs.declared.steps.pool.PoolOutcome.TheVariants.{Loses, RefusedAtLoss}
 use Rattle.bb_memory_base.proofs.PoolHolders.{held_through}
 use Rattle.bb_memory_base.proofs.PoolSteps.{test_apart}

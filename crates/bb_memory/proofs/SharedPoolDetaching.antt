@@ -3,16 +3,15 @@ use Rattle.std.proofs.Common.{◌≡◌, ℕ, ◌<◌, None, List, [], ◌∷◌
 use mathlib.Core.Option.{none}
 use Rattle.atomic_table.specs.Table.{Me, keeps, step, Allows}
 use Rattle.bb_memory_base.specs.PoolMachine.{PoolScene}
-use Rattle.bb_memory_base.specs.PoolHistory.{PoolEntry, PoolLog, entry_of}
-use Rattle.bb_memory_base.specs.PoolLogs.{HasLog, Interleaving, IsHeldAfter, IsDetachedAfter, LogsAgree, pass_in, with_entry}
+use Rattle.bb_memory_base.specs.PoolLogs.{PoolEntry, PoolLog, entry_of, HasLog, Interleaving, IsHeldAfter, IsDetachedAfter}
+use Rattle.bb_memory_base.specs.PoolLogs.{LogsAgree, pass_in, with_entry}
 use Rattle.bb_memory_base.specs.declared.steps.pool.PoolStep.TheVariants.{Detach, Attach}
 use Rattle.bb_memory_base.specs.declared.steps.pool.PoolOutcome.TheVariants.{Detaches, Attaches}
 use Rattle.bb_memory_base.proofs.PoolLogFacts.{interleaved_log}
 use Rattle.bb_memory_base.proofs.PoolLogSteps.{detach_agrees, detached_after, attach_agrees}
 use Rattle.bb_memory_base.proofs.SliceGets.{length-set_at, slice_get-set_same}
-use Rattle.bb_memory.specs.FlagWords.{HaveFlags, word_of}
+use Rattle.bb_memory.specs.SharedPoolRule.{HaveFlags, word_of, SeatView, WordsAndLogsAgree}
 use Rattle.bb_memory_core.specs.Seats.{alone, alone_with, number_of, view_log}
-use Rattle.bb_memory.specs.SharedPoolRule.{SeatView, WordsAndLogsAgree}
 use Rattle.bb_memory.specs.SharedPoolSteps.{HasAttachedAt, TellsDetach, detaches, attaches}
 use Rattle.bb_memory.proofs.FlagWords.{at_word}
 use Rattle.bb_memory_core.proofs.Seatings.{seated_with}

@@ -1,23 +1,21 @@
 -- Each atomic step keeps words and logs in agreement.
-use Rattle.std.proofs.Common.{◌≡◌, ◌≢◌, ℕ, zero, suc, ◌<◌, List, [], ◌∷◌, ◌++◌, length, set, Bool}
-use Rattle.std.proofs.Common.{true, false, None, Some, eqb, refl, sym, ◌∙◌, subst, arith, suc-ne-zero}
+use Rattle.std.proofs.Common.{◌≡◌, ◌≢◌, ℕ, zero, suc, ◌<◌, List, [], ◌∷◌, ◌++◌, length, set, Bool, true, false, None, Some, eqb}
+use Rattle.std.proofs.Common.{refl, sym, ◌∙◌, subst, arith, suc-ne-zero}
 use Rattle.std.specs.Prelude.{slice_get, slice_set}
 use mathlib.Core.Option.{none, some}
 use lib.ListN.{get_elem?}
 use prog.Atomic.{either}
 use Rattle.atomic_table.specs.Table.{State, Me, Act, keeps, step, stepped, carried_after, Valid, Allows}
 use Rattle.bb_memory_base.specs.PoolMachine.{PoolScene}
-use Rattle.bb_memory_base.specs.PoolHistory.{PoolEntry, PoolLog, entry_of}
-use Rattle.bb_memory_base.specs.PoolLogs.{HasLog, IsHeldAfter, IsDetachedAfter, LogsAgree, held_after, loss_at, next_bucket}
-use Rattle.bb_memory_base.specs.PoolLogs.{pass_in, with_entry}
+use Rattle.bb_memory_base.specs.PoolLogs.{PoolEntry, PoolLog, entry_of, HasLog, IsHeldAfter, IsDetachedAfter, LogsAgree}
+use Rattle.bb_memory_base.specs.PoolLogs.{held_after, loss_at, next_bucket, pass_in, with_entry}
 use Rattle.bb_memory_base.specs.declared.steps.pool.PoolStep.TheVariants.{Try, GiveBack, TryAt}
 use Rattle.bb_memory_base.specs.declared.steps.pool.PoolOutcome.TheVariants.{Takes, Gives, Misses}
 use Rattle.bb_memory_base.proofs.PoolLogSteps.{give_agrees, lose_agrees, miss_agrees, take_agrees, take_at_agrees}
 use Rattle.bb_memory_base.proofs.PoolLogFacts.{free_not_held, held_is_taken, taken_is_held_alone, length-flags, interleaved_log}
 use Rattle.bb_memory_base.proofs.SliceGets.{slice_get-set_same, length-set_at}
-use Rattle.bb_memory.specs.FlagWords.{HaveFlags, as_word, bucket_of, word_of}
+use Rattle.bb_memory.specs.SharedPoolRule.{HaveFlags, as_word, bucket_of, word_of, IsSeatOf, SeatView, WordsAndLogsAgree}
 use Rattle.bb_memory_core.specs.Seats.{alone, number_of, view_log}
-use Rattle.bb_memory.specs.SharedPoolRule.{IsSeatOf, SeatView, WordsAndLogsAgree}
 use Rattle.bb_memory.specs.SharedPoolSteps.{TellsReturn, TellsTry, TellsTryAt, returns, tries, tries_at}
 use Rattle.bb_memory.proofs.FlagWords.{at_word, changed, found_in, taken_again}
 use Rattle.bb_memory_core.proofs.Seatings.{seated_step}

@@ -1,16 +1,14 @@
 -- What a party's history says.
-use Rattle.std.proofs.Common.{◌≡◌, ◌≢◌, ℕ, zero, suc, ◌+◌, ◌<◌, ◌≤◌, Bool, true, false, List, [], ◌∷◌, ◌++◌}
-use Rattle.std.proofs.Common.{Some, take, sym, ◌∙◌, ap, subst, add-one, append_assoc, arith, inl, inr, ◌⊎◌}
+use Rattle.std.proofs.Common.{◌≡◌, ◌≢◌, ℕ, zero, suc, ◌+◌, ◌<◌, ◌≤◌, Bool, true, false, List, [], ◌∷◌, ◌++◌, Some, take, sym, ◌∙◌}
+use Rattle.std.proofs.Common.{ap, subst, add-one, append_assoc, arith, inl, inr, ◌⊎◌}
 use Rattle.std.specs.Prelude.{filter, if◌then◌else◌, slice_get}
 use Rattle.std.proofs.lemmas.Bool.{cases_Bool, cases_lt, le-ltb}
 use Rattle.std.proofs.lemmas.Option.{slice_get_within}
 use Rattle.bb_memory_base.specs.Chunk.{AreApart, Chunk}
-use Rattle.bb_memory_base.specs.PoolGeometry.{PoolGeometry, IsPoolGeometry, bucket_place}
-use Rattle.bb_memory_base.specs.PoolObject.{IsHeld}
+use Rattle.bb_memory_base.specs.PoolObject.{PoolGeometry, IsPoolGeometry, bucket_place, IsHeld}
 use Rattle.bb_memory_base.specs.PoolMachine.{PoolScene, IsHolder, left_by}
-use Rattle.bb_memory_base.specs.PoolHistory.{PoolEntry, PoolLog, entries_by, entry_of, history_of, is_by, log_of}
-use Rattle.bb_memory_base.specs.PoolCalls.{IsPoolRun, IsRefusedAt, MissesAt}
-use Rattle.bb_memory_base.specs.PoolLogs.{IsHeldAfter, loss_at}
+use Rattle.bb_memory_base.specs.PoolLogs.{PoolEntry, PoolLog, entries_by, entry_of, history_of, is_by, log_of, IsPoolRun}
+use Rattle.bb_memory_base.specs.PoolLogs.{IsRefusedAt, MissesAt, IsHeldAfter, loss_at}
 use Rattle.bb_memory_base.specs.declared.steps.pool.Flag.TheVariants.{HeldBy}
 use Rattle.bb_memory_base.specs.declared.steps.pool.PoolStep.{PoolStep}
 use Rattle.bb_memory_base.specs.declared.steps.pool.PoolStep.TheVariants.{Try, TryAt}
@@ -23,8 +21,8 @@ use Rattle.bb_memory_base.proofs.PoolPasses.{missed_is_held, refused_found_held}
 use Rattle.bb_memory_base.proofs.PoolRuns.{taken_is_held}
 use Rattle.bb_memory_base.proofs.PoolSteps.{length-left_by}
 use Rattle.bb_memory_core.specs.Pool.{AreAStrideApart}
-use Rattle.bb_memory.specs.SharedPool.{AreInterleaved, HasFoundAllHeld, IsHistoryRun, IsParty, PoolParty}
-use Rattle.bb_memory.specs.SharedPool.{SharedPool, TakenBucket, chunk_of, losses, refused_pass}
+use Rattle.bb_memory.specs.SharedPool.{AreInterleaved, HasFoundAllHeld, IsHistoryRun, IsParty, PoolParty, SharedPool, TakenBucket}
+use Rattle.bb_memory.specs.SharedPool.{chunk_of, losses, refused_pass}
 use Rattle.bb_memory.specs.SharedPoolNextFit.{HasMissedAll, probed, miss_at, misses, refused_search}
 use Rattle.bb_memory.proofs.SharedPoolNextFit.{probe_at}
 

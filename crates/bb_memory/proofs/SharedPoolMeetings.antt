@@ -5,7 +5,7 @@ use lib.ListN.{get_elem?}
 use Rattle.atomic_table.specs.Table.{State, Me, keeps, step, Allows}
 use Rattle.atomic_table.proofs.Lists.{set_again}
 use Rattle.bb_memory_base.specs.PoolMachine.{PoolScene}
-use Rattle.bb_memory_base.specs.PoolHistory.{PoolLog}
+use Rattle.bb_memory_base.specs.PoolLogs.{PoolLog}
 use Rattle.bb_memory_base.proofs.PoolLogFacts.{logs_apart, interleaved_logs}
 use Rattle.bb_memory_core.specs.Seats.{numbered, standing_for}
 use Rattle.bb_memory.specs.SharedPoolRule.{NumberedLog, SeatView, WordsAndLogsAgree}

@@ -1,14 +1,13 @@
 -- How a search goes on: from its first exchange to the step that ends it.
-use Rattle.std.proofs.Common.{◌≡◌, ℕ, zero, suc, ◌+◌, ◌-◌, ◌<◌, ◌≤◌, ◌%◌, Bool, true, false, ◌++◌, append_assoc}
-use Rattle.std.proofs.Common.{append-nil, add-one, refl, sym, ap, ◌∙◌, subst, arith, Some, None, inl, inr}
+use Rattle.std.proofs.Common.{◌≡◌, ℕ, zero, suc, ◌+◌, ◌-◌, ◌<◌, ◌≤◌, ◌%◌, Bool, true, false, ◌++◌, append_assoc, append-nil}
+use Rattle.std.proofs.Common.{add-one, refl, sym, ap, ◌∙◌, subst, arith, Some, None, inl, inr}
 use Rattle.std.specs.Prelude.{◌==◌, if◌then◌else◌}
 use Rattle.std.proofs.lemmas.Bool.{cases_lt}
 use Rattle.std.proofs.Math.Nat.{add-mod_left, mod-eq_of_lt}
 use borrow.Author.Count.{below_more}
 use Rattle.atomic_table.specs.Table.{Me}
 use Rattle.bb_memory_base.specs.PoolMachine.{PoolScene}
-use Rattle.bb_memory_base.specs.PoolHistory.{PoolLog}
-use Rattle.bb_memory_base.specs.PoolLogs.{IsHeldAfter}
+use Rattle.bb_memory_base.specs.PoolLogs.{PoolLog, IsHeldAfter}
 use Rattle.bb_memory_core.specs.Seats.{number_of, view_log}
 use Rattle.bb_memory.specs.SharedPoolNextFit.{probed, miss_at, misses, start_of, refused_search, taking_at, taking_search}
 use Rattle.bb_memory.specs.SharedPoolRule.{IsSeatOfIdle, SeatView}

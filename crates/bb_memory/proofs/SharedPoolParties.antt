@@ -4,8 +4,7 @@ use Rattle.std.proofs.lemmas.List.Elements.{All-nil}
 use Rattle.atomic_table.specs.Seated.{TableId}
 use Rattle.atomic_table.specs.Table.{Me}
 use Rattle.bb_memory_base.specs.PoolMachine.{PoolScene}
-use Rattle.bb_memory_base.specs.PoolHistory.{PoolEntry, PoolLog, entry_of}
-use Rattle.bb_memory_base.specs.PoolLogs.{IsAllowed}
+use Rattle.bb_memory_base.specs.PoolLogs.{PoolEntry, PoolLog, entry_of, IsAllowed}
 use Rattle.bb_memory_base.specs.declared.steps.pool.PoolStep.TheVariants.{Detach}
 use Rattle.bb_memory_base.specs.declared.steps.pool.PoolOutcome.TheVariants.{Detaches}
 use Rattle.bb_memory_core.specs.Seats.{alone, number_of, view_log}

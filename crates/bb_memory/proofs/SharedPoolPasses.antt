@@ -1,11 +1,10 @@
 -- How a pass goes on: from its first exchange to the step that ends it.
-use Rattle.std.proofs.Common.{◌≡◌, ℕ, ◌+◌, ◌<◌, [], ◌∷◌, ◌++◌, append_assoc, append-nil}
-use Rattle.std.proofs.Common.{add-one, refl, sym, ap, ◌∙◌, subst, arith, Some, None}
+use Rattle.std.proofs.Common.{◌≡◌, ℕ, ◌+◌, ◌<◌, [], ◌∷◌, ◌++◌, append_assoc, append-nil, add-one, refl, sym, ap, ◌∙◌, subst}
+use Rattle.std.proofs.Common.{arith, Some, None}
 use borrow.Author.Count.{below_more}
 use Rattle.atomic_table.specs.Table.{Me}
 use Rattle.bb_memory_base.specs.PoolMachine.{PoolScene}
-use Rattle.bb_memory_base.specs.PoolHistory.{PoolEntry, PoolLog, entry_of}
-use Rattle.bb_memory_base.specs.PoolLogs.{IsHeldAfter, loss_at, next_bucket, pass_in}
+use Rattle.bb_memory_base.specs.PoolLogs.{PoolEntry, PoolLog, entry_of, IsHeldAfter, loss_at, next_bucket, pass_in}
 use Rattle.bb_memory_base.specs.declared.steps.pool.PoolStep.TheVariants.{Try}
 use Rattle.bb_memory_base.specs.declared.steps.pool.PoolOutcome.TheVariants.{Takes}
 use Rattle.bb_memory_core.specs.Seats.{number_of, view_log}
@@ -13,8 +12,7 @@ use Rattle.bb_memory.specs.SharedPool.{AreAllHeldAfter, losses, refused_pass, ta
 use Rattle.bb_memory.specs.SharedPoolRule.{IsSeatOf, SeatView}
 use Rattle.bb_memory.specs.SharedPoolSteps.{HasRefused, HasTaken, TellsLoss, TellsTaking}
 use Rattle.bb_memory.proofs.SharedPoolRequests.{HasAsked}
-use Rattle.bb_memory.proofs.SharedPoolTries.{held-taking, idle_after_refusal}
-use Rattle.bb_memory.proofs.SharedPoolTries.{idle_after_taking, next_after_losses, same_held}
+use Rattle.bb_memory.proofs.SharedPoolTries.{held-taking, idle_after_refusal, idle_after_taking, next_after_losses, same_held}
 
 -- a pass under way: since it began, the seat's party has lost at the buckets below this one
 pub record IsPassing (scene : PoolScene) (number : ℕ) (log : PoolLog) (bucket : ℕ) (me : Me ℕ SeatView) : Type 0 where

@@ -5,11 +5,10 @@ use Rattle.std.proofs.lemmas.List.{length-replicate}
 use Rattle.std.proofs.lemmas.List.Elements.{All-replicate}
 use Rattle.atomic_table.specs.Table.{Splits, Joins, State, opening}
 use Rattle.bb_memory_base.specs.PoolMachine.{PoolScene}
-use Rattle.bb_memory_base.specs.PoolHistory.{PoolEntry, PoolLog}
+use Rattle.bb_memory_base.specs.PoolLogs.{PoolEntry, PoolLog}
 use Rattle.bb_memory_base.proofs.PoolLogSteps.{opening_agrees}
-use Rattle.bb_memory.specs.FlagWords.{HaveFlags, words_for}
+use Rattle.bb_memory.specs.SharedPoolRule.{HaveFlags, words_for, AreDetached, SeatView, WordsAndLogsAgree, all_parties, nobody}
 use Rattle.bb_memory_core.specs.Seats.{AreSeated, both_detached, both_of, first_detached, first_of, others_detached, others_of}
-use Rattle.bb_memory.specs.SharedPoolRule.{AreDetached, SeatView, WordsAndLogsAgree, all_parties, nobody}
 use Rattle.bb_memory.proofs.FlagWords.{all_free}
 use Rattle.bb_memory_core.proofs.Seatings.{seated_joined, seated_opening, seated_others, seated_split}
 use Rattle.bb_memory.proofs.SharedPoolDetached.{both_parts, times_of-parts, detached_joined, detached_split}

@@ -8,8 +8,7 @@ use Rattle.std.proofs.lemmas.List.Elements.{All-append, All-cons, All-contains, 
 use Rattle.bb_memory_base.specs.Chunk.{Chunk}
 use Rattle.bb_memory_base.specs.PoolObject.{IsHeld}
 use Rattle.bb_memory_base.specs.PoolMachine.{IsDetached, PoolScene, left_by, opening_state, pool_step}
-use Rattle.bb_memory_base.specs.PoolCalls.{IsPoolRun}
-use Rattle.bb_memory_base.specs.PoolHistory.{PoolEntry, PoolLog, entry_of, history_of, is_by, log_of, pool_history}
+use Rattle.bb_memory_base.specs.PoolLogs.{IsPoolRun, PoolEntry, PoolLog, entry_of, history_of, is_by, log_of, pool_history}
 use Rattle.bb_memory_base.specs.PoolLogs.{AllAllowed, HasLog, IsHeldAfter, loss_at}
 use Rattle.bb_memory_base.specs.declared.layout.Layout.{Layout}
 use Rattle.bb_memory_base.specs.declared.steps.pool.PoolStep.{PoolStep}

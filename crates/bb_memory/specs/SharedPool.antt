@@ -1,20 +1,18 @@
 -- A shared pool, its parties and the buckets that they took, as their contracts see them, and what each call adds to its
 -- party's log.
-use Rattle.std.specs.Prelude.{◌≡◌, ◌≢◌, ℕ, zero, suc, ◌<◌, ◌≤◌, List, [], ◌∷◌, ◌++◌, None, Result, Ok, Err, ◌+◌, take}
-use Rattle.std.specs.Prelude.{◌↔◌, ◌⊎◌, ◌%◌, All, Any, Bool, true, Contains, IfOk, IsErr, OnErr, Some, length, map, slice_get}
+use Rattle.std.specs.Prelude.{◌≡◌, ◌≢◌, ℕ, zero, suc, ◌<◌, ◌≤◌, List, [], ◌∷◌, ◌++◌, None, Result, Ok, Err, ◌+◌, take, ◌↔◌, ◌⊎◌}
+use Rattle.std.specs.Prelude.{◌%◌, All, Any, Bool, true, Contains, IfOk, IsErr, OnErr, Some, length, map, slice_get}
 use Rattle.atomic_table.specs.Seated.{TableId}
 use Rattle.bb_memory_base.specs.Chunk.{Chunk, IsInside}
-use Rattle.bb_memory_base.specs.PoolGeometry.{PoolGeometry, IsPoolGeometry, bucket_place}
-use Rattle.bb_memory_base.specs.PoolObject.{IsWithin}
+use Rattle.bb_memory_base.specs.PoolObject.{PoolGeometry, IsPoolGeometry, bucket_place, IsWithin}
 use Rattle.bb_memory_base.specs.PoolMachine.{IsDetached, PoolScene, left_by}
-use Rattle.bb_memory_base.specs.PoolHistory.{PoolLog, entries_by, entry_of, history_of}
-use Rattle.bb_memory_base.specs.PoolCalls.{FoundHeld, IsPoolRun, IsRefusedAt}
-use Rattle.bb_memory_base.specs.PoolLogs.{CommonInterleaving, WasDetached, HasLog, Interleaving, IsHeldAfter, LogsAgree}
-use Rattle.bb_memory_base.specs.PoolLogs.{loss_at, pass_in}
+use Rattle.bb_memory_base.specs.PoolLogs.{PoolLog, entries_by, entry_of, history_of, FoundHeld, IsPoolRun, IsRefusedAt}
+use Rattle.bb_memory_base.specs.PoolLogs.{CommonInterleaving, WasDetached, HasLog, Interleaving, IsHeldAfter, LogsAgree, loss_at}
+use Rattle.bb_memory_base.specs.PoolLogs.{pass_in}
 use Rattle.bb_memory_base.specs.declared.layout.Layout.{Layout}
 use Rattle.bb_memory_base.specs.declared.allocator.AllocationError.{AllocationError}
-use Rattle.bb_memory_base.specs.declared.allocator.AllocationError.TheVariants.{SizeIsZero, SizeTooLarge}
-use Rattle.bb_memory_base.specs.declared.allocator.AllocationError.TheVariants.{AlignmentFailure, OutOfMemory}
+use Rattle.bb_memory_base.specs.declared.allocator.AllocationError.TheVariants.{SizeIsZero, SizeTooLarge, AlignmentFailure}
+use Rattle.bb_memory_base.specs.declared.allocator.AllocationError.TheVariants.{OutOfMemory}
 use Rattle.bb_memory_base.specs.declared.steps.pool.PoolStep.{PoolStep}
 use Rattle.bb_memory_base.specs.declared.steps.pool.PoolStep.TheVariants.{Try, GiveBack, Detach, Attach}
 use Rattle.bb_memory_base.specs.declared.steps.pool.PoolOutcome.{PoolOutcome}

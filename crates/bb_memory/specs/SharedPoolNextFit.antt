@@ -1,15 +1,14 @@
 -- Next fit: requests of a shared pool's party that probe each bucket from the party's hint on, what they add to the party's log,
 -- and what they may be answered.
-use Rattle.std.specs.Prelude.{◌≡◌, ℕ, zero, suc, ◌+◌, ◌*◌, ◌/◌, ◌%◌, ◌<◌, ◌≤◌, nat_lt, if◌then◌else◌, [], ◌∷◌, ◌++◌}
-use Rattle.std.specs.Prelude.{Result, Ok, Err, fold, take}
+use Rattle.std.specs.Prelude.{◌≡◌, ℕ, zero, suc, ◌+◌, ◌*◌, ◌/◌, ◌%◌, ◌<◌, ◌≤◌, nat_lt, if◌then◌else◌, [], ◌∷◌, ◌++◌, Result, Ok}
+use Rattle.std.specs.Prelude.{Err, fold, take}
 use Rattle.bb_memory_base.specs.PoolObject.{IsWithin}
 use Rattle.bb_memory_base.specs.PoolMachine.{PoolScene}
-use Rattle.bb_memory_base.specs.PoolHistory.{PoolLog, entries_by, entry_of, history_of}
-use Rattle.bb_memory_base.specs.PoolCalls.{IsHeldInRun, MissesAt}
+use Rattle.bb_memory_base.specs.PoolLogs.{PoolLog, entries_by, entry_of, history_of, IsHeldInRun, MissesAt}
 use Rattle.bb_memory_base.specs.declared.layout.Layout.{Layout}
 use Rattle.bb_memory_base.specs.declared.allocator.AllocationError.{AllocationError}
-use Rattle.bb_memory_base.specs.declared.allocator.AllocationError.TheVariants.{SizeIsZero, SizeTooLarge}
-use Rattle.bb_memory_base.specs.declared.allocator.AllocationError.TheVariants.{AlignmentFailure, OutOfMemory}
+use Rattle.bb_memory_base.specs.declared.allocator.AllocationError.TheVariants.{SizeIsZero, SizeTooLarge, AlignmentFailure}
+use Rattle.bb_memory_base.specs.declared.allocator.AllocationError.TheVariants.{OutOfMemory}
 use Rattle.bb_memory_base.specs.declared.steps.pool.PoolStep.TheVariants.{TryAt}
 use Rattle.bb_memory_base.specs.declared.steps.pool.PoolOutcome.{PoolOutcome}
 use Rattle.bb_memory_base.specs.declared.steps.pool.PoolOutcome.TheVariants.{Takes, Misses, Gives}

@@ -4,15 +4,13 @@ use Rattle.std.specs.Prelude.{◌≡◌, ◌≢◌, ℕ, ◌<◌, ◌≤◌, Boo
 use Rattle.atomic_table.specs.Seated.{TableId}
 use Rattle.atomic_table.specs.Table.{Me, Step}
 use Rattle.bb_memory_base.specs.PoolMachine.{PoolScene}
-use Rattle.bb_memory_base.specs.PoolHistory.{PoolLog, entry_of}
-use Rattle.bb_memory_base.specs.PoolLogs.{CommonInterleaving, Interleaving, IsHeldAfter, LogsAgree, loss_at}
+use Rattle.bb_memory_base.specs.PoolLogs.{PoolLog, entry_of, CommonInterleaving, Interleaving, IsHeldAfter, LogsAgree, loss_at}
 use Rattle.bb_memory_base.specs.declared.steps.pool.PoolStep.TheVariants.{Try}
 use Rattle.bb_memory_base.specs.declared.steps.pool.PoolOutcome.TheVariants.{Takes}
-use Rattle.bb_memory.specs.FlagWords.{bucket_of}
+use Rattle.bb_memory.specs.SharedPoolRule.{bucket_of, IsSeatOf, IsSeatOfIdle, NumberedLog, SeatView}
 use Rattle.bb_memory_core.specs.Seats.{HaveLogs, alone_with, number_of, times_in, view_log}
 use Rattle.bb_memory.specs.SharedPool.{AreAllHeldAfter, detach_entry, refused_pass, return_entry, attach_entry, taking_pass}
 use Rattle.bb_memory.specs.SharedPoolNextFit.{probed, miss_at, refused_search, taking_at, taking_search}
-use Rattle.bb_memory.specs.SharedPoolRule.{IsSeatOf, IsSeatOfIdle, NumberedLog, SeatView}
 
 -- WHAT A STEP TELLS
 

@@ -1,17 +1,10 @@
 //! Pools that threads share: each call takes its pool by `&`, and steps on one atomic flag for each bucket.
-ghost use Rattle.std.specs.Prelude.{◌≡◌, ◌≢◌, ◌<◌, ◌≤◌, ℕ, List};
-ghost use Rattle.std.specs.Prelude.{IfOk, IfErr, ◌++◌, ◌⊎◌};
-ghost use Rattle.bb_memory_base.specs.Chunk.{region_at, AreApart, Chunk};
-ghost use Rattle.bb_memory_base.specs.LiveList.{IsSound};
-ghost use Rattle.bb_memory_base.specs.FirstPlace.{first_place};
-ghost use Rattle.bb_memory_base.specs.PoolGeometry.{IsCut};
-ghost use Rattle.bb_memory_base.specs.PoolObject.{IsHeld};
-ghost use Rattle.bb_memory_base.specs.PoolCalls.{AreAsked, IsPoolRun};
-ghost use Rattle.bb_memory_base.specs.PoolHistory.{PoolLog};
-ghost use Rattle.bb_memory_base.specs.PoolLogs.{IsHeldAfter};
+ghost use Rattle.std.specs.Prelude.{◌≡◌, ◌≢◌, ◌<◌, ◌≤◌, ℕ, List, IfOk, IfErr, ◌++◌, ◌⊎◌};
+ghost use Rattle.bb_memory_base.specs.Chunk.{region_at, AreApart, Chunk, IsSound, first_place};
+ghost use Rattle.bb_memory_base.specs.PoolObject.{IsCut, IsHeld};
+ghost use Rattle.bb_memory_base.specs.PoolLogs.{AreAsked, IsPoolRun, PoolLog, IsHeldAfter};
 ghost use Rattle.bb_memory_base.specs.declared.layout.Layout.{Layout};
-ghost use Rattle.bb_memory_core.specs.HeldBuckets.{IsCutAtMost};
-ghost use Rattle.bb_memory_core.specs.Pool.{AreAStrideApart, MayBeCut};
+ghost use Rattle.bb_memory_core.specs.Pool.{IsCutAtMost, AreAStrideApart, MayBeCut};
 ghost use Rattle.bb_memory.specs.SharedPool.{AreFresh, AreInterleaved, HasFoundAllHeld, IsHistoryRun};
 ghost use Rattle.bb_memory.specs.SharedPool.{IsParty, PoolParty, TakenBucket, chunk_of, refused_pass};
 ghost use Rattle.bb_memory.specs.SharedPoolNextFit.{HasMissedAll, refused_search};

@@ -1,18 +1,17 @@
 -- Lists of steps that are all allowed: they have no clear, and no step of a party that isn't there.
-use Rattle.std.proofs.Common.{◌≡◌, ◌≢◌, ℕ, ◌<◌, ◌≤◌, List, [], ◌∷◌, length, refl, sym, ap, ◌∙◌, arith, Bool, true, false}
-use Rattle.std.proofs.Common.{Option, Some, None}
+use Rattle.std.proofs.Common.{◌≡◌, ◌≢◌, ℕ, ◌<◌, ◌≤◌, List, [], ◌∷◌, length, refl, sym, ap, ◌∙◌, arith, Bool, true, false, Option}
+use Rattle.std.proofs.Common.{Some, None}
 use Rattle.std.specs.Prelude.{slice_get, if◌then◌else◌, is_some}
 use Rattle.std.proofs.lemmas.List.{length-replicate}
 use Rattle.std.proofs.lemmas.List.Elements.{All-head, All-nil, All-tail}
 use Rattle.bb_memory_base.specs.Chunk.{Region}
 use Rattle.bb_memory_base.specs.BumpMachine.{OngoingCall, BumpState, BumpMove, BumpScene, opening_state, bump_step, BumpStep}
 use Rattle.bb_memory_base.specs.BumpMachine.{Read, Exchange, Load, Clear}
-use Rattle.bb_memory_base.specs.BumpHistory.{BumpEntry, BumpLog, entry_at, bump_history}
-use Rattle.bb_memory_base.specs.BumpHistory.{history_of, is_by, entries_by, log_of, HasNoClear}
-use Rattle.bb_memory_base.specs.BumpLogs.{IsAllowed, AllAllowed}
+use Rattle.bb_memory_base.specs.BumpLogs.{BumpEntry, BumpLog, entry_at, bump_history, history_of, is_by, entries_by, log_of}
+use Rattle.bb_memory_base.specs.BumpLogs.{HasNoClear, IsAllowed, AllAllowed}
 use Rattle.bb_memory_base.proofs.SliceGets.{length-set_at, slice_get-some}
-use Rattle.bb_memory_base.proofs.BumpSteps.{same_from_test, test_same, StepView, step_view, sees, refuses_read}
-use Rattle.bb_memory_base.proofs.BumpSteps.{wins, loses, refuses_loss, loads, clears, passes}
+use Rattle.bb_memory_base.proofs.BumpSteps.{same_from_test, test_same, StepView, step_view, sees, refuses_read, wins, loses}
+use Rattle.bb_memory_base.proofs.BumpSteps.{refuses_loss, loads, clears, passes}
 
 -- no step at all is allowed
 pub none_allowed : AllAllowed []

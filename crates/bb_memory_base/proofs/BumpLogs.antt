@@ -1,6 +1,6 @@
 -- A party's log says what the party is in, and a step adds to it alone.
-use Rattle.std.proofs.Common.{◌≡◌, ◌≢◌, ℕ, ◌<◌, List, [], ◌∷◌, ◌++◌, refl, sym}
-use Rattle.std.proofs.Common.{ap, ◌∙◌, subst, arith, Bool, true, false, Option, Some, None}
+use Rattle.std.proofs.Common.{◌≡◌, ◌≢◌, ℕ, ◌<◌, List, [], ◌∷◌, ◌++◌, refl, sym, ap, ◌∙◌, subst, arith, Bool, true, false, Option}
+use Rattle.std.proofs.Common.{Some, None}
 use Rattle.std.specs.Prelude.{slice_get, ◌==◌, if◌then◌else◌, option_map}
 use Rattle.std.specs.List.{All}
 use Rattle.std.proofs.lemmas.List.Elements.{All-push}
@@ -10,15 +10,14 @@ use Rattle.bb_memory_base.specs.BumpMachine.{OngoingCall, BumpState, BumpMove, B
 use Rattle.bb_memory_base.specs.BumpMachine.{position_behind, read_move, exchange_move, ending, seeing, passed, moved, read}
 use Rattle.bb_memory_base.specs.BumpMachine.{exchange, load, bump_step, bump_after, left_by, BumpStep, Read, Exchange, Load, Sees}
 use Rattle.bb_memory_base.specs.BumpMachine.{RefusedAtRead, Wins, Loses, RefusedAtLoss, Loaded}
-use Rattle.bb_memory_base.specs.BumpHistory.{BumpEntry, BumpLog, entry_of, entry_at}
-use Rattle.bb_memory_base.specs.BumpHistory.{bump_history, history_of, is_by, entries_by, log_of}
-use Rattle.bb_memory_base.specs.BumpLogs.{seen_at, call_after, call_through, call_in}
-use Rattle.bb_memory_base.specs.BumpLogs.{IsAllowed, AllAllowed, HasLog, LogsAgree, with_entry}
+use Rattle.bb_memory_base.specs.BumpLogs.{BumpEntry, BumpLog, entry_of, entry_at, bump_history, history_of, is_by, entries_by}
+use Rattle.bb_memory_base.specs.BumpLogs.{log_of, seen_at, call_after, call_through, call_in, IsAllowed, AllAllowed, HasLog}
+use Rattle.bb_memory_base.specs.BumpLogs.{LogsAgree, with_entry}
 use Rattle.bb_memory_base.proofs.SliceGets.{slice_get-replicate}
 use Rattle.bb_memory_base.proofs.Logs.{logs-push}
 use Rattle.bb_memory_base.proofs.BumpAllowed.{none_allowed}
-use Rattle.bb_memory_base.proofs.BumpSteps.{same_from_test, test_same, test_apart, StepView, step_view, sees, refuses_read}
-use Rattle.bb_memory_base.proofs.BumpSteps.{wins, loses, refuses_loss, loads, clears, passes, others_stay, written}
+use Rattle.bb_memory_base.proofs.BumpSteps.{same_from_test, test_same, test_apart, StepView, step_view, sees, refuses_read, wins}
+use Rattle.bb_memory_base.proofs.BumpSteps.{loses, refuses_loss, loads, clears, passes, others_stay, written}
 
 -- THE CALL OF A PARTY
 

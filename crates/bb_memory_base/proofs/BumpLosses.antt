@@ -1,18 +1,18 @@
 -- How often a party loses while no clear comes.
-use Rattle.std.proofs.Common.{◌≡◌, ◌≢◌, ℕ, ◌+◌, ◌<◌, ◌≤◌, List, [], ◌∷◌, ◌++◌, refl}
-use Rattle.std.proofs.Common.{sym, ap, ◌∙◌, subst, arith, Bool, true, false, Some, None}
+use Rattle.std.proofs.Common.{◌≡◌, ◌≢◌, ℕ, ◌+◌, ◌<◌, ◌≤◌, List, [], ◌∷◌, ◌++◌, refl, sym, ap, ◌∙◌, subst, arith, Bool, true}
+use Rattle.std.proofs.Common.{false, Some, None}
 use Rattle.std.specs.Prelude.{if◌then◌else◌, count_by}
 use Rattle.std.proofs.lemmas.List.Sums.{sum_by-cons}
 use Rattle.std.proofs.lemmas.Option.{same_Some}
 use Rattle.bb_memory_base.specs.Chunk.{Region}
 use Rattle.bb_memory_base.specs.BumpMachine.{OngoingCall, BumpState, BumpMove, BumpScene, IsIdle, IsInCall, opening_state}
 use Rattle.bb_memory_base.specs.BumpMachine.{bump_step, bump_after, left_by, BumpStep, Exchange}
-use Rattle.bb_memory_base.specs.BumpHistory.{BumpEntry, BumpLog, entry_at, bump_history, stretch_after, outcome_after, entries_by}
-use Rattle.bb_memory_base.specs.BumpHistory.{is_by, HasNoClear, is_loss, is_beginning, IsLossAt, losses_in, calls_begun_in}
+use Rattle.bb_memory_base.specs.BumpLogs.{BumpEntry, BumpLog, entry_at, bump_history, stretch_after, outcome_after, entries_by}
+use Rattle.bb_memory_base.specs.BumpLogs.{is_by, HasNoClear, is_loss, is_beginning, IsLossAt, losses_in, calls_begun_in}
 use Rattle.bb_memory_base.proofs.LiveLists.{StandsFor-within}
-use Rattle.bb_memory_base.proofs.BumpSteps.{test_same, StepView, step_view, sees, refuses_read, wins}
-use Rattle.bb_memory_base.proofs.BumpSteps.{loses, refuses_loss, loads, clears, passes, others_stay, written}
-use Rattle.bb_memory_base.proofs.BumpSteps.{each_call-set, idle_or_in_call, in_call_or_idle, one_call}
+use Rattle.bb_memory_base.proofs.BumpSteps.{test_same, StepView, step_view, sees, refuses_read, wins, loses, refuses_loss, loads}
+use Rattle.bb_memory_base.proofs.BumpSteps.{clears, passes, others_stay, written, each_call-set, idle_or_in_call, in_call_or_idle}
+use Rattle.bb_memory_base.proofs.BumpSteps.{one_call}
 use Rattle.bb_memory_base.proofs.BumpRuns.{bump_after-append, chunk_at-above}
 use Rattle.bb_memory_base.proofs.BumpStretches.{IsClear, not_clear, healthy_after, stretch_rises}
 

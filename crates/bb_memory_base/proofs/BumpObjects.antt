@@ -1,11 +1,11 @@
 -- What the bump object answers, and which lists it goes on to.
-use Rattle.std.proofs.Common.{◌≡◌, ℕ, ◌-◌, ◌≤◌, ◌%◌, List, [], ◌∷◌, ◌++◌, Result}
-use Rattle.std.proofs.Common.{Ok, Err, sym, ◌∙◌, ap, subst, refl, inl, inr, arith}
+use Rattle.std.proofs.Common.{◌≡◌, ℕ, ◌-◌, ◌≤◌, ◌%◌, List, [], ◌∷◌, ◌++◌, Result, Ok, Err, sym, ◌∙◌, ap, subst, refl, inl, inr}
+use Rattle.std.proofs.Common.{arith}
 use Rattle.std.specs.List.{All}
 use Rattle.std.proofs.lemmas.Bool.{cases_lt}
 use Rattle.bb_memory_base.specs.Chunk.{Region, region_end, Chunk, chunk_end, IsInside, Layout, AllocationError, SizeIsZero}
 use Rattle.bb_memory_base.specs.Chunk.{SizeTooLarge, AlignmentFailure, OutOfMemory}
-use Rattle.bb_memory_base.specs.Run.{Step, IsRun}
+use Rattle.bb_memory_base.specs.Object.{Step, IsRun}
 use Rattle.bb_memory_base.specs.BumpObject.{end_of_last, next_chunk, MayAllocate, bump_object, IsInOrder, StandsFor}
 use Rattle.bb_memory_base.specs.declared.allocator.Command.{Command}
 use Rattle.bb_memory_base.specs.declared.allocator.Command.TheVariants.{Allocate, Release, Grow, Shrink}

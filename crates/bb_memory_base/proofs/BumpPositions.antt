@@ -1,6 +1,6 @@
 -- What a log says of the position.
-use Rattle.std.proofs.Common.{◌≡◌, ℕ, ◌<◌, ◌≤◌, List, [], ◌∷◌, length, refl, sym, ap}
-use Rattle.std.proofs.Common.{◌∙◌, subst, arith, Bool, true, false, Option, Some, None}
+use Rattle.std.proofs.Common.{◌≡◌, ℕ, ◌<◌, ◌≤◌, List, [], ◌∷◌, length, refl, sym, ap, ◌∙◌, subst, arith, Bool, true, false}
+use Rattle.std.proofs.Common.{Option, Some, None}
 use Rattle.std.specs.Prelude.{if◌then◌else◌, IfSome}
 use Rattle.std.specs.List.{All, AllByRecursion}
 use Rattle.std.proofs.lemmas.List.{length-replicate}
@@ -9,9 +9,8 @@ use Rattle.bb_memory_base.specs.Chunk.{Region, Chunk}
 use Rattle.bb_memory_base.specs.BumpObject.{StandsFor}
 use Rattle.bb_memory_base.specs.BumpMachine.{OngoingCall, BumpState, BumpMove, BumpScene, IsInCall, IsFitting, opening_state}
 use Rattle.bb_memory_base.specs.BumpMachine.{bump_step, bump_after, left_by, BumpStep}
-use Rattle.bb_memory_base.specs.BumpHistory.{BumpEntry, BumpLog, entry_at, bump_history, history_of, is_by, entries_by}
-use Rattle.bb_memory_base.specs.BumpCalls.{OpensWith, live_after}
-use Rattle.bb_memory_base.specs.BumpLogs.{IsAllowed, AllAllowed, HasLog, LogsAgree, Interleaving, CommonInterleaving}
+use Rattle.bb_memory_base.specs.BumpLogs.{BumpEntry, BumpLog, entry_at, bump_history, history_of, is_by, entries_by, OpensWith}
+use Rattle.bb_memory_base.specs.BumpLogs.{live_after, IsAllowed, AllAllowed, HasLog, LogsAgree, Interleaving, CommonInterleaving}
 use Rattle.bb_memory_base.specs.BumpLogs.{HasPositionUpTo, position_in, greater_of, greatest_in, seen_in, call_in}
 use Rattle.bb_memory_base.proofs.LiveLists.{StandsFor-within}
 use Rattle.bb_memory_base.proofs.SliceGets.{slice_get-replicated}

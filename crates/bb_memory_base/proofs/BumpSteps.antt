@@ -9,7 +9,7 @@ use Rattle.bb_memory_base.specs.BumpMachine.{OngoingCall, BumpState, BumpMove, I
 use Rattle.bb_memory_base.specs.BumpMachine.{fits, position_behind, ending, seeing, passed, moved, read, exchange, load}
 use Rattle.bb_memory_base.specs.BumpMachine.{bump_step, BumpStep, Read, Exchange, Load, Clear, Sees, RefusedAtRead, Wins, Loses}
 use Rattle.bb_memory_base.specs.BumpMachine.{RefusedAtLoss, Loaded, Cleared}
-use Rattle.bb_memory_base.specs.BumpHistory.{is_by}
+use Rattle.bb_memory_base.specs.BumpLogs.{is_by}
 use Rattle.bb_memory_base.proofs.SliceGets.{slice_get-set, slice_get-set_other, slice_get-set_same}
 
 -- TESTS OF NUMBERS

@@ -1,17 +1,16 @@
 -- What the logs of all parties say of the position, and what a log says of where its own chunks end.
-use Rattle.std.proofs.Common.{◌≡◌, ℕ, ◌+◌, ◌<◌, ◌≤◌, List, [], ◌∷◌, ◌++◌, length, sym}
-use Rattle.std.proofs.Common.{subst, arith, Bool, true, false, Option, Some, None}
+use Rattle.std.proofs.Common.{◌≡◌, ℕ, ◌+◌, ◌<◌, ◌≤◌, List, [], ◌∷◌, ◌++◌, length, sym, subst, arith, Bool, true, false, Option}
+use Rattle.std.proofs.Common.{Some, None}
 use Rattle.std.specs.Prelude.{if◌then◌else◌, IfSome}
 use Rattle.std.specs.List.{All, AllByRecursion}
 use Rattle.std.proofs.lemmas.List.{length-replicate}
 use Rattle.std.proofs.lemmas.List.Elements.{All-from_recursion}
 use Rattle.bb_memory_base.specs.Chunk.{Region, Chunk, chunk_end}
-use Rattle.bb_memory_base.specs.BumpMachine.{BumpState, BumpScene, opening_state, bump_step, bump_after}
-use Rattle.bb_memory_base.specs.BumpMachine.{BumpStep, BumpOutcome, Wins}
-use Rattle.bb_memory_base.specs.BumpHistory.{BumpEntry, BumpLog, entry_at, bump_history, is_by, entries_by, won_at}
-use Rattle.bb_memory_base.specs.BumpHistory.{chunks_won, log_of}
-use Rattle.bb_memory_base.specs.BumpLogs.{AllAllowed, HasLog, LogsAgree}
-use Rattle.bb_memory_base.specs.BumpLogs.{HasPositionUpTo, position_in, greater_of, greatest_in, seen_in}
+use Rattle.bb_memory_base.specs.BumpMachine.{BumpState, BumpScene, opening_state, bump_step, bump_after, BumpStep, BumpOutcome}
+use Rattle.bb_memory_base.specs.BumpMachine.{Wins}
+use Rattle.bb_memory_base.specs.BumpLogs.{BumpEntry, BumpLog, entry_at, bump_history, is_by, entries_by, won_at, chunks_won}
+use Rattle.bb_memory_base.specs.BumpLogs.{log_of, AllAllowed, HasLog, LogsAgree, HasPositionUpTo, position_in, greater_of}
+use Rattle.bb_memory_base.specs.BumpLogs.{greatest_in, seen_in}
 use Rattle.bb_memory_base.proofs.BumpSteps.{step_view}
 pub use Rattle.bb_memory_base.proofs.BumpAllowed.{owner_of}
 use Rattle.bb_memory_base.proofs.BumpAllowed.{first_allowed, rest_allowed, parties_stay}

@@ -1,12 +1,11 @@
 -- The bytes of the chunks of a sound list, while one of them is written over.
-use Rattle.std.proofs.Common.{arith, ◌≡◌, ◌≢◌, ℕ, ◌+◌, zero, suc, ◌<◌, Some, List, []}
-use Rattle.std.proofs.Common.{◌∷◌, ◌++◌, length, get_or, ap, ◌∙◌, subst, refl, ⊎_elim}
+use Rattle.std.proofs.Common.{arith, ◌≡◌, ◌≢◌, ℕ, ◌+◌, zero, suc, ◌<◌, Some, List, [], ◌∷◌, ◌++◌, length, get_or, ap, ◌∙◌, subst}
+use Rattle.std.proofs.Common.{refl, ⊎_elim}
 use Rattle.std.specs.Prelude.{All, map, slice_get, slice_set}
 use Rattle.std.proofs.lemmas.Bool.{cases_lt}
 use Rattle.std.proofs.lemmas.List.{map-append, get_or_append_left, get_or_push, length_push}
 use Rattle.std.proofs.lemmas.Option.{slice_get_within, get_or_from_slice_get}
-use Rattle.bb_memory_base.specs.Chunk.{Region, Chunk, IsInside, AreApart}
-use Rattle.bb_memory_base.specs.LiveList.{IsSound}
+use Rattle.bb_memory_base.specs.Chunk.{Region, Chunk, IsInside, AreApart, IsSound}
 use Rattle.bb_memory_base.specs.HeldBytes.{HeldBytes, held_region, bytes_in, ChangesOnly}
 use Rattle.bb_memory_base.proofs.ApartBytes.{apart-kept}
 

@@ -3,8 +3,7 @@ use Rattle.std.proofs.Common.{◌≡◌, ℕ, ◌+◌, ◌-◌, ◌≤◌, List,
 use Rattle.std.specs.List.{All, AllPairs, AllByRecursion}
 use Rattle.std.proofs.lemmas.List.Elements.{All-from_recursion, recursion_from_All}
 use Rattle.std.proofs.lemmas.List.Kept.{AllPairs-cons}
-use Rattle.bb_memory_base.specs.Chunk.{Region, region_end, Chunk, chunk_end, IsInside, AreApart}
-use Rattle.bb_memory_base.specs.LiveList.{IsSound}
+use Rattle.bb_memory_base.specs.Chunk.{Region, region_end, Chunk, chunk_end, IsInside, AreApart, IsSound}
 use Rattle.bb_memory_base.specs.BumpObject.{end_of_last, IsInOrder, StandsFor}
 
 -- chunks in order end no earlier than where they begin

@@ -1,14 +1,13 @@
 -- Which steps of the pool machine leave a detached bucket.
-use Rattle.std.proofs.Common.{◌≡◌, ℕ, zero, suc, ◌<◌, ◌≤◌, List, [], ◌∷◌, length, replicate, refl, sym, ap, ◌∙◌, arith}
-use Rattle.std.proofs.Common.{Option, Some, None, inl, inr}
+use Rattle.std.proofs.Common.{◌≡◌, ℕ, zero, suc, ◌<◌, ◌≤◌, List, [], ◌∷◌, length, replicate, refl, sym, ap, ◌∙◌, arith, Option}
+use Rattle.std.proofs.Common.{Some, None, inl, inr}
 use Rattle.std.specs.Prelude.{◌⊎◌, Any, slice_get, slice_set}
 use Rattle.std.proofs.lemmas.Bool.{cases_eq}
 use Rattle.std.proofs.lemmas.Option.{same_Some}
 use Rattle.std.proofs.lemmas.List.{length-replicate}
 use Rattle.bb_memory_base.specs.PoolMachine.{PoolScene, PoolState, PoolMove, IsFlag, IsHolder, IsDetached, IsTaken, pool_step}
 use Rattle.bb_memory_base.specs.PoolMachine.{pool_after, opening_state, left_by, Flag, Free, HeldBy, Detached, PoolStep, Detaches}
-use Rattle.bb_memory_base.specs.PoolHistory.{PoolEntry, PoolLog, entry_of, history_of, pool_history}
-use Rattle.bb_memory_base.specs.PoolLogs.{WasDetached}
+use Rattle.bb_memory_base.specs.PoolLogs.{PoolEntry, PoolLog, entry_of, history_of, pool_history, WasDetached}
 use Rattle.bb_memory_base.proofs.SliceSets.{slice_get-set_other, slice_get-set_same}
 use Rattle.bb_memory_base.proofs.PoolSteps.{StepKind, takes, takes_at, gives, detaches, attaches, calls-step, kind_of}
 

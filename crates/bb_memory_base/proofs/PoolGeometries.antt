@@ -3,9 +3,8 @@ use Rattle.std.proofs.Common.{◌≡◌, ◌≢◌, ℕ, ◌+◌, ◌-◌, ◌*�
 use Rattle.std.proofs.lemmas.Bool.{cases_lt}
 use Rattle.std.proofs.lemmas.Nat.{le-div, div-add-mod', mod-mul-add}
 use Rattle.std.proofs.Math.Nat.{mul_assoc, mul-add-mod_self_right}
-use Rattle.bb_memory_base.specs.Chunk.{Region, region_end, Layout}
-use Rattle.bb_memory_base.specs.FirstPlace.{first_place}
-use Rattle.bb_memory_base.specs.PoolGeometry.{PoolGeometry, pool_geometry, stride, bucket_place, FillsRegion, IsPoolGeometry}
+use Rattle.bb_memory_base.specs.Chunk.{Region, region_end, Layout, first_place}
+use Rattle.bb_memory_base.specs.PoolObject.{PoolGeometry, pool_geometry, stride, bucket_place, FillsRegion, IsPoolGeometry}
 use Rattle.bb_memory_base.proofs.LeastPlaces.{least_place-is}
 
 -- a stride is at least the bucket's size

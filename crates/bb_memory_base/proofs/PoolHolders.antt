@@ -1,16 +1,16 @@
 -- Who holds a bucket stands in the logs.
-use Rattle.std.proofs.Common.{◌≡◌, ℕ, zero, suc, List, [], ◌∷◌, ◌↔◌, replicate, refl, sym}
-use Rattle.std.proofs.Common.{ap, ◌∙◌, Bool, true, false, Option, Some, None, inl, inr}
+use Rattle.std.proofs.Common.{◌≡◌, ℕ, zero, suc, List, [], ◌∷◌, ◌↔◌, replicate, refl, sym, ap, ◌∙◌, Bool, true, false, Option}
+use Rattle.std.proofs.Common.{Some, None, inl, inr}
 use Rattle.std.specs.Prelude.{slice_get, slice_set, ◌==◌, if◌then◌else◌, fold}
 use Rattle.std.proofs.lemmas.Bool.{cases_eq}
 use Rattle.std.proofs.lemmas.Option.{same_Some}
 use Rattle.bb_memory_base.specs.PoolMachine.{PoolScene, PoolState, PoolMove, IsFlag, IsHolder, IsDetached, pool_step, pool_after}
 use Rattle.bb_memory_base.specs.PoolMachine.{opening_state, left_by, PoolOutcome, Flag, Free, HeldBy, Detached, PoolStep}
-use Rattle.bb_memory_base.specs.PoolHistory.{entry_of, PoolLog, PoolEntry, pool_history, is_by, entries_by, log_of}
-use Rattle.bb_memory_base.specs.PoolLogs.{held_after, IsHeldAfter}
+use Rattle.bb_memory_base.specs.PoolLogs.{entry_of, PoolLog, PoolEntry, pool_history, is_by, entries_by, log_of, held_after}
+use Rattle.bb_memory_base.specs.PoolLogs.{IsHeldAfter}
 use Rattle.bb_memory_base.proofs.SliceSets.{slice_get-same, slice_get-set_other, slice_get-set_same}
-use Rattle.bb_memory_base.proofs.PoolSteps.{StepKind, takes, takes_at, gives, detaches}
-use Rattle.bb_memory_base.proofs.PoolSteps.{attaches, kind_of, same_from_test, test_same, test_apart}
+use Rattle.bb_memory_base.proofs.PoolSteps.{StepKind, takes, takes_at, gives, detaches, attaches, kind_of, same_from_test}
+use Rattle.bb_memory_base.proofs.PoolSteps.{test_same, test_apart}
 
 abbrev is_holder : ℕ → Option Flag → Bool
 is_holder party (Some (HeldBy holder)) = holder == party

@@ -1,6 +1,6 @@
 -- Live lists of chunks in buckets.
-use Rattle.std.proofs.Common.{◌≡◌, ◌≢◌, ℕ, zero, suc, ◌+◌, ◌<◌, ◌≤◌, List, [], ◌∷◌, ◌++◌, length}
-use Rattle.std.proofs.Common.{get_or, refl, sym, ap, ◌∙◌, arith, inl, inr, true, false, Bool}
+use Rattle.std.proofs.Common.{◌≡◌, ◌≢◌, ℕ, zero, suc, ◌+◌, ◌<◌, ◌≤◌, List, [], ◌∷◌, ◌++◌, length, get_or, refl, sym, ap, ◌∙◌}
+use Rattle.std.proofs.Common.{arith, inl, inr, true, false, Bool}
 use Rattle.std.specs.Prelude.{remove, All, AllPairs, ◌==◌, if◌then◌else◌}
 use Rattle.std.specs.List.{AllByRecursion}
 use Rattle.std.proofs.lemmas.Bool.{cases_lt}
@@ -8,11 +8,9 @@ use Rattle.std.proofs.lemmas.Bool.Decides.{nat_tests}
 use Rattle.std.proofs.lemmas.Option.{same_Some, slice_get-get_or}
 use Rattle.std.proofs.lemmas.List.Elements.{All-push, All-from_recursion, recursion_from_All}
 use Rattle.std.proofs.lemmas.List.Quantifiers.{all_pairs_push, all_pairs_remove}
-use Rattle.bb_memory_base.specs.Chunk.{Chunk, IsInside, AreApart, Layout}
-use Rattle.bb_memory_base.specs.LiveList.{IsSound}
-use Rattle.bb_memory_base.specs.ResizableObject.{PlacesDiffer}
-use Rattle.bb_memory_base.specs.PoolGeometry.{PoolGeometry, bucket_place, IsPoolGeometry}
-use Rattle.bb_memory_base.specs.PoolObject.{IsAt, MayGive, chunk_in}
+use Rattle.bb_memory_base.specs.Chunk.{Chunk, IsInside, AreApart, Layout, IsSound}
+use Rattle.bb_memory_base.specs.Object.{PlacesDiffer}
+use Rattle.bb_memory_base.specs.PoolObject.{PoolGeometry, bucket_place, IsPoolGeometry, IsAt, MayGive, chunk_in}
 use Rattle.bb_memory_base.proofs.PoolGeometries.{stride-above, first_place-above, bucket_place-after}
 use Rattle.bb_memory_base.proofs.PoolSteps.{same_from_test}
 

@@ -1,17 +1,17 @@
 -- A party's log says where its pass is, and a step of the party adds to it alone.
-use Rattle.std.proofs.Common.{◌≡◌, ◌≢◌, ℕ, zero, suc, ◌+◌, ◌<◌, List, [], ◌∷◌, ◌++◌, replicate}
-use Rattle.std.proofs.Common.{refl, sym, ap, ◌∙◌, subst, arith, Bool, true, false, Option, Some, None, inl, inr}
+use Rattle.std.proofs.Common.{◌≡◌, ◌≢◌, ℕ, zero, suc, ◌+◌, ◌<◌, List, [], ◌∷◌, ◌++◌, replicate, refl, sym, ap, ◌∙◌, subst, arith}
+use Rattle.std.proofs.Common.{Bool, true, false, Option, Some, None, inl, inr}
 use Rattle.std.specs.Prelude.{slice_get, slice_set, ◌==◌, if◌then◌else◌, fold, All}
 use Rattle.std.proofs.lemmas.Bool.{cases_eq}
 use Rattle.std.proofs.lemmas.List.Elements.{All-push}
 use Rattle.bb_memory_base.specs.PoolMachine.{PoolScene, PoolState, PoolMove, pool_step, pool_after, opening_state, left_by}
 use Rattle.bb_memory_base.specs.PoolMachine.{PoolStep, PoolOutcome}
-use Rattle.bb_memory_base.specs.PoolHistory.{entry_of, PoolLog, PoolEntry, pool_history, is_by, entries_by, history_of, log_of}
+use Rattle.bb_memory_base.specs.PoolLogs.{entry_of, PoolLog, PoolEntry, pool_history, is_by, entries_by, history_of, log_of}
 use Rattle.bb_memory_base.specs.PoolLogs.{HasLog, pass_after, pass_in, taken_flags, IsAllowed, LogsAgree, with_entry}
 use Rattle.bb_memory_base.proofs.Logs.{logs-push}
 use Rattle.bb_memory_base.proofs.SliceSets.{slice_get-set_other, slice_get-set_same}
-use Rattle.bb_memory_base.proofs.PoolSteps.{IsNext, StepKind, takes, takes_at, loses, is_refused}
-use Rattle.bb_memory_base.proofs.PoolSteps.{kind_of, next_of_idle, test_same, test_apart}
+use Rattle.bb_memory_base.proofs.PoolSteps.{IsNext, StepKind, takes, takes_at, loses, is_refused, kind_of, next_of_idle}
+use Rattle.bb_memory_base.proofs.PoolSteps.{test_same, test_apart}
 
 -- WHERE A PASS IS
 

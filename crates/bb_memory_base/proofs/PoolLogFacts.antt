@@ -1,6 +1,6 @@
 -- What follows where a pool's flags and logs agree.
-use Rattle.std.proofs.Common.{◌≡◌, ◌≢◌, ℕ, zero, suc, ◌+◌, ◌<◌, ◌≤◌, List, [], ◌∷◌, length, replicate, refl}
-use Rattle.std.proofs.Common.{sym, ap, ◌∙◌, subst, arith, Bool, true, false, Option, Some, None, inl, inr}
+use Rattle.std.proofs.Common.{◌≡◌, ◌≢◌, ℕ, zero, suc, ◌+◌, ◌<◌, ◌≤◌, List, [], ◌∷◌, length, replicate, refl, sym, ap, ◌∙◌, subst}
+use Rattle.std.proofs.Common.{arith, Bool, true, false, Option, Some, None, inl, inr}
 use Rattle.std.specs.Prelude.{◌⊎◌, slice_get, if◌then◌else◌}
 use Rattle.std.specs.List.{AllByRecursion}
 use Rattle.std.proofs.lemmas.Bool.{cases_eq, cases_lt}
@@ -8,9 +8,9 @@ use Rattle.std.proofs.lemmas.Option.{same_Some, none-some}
 use Rattle.std.proofs.lemmas.List.{length-map}
 use Rattle.std.proofs.lemmas.List.Elements.{recursion_from_All}
 use Rattle.bb_memory_base.specs.PoolMachine.{PoolScene, PoolState, PoolMove, IsFlag, IsHolder, IsDetached, pool_step, taking}
-use Rattle.bb_memory_base.specs.PoolMachine.{with_flag, with_pass}
-use Rattle.bb_memory_base.specs.PoolMachine.{opening_state, left_by, Flag, Free, HeldBy, Detached, PoolStep, Try, TryAt, Takes}
-use Rattle.bb_memory_base.specs.PoolHistory.{entry_of, PoolLog, PoolEntry, pool_history, is_by, entries_by, history_of, log_of}
+use Rattle.bb_memory_base.specs.PoolMachine.{with_flag, with_pass, opening_state, left_by, Flag, Free, HeldBy, Detached, PoolStep}
+use Rattle.bb_memory_base.specs.PoolMachine.{Try, TryAt, Takes}
+use Rattle.bb_memory_base.specs.PoolLogs.{entry_of, PoolLog, PoolEntry, pool_history, is_by, entries_by, history_of, log_of}
 use Rattle.bb_memory_base.specs.PoolLogs.{AllAllowed, CommonInterleaving, HasLog, IsHeldAfter, Interleaving, IsAllowed}
 use Rattle.bb_memory_base.specs.PoolLogs.{IsDetachedAfter, LogsAgree, is_taken}
 use Rattle.bb_memory_base.proofs.SliceSets.{slice_get-same, slice_get-set_other, slice_get-set_same}

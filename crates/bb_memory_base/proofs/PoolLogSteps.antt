@@ -1,6 +1,6 @@
 -- Each step that a party's log allows leaves flags and logs that agree.
-use Rattle.std.proofs.Common.{◌≡◌, ℕ, zero, suc, ◌+◌, ◌<◌, List, [], ◌∷◌, ◌++◌, length, map, replicate}
-use Rattle.std.proofs.Common.{refl, sym, ap, ◌∙◌, subst, arith, Bool, true, false, true≢false, Option, Some, None, inl, inr}
+use Rattle.std.proofs.Common.{◌≡◌, ℕ, zero, suc, ◌+◌, ◌<◌, List, [], ◌∷◌, ◌++◌, length, map, replicate, refl, sym, ap, ◌∙◌, subst}
+use Rattle.std.proofs.Common.{arith, Bool, true, false, true≢false, Option, Some, None, inl, inr}
 use Rattle.std.specs.Prelude.{slice_get, slice_set, nat_lt, if◌then◌else◌, fold, All}
 use Rattle.std.proofs.lemmas.Bool.{cases_eq}
 use Rattle.std.proofs.lemmas.Option.{same_Some, slice_get_within, get_or_from_slice_get}
@@ -10,8 +10,7 @@ use Rattle.bb_memory_base.specs.PoolMachine.{taking, loss, return_of, passed, tr
 use Rattle.bb_memory_base.specs.PoolMachine.{IsDetached, detach_flag, detach, detaching, attach_flag, attach, attaching}
 use Rattle.bb_memory_base.specs.PoolMachine.{pool_step, left_by, Flag, Free, HeldBy, Detached, PoolStep, Try, GiveBack, TryAt}
 use Rattle.bb_memory_base.specs.PoolMachine.{Detach, Attach, Takes, Loses, RefusedAtLoss, Gives, Misses, Detaches, Attaches}
-use Rattle.bb_memory_base.specs.PoolHistory.{entry_of, PoolLog, PoolEntry}
-use Rattle.bb_memory_base.specs.PoolLogs.{HasLog, held_after, pass_in, next_bucket, loss_at}
+use Rattle.bb_memory_base.specs.PoolLogs.{entry_of, PoolLog, PoolEntry, HasLog, held_after, pass_in, next_bucket, loss_at}
 use Rattle.bb_memory_base.specs.PoolLogs.{is_taken, IsAllowed, IsHeldAfter, IsDetachedAfter, LogsAgree, with_entry}
 use Rattle.bb_memory_base.proofs.SliceSets.{slice_get-set_other, slice_get-set_same}
 use Rattle.bb_memory_base.proofs.PoolSteps.{calls-left_by, test_below, length-left_by, test_same, test_apart}

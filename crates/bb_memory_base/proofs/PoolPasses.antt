@@ -1,18 +1,18 @@
 -- What a refused pass has met, and what a miss has.
-use Rattle.std.proofs.Common.{◌≡◌, ℕ, zero, suc, ◌+◌, ◌<◌, ◌≤◌, ◌⊎◌, List, [], ◌∷◌, length, replicate}
-use Rattle.std.proofs.Common.{refl, sym, ap, ◌∙◌, subst, arith, Option, Some, None, inl, inr}
+use Rattle.std.proofs.Common.{◌≡◌, ℕ, zero, suc, ◌+◌, ◌<◌, ◌≤◌, ◌⊎◌, List, [], ◌∷◌, length, replicate, refl, sym, ap, ◌∙◌, subst}
+use Rattle.std.proofs.Common.{arith, Option, Some, None, inl, inr}
 use Rattle.std.specs.Prelude.{slice_get, slice_set, take, unwrap_or}
 use Rattle.std.proofs.lemmas.Bool.{cases_eq}
 use Rattle.std.proofs.lemmas.Option.{same_Some}
 use Rattle.std.proofs.lemmas.List.{length-replicate}
-use Rattle.bb_memory_base.specs.PoolGeometry.{IsPoolGeometry}
+use Rattle.bb_memory_base.specs.PoolObject.{IsPoolGeometry}
 use Rattle.bb_memory_base.specs.PoolMachine.{PoolScene, PoolState, PoolMove, IsTaken, IsInCall, left_by, pool_step, pool_after}
 use Rattle.bb_memory_base.specs.PoolMachine.{opening_state, Flag, Free, PoolStep, Try, TryAt, PoolOutcome, Misses, RefusedAtLoss}
-use Rattle.bb_memory_base.specs.PoolHistory.{entry_of, PoolEntry, pool_history, history_of}
-use Rattle.bb_memory_base.specs.PoolCalls.{IsLossAt, LosesAt, IsRefusedAt, FoundHeld, IsHeldInRun, MissesAt}
+use Rattle.bb_memory_base.specs.PoolLogs.{entry_of, PoolEntry, pool_history, history_of, IsLossAt, LosesAt, IsRefusedAt}
+use Rattle.bb_memory_base.specs.PoolLogs.{FoundHeld, IsHeldInRun, MissesAt}
 use Rattle.bb_memory_base.proofs.SliceSets.{slice_get-same, slice_get-set_other, slice_get-set_same}
-use Rattle.bb_memory_base.proofs.PoolSteps.{IsNext, StepKind, takes, takes_at, loses, is_refused, misses}
-use Rattle.bb_memory_base.proofs.PoolSteps.{kind_of, length-left_by, length-step, next_of_idle}
+use Rattle.bb_memory_base.proofs.PoolSteps.{IsNext, StepKind, takes, takes_at, loses, is_refused, misses, kind_of, length-left_by}
+use Rattle.bb_memory_base.proofs.PoolSteps.{length-step, next_of_idle}
 use Rattle.bb_memory_base.proofs.PoolFlags.{taken_within}
 use Rattle.bb_memory_base.proofs.PoolRuns.{taken_is_held}
 

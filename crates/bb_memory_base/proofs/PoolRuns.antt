@@ -1,22 +1,19 @@
 -- The takings and returns of a pool machine are a run of the pool object.
-use Rattle.std.proofs.Common.{◌≡◌, ◌≢◌, ℕ, zero, suc, ◌<◌, ◌↔◌, List, [], ◌∷◌, ◌++◌, length, replicate}
-use Rattle.std.proofs.Common.{refl, sym, ap, ◌∙◌, subst, arith, Option, Some, None, inl, inr}
+use Rattle.std.proofs.Common.{◌≡◌, ◌≢◌, ℕ, zero, suc, ◌<◌, ◌↔◌, List, [], ◌∷◌, ◌++◌, length, replicate, refl, sym, ap, ◌∙◌, subst}
+use Rattle.std.proofs.Common.{arith, Option, Some, None, inl, inr}
 use Rattle.std.specs.Prelude.{take, drop, slice_get, slice_set, remove, if◌then◌else◌}
 use Rattle.std.specs.List.{AllByRecursion}
 use Rattle.std.proofs.lemmas.Bool.{cases_eq}
 use Rattle.std.proofs.lemmas.Option.{slice_get_within}
 use Rattle.std.proofs.lemmas.List.{length-set, length-replicate}
 use Rattle.std.proofs.lemmas.List.Elements.{recursion_from_All}
-use Rattle.bb_memory_base.specs.Chunk.{Chunk, Layout}
-use Rattle.bb_memory_base.specs.LiveList.{IsSound}
-use Rattle.bb_memory_base.specs.Run.{IsRun}
-use Rattle.bb_memory_base.specs.PoolGeometry.{PoolGeometry, bucket_place, IsPoolGeometry}
-use Rattle.bb_memory_base.specs.PoolObject.{IsAt, IsHeld, IsWithin, MayGive, chunk_in}
+use Rattle.bb_memory_base.specs.Chunk.{Chunk, Layout, IsSound}
+use Rattle.bb_memory_base.specs.Object.{IsRun}
+use Rattle.bb_memory_base.specs.PoolObject.{PoolGeometry, bucket_place, IsPoolGeometry, IsAt, IsHeld, IsWithin, MayGive, chunk_in}
 use Rattle.bb_memory_base.specs.PoolMachine.{PoolScene, PoolState, PoolMove, IsFlag, IsHolder, IsTaken, pool_step, pool_after}
 use Rattle.bb_memory_base.specs.PoolMachine.{opening_state, left_by, Flag, Free, HeldBy, Detached, PoolStep, PoolOutcome}
-use Rattle.bb_memory_base.specs.PoolHistory.{PoolLog, history_of, pool_history, outcomes_of}
-use Rattle.bb_memory_base.specs.PoolLogs.{is_taken}
-use Rattle.bb_memory_base.specs.PoolCalls.{IsCallRun, PoolCall, AreAsked, IsPoolRun}
+use Rattle.bb_memory_base.specs.PoolLogs.{PoolLog, history_of, pool_history, outcomes_of, is_taken, IsCallRun, PoolCall, AreAsked}
+use Rattle.bb_memory_base.specs.PoolLogs.{IsPoolRun}
 use Rattle.bb_memory_base.proofs.SliceSets.{slice_get-same, slice_get-set_other, slice_get-set_same}
 use Rattle.bb_memory_base.proofs.PoolFlags.{taken_within}
 use Rattle.bb_memory_base.proofs.PoolGeometries.{bucket_place-apart}

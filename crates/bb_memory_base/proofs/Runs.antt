@@ -2,7 +2,7 @@
 use Rattle.std.proofs.Common.{◌≡◌, zero, suc, List, [], ◌∷◌, ◌++◌, length, refl, sym, ap, ◌∙◌, subst, arith}
 use Rattle.std.proofs.lemmas.List.Sums.{fold_push}
 use Rattle.bb_memory_base.specs.Chunk.{Chunk, Layout}
-use Rattle.bb_memory_base.specs.Run.{IsRun, EachGiven, note_after_command, note_after_run}
+use Rattle.bb_memory_base.specs.Object.{IsRun, EachGiven, note_after_command, note_after_run}
 use Rattle.bb_memory_base.specs.declared.allocator.Command.{Command}
 use Rattle.bb_memory_base.specs.declared.allocator.Command.TheVariants.{Allocate}
 use Rattle.bb_memory_base.specs.declared.allocator.Reply.{Reply}

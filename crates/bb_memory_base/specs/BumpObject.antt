@@ -1,9 +1,8 @@
 -- The bump object: chunks one after another, all given back at once.
 use Rattle.std.specs.Prelude.{◌≡◌, ℕ, ◌-◌, ◌≤◌, ◌<◌, true, List, [], ◌∷◌, Result, Ok, Err}
 use Rattle.bb_memory_base.specs.Chunk.{Region, region_end, Chunk, chunk_end, Layout, AllocationError, SizeIsZero, SizeTooLarge}
-use Rattle.bb_memory_base.specs.Chunk.{AlignmentFailure, OutOfMemory}
+use Rattle.bb_memory_base.specs.Chunk.{AlignmentFailure, OutOfMemory, IsSound}
 use Rattle.bb_memory_base.specs.LeastPlace.{least_place}
-use Rattle.bb_memory_base.specs.LiveList.{IsSound}
 use Rattle.bb_memory_base.specs.Object.{Object, object_of}
 
 -- the end of the last chunk, or v where the list is empty

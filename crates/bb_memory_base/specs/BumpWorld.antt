@@ -4,7 +4,7 @@ use Rattle.std.specs.declared.vec.Vec.{Vec}
 use Rattle.bb_memory_base.specs.Chunk.{Region, IsRegion}
 use Rattle.bb_memory_base.specs.BumpMachine.{OngoingCall, BumpState, BumpScene, PartyMove, AllFitting, IsFitting, opening_state}
 use Rattle.bb_memory_base.specs.BumpMachine.{bump_step, bump_after, BumpStep, BumpOutcome}
-use Rattle.bb_memory_base.specs.BumpHistory as histories
+use Rattle.bb_memory_base.specs.BumpLogs as histories
 
 -- the region, and the machine's state
 pub record BumpWorld : Type 0 where

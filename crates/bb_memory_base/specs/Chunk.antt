@@ -1,10 +1,29 @@
--- Chunks: what is given. Passed on with them are regions, layouts and the causes of a refused request.
-use Rattle.std.specs.Prelude.{ℕ, ◌+◌, ◌<◌, ◌≤◌, ◌^◌}
-pub use Rattle.bb_memory_base.specs.Region.{IsRegion, Region, region_at, region_end}
+-- Regions, chunks and lists of live chunks. Passed on with them are layouts and the causes of a refused request.
+use Rattle.std.specs.Prelude.{ℕ, ◌+◌, ◌<◌, ◌^◌, ◌≤◌, List, All, AllPairs, ◌≡◌, ◌%◌}
 pub use Rattle.bb_memory_base.specs.declared.allocator.AllocationError.{AllocationError}
 pub use Rattle.bb_memory_base.specs.declared.allocator.AllocationError.TheVariants.{AlignmentFailure, OutOfMemory, SizeIsZero}
 pub use Rattle.bb_memory_base.specs.declared.allocator.AllocationError.TheVariants.{SizeTooLarge}
 pub use Rattle.bb_memory_base.specs.declared.layout.Layout.{Layout}
+use Rattle.bb_memory_base.specs.LeastPlace.{least_place}
+
+-- Regions: the memory that is handed in. All sizes, lengths and positions are in bytes, and numbers here have no
+-- greatest one.
+
+-- the start of a region, and how many bytes it has
+pub record Region : Type 0 where
+  pub start : ℕ
+  pub size : ℕ
+
+abbrev pub region_at : ℕ → ℕ → Region
+region_at start size = record { start = start; size = size }
+
+abbrev pub region_end : Region → ℕ
+region_end region = region.start + region.size
+
+-- a region doesn't start at 0, and its end is a number of the machine
+pub record IsRegion (region : Region) : Type 0 where
+  pub start : 0 < region.start
+  pub end : region_end region < 2 ^ 64
 
 -- the numbers from a place to place + length, the last excluded
 pub record Chunk : Type 0 where
@@ -38,3 +57,23 @@ AreApart one other = ¬ Overlap one other
 pub record IsInside (region : Region) (chunk : Chunk) : Type 0 where
   pub above : region.start ≤ chunk.place
   pub below : chunk_end chunk ≤ region_end region
+
+-- Live lists: what is out, in the order in which it was given. A position counts from 0.
+
+-- each chunk is inside the region, and no two at different positions overlap
+pub record IsSound (region : Region) (live : List Chunk) : Type 0 where
+  pub inside : All (IsInside region) live
+  pub apart : AllPairs AreApart live
+
+-- The fit of a chunk that is given to a request.
+
+-- the chunk is inside the region, at a multiple of the asked alignment, and at least as long as asked
+pub record Fits (region : Region) (layout : Layout) (chunk : Chunk) : Type 0 where
+  pub inside : IsInside region chunk
+  pub aligned : chunk.place % layout.align ≡ 0
+  pub long_enough : layout.size ≤ chunk.len
+
+-- The place of a layout's first chunk in a region.
+
+abbrev pub first_place : Region → Layout → ℕ
+first_place region layout = least_place region.start layout.align

@@ -1,9 +1,8 @@
 -- The one-chunk object: one chunk at a time, which is all of the region from its place on.
 use Rattle.std.specs.Prelude.{◌≡◌, ◌≢◌, ℕ, ◌+◌, ◌-◌, ◌≤◌, ◌<◌, ◌⊎◌, List, [], Result, Ok, Err}
 use Rattle.bb_memory_base.specs.Chunk.{Region, region_end, Chunk, Layout, AllocationError, SizeIsZero, SizeTooLarge}
-use Rattle.bb_memory_base.specs.Chunk.{AlignmentFailure, OutOfMemory}
-use Rattle.bb_memory_base.specs.FirstPlace.{first_place}
-use Rattle.bb_memory_base.specs.ResizableObject.{ResizableObject, resizable_object_of}
+use Rattle.bb_memory_base.specs.Chunk.{AlignmentFailure, OutOfMemory, first_place}
+use Rattle.bb_memory_base.specs.Object.{ResizableObject, resizable_object_of}
 use Rattle.bb_memory_base.specs.declared.allocator.AllocationGrowError.{AllocationGrowError}
 use Rattle.bb_memory_base.specs.declared.allocator.AllocationGrowError.TheVariants as grow
 use Rattle.bb_memory_base.specs.declared.allocator.AllocationShrinkError.{AllocationShrinkError}

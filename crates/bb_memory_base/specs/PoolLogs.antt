@@ -1,9 +1,56 @@
--- Parties' logs: what a log says of its party, and when a pool's flags and its parties' logs agree.
-use Rattle.std.specs.Prelude.{ℕ, ◌+◌, ◌≡◌, ◌==◌, Bool, true, false, nat_lt, if◌then◌else◌}
-use Rattle.std.specs.Prelude.{List, [], ◌∷◌, ◌++◌, Option, Some, None, All, Any, fold, map, slice_get, slice_set, unwrap_or}
-use Rattle.bb_memory_base.specs.PoolMachine.{PoolScene, PoolState, left_by, Flag, Free, PoolStep, PoolOutcome, Takes, Loses}
-use Rattle.bb_memory_base.specs.PoolMachine.{RefusedAtLoss, Gives, Passed, Detaches, Attaches}
-use Rattle.bb_memory_base.specs.PoolHistory.{PoolEntry, PoolLog, history_of, log_of}
+-- The pool machine's histories, its parties' logs, and the calls of the pool object that its steps make.
+use Rattle.std.specs.Prelude.{ℕ, ◌==◌, Bool, List, [], ◌∷◌, filter, map, ◌+◌, ◌≡◌, true, false, nat_lt, if◌then◌else◌, ◌++◌}
+use Rattle.std.specs.Prelude.{Option, Some, None, All, Any, fold, slice_get, slice_set, unwrap_or, ◌<◌, ◌≤◌, Ok, length, take}
+use Rattle.bb_memory_base.specs.PoolMachine.{PoolScene, PoolState, opening_state, pool_step, PoolStep, Try, GiveBack, TryAt}
+use Rattle.bb_memory_base.specs.PoolMachine.{Detach, Attach, PoolOutcome, left_by, Flag, Free, Takes, Loses, RefusedAtLoss, Gives}
+use Rattle.bb_memory_base.specs.PoolMachine.{Passed, Detaches, Attaches, IsInCall, Misses}
+use Rattle.bb_memory_base.specs.Chunk.{Chunk, Layout}
+use Rattle.bb_memory_base.specs.Object.{Allocates, Releases, IsRun}
+use Rattle.bb_memory_base.specs.PoolObject.{PoolGeometry, bucket_place, IsAt, IsHeld, IsWithin, chunk_in, pool_object}
+
+-- HISTORIES
+
+-- an entry: a step with what it found
+pub record PoolEntry : Type 0 where
+  pub step : PoolStep
+  pub outcome : PoolOutcome
+
+abbrev pub entry_of : PoolStep → PoolOutcome → PoolEntry
+entry_of step outcome = record { step = step; outcome = outcome }
+
+-- a log: entries in order
+abbrev pub PoolLog : Type 0
+PoolLog = List PoolEntry
+
+-- the entries of a list of steps, in order
+abbrev pub pool_history : PoolState → List PoolStep → PoolLog
+pool_history state [] = []
+pool_history state (step ∷ steps) = entry_of step (pool_step state step).outcome ∷ pool_history (pool_step state step).state steps
+
+-- the history of a list of steps from the opening
+abbrev pub history_of : PoolScene → List PoolStep → PoolLog
+history_of scene steps = pool_history (opening_state scene) steps
+
+abbrev pub outcomes_of : PoolLog → List PoolOutcome
+outcomes_of history = map (λ entry. entry.outcome) history
+
+-- PARTIES
+
+-- the step is this party's
+abbrev pub is_by : ℕ → PoolStep → Bool
+is_by party (Try other) = other == party
+is_by party (GiveBack other bucket) = other == party
+is_by party (TryAt other bucket) = other == party
+is_by party (Detach other bucket) = other == party
+is_by party (Attach other bucket) = other == party
+
+-- a party's own entries of a history, in order
+abbrev pub entries_by : ℕ → PoolLog → PoolLog
+entries_by party history = filter (λ entry. is_by party entry.step) history
+
+-- a party's log in a list of steps from the opening
+abbrev pub log_of : PoolScene → List PoolStep → ℕ → PoolLog
+log_of scene steps party = entries_by party (history_of scene steps)
 
 -- BUCKETS AND PASSES IN A LOG
 
@@ -93,3 +140,74 @@ pub record CommonInterleaving (scene : PoolScene) (party : ℕ) (log : PoolLog) 
   pub allowed : AllAllowed (history_of scene steps)
   pub logged : log_of scene steps party ≡ log
   pub other_logged : log_of scene steps other ≡ other_log
+
+-- CALLS OF THE OBJECT: takings and returns
+
+-- The call of the object that a step with this outcome is; the object goes from `old` to `new`.
+abbrev pub PoolCall : PoolGeometry → List Chunk → Layout → PoolOutcome → List Chunk → Type 0
+-- a taking is a request for the layout, which is answered with the bucket's chunk
+PoolCall geometry old layout (Takes bucket) new =
+    Allocates (pool_object geometry).base old layout (Ok (chunk_in geometry bucket layout)) new
+-- a return is the release of the chunk at the bucket's place
+PoolCall geometry old layout (Gives bucket) new =
+    (position : ℕ) × IsAt old position (bucket_place geometry bucket) × Releases (pool_object geometry).base old position new
+-- any other step is no call
+PoolCall geometry old layout _ new = new ≡ old
+
+-- a layout for each step, which is asked for where that step is a taking
+pub record AreAsked (geometry : PoolGeometry) (steps : List PoolStep) (layouts : List Layout) : Type 0 where
+  pub one_a_step : length layouts ≡ length steps
+  pub within : All (IsWithin geometry.bucket) layouts
+
+-- The calls of a history are a run of the pool object, from `old` to `new`.
+abbrev pub IsCallRun : PoolGeometry → List Chunk → List Layout → PoolLog → List Chunk → Type 0
+IsCallRun geometry old layouts history new = IsRun (PoolCall geometry) old layouts (outcomes_of history) new
+
+-- the takings and returns of the steps are a run of the pool object, from the empty list to this one
+abbrev pub IsPoolRun : PoolScene → List PoolStep → List Layout → List Chunk → Type 0
+IsPoolRun scene steps layouts live = IsCallRun scene.geometry [] layouts (history_of scene steps) live
+
+-- REFUSED PASSES
+
+-- entry k of the history is the party's, and its pass is refused there
+pub record IsRefusedAt (history : PoolLog) (party k : ℕ) : Type 0 where
+  pub bucket : ℕ
+  pub there : slice_get history k ≡ Some (entry_of (Try party) (RefusedAtLoss bucket))
+
+-- a loss of this bucket
+abbrev pub IsLossAt : ℕ → PoolOutcome → Type 0
+IsLossAt bucket (Loses other) = other ≡ bucket
+IsLossAt bucket (RefusedAtLoss other) = other ≡ bucket
+IsLossAt bucket _ = ⊥
+
+-- entry k of the history is the party's, and a loss of this bucket
+pub record LosesAt (history : PoolLog) (party bucket k : ℕ) : Type 0 where
+  pub outcome : PoolOutcome
+  pub there : slice_get history k ≡ Some (entry_of (Try party) outcome)
+  pub loss : IsLossAt bucket outcome
+
+-- the party is in one pass from step k to the later step `last`: the pass doesn't end between them
+abbrev pub IsOnePass : PoolScene → List PoolStep → ℕ → ℕ → ℕ → Type 0
+IsOnePass scene steps party k last =
+    (j : ℕ) → k < j → j ≤ last → (bucket : ℕ) × IsInCall (left_by scene (take j steps)) party bucket
+
+-- after these steps the bucket is held in the run, whichever layouts were asked for
+abbrev pub IsHeldInRun : PoolScene → List PoolStep → ℕ → Type 0
+IsHeldInRun scene steps bucket =
+    (layouts : List Layout) (live : List Chunk) → IsPoolRun scene steps layouts live →
+    IsHeld scene.geometry live bucket
+
+-- The pass that is refused at step `last` found this bucket held: at some step of the pass the party lost the bucket, which was
+-- held then in the run.
+pub record FoundHeld (scene : PoolScene) (steps : List PoolStep) (party last bucket : ℕ) : Type 0 where
+  pub step : ℕ
+  pub before : step ≤ last
+  pub one_pass : IsOnePass scene steps party step last
+  pub loses : LosesAt (history_of scene steps) party bucket step
+  pub held : IsHeldInRun scene (take step steps) bucket
+
+-- MISSES
+
+-- entry k of the history is the party's, and a miss of this bucket
+abbrev pub MissesAt : PoolLog → ℕ → ℕ → ℕ → Type 0
+MissesAt history party bucket k = slice_get history k ≡ Some (entry_of (TryAt party bucket) (Misses bucket))

@@ -1,8 +1,8 @@
 -- The pool machine: what any number of parties do to one flag a bucket, one atomic step at a time. Parties and buckets go by
 -- their numbers, from 0.
-use Rattle.std.specs.Prelude.{ℕ, ◌+◌, ◌≡◌, ◌==◌, nat_lt, List, [], ◌∷◌, length, Option, Some}
-use Rattle.std.specs.Prelude.{None, if◌then◌else◌, slice_get, slice_set, replicate, unwrap_or, ◌⊎◌}
-use Rattle.bb_memory_base.specs.PoolGeometry.{PoolGeometry}
+use Rattle.std.specs.Prelude.{ℕ, ◌+◌, ◌≡◌, ◌==◌, nat_lt, List, [], ◌∷◌, length, Option, Some, None, if◌then◌else◌, slice_get}
+use Rattle.std.specs.Prelude.{slice_set, replicate, unwrap_or, ◌⊎◌}
+use Rattle.bb_memory_base.specs.PoolObject.{PoolGeometry}
 pub use Rattle.bb_memory_base.specs.declared.steps.pool.Flag.{Flag}
 pub use Rattle.bb_memory_base.specs.declared.steps.pool.Flag.TheVariants.{Detached, Free, HeldBy}
 pub use Rattle.bb_memory_base.specs.declared.steps.pool.PoolOutcome.{PoolOutcome}

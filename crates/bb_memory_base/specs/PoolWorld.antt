@@ -2,7 +2,7 @@
 use Rattle.std.specs.Prelude.{◌≡◌, ℕ, ◌<◌, ◌^◌, List, Option, Result, IfOk, OnErr, OnOk, length}
 use Rattle.std.specs.declared.vec.Vec.{Vec}
 use Rattle.bb_memory_base.specs.PoolMachine.{PoolState, all_free, pool_step, pool_after, Flag, PoolStep, PoolOutcome}
-use Rattle.bb_memory_base.specs.PoolHistory as histories
+use Rattle.bb_memory_base.specs.PoolLogs as histories
 
 -- the machine's state
 abbrev pub PoolWorld : Type 0

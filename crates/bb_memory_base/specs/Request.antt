@@ -1,8 +1,7 @@
 -- Promises of calls that ask for a chunk, give one back or ask for a longer one: all that `allocate`, `deallocate` and `grow`
 -- say, for calls that do as these do and more.
 use Rattle.std.specs.Prelude.{◌≡◌, ℕ, ◌%◌, ◌<◌, ◌≤◌, Bool, List, [], ◌∷◌, ◌++◌, Some, Result, IfOk, OnErr, slice_get, slice_set}
-use Rattle.bb_memory_base.specs.Chunk.{Region, Chunk, IsInside, Layout, AllocationError}
-use Rattle.bb_memory_base.specs.Fitting.{Fits}
+use Rattle.bb_memory_base.specs.Chunk.{Region, Chunk, IsInside, Layout, AllocationError, Fits}
 use Rattle.bb_memory_base.specs.Object.{released}
 use Rattle.bb_memory_base.specs.declared.allocator.AllocationGrowError.{AllocationGrowError}
 

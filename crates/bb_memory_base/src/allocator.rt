@@ -95,8 +95,7 @@ pub enum Reply {
 /// crate may bring an allocator with an object of its own.
 pub trait BaseAllocator {
     ghost use Rattle.std.specs.Prelude.{◌≡◌, ◌∷◌, ◌++◌, ◌≤◌, ◌%◌, ℕ, Some, [], List, Result, Ok, Bool, IfOk, OnErr, slice_get};
-    ghost use Rattle.bb_memory_base.specs.Chunk.{Region, IsRegion, Chunk, IsInside, Layout, AllocationError};
-    ghost use Rattle.bb_memory_base.specs.LiveList.{IsSound};
+    ghost use Rattle.bb_memory_base.specs.Chunk.{Region, IsRegion, Chunk, IsInside, Layout, AllocationError, IsSound};
     ghost use Rattle.bb_memory_base.specs.Object.{released};
     ghost use Rattle.bb_memory_base.specs.Request.{Requested};
     ghost use Rattle.bb_memory_base.specs.HeldBytes.{held_region, ZeroesAnswered};
@@ -220,7 +219,7 @@ pub trait Allocator: BaseAllocator {
     ghost use Rattle.bb_memory_base.specs.Chunk.{Chunk, IsInside, Layout};
     ghost use Rattle.bb_memory_base.specs.HeldBytes.{held_region, part_behind, ZeroesAnswered};
     ghost use Rattle.bb_memory_base.specs.Request.{Grown};
-    ghost use Rattle.bb_memory_base.specs.ResizableObject.{PlacesDiffer};
+    ghost use Rattle.bb_memory_base.specs.Object.{PlacesDiffer};
     ghost use Rattle.bb_memory_base.specs.declared.allocator.AllocationGrowError.{AllocationGrowError};
     ghost use Rattle.bb_memory_base.specs.declared.allocator.AllocationShrinkError.{AllocationShrinkError};
 

@@ -2,8 +2,7 @@
 ghost use Rattle.std.specs.Prelude.{◌≡◌, ◌≢◌, ◌+◌, ◌∷◌, ◌++◌, [], ◌<◌, ◌≤◌, ◌↔◌, ℕ, List};
 ghost use Rattle.std.specs.Prelude.{Some, IsTrue, length, map, slice_get, slice_set, vec_len};
 ghost use Rattle.std.specs.Borrow.{sem};
-ghost use Rattle.bb_memory_base.specs.Chunk.{IsRegion, region_at, Chunk, IsInside, AreApart};
-ghost use Rattle.bb_memory_base.specs.LiveList.{IsSound};
+ghost use Rattle.bb_memory_base.specs.Chunk.{IsRegion, region_at, Chunk, IsInside, AreApart, IsSound};
 ghost use Rattle.bb_memory_base.specs.HeldBytes.{HeldBytes, held_region, bytes_in, ChangesOnly, ZeroesOnly};
 ghost use Rattle.bb_memory_base.specs.Lending.{LendsChunk, written};
 

@@ -5,13 +5,13 @@ use Rattle.std.specs.Align.{IsLayout}
 use Rattle.bb_memory_base.specs.Chunk.{Chunk}
 use Rattle.bb_memory_base.specs.declared.layout.Layout.{Layout}
 use Rattle.bb_memory_base.specs.declared.allocator.AllocationError.{AllocationError}
-use Rattle.bb_memory_base.specs.PoolGeometry.{PoolGeometry, bucket_place}
+use Rattle.bb_memory_base.specs.PoolObject.{PoolGeometry, bucket_place}
 use Rattle.bb_memory.specs.Buckets.{IsPlaceOfBucket}
 use Rattle.bb_memory_c.specs.declared.answer.Answer.{Answer}
 use Rattle.bb_memory_c.specs.declared.answer.Figure.{Figure}
 use Rattle.bb_memory_c.specs.Answers.{answer_of, figure_of, no_figure, refused}
-use Rattle.bb_memory_c.specs.Codes.{already_initialized, invalid_argument, ok, malloc_refused, invalid_layout}
-use Rattle.bb_memory_c.specs.Codes.{not_a_bucket, not_held, uninitialized, no_bucket, no_party}
+use Rattle.bb_memory_c.specs.Codes.{already_initialized, invalid_argument, ok, malloc_refused, invalid_layout, not_a_bucket}
+use Rattle.bb_memory_c.specs.Codes.{not_held, uninitialized, no_bucket, no_party}
 use Rattle.bb_memory_c.specs.Layouts.{FailsOf, IsOf, LacksRoomOf}
 
 -- Where something is made behind the handle, the call answers so, and what is there becomes another. An empty handle is refused

@@ -1,8 +1,7 @@
 -- The figures that are shown of what is made.
 use Rattle.std.specs.Prelude.{◌≡◌, ◌-◌, ◌↔◌, ℕ, IsTrue, None}
-use Rattle.bb_memory_base.specs.FirstPlace.{first_place}
-use Rattle.bb_memory_base.specs.PoolGeometry.{PoolGeometry}
-use Rattle.bb_memory_base.specs.Chunk.{Region}
+use Rattle.bb_memory_base.specs.Chunk.{first_place, Region}
+use Rattle.bb_memory_base.specs.PoolObject.{PoolGeometry}
 use Rattle.bb_memory.specs.Bump.{Bump}
 use Rattle.bb_memory.specs.OneChunk.{OneChunk}
 use Rattle.bb_memory_c.specs.declared.answer.BumpInfo.{BumpInfo}

@@ -1,7 +1,7 @@
 -- Layouts of two numbers that C hands in.
 use Rattle.std.specs.Prelude.{◌≡◌, ◌≤◌, ℕ}
 use Rattle.bb_memory_base.specs.Chunk.{Region}
-use Rattle.bb_memory_base.specs.PoolGeometry.{HasBucket}
+use Rattle.bb_memory_base.specs.PoolObject.{HasBucket}
 use Rattle.bb_memory_base.specs.declared.layout.Layout.{Layout}
 use Rattle.bb_memory.specs.Pool.{MayBeCut}
 

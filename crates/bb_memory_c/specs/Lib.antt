@@ -7,8 +7,8 @@ pub mod Handles
 pub mod Infos
 pub mod Layouts
 pub mod OneChunks
-pub mod Pools
 pub mod Parties
+pub mod Pools
 pub mod SharedBumpHandles
 pub mod SharedBumps
 pub mod SharedPools

@@ -1,7 +1,7 @@
 -- A pool behind a handle, and what its requests are answered.
 use Rattle.std.specs.Prelude.{◌≡◌, Option, Some}
 use Rattle.bb_memory_base.specs.Chunk.{Region}
-use Rattle.bb_memory_base.specs.PoolGeometry.{PoolGeometry, IsCut}
+use Rattle.bb_memory_base.specs.PoolObject.{PoolGeometry, IsCut}
 use Rattle.bb_memory_base.specs.declared.layout.Layout.{Layout}
 use Rattle.bb_memory.specs.Pool.{CountedPool, counted, fresh_pool}
 

@@ -1,14 +1,13 @@
 -- A shared pool, its parties, and what their calls are answered.
-use Rattle.std.specs.Prelude.{◌≡◌, ◌+◌, ◌≤◌, ◌↔◌, ℕ, zero, suc, All, Bool, false, List, [], ◌++◌, Result, Ok, Err, length}
-use Rattle.std.specs.Prelude.{Option, Some, fold, if◌then◌else◌}
+use Rattle.std.specs.Prelude.{◌≡◌, ◌+◌, ◌≤◌, ◌↔◌, ℕ, zero, suc, All, Bool, false, List, [], ◌++◌, Result, Ok, Err, length, Option}
+use Rattle.std.specs.Prelude.{Some, fold, if◌then◌else◌}
 use Rattle.bb_memory_base.specs.Chunk.{Region, Chunk}
-use Rattle.bb_memory_base.specs.PoolGeometry.{IsCut, bucket_place}
-use Rattle.bb_memory_base.specs.PoolHistory.{PoolLog}
-use Rattle.bb_memory_base.specs.PoolLogs.{IsHeldAfter, held_after}
+use Rattle.bb_memory_base.specs.PoolObject.{IsCut, bucket_place}
+use Rattle.bb_memory_base.specs.PoolLogs.{PoolLog, IsHeldAfter, held_after}
 use Rattle.bb_memory_base.specs.declared.layout.Layout.{Layout}
 use Rattle.bb_memory_base.specs.declared.allocator.AllocationError.{AllocationError}
 use Rattle.bb_memory_c.specs.Parties.{IsOneOf, Parties}
-use Rattle.bb_memory.specs.NumberSet.{Has}
+use Rattle.bb_memory.specs.IndexSets.{Has}
 use Rattle.bb_memory.specs.SharedPool.{AreFresh, PoolParty, SharedPool, TakenBucket, chunk_of, return_entry, with_entries}
 use Rattle.bb_memory.specs.SharedPoolNextFit.{MayTakeFrom, hint_of}
 

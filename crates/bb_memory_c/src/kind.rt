@@ -1,7 +1,7 @@
 //! Traits of each kind that a call serves which is written once.
 ghost use Rattle.std.specs.Prelude.{◌≡◌, ◌↔◌, ℕ, IsFalse, IsTrue, Result};
 ghost use Rattle.bb_memory_base.specs.Chunk.{Chunk};
-ghost use Rattle.bb_memory_base.specs.PoolGeometry.{PoolGeometry};
+ghost use Rattle.bb_memory_base.specs.PoolObject.{PoolGeometry};
 ghost use Rattle.bb_memory_base.specs.declared.layout.Layout.{Layout as Asked};
 ghost use Rattle.bb_memory_base.specs.declared.allocator.AllocationError.{AllocationError};
 ghost use Rattle.bb_memory.specs.Buckets.{TellsNumber, TellsPlace};

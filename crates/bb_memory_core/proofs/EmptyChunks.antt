@@ -1,15 +1,14 @@
 -- Some live list of each pool: an empty chunk in each bucket that is held.
-use Rattle.std.proofs.Common.{◌≡◌, ◌≢◌, ℕ, zero, suc, ◌+◌, Bool, true, false, List, [], ◌∷◌, refl, sym, ap, subst, ◌∙◌}
-use Rattle.std.proofs.Common.{arith, Some}
+use Rattle.std.proofs.Common.{◌≡◌, ◌≢◌, ℕ, zero, suc, ◌+◌, Bool, true, false, List, [], ◌∷◌, refl, sym, ap, subst, ◌∙◌, arith}
+use Rattle.std.proofs.Common.{Some}
 use Rattle.std.specs.Prelude.{slice_get, All}
 use Rattle.std.proofs.lemmas.Option.{same_Some}
 use Rattle.std.proofs.lemmas.List.Kept.{AllPairs-cons}
 use Rattle.bb_memory_base.specs.Chunk.{Chunk}
-use Rattle.bb_memory_base.specs.ResizableObject.{PlacesDiffer}
-use Rattle.bb_memory_base.specs.PoolGeometry.{PoolGeometry, bucket_place, IsPoolGeometry}
-use Rattle.bb_memory_base.specs.PoolObject.{IsHeld}
+use Rattle.bb_memory_base.specs.Object.{PlacesDiffer}
+use Rattle.bb_memory_base.specs.PoolObject.{PoolGeometry, bucket_place, IsPoolGeometry, IsHeld}
 use Rattle.bb_memory_base.proofs.Positions.{All-from_positions}
-use Rattle.bb_memory_core.specs.NumberSet.{Has}
+use Rattle.bb_memory_core.specs.IndexSets.{Has}
 use Rattle.bb_memory_core.specs.Pool.{Pool, IsPool, Fills, StandsFor}
 use Rattle.bb_memory_core.proofs.Pools.{one_bucket, stands_from}
 

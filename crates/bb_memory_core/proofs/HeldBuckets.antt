@@ -4,7 +4,7 @@ use Rattle.std.specs.Prelude.{Some, count_by, get_or, take}
 use Rattle.std.proofs.lemmas.Bool.{cases_Bool}
 use Rattle.std.proofs.lemmas.List.Sums.{count_by_more_no, count_by_more_yes}
 use Rattle.std.proofs.lemmas.Option.{same_Some, slice_get-get_or}
-use Rattle.bb_memory_core.specs.NumberSet.{Has}
+use Rattle.bb_memory_core.specs.IndexSets.{Has}
 
 -- how many of the first so many flags are set
 abbrev pub set_below : List Bool → ℕ → ℕ

@@ -1,12 +1,11 @@
 -- The lowest clear bit of a word, the word with that bit set, and a set of numbers with that bit's number.
-use Rattle.std.proofs.Common.{◌≡◌, ℕ, zero, suc, ◌+◌, ◌*◌, ◌/◌, ◌%◌, ◌^◌, ◌<◌, true, false, eqb}
-use Rattle.std.proofs.Common.{List, length, get_or, set, sym, ◌∙◌, ap, inl, inr, arith, eq-eqb, w64}
+use Rattle.std.proofs.Common.{◌≡◌, ℕ, zero, suc, ◌+◌, ◌*◌, ◌/◌, ◌%◌, ◌^◌, ◌<◌, true, false, eqb, List, length, get_or, set, sym}
+use Rattle.std.proofs.Common.{◌∙◌, ap, inl, inr, arith, eq-eqb, w64}
 use Rattle.std.proofs.lemmas.Bool.{cases_lt}
 use Rattle.std.proofs.lemmas.Nat.Bits.{bit_at-trailing_ones, bit_at-suc, bit_at_lowest, bit_at_or, bit_at-lt}
 use Rattle.std.specs.Prelude.{bit_or}
 use Rattle.std.specs.Int.{bit_at, trailing_ones}
-use Rattle.bb_memory_core.specs.NumberSet.{Lacks}
-use Rattle.bb_memory_core.specs.Words.{AreIndexWords, has_bit, numbers_of, SetsBit}
+use Rattle.bb_memory_core.specs.IndexSets.{Lacks, AreIndexWords, has_bit, numbers_of, SetsBit}
 use Rattle.bb_memory_core.proofs.NumberWords.{AreIndexWords-set, Changes, change, lacks, numbers_of-set}
 
 -- half of a number, and of the next

@@ -1,7 +1,7 @@
 -- The buckets of a region, as it is measured.
 use Rattle.std.proofs.Common.{◌≡◌, ℕ, ◌+◌, ◌*◌, ◌<◌, ◌≤◌, Option, arith, sym, subst}
 use Rattle.bb_memory_base.specs.Chunk.{Chunk, IsChunk, IsInside}
-use Rattle.bb_memory_base.specs.PoolGeometry.{PoolGeometry, IsPoolGeometry, bucket_place}
+use Rattle.bb_memory_base.specs.PoolObject.{PoolGeometry, IsPoolGeometry, bucket_place}
 use Rattle.bb_memory_base.proofs.PoolGeometries.{stride-above, first_place-above}
 use Rattle.bb_memory_core.specs.Buckets.{IsMeasured, IsPlaceOfBucket}
 

@@ -1,18 +1,17 @@
 -- The numbers that aren't in a set, as the first entries of an array.
-use Rattle.std.proofs.Common.{◌≡◌, ◌≢◌, ℕ, ◌+◌, ◌-◌, ◌≤◌, ◌<◌, Bool, true, false, eqb, List, length, get_or, set}
-use Rattle.std.proofs.Common.{take, replicate, refl, ap, sym, ◌∙◌, arith, inl, inr, ext_get_or, length-set, get_or-set_same}
-use Rattle.std.proofs.Common.{get_or-set_other, eq-eqb}
+use Rattle.std.proofs.Common.{◌≡◌, ◌≢◌, ℕ, ◌+◌, ◌-◌, ◌≤◌, ◌<◌, Bool, true, false, eqb, List, length, get_or, set, take, replicate}
+use Rattle.std.proofs.Common.{refl, ap, sym, ◌∙◌, arith, inl, inr, ext_get_or, length-set, get_or-set_same, get_or-set_other}
+use Rattle.std.proofs.Common.{eq-eqb}
 use Rattle.std.specs.Prelude.{Some, slice_get, not, ◌||◌, IsTrue, ◌↔◌}
 use Rattle.std.specs.List.{list_any}
 use Rattle.std.proofs.lemmas.Bool.{cases_eq, ne_eqb, false≢true}
-use Rattle.std.proofs.lemmas.List.{length-take-le, length-replicate, get_or-take, get_or-replicate, get_or_default}
-use Rattle.std.proofs.lemmas.List.{take-set, take-replicate}
+use Rattle.std.proofs.lemmas.List.{length-take-le, length-replicate, get_or-take, get_or-replicate, get_or_default, take-set}
+use Rattle.std.proofs.lemmas.List.{take-replicate}
 use Rattle.std.proofs.lemmas.List.FromFn.{length-map-range_with_len, get_or-map-range_with_len}
 use Rattle.std.proofs.lemmas.List.Folds.{list_any_at, list_any_more, list_any_none}
 use Rattle.std.proofs.lemmas.Option.{slice_get_within, slice_get-get_or, get_or_from_slice_get}
 use Rattle.std.proofs.Math.Seq.{take-set-lt}
-use Rattle.bb_memory_core.specs.Flags.{is_held, held_numbers, IsFreeList, AreFlags}
-use Rattle.bb_memory_core.specs.NumberSet.{Has, Lacks, IsFull}
+use Rattle.bb_memory_core.specs.IndexSets.{is_held, held_numbers, IsFreeList, AreFlags, Has, Lacks, IsFull}
 use Rattle.bb_memory_core.proofs.Listings.{few_more}
 
 pub length-held_numbers : (bound : ℕ) (free : List ℕ) → length (held_numbers bound free) ≡ bound

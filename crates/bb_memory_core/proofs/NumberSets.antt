@@ -2,7 +2,7 @@
 use Rattle.std.proofs.Common.{◌≡◌, sym, ◌∙◌, Bool, List, ℕ}
 use Rattle.std.proofs.lemmas.Option.{slice_get_within}
 use Rattle.std.specs.Prelude.{false, true, Some}
-use Rattle.bb_memory_core.specs.NumberSet.{Lacks, IsFull}
+use Rattle.bb_memory_core.specs.IndexSets.{Lacks, IsFull}
 
 -- a full set lacks no number
 pub full_lacks_none : (set : List Bool) (number : ℕ) → IsFull set → Lacks set number → ⊥

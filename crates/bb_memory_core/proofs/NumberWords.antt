@@ -1,18 +1,16 @@
 -- Words of 64 bits as a set of numbers.
-use Rattle.std.proofs.Common.{◌≡◌, ◌≢◌, ℕ, ◌-◌, ◌*◌, ◌/◌, ◌%◌, ◌^◌, ◌<◌, ◌≤◌, Bool, true, false, eqb, List, length}
-use Rattle.std.proofs.Common.{replicate, get_or, set, sym, ◌∙◌, ap, inl, inr, arith, ext_get_or, length-set, get_or-set_same}
+use Rattle.std.proofs.Common.{◌≡◌, ◌≢◌, ℕ, ◌-◌, ◌*◌, ◌/◌, ◌%◌, ◌^◌, ◌<◌, ◌≤◌, Bool, true, false, eqb, List, length, replicate}
+use Rattle.std.proofs.Common.{get_or, set, sym, ◌∙◌, ap, inl, inr, arith, ext_get_or, length-set, get_or-set_same}
 use Rattle.std.proofs.Common.{get_or-set_other, eq-eqb, w64}
 use Rattle.std.proofs.lemmas.List.{length-replicate, get_or-replicate}
 use Rattle.std.proofs.lemmas.List.FromFn.{length-map-range_with_len, get_or-map-range_with_len}
 use Rattle.std.proofs.lemmas.Bool.{cases_eq, cases_lt, false≢true}
-use Rattle.std.proofs.lemmas.Nat.Bits.{bit_at_clear_same, bit_at_clear_other, bit_at-zero}
-use Rattle.std.proofs.lemmas.Nat.Bits.{bit_at_ones, bit_at_mask_inside, bit_at_mask_below, ones_shl}
+use Rattle.std.proofs.lemmas.Nat.Bits.{bit_at_clear_same, bit_at_clear_other, bit_at-zero, bit_at_ones, bit_at_mask_inside}
+use Rattle.std.proofs.lemmas.Nat.Bits.{bit_at_mask_below, ones_shl}
 use Rattle.std.proofs.lemmas.Option.{slice_get-get_or, slice_get_within}
 use Rattle.std.specs.Prelude.{bit_and, Some, slice_get, slice_index, IsTrue, ◌↔◌}
 use Rattle.std.specs.Int.{bit_at, bit_not}
-use Rattle.bb_memory_core.specs.IndexWords.{index_words}
-use Rattle.bb_memory_core.specs.NumberSet.{Has, Lacks, IsFull}
-use Rattle.bb_memory_core.specs.Words.{has_bit, numbers_of, AreIndexWords, SetsBit}
+use Rattle.bb_memory_core.specs.IndexSets.{index_words, Has, Lacks, IsFull, has_bit, numbers_of, AreIndexWords, SetsBit}
 
 -- a set has a flag for each number below its bound
 pub length-numbers_of : (bound : ℕ) (words : List ℕ) → length (numbers_of bound words) ≡ bound

@@ -1,15 +1,14 @@
 -- What the one-chunk object answers, and the live lists of at most one chunk that it goes on to.
-use Rattle.std.proofs.Common.{◌≡◌, ℕ, ◌+◌, ◌<◌, ◌≤◌, ◌%◌, List, [], ◌∷◌, ◌++◌, Option, Some, None, Result, Ok, Err}
-use Rattle.std.proofs.Common.{length, slice_get, slice_set, remove, refl, sym, ◌∙◌, ap, subst, inl, inr, arith}
+use Rattle.std.proofs.Common.{◌≡◌, ℕ, ◌+◌, ◌<◌, ◌≤◌, ◌%◌, List, [], ◌∷◌, ◌++◌, Option, Some, None, Result, Ok, Err, length}
+use Rattle.std.proofs.Common.{slice_get, slice_set, remove, refl, sym, ◌∙◌, ap, subst, inl, inr, arith}
 use Rattle.std.specs.Option.{ForSome}
 use Rattle.std.proofs.lemmas.Bool.{cases_lt}
-use Rattle.bb_memory_base.specs.Chunk.{Region, region_end, Chunk, chunk_end, IsInside}
-use Rattle.bb_memory_base.specs.Run.{IsRun, Step}
-use Rattle.bb_memory_base.specs.ResizableObject.{ResizableStep}
+use Rattle.bb_memory_base.specs.Chunk.{Region, region_end, Chunk, chunk_end, IsInside, first_place}
+use Rattle.bb_memory_base.specs.Object.{IsRun, Step, ResizableStep}
 use Rattle.bb_memory_base.specs.declared.layout.Layout.{Layout}
 use Rattle.bb_memory_base.specs.declared.allocator.AllocationError.{AllocationError}
-use Rattle.bb_memory_base.specs.declared.allocator.AllocationError.TheVariants.{SizeIsZero, SizeTooLarge}
-use Rattle.bb_memory_base.specs.declared.allocator.AllocationError.TheVariants.{AlignmentFailure, OutOfMemory}
+use Rattle.bb_memory_base.specs.declared.allocator.AllocationError.TheVariants.{SizeIsZero, SizeTooLarge, AlignmentFailure}
+use Rattle.bb_memory_base.specs.declared.allocator.AllocationError.TheVariants.{OutOfMemory}
 use Rattle.bb_memory_base.specs.declared.allocator.AllocationGrowError.{AllocationGrowError}
 use Rattle.bb_memory_base.specs.declared.allocator.AllocationGrowError.TheVariants as grow
 use Rattle.bb_memory_base.specs.declared.allocator.AllocationShrinkError.{AllocationShrinkError}
@@ -21,9 +20,7 @@ use Rattle.bb_memory_base.specs.declared.allocator.Reply.TheVariants as reply
 use Rattle.bb_memory_base.proofs.LeastPlaces.{least_place-is, least_place-multiple}
 use Rattle.bb_memory_base.proofs.LiveLists.{sound_from_order}
 use Rattle.bb_memory_base.proofs.Runs.{IsRun-keeps}
-use Rattle.bb_memory_core.specs.OneChunk.{OneChunk, HasByteAt, IsOneChunk, IsKept, StandsFor}
-use Rattle.bb_memory_core.specs.OneChunkLaws.{only_chunk}
-use Rattle.bb_memory_base.specs.FirstPlace.{first_place}
+use Rattle.bb_memory_core.specs.OneChunk.{OneChunk, HasByteAt, IsOneChunk, IsKept, StandsFor, only_chunk}
 use Rattle.bb_memory_base.specs.OneChunkObject.{reserved_at, rest_from, MayAllocate, MayGrow, MayShrink, one_chunk_object}
 
 abbrev one_of : Region → Option ℕ → OneChunk

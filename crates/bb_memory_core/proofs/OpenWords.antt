@@ -1,9 +1,8 @@
 -- The words that aren't full, the one in hand and the listed ones: after a taking and after a release.
-use Rattle.std.proofs.Common.{◌≡◌, ◌≢◌, ℕ, ◌+◌, ◌-◌, ◌^◌, ◌<◌, ◌≤◌, List, length, get_or, set, sym, ◌∙◌}
-use Rattle.std.proofs.Common.{ap, if◌then◌else◌, inl, inr, arith, eq-eqb, get_or-set_same, get_or-set_other, length-set}
+use Rattle.std.proofs.Common.{◌≡◌, ◌≢◌, ℕ, ◌+◌, ◌-◌, ◌^◌, ◌<◌, ◌≤◌, List, length, get_or, set, sym, ◌∙◌, ap, if◌then◌else◌, inl}
+use Rattle.std.proofs.Common.{inr, arith, eq-eqb, get_or-set_same, get_or-set_other, length-set}
 use Rattle.std.proofs.lemmas.Bool.{cases_eq, cases_lt, ne_eqb}
-use Rattle.bb_memory_core.specs.Words.{IsListing, IsWordSet, PutsAt, AreIndexWords, open_word}
-use Rattle.bb_memory_core.specs.IndexWords.{index_words}
+use Rattle.bb_memory_core.specs.IndexSets.{IsListing, IsWordSet, PutsAt, AreIndexWords, open_word, index_words}
 use Rattle.bb_memory_core.proofs.NumberWords.{AreFull}
 use Rattle.bb_memory_core.proofs.Listings.{filled, opened, still}
 

@@ -1,34 +1,30 @@
 -- What a pool's requests and releases make of each live list that it stands for.
-use Rattle.std.proofs.Common.{◌≡◌, ◌≢◌, ℕ, suc, ◌+◌, ◌-◌, ◌*◌, ◌/◌, ◌%◌, ◌^◌, ◌<◌, ◌≤◌}
-use Rattle.std.proofs.Common.{Bool, true, false, List, [], ◌∷◌, ◌++◌}
+use Rattle.std.proofs.Common.{◌≡◌, ◌≢◌, ℕ, suc, ◌+◌, ◌-◌, ◌*◌, ◌/◌, ◌%◌, ◌^◌, ◌<◌, ◌≤◌, Bool, true, false, List, [], ◌∷◌, ◌++◌}
 use Rattle.std.proofs.Common.{Result, Ok, Err, refl, sym, ap, subst, ◌∙◌, arith, Some, inl, inr, div-add-mod', pow_pos, pow_mono}
 use Rattle.std.proofs.Common.{pow-add, pow-suc, cond, leb, min, ◌&&◌}
-use Rattle.std.proofs.lemmas.Bool.{le-leb}
+use Rattle.std.proofs.lemmas.Bool.{le-leb, cases_lt}
 use Rattle.std.specs.Prelude.{slice_get, slice_set, remove, IfOk}
 use Rattle.std.specs.Int.{IsPowerOfTwo}
 use Rattle.std.proofs.Math.Nat.{mul_assoc}
-use Rattle.std.proofs.lemmas.Bool.{cases_lt}
 use Rattle.std.proofs.lemmas.Nat.{mod-mul-add}
-use Rattle.bb_memory_base.specs.Chunk.{Chunk, IsInside}
-use Rattle.bb_memory_base.specs.FirstPlace.{first_place}
-use Rattle.bb_memory_base.specs.PoolGeometry.{PoolGeometry, bucket_place, stride}
-use Rattle.bb_memory_base.specs.PoolObject.{IsWithin, chunk_in, MayAllocate, MayGrow, MayShrink}
+use Rattle.bb_memory_base.specs.Chunk.{Chunk, IsInside, first_place}
+use Rattle.bb_memory_base.specs.PoolObject.{PoolGeometry, bucket_place, stride, IsWithin, chunk_in, MayAllocate, MayGrow}
+use Rattle.bb_memory_base.specs.PoolObject.{MayShrink}
 use Rattle.bb_memory_base.specs.declared.layout.Layout.{Layout}
 use Rattle.bb_memory_base.specs.declared.allocator.AllocationError.{AllocationError}
-use Rattle.bb_memory_base.specs.declared.allocator.AllocationError.TheVariants.{SizeIsZero, SizeTooLarge}
-use Rattle.bb_memory_base.specs.declared.allocator.AllocationError.TheVariants.{AlignmentFailure, OutOfMemory}
+use Rattle.bb_memory_base.specs.declared.allocator.AllocationError.TheVariants.{SizeIsZero, SizeTooLarge, AlignmentFailure}
+use Rattle.bb_memory_base.specs.declared.allocator.AllocationError.TheVariants.{OutOfMemory}
 use Rattle.bb_memory_base.specs.declared.allocator.AllocationGrowError.{AllocationGrowError}
 use Rattle.bb_memory_base.specs.declared.allocator.AllocationShrinkError.{AllocationShrinkError}
 use Rattle.bb_memory_base.proofs.Layouts.{layout-plain}
 use Rattle.bb_memory_base.proofs.PoolGeometries.{bucket_place-aligned, bucket_place-after}
 use Rattle.bb_memory_base.proofs.SliceGets.{slice_get-set_other, slice_get-set_same}
-use Rattle.bb_memory_core.specs.NumberSet.{Has, Lacks}
-use Rattle.bb_memory_core.specs.Pool.{Pool, IsPool, StandsFor, HoldsPlace, Takes, with_flag}
-use Rattle.bb_memory_core.specs.Pool.{CountedPool, TakesBucket, FreesBucket, counted, reads_of}
-use Rattle.bb_memory_core.specs.PoolLaws.{bucket_held_at, held_at_bucket}
+use Rattle.bb_memory_core.specs.IndexSets.{Has, Lacks}
+use Rattle.bb_memory_core.specs.Pool.{Pool, IsPool, StandsFor, HoldsPlace, Takes, with_flag, CountedPool, TakesBucket}
+use Rattle.bb_memory_core.specs.Pool.{FreesBucket, counted, reads_of, bucket_held_at, held_at_bucket}
 use Rattle.bb_memory_core.proofs.Cuts.{number-at}
-use Rattle.bb_memory_core.proofs.Pools.{Has-set_true, IsPool-with_flag, bucket-below, filled-at, held-inside}
-use Rattle.bb_memory_core.proofs.Pools.{lacked-free, one_bucket, stands-given, stands-freed, stands-resized}
+use Rattle.bb_memory_core.proofs.Pools.{Has-set_true, IsPool-with_flag, bucket-below, filled-at, held-inside, lacked-free}
+use Rattle.bb_memory_core.proofs.Pools.{one_bucket, stands-given, stands-freed, stands-resized}
 
 -- POWERS OF TWO
 

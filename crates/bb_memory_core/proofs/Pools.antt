@@ -1,26 +1,23 @@
 -- The live lists that a pool stands for: of no chunk, of one more, of one less, and with one resized.
-use Rattle.std.proofs.Common.{◌≡◌, ◌≢◌, ℕ, ◌<◌, ◌≤◌, Bool, true, false, List, []}
-use Rattle.std.proofs.Common.{◌∷◌, ◌++◌, length, refl, sym, ap, subst, ◌∙◌, arith, Some, inl, inr}
+use Rattle.std.proofs.Common.{◌≡◌, ◌≢◌, ℕ, ◌<◌, ◌≤◌, Bool, true, false, List, [], ◌∷◌, ◌++◌, length, refl, sym, ap, subst, ◌∙◌}
+use Rattle.std.proofs.Common.{arith, Some, inl, inr}
 use Rattle.std.specs.Prelude.{slice_get, slice_set, remove, All}
 use Rattle.std.proofs.lemmas.Bool.{cases_eq, cases_lt}
 use Rattle.std.proofs.lemmas.Option.{slice_get_within, slice_get-get_or, same_Some}
 use Rattle.std.proofs.lemmas.List.Elements.{All-push}
 use Rattle.std.proofs.lemmas.List.Quantifiers.{all_pairs_push, all_pairs_remove}
 use Rattle.bb_memory_base.specs.Chunk.{Chunk, IsInside}
-use Rattle.bb_memory_base.specs.ResizableObject.{PlacesDiffer}
-use Rattle.bb_memory_base.specs.PoolGeometry.{PoolGeometry, bucket_place, IsPoolGeometry}
-use Rattle.bb_memory_base.specs.PoolObject.{IsAt, IsHeld, IsWithin, chunk_in}
+use Rattle.bb_memory_base.specs.Object.{PlacesDiffer}
+use Rattle.bb_memory_base.specs.PoolObject.{PoolGeometry, bucket_place, IsPoolGeometry, IsAt, IsHeld, IsWithin, chunk_in}
 use Rattle.bb_memory_base.specs.declared.layout.Layout.{Layout}
 use Rattle.bb_memory_base.proofs.PoolGeometries.{bucket_place-apart}
 use Rattle.bb_memory_base.proofs.PoolLists.{IsInBucket, AreInBuckets-from_places, inside_from_bucket, sound_from_buckets}
-use Rattle.bb_memory_base.proofs.SliceGets.{slice_get-set, slice_get-set_other, slice_get-set_same}
-use Rattle.bb_memory_base.proofs.SliceGets.{slice_get-replicated, length-set_at}
-use Rattle.bb_memory_core.specs.NumberSet.{Has, Lacks}
-use Rattle.bb_memory_core.specs.Pool.{Pool, IsPool, Fills, StandsFor, HoldsPlace, fresh_pool, with_flag}
-use Rattle.bb_memory_core.specs.PoolLaws.{bucket_held_at}
-use Rattle.bb_memory_base.proofs.Positions.{All-at, All-from_positions, AllPairs-at, AllPairs-from_positions}
-use Rattle.bb_memory_base.proofs.SliceGets.{slice_get-last, slice_get-push}
-use Rattle.bb_memory_base.proofs.Positions.{slice_get-removed, slice_get-unremoved}
+use Rattle.bb_memory_base.proofs.SliceGets.{slice_get-set, slice_get-set_other, slice_get-set_same, slice_get-replicated}
+use Rattle.bb_memory_base.proofs.SliceGets.{length-set_at, slice_get-last, slice_get-push}
+use Rattle.bb_memory_core.specs.IndexSets.{Has, Lacks}
+use Rattle.bb_memory_core.specs.Pool.{Pool, IsPool, Fills, StandsFor, HoldsPlace, fresh_pool, with_flag, bucket_held_at}
+use Rattle.bb_memory_base.proofs.Positions.{All-at, All-from_positions, AllPairs-at, AllPairs-from_positions, slice_get-removed}
+use Rattle.bb_memory_base.proofs.Positions.{slice_get-unremoved}
 
 -- BUCKETS
 

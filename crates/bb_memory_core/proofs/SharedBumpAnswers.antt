@@ -1,6 +1,6 @@
 -- What a request that has ended says of its answer and of its party.
-use Rattle.std.proofs.Common.{◌≡◌, ℕ, ◌+◌, ◌<◌, ◌≤◌, List, [], ◌∷◌, ◌++◌, length, sym, ap, ◌∙◌}
-use Rattle.std.proofs.Common.{subst, append-nil, arith, Result, Ok, Err}
+use Rattle.std.proofs.Common.{◌≡◌, ℕ, ◌+◌, ◌<◌, ◌≤◌, List, [], ◌∷◌, ◌++◌, length, sym, ap, ◌∙◌, subst, append-nil, arith, Result}
+use Rattle.std.proofs.Common.{Ok, Err}
 use Rattle.std.specs.Prelude.{IfOk, OnErr, drop, max}
 use Rattle.std.proofs.lemmas.Bool.{leb-false}
 use Rattle.std.proofs.Math.Seq.{drop-append_seam}
@@ -10,8 +10,7 @@ use Rattle.atomic_table.specs.Table.{Me}
 use Rattle.bb_memory_base.specs.Chunk.{region_end, Chunk, chunk_end}
 use Rattle.bb_memory_base.specs.BumpObject.{chunk_at_or_after, next_chunk}
 use Rattle.bb_memory_base.specs.BumpMachine.{BumpScene, chunk_at}
-use Rattle.bb_memory_base.specs.BumpHistory.{BumpLog, chunks_won, losses_in}
-use Rattle.bb_memory_base.specs.BumpLogs.{HasPositionFrom, HasPositionUpTo, seen_in}
+use Rattle.bb_memory_base.specs.BumpLogs.{BumpLog, chunks_won, losses_in, HasPositionFrom, HasPositionUpTo, seen_in}
 use Rattle.bb_memory_base.specs.declared.layout.Layout.{Layout}
 use Rattle.bb_memory_base.specs.declared.allocator.AllocationError.{AllocationError}
 use Rattle.bb_memory_base.specs.declared.allocator.AllocationError.TheVariants.{OutOfMemory}

@@ -5,8 +5,7 @@ use lib.ListN.{get_elem?}
 use Rattle.atomic_table.specs.Seated.{TableId}
 use Rattle.atomic_table.specs.Table.{Final, Me, Seen}
 use Rattle.bb_memory_base.specs.BumpMachine.{BumpScene}
-use Rattle.bb_memory_base.specs.BumpHistory.{BumpLog}
-use Rattle.bb_memory_base.specs.BumpLogs.{HasLog, Interleaving, seen_in}
+use Rattle.bb_memory_base.specs.BumpLogs.{BumpLog, HasLog, Interleaving, seen_in}
 use Rattle.bb_memory_base.proofs.BumpPositions.{alone_exact, interleaved, seen_below}
 use Rattle.bb_memory_base.proofs.BumpWholes.{ends_by}
 use Rattle.bb_memory_core.specs.Seats.{numbered, view_log}

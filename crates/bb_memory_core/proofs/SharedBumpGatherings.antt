@@ -1,6 +1,6 @@
 -- Parties that come to one seat, and what their meeting says of their logs.
-use Rattle.std.proofs.Common.{◌≡◌, ℕ, zero, suc, replicate, ◌<◌, ◌≤◌, List, [], ◌∷◌, ◌++◌, length, refl, sym, ap, ◌∙◌}
-use Rattle.std.proofs.Common.{subst, arith, append_assoc}
+use Rattle.std.proofs.Common.{◌≡◌, ℕ, zero, suc, replicate, ◌<◌, ◌≤◌, List, [], ◌∷◌, ◌++◌, length, refl, sym, ap, ◌∙◌, subst}
+use Rattle.std.proofs.Common.{arith, append_assoc}
 use Rattle.std.proofs.lemmas.List.{length-map, length-replicate, map-append}
 use Rattle.std.specs.Prelude.{map, max, Contains}
 use Rattle.std.specs.List.{All, AllByRecursion}
@@ -9,8 +9,7 @@ use Rattle.std.proofs.lemmas.List.Elements.{All-weaker, recursion_from_All}
 use Rattle.atomic_table.specs.Seated.{TableId}
 use Rattle.atomic_table.specs.Table.{Me}
 use Rattle.bb_memory_base.specs.BumpMachine.{BumpScene}
-use Rattle.bb_memory_base.specs.BumpHistory.{BumpLog}
-use Rattle.bb_memory_base.specs.BumpLogs.{HasLog, Interleaving, seen_in}
+use Rattle.bb_memory_base.specs.BumpLogs.{BumpLog, HasLog, Interleaving, seen_in}
 use Rattle.bb_memory_base.proofs.BumpLogs.{opening_agrees}
 use Rattle.bb_memory_base.proofs.BumpPositions.{interleaved, seen_below}
 use Rattle.bb_memory_base.proofs.BumpWholes.{opened_below, whole_bounds}

@@ -4,9 +4,7 @@ use Rattle.std.specs.List.{All, Contains}
 use Rattle.std.proofs.lemmas.List.Elements.{All-contains_itself, All-from_recursion, Contains-append_right, recursion_from_All}
 use Rattle.bb_memory_base.specs.Chunk.{Chunk}
 use Rattle.bb_memory_base.specs.BumpMachine.{BumpScene}
-use Rattle.bb_memory_base.specs.BumpHistory.{BumpLog, chunks_won, history_of}
-use Rattle.bb_memory_base.specs.BumpCalls.{live_after}
-use Rattle.bb_memory_base.specs.BumpLogs.{Interleaving}
+use Rattle.bb_memory_base.specs.BumpLogs.{BumpLog, chunks_won, history_of, live_after, Interleaving}
 use Rattle.bb_memory_base.proofs.BumpMeetings.{all_in_log}
 use Rattle.bb_memory_base.proofs.OwnChunks.{interleaved_since}
 

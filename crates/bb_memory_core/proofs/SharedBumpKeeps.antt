@@ -1,6 +1,6 @@
 -- Each atomic step keeps word and logs in agreement.
-use Rattle.std.proofs.Common.{◌≡◌, ◌≢◌, ℕ, ◌<◌, ◌≤◌, List, [], ◌∷◌, ◌++◌, Bool, true, false, set, get_or}
-use Rattle.std.proofs.Common.{eqb, refl, sym, ap, ◌∙◌, subst, arith, eq-eqb, ne_eqb, Option, Some, None}
+use Rattle.std.proofs.Common.{◌≡◌, ◌≢◌, ℕ, ◌<◌, ◌≤◌, List, [], ◌∷◌, ◌++◌, Bool, true, false, set, get_or, eqb, refl, sym, ap, ◌∙◌}
+use Rattle.std.proofs.Common.{subst, arith, eq-eqb, ne_eqb, Option, Some, None}
 use Rattle.std.specs.Prelude.{◌==◌, if◌then◌else◌}
 use mathlib.Core.Option.{none, some}
 use prog.Atomic.{either}
@@ -8,16 +8,16 @@ use lib.ListN.{get_elem?}
 use Rattle.atomic_table.specs.Table.{State, Me, keeps, Allows, step, carried_after}
 use Rattle.atomic_table.proofs.Lists.{exchanged}
 use Rattle.std.proofs.lemmas.Option.{same_Some}
-use Rattle.bb_memory_base.specs.BumpMachine.{BumpScene, OngoingCall, chunk_at, ending}
-use Rattle.bb_memory_base.specs.BumpMachine.{exchange_move, fits, position_behind, read_move, seeing}
-use Rattle.bb_memory_base.specs.BumpHistory.{BumpLog, entry_of}
-use Rattle.bb_memory_base.specs.BumpLogs.{HasLog, Interleaving, LogsAgree, call_in, greater_of, position_in, seen_in, with_entry}
+use Rattle.bb_memory_base.specs.BumpMachine.{BumpScene, OngoingCall, chunk_at, ending, exchange_move, fits, position_behind}
+use Rattle.bb_memory_base.specs.BumpMachine.{read_move, seeing}
+use Rattle.bb_memory_base.specs.BumpLogs.{BumpLog, entry_of, HasLog, Interleaving, LogsAgree, call_in, greater_of, position_in}
+use Rattle.bb_memory_base.specs.BumpLogs.{seen_in, with_entry}
 use Rattle.bb_memory_base.specs.declared.layout.Layout.{Layout}
 use Rattle.bb_memory_base.specs.declared.steps.bump.BumpStep.{BumpStep}
 use Rattle.bb_memory_base.specs.declared.steps.bump.BumpStep.TheVariants.{Read, Exchange, Load}
 use Rattle.bb_memory_base.specs.declared.steps.bump.BumpOutcome.{BumpOutcome}
-use Rattle.bb_memory_base.specs.declared.steps.bump.BumpOutcome.TheVariants.{Sees, RefusedAtRead, Wins}
-use Rattle.bb_memory_base.specs.declared.steps.bump.BumpOutcome.TheVariants.{Loses, RefusedAtLoss, Loaded}
+use Rattle.bb_memory_base.specs.declared.steps.bump.BumpOutcome.TheVariants.{Sees, RefusedAtRead, Wins, Loses, RefusedAtLoss}
+use Rattle.bb_memory_base.specs.declared.steps.bump.BumpOutcome.TheVariants.{Loaded}
 use Rattle.bb_memory_base.proofs.SliceGets.{length-set_at, slice_get-set_same}
 use Rattle.bb_memory_base.proofs.BumpLogs.{read_agrees, exchange_agrees, load_agrees}
 use Rattle.bb_memory_base.proofs.BumpPositions.{alone_exact, interleaved, position_within, seen_below}

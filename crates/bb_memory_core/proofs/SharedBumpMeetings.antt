@@ -4,7 +4,7 @@ use mathlib.Core.Option.{none, some}
 use lib.ListN.{get_elem?}
 use Rattle.atomic_table.specs.Table.{State, Me, keeps, Allows, step}
 use Rattle.bb_memory_base.specs.BumpMachine.{BumpScene}
-use Rattle.bb_memory_base.specs.BumpHistory.{BumpLog}
+use Rattle.bb_memory_base.specs.BumpLogs.{BumpLog}
 use Rattle.bb_memory_base.proofs.BumpMeetings.{chunks_apart}
 use Rattle.bb_memory_base.proofs.BumpPositions.{both_interleaved, position_within, seen_below}
 use Rattle.bb_memory_base.proofs.BumpWholes.{ends_by}

@@ -1,14 +1,14 @@
 -- How a request goes on: from its read to the step that decides it.
-use Rattle.std.proofs.Common.{◌≡◌, ◌≢◌, ℕ, ◌+◌, ◌<◌, ◌≤◌, [], ◌∷◌, ◌++◌, Bool, true, false, refl}
-use Rattle.std.proofs.Common.{sym, ap, ◌∙◌, subst, arith, append_assoc, Some, eq-eqb, ne_eqb}
+use Rattle.std.proofs.Common.{◌≡◌, ◌≢◌, ℕ, ◌+◌, ◌<◌, ◌≤◌, [], ◌∷◌, ◌++◌, Bool, true, false, refl, sym, ap, ◌∙◌, subst, arith}
+use Rattle.std.proofs.Common.{append_assoc, Some, eq-eqb, ne_eqb}
 use Rattle.std.specs.Prelude.{if◌then◌else◌, max}
 use Rattle.std.proofs.lemmas.List.Elements.{All-from_recursion}
 use Rattle.atomic_table.specs.Table.{Me}
 use Rattle.bb_memory_base.specs.Chunk.{Region, region_end, Chunk, chunk_end}
 use Rattle.bb_memory_base.specs.BumpMachine.{BumpScene, OngoingCall, chunk_at, ending, exchange_move, fits, loss_move}
 use Rattle.bb_memory_base.specs.BumpMachine.{position_behind, read_move, seeing}
-use Rattle.bb_memory_base.specs.BumpHistory.{BumpLog, chunks_won, entry_of, is_loss, losses_in}
-use Rattle.bb_memory_base.specs.BumpLogs.{HasPositionFrom, HasPositionUpTo, call_after, call_in, seen_in}
+use Rattle.bb_memory_base.specs.BumpLogs.{BumpLog, chunks_won, entry_of, is_loss, losses_in, HasPositionFrom, HasPositionUpTo}
+use Rattle.bb_memory_base.specs.BumpLogs.{call_after, call_in, seen_in}
 use Rattle.bb_memory_base.specs.declared.layout.Layout.{Layout}
 use Rattle.bb_memory_base.specs.declared.steps.bump.BumpStep.TheVariants.{Read, Exchange}
 use Rattle.bb_memory_base.specs.declared.steps.bump.BumpOutcome.{BumpOutcome}

@@ -8,7 +8,7 @@ use Rattle.std.proofs.lemmas.List.{length-replicate}
 use Rattle.std.proofs.lemmas.List.Elements.{All-from_recursion}
 use Rattle.atomic_table.specs.Table.{Splits, Joins, opening}
 use Rattle.bb_memory_base.specs.BumpMachine.{BumpScene}
-use Rattle.bb_memory_base.specs.BumpHistory.{BumpEntry, BumpLog}
+use Rattle.bb_memory_base.specs.BumpLogs.{BumpEntry, BumpLog}
 use Rattle.bb_memory_base.proofs.BumpLogs.{opening_agrees}
 use Rattle.bb_memory_core.specs.Seats.{first_of, others_of}
 use Rattle.bb_memory_core.specs.SharedBumpRule.{SeatView, WordsAndLogsAgree, all_parties, gathered, met_by, nobody, sight}

@@ -5,8 +5,8 @@ use Rattle.std.proofs.lemmas.List.Elements.{All-push}
 use Rattle.std.proofs.lemmas.List.Sums.{sum_by-append}
 use Rattle.bb_memory_base.specs.Chunk.{Chunk}
 use Rattle.bb_memory_base.specs.BumpMachine.{BumpScene}
-use Rattle.bb_memory_base.specs.BumpHistory.{BumpEntry, BumpLog, chunks_won, is_loss, losses_in}
-use Rattle.bb_memory_base.specs.BumpLogs.{HasPositionFrom, HasPositionUpTo, seen_in}
+use Rattle.bb_memory_base.specs.BumpLogs.{BumpEntry, BumpLog, chunks_won, is_loss, losses_in, HasPositionFrom, HasPositionUpTo}
+use Rattle.bb_memory_base.specs.BumpLogs.{seen_in}
 use Rattle.bb_memory_base.proofs.BumpBounds.{won_grows}
 use Rattle.bb_memory_core.specs.SharedBumpSteps.{IsCounted}
 use Rattle.bb_memory_core.proofs.SharedLogs.{losses_in-cons}

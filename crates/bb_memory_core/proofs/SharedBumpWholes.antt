@@ -6,9 +6,8 @@ use Rattle.std.proofs.lemmas.List.Elements.{All-contains, All-contains_itself, A
 use Rattle.bb_memory_base.specs.Chunk.{Region, Chunk}
 use Rattle.bb_memory_base.specs.BumpObject.{StandsFor}
 use Rattle.bb_memory_base.specs.BumpMachine.{BumpScene, BumpState, bump_step, opening_state}
-use Rattle.bb_memory_base.specs.BumpHistory.{BumpEntry, BumpLog, bump_history, chunks_won, history_of, is_by, log_of}
-use Rattle.bb_memory_base.specs.BumpCalls.{OpensWith, live_after}
-use Rattle.bb_memory_base.specs.BumpLogs.{AllAllowed, HasLog, Interleaving}
+use Rattle.bb_memory_base.specs.BumpLogs.{BumpEntry, BumpLog, bump_history, chunks_won, history_of, is_by, log_of, OpensWith}
+use Rattle.bb_memory_base.specs.BumpLogs.{live_after, AllAllowed, HasLog, Interleaving}
 use Rattle.bb_memory_base.proofs.BumpMeetings.{chunks_apart}
 use Rattle.bb_memory_base.specs.declared.steps.bump.BumpStep.{BumpStep}
 use Rattle.bb_memory_base.proofs.BumpAllowed.{first_allowed, nobody_else, rest_allowed}

@@ -1,8 +1,7 @@
 -- What the buckets of a region store.
 use Rattle.std.specs.Prelude.{◌≡◌, ℕ, ◌<◌, ◌≤◌, ◌^◌, Option, IfSome, IfNone}
-use Rattle.bb_memory_base.specs.Chunk.{IsRegion}
-use Rattle.bb_memory_base.specs.FirstPlace.{first_place}
-use Rattle.bb_memory_base.specs.PoolGeometry.{PoolGeometry, IsPoolGeometry, bucket_place, stride}
+use Rattle.bb_memory_base.specs.Chunk.{IsRegion, first_place}
+use Rattle.bb_memory_base.specs.PoolObject.{PoolGeometry, IsPoolGeometry, bucket_place, stride}
 
 -- to divide by the number is to shift to the right by this, if there is a shift
 abbrev pub Shifts : ℕ → Option ℕ → Type 0

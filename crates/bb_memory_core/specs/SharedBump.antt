@@ -1,20 +1,19 @@
 -- A shared bump and its parties, as their contracts see them, and what each call adds to its party's log.
-use Rattle.std.specs.Prelude.{◌≡◌, ◌≢◌, ℕ, ◌+◌, ◌<◌, ◌≤◌, true, false, List, [], ◌∷◌, ◌++◌, None, Result, Ok, Err, All}
-use Rattle.std.specs.Prelude.{Contains, Some, length, map, max, slice_get}
+use Rattle.std.specs.Prelude.{◌≡◌, ◌≢◌, ℕ, ◌+◌, ◌<◌, ◌≤◌, true, false, List, [], ◌∷◌, ◌++◌, None, Result, Ok, Err, All, Contains}
+use Rattle.std.specs.Prelude.{Some, length, map, max, slice_get}
 use Rattle.atomic_table.specs.Seated.{TableId}
 use Rattle.bb_memory_base.specs.Chunk.{Region, Chunk, AreApart, chunk_end}
 use Rattle.bb_memory_base.specs.BumpMachine.{BumpScene, chunk_at, fits}
-use Rattle.bb_memory_base.specs.BumpHistory.{BumpLog, chunks_won, entry_of}
+use Rattle.bb_memory_base.specs.BumpLogs.{BumpLog, chunks_won, entry_of, CommonInterleaving, Interleaving, HasLog}
+use Rattle.bb_memory_base.specs.BumpLogs.{HasPositionFrom, HasPositionUpTo, LogsAgree, call_in, seen_in}
 use Rattle.bb_memory_base.specs.BumpObject.{MayAllocate, StandsFor}
-use Rattle.bb_memory_base.specs.BumpLogs.{CommonInterleaving, Interleaving, HasLog, HasPositionFrom, HasPositionUpTo, LogsAgree}
-use Rattle.bb_memory_base.specs.BumpLogs.{call_in, seen_in}
 use Rattle.bb_memory_base.specs.declared.layout.Layout.{Layout}
 use Rattle.bb_memory_base.specs.declared.allocator.AllocationError.{AllocationError}
-use Rattle.bb_memory_base.specs.declared.allocator.AllocationError.TheVariants.{SizeIsZero, SizeTooLarge}
-use Rattle.bb_memory_base.specs.declared.allocator.AllocationError.TheVariants.{AlignmentFailure, OutOfMemory}
+use Rattle.bb_memory_base.specs.declared.allocator.AllocationError.TheVariants.{SizeIsZero, SizeTooLarge, AlignmentFailure}
+use Rattle.bb_memory_base.specs.declared.allocator.AllocationError.TheVariants.{OutOfMemory}
 use Rattle.bb_memory_base.specs.declared.steps.bump.BumpStep.TheVariants.{Read, Exchange, Load}
-use Rattle.bb_memory_base.specs.declared.steps.bump.BumpOutcome.TheVariants.{Sees, RefusedAtRead, Wins}
-use Rattle.bb_memory_base.specs.declared.steps.bump.BumpOutcome.TheVariants.{Loses, RefusedAtLoss, Loaded}
+use Rattle.bb_memory_base.specs.declared.steps.bump.BumpOutcome.TheVariants.{Sees, RefusedAtRead, Wins, Loses, RefusedAtLoss}
+use Rattle.bb_memory_base.specs.declared.steps.bump.BumpOutcome.TheVariants.{Loaded}
 
 -- a shared bump: which one it is, and where its machine began: its region, the position at `share`, and how many parties it has
 pub record SharedBump : Type 0 where

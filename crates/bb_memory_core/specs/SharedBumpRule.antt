@@ -7,8 +7,7 @@ use Rattle.atomic_table.specs.Seated.{TableId}
 use Rattle.atomic_table.specs.Table.{State, Me}
 use Rattle.bb_memory_base.specs.Chunk.{IsRegion, region_at}
 use Rattle.bb_memory_base.specs.BumpMachine.{BumpScene}
-use Rattle.bb_memory_base.specs.BumpHistory.{BumpEntry, BumpLog}
-use Rattle.bb_memory_base.specs.BumpLogs.{Interleaving, LogsAgree, call_in, seen_in}
+use Rattle.bb_memory_base.specs.BumpLogs.{BumpEntry, BumpLog, Interleaving, LogsAgree, call_in, seen_in}
 use Rattle.bb_memory_core.specs.Seats.{AreSeated, HasRoomFor, IsAt, Numbered, Seat, alone, fresh_from, number_of, numbered}
 use Rattle.bb_memory_core.specs.Seats.{standing_for, view_log}
 use Rattle.bb_memory_core.specs.SharedBump.{BumpParty, IsSharedScene, SharedBump, scene_at}

@@ -1,13 +1,12 @@
 -- What each step on a shared bump's word tells the party that makes it, and a request as it stands at its party's seat.
-use Rattle.std.specs.Prelude.{◌≡◌, ◌≢◌, ℕ, ◌+◌, ◌<◌, ◌≤◌, ◌%◌, true, false, List, [], ◌∷◌, ◌++◌, Option, Some, None, All}
-use Rattle.std.specs.Prelude.{length, max}
+use Rattle.std.specs.Prelude.{◌≡◌, ◌≢◌, ℕ, ◌+◌, ◌<◌, ◌≤◌, ◌%◌, true, false, List, [], ◌∷◌, ◌++◌, Option, Some, None, All, length}
+use Rattle.std.specs.Prelude.{max}
 use Rattle.atomic_table.specs.Seated.{TableId}
 use Rattle.atomic_table.specs.Table.{Me, Step}
 use Rattle.bb_memory_base.specs.Chunk.{Region, region_end, Chunk, IsInside, chunk_end}
 use Rattle.bb_memory_base.specs.BumpMachine.{BumpScene, OngoingCall, chunk_at, fits, read_move, exchange_move}
-use Rattle.bb_memory_base.specs.BumpHistory.{BumpLog, chunks_won, entry_of, losses_in}
-use Rattle.bb_memory_base.specs.BumpLogs.{HasPositionFrom, CommonInterleaving, HasPositionUpTo, LogsAgree, call_in}
-use Rattle.bb_memory_base.specs.BumpLogs.{seen_in}
+use Rattle.bb_memory_base.specs.BumpLogs.{BumpLog, chunks_won, entry_of, losses_in, HasPositionFrom, CommonInterleaving}
+use Rattle.bb_memory_base.specs.BumpLogs.{HasPositionUpTo, LogsAgree, call_in, seen_in}
 use Rattle.bb_memory_base.specs.declared.layout.Layout.{Layout}
 use Rattle.bb_memory_base.specs.declared.steps.bump.BumpStep.{BumpStep}
 use Rattle.bb_memory_base.specs.declared.steps.bump.BumpStep.TheVariants.{Read, Exchange, Load}

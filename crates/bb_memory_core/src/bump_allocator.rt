@@ -2,8 +2,7 @@
 ghost use Rattle.std.specs.Prelude.{◌≡◌, [], List, All, ◌+◌, ◌<◌, ◌≤◌, ◌%◌, ◌↔◌, ℕ};
 ghost use Rattle.std.specs.Prelude.{IfOk, IfErr, IsTrue, Ok, Some, length, slice_get};
 ghost use Rattle.bb_memory_base.specs.Chunk.{Region, IsRegion, region_at, Chunk, IsInside, chunk_end};
-ghost use Rattle.bb_memory_base.specs.Object.{AnswersAll, AnswersOnce, GivesOnly};
-ghost use Rattle.bb_memory_base.specs.Run.{AnswersRun, IsRun, Step};
+ghost use Rattle.bb_memory_base.specs.Object.{AnswersAll, AnswersOnce, GivesOnly, AnswersRun, IsRun, Step};
 ghost use Rattle.bb_memory_base.specs.BumpObject.{MayAllocate, IsInOrder, StandsFor, bump_object, used_space};
 ghost use Rattle.bb_memory_base.specs.declared.layout.Layout.{Layout};
 ghost use Rattle.bb_memory_base.specs.declared.allocator.AllocationError.{AllocationError};

@@ -13,7 +13,7 @@ pub use crate::index_set::index_words::Counter;
 pub trait IndexSet: Drop {
     ghost use Rattle.std.specs.Prelude.{◌≡◌, ◌<◌, ◌↔◌, ℕ, Bool, true, false, List};
     ghost use Rattle.std.specs.Prelude.{length, min, slice_set, IsTrue, IfSome, IfNone};
-    ghost use Rattle.bb_memory_core.specs.NumberSet.{Has, Lacks, IsFull};
+    ghost use Rattle.bb_memory_core.specs.IndexSets.{Has, Lacks, IsFull};
 
     /// A flag for each number below the bound: whether it is in the set.
     ghost numbers: { Self → List Bool };

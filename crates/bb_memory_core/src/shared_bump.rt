@@ -1,12 +1,10 @@
 //! The bump that threads share: its word is the position, and each thread steps with a party of its own.
 ghost use Rattle.std.specs.Prelude.{◌≡◌, ◌≢◌, ◌+◌, ◌-◌, ◌≤◌, ◌%◌, ◌∷◌, ◌++◌, [], List, All, IfOk};
 ghost use Rattle.std.specs.Prelude.{ℕ, OnErr, Some, length, slice_get, Contains};
-ghost use Rattle.bb_memory_base.specs.Chunk.{IsRegion, region_at, AreApart, Chunk, IsInside};
-ghost use Rattle.bb_memory_base.specs.LiveList.{IsSound};
+ghost use Rattle.bb_memory_base.specs.Chunk.{IsRegion, region_at, AreApart, Chunk, IsInside, IsSound};
 ghost use Rattle.bb_memory_base.specs.BumpObject.{StandsFor};
-ghost use Rattle.bb_memory_base.specs.BumpHistory.{BumpLog, chunks_won, history_of, losses_in};
-ghost use Rattle.bb_memory_base.specs.BumpCalls.{IsCallRun, OpensWith, calls_of, live_after};
-ghost use Rattle.bb_memory_base.specs.BumpLogs.{Interleaving};
+ghost use Rattle.bb_memory_base.specs.BumpLogs.{BumpLog, chunks_won, history_of, losses_in, Interleaving};
+ghost use Rattle.bb_memory_base.specs.BumpLogs.{IsCallRun, OpensWith, calls_of, live_after};
 ghost use Rattle.bb_memory_core.specs.SharedBump.{AgreeAt, AreBothOf, AreFresh, AreInterleaved, BumpParty, HasChunksWithin};
 ghost use Rattle.bb_memory_core.specs.SharedBump.{HaveChunksApart};
 ghost use Rattle.bb_memory_core.specs.SharedBump.{HasLoaded, HaveMet, IsAnsweredAt, IsFoundBy, IsInterleaved, IsParty};

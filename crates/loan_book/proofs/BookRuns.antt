@@ -1,10 +1,10 @@
 -- What a run of calls does to one sample, and which ids it gives.
-use Rattle.std.proofs.Common.{◌≡◌, ◌≢◌, ℕ, zero, suc, ◌-◌, ◌<◌, Bool, true, false, cond, List, [], ◌∷◌}
-use Rattle.std.proofs.Common.{refl, ap, sym, ◌∙◌, subst, arith, Option, None, Some}
+use Rattle.std.proofs.Common.{◌≡◌, ◌≢◌, ℕ, zero, suc, ◌-◌, ◌<◌, Bool, true, false, cond, List, [], ◌∷◌, refl, ap, sym, ◌∙◌, subst}
+use Rattle.std.proofs.Common.{arith, Option, None, Some}
 use Rattle.std.specs.Prelude.{◌↔◌}
 use Rattle.std.proofs.lemmas.Bool.Decides.{nat_tests}
 use Rattle.std.proofs.lemmas.List.Sums.{sum_by-cons}
-use Rattle.bb_memory_base.specs.Run.{IsRun}
+use Rattle.bb_memory_base.specs.Object.{IsRun}
 use Rattle.loan_book.specs.declared.run.LoanCall.{LoanCall}
 use Rattle.loan_book.specs.declared.run.LoanCall.TheVariants as call
 use Rattle.loan_book.specs.declared.run.LoanReply.{LoanReply}
@@ -14,8 +14,8 @@ use Rattle.loan_book.specs.Calls.{Answers, with_returns, without}
 use Rattle.loan_book.specs.Runs.{BookStep, is_return_of, returns_in, is_publish_of, publishes_in}
 use Rattle.loan_book.proofs.Books.{sample-waits}
 use Rattle.loan_book.proofs.BookLeads.{Change, no_change, one_loan, one_publish, one_less, last_one, change_of, step-sound}
-use Rattle.loan_book.proofs.BookSteps.{HasOrIsGone, push-keeps, set-keeps, own-set}
-use Rattle.loan_book.proofs.BookSteps.{own-remove, remove-keeps, gone-nowhere, one_returns}
+use Rattle.loan_book.proofs.BookSteps.{HasOrIsGone, push-keeps, set-keeps, own-set, own-remove, remove-keeps, gone-nowhere}
+use Rattle.loan_book.proofs.BookSteps.{one_returns}
 
 -- how often a call counts
 abbrev once : Bool → ℕ

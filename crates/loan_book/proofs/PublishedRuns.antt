@@ -2,7 +2,7 @@
 use Rattle.std.proofs.Common.{◌≡◌, ℕ, zero, suc, ◌+◌, ◌<◌, List, [], ◌∷◌, sym, subst, drop, slice_get, Some, arith}
 use Rattle.std.specs.Prelude.{◌↔◌}
 use Rattle.bb_memory_base.specs.Chunk.{Chunk}
-use Rattle.bb_memory_base.specs.Run.{IsRun}
+use Rattle.bb_memory_base.specs.Object.{IsRun}
 use Rattle.loan_book.specs.declared.run.LoanCall.{LoanCall}
 use Rattle.loan_book.specs.declared.run.LoanCall.TheVariants as call
 use Rattle.loan_book.specs.declared.run.LoanReply.{LoanReply}

@@ -1,8 +1,7 @@
 //! Loan books.
 ghost use Rattle.std.specs.Prelude.{◌≡◌, ◌↔◌, ◌<◌, ◌≤◌, ◌^◌, ℕ, false, [], List, Result};
 ghost use Rattle.std.specs.Prelude.{length, slice_get, Some, IfErr, IfOk, OnOk, OnErr, IfSome, IfNone, IsTrue};
-ghost use Rattle.bb_memory_base.specs.Chunk.{Chunk};
-ghost use Rattle.bb_memory_base.specs.LiveList.{IsSound};
+ghost use Rattle.bb_memory_base.specs.Chunk.{Chunk, IsSound};
 ghost use Rattle.loan_book.specs.Sample.{Sample, returns_to_come};
 ghost use Rattle.loan_book.specs.declared.error.LoanError.{LoanError};
 ghost use Rattle.loan_book.specs.Book.{Book, IsBook, IsAt, IsOut, HasReturns, IsPublished, IsUnpublished, chunks_out};

@@ -1,9 +1,8 @@
 //! Calls of a loan book one after the other.
 ghost use Rattle.std.specs.Prelude.{◌≡◌, ◌+◌, ◌<◌, ◌↔◌, ℕ, Some, drop, length, slice_get, IfOk, OnOk, OnErr};
 ghost use Rattle.std.specs.List.{range_with_len};
-ghost use Rattle.bb_memory_base.specs.Run.{IsRun};
-ghost use Rattle.bb_memory_base.specs.LiveList.{IsSound};
-ghost use Rattle.bb_memory_base.specs.Chunk.{Chunk as GivenChunk};
+ghost use Rattle.bb_memory_base.specs.Object.{IsRun};
+ghost use Rattle.bb_memory_base.specs.Chunk.{IsSound, Chunk as GivenChunk};
 ghost use Rattle.loan_book.specs.Book.{chunks_out, IsBook, IsOut, HasReturns, IsUnpublished};
 ghost use Rattle.loan_book.specs.Runs.{BookStep, ids_in, returns_in, publishes_in};
 ghost use Rattle.loan_book.specs.declared.run.LoanCall.TheVariants.{Publish};

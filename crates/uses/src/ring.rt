@@ -1,8 +1,7 @@
 //! Messages for several readers, each in a sample of a loan book.
 ghost use Rattle.std.specs.Prelude.{◌≡◌, ◌∷◌, ◌++◌, ◌<◌, ◌+◌, [], Some, Ok, IfSome, IfNone, IfOk, IfErr};
 ghost use Rattle.std.specs.Prelude.{OnErr, OnOk, get_or, length, slice_get};
-ghost use Rattle.bb_memory_base.specs.Chunk.{Chunk};
-ghost use Rattle.bb_memory_base.specs.LiveList.{IsSound};
+ghost use Rattle.bb_memory_base.specs.Chunk.{Chunk, IsSound};
 ghost use Rattle.bb_memory_base.specs.HeldBytes.{held_region};
 ghost use Rattle.loan_book.specs.Book.{Book, IsBook, chunks_out};
 ghost use Rattle.loan_book.specs.Calls.{with_sample};

@@ -1,8 +1,6 @@
 //! Records of bytes, each in a chunk of its own.
-ghost use Rattle.std.specs.Prelude.{◌≡◌, ◌∷◌, ◌++◌, ◌<◌, [], ℕ, List, Some, Ok};
-ghost use Rattle.std.specs.Prelude.{length, remove, slice_get, slice_set};
-ghost use Rattle.bb_memory_base.specs.Chunk.{Chunk};
-ghost use Rattle.bb_memory_base.specs.LiveList.{IsSound};
+ghost use Rattle.std.specs.Prelude.{◌≡◌, ◌∷◌, ◌++◌, ◌<◌, [], ℕ, List, Some, Ok, length, remove, slice_get, slice_set};
+ghost use Rattle.bb_memory_base.specs.Chunk.{Chunk, IsSound};
 ghost use Rattle.bb_memory_base.specs.declared.layout.Layout.{Layout};
 ghost use Rattle.bb_memory_base.specs.HeldBytes.{HeldBytes, held_region};
 ghost use Rattle.uses.specs.Records.{HoldsThen, Leaves, Stores, records_in};

@@ -2,8 +2,7 @@
 ghost use Rattle.std.specs.Prelude.{◌≡◌, ◌≢◌, ◌<◌, ◌≤◌, ◌+◌, ◌%◌, ◌↔◌, ◌∷◌, ◌++◌, [], ℕ, List, Some, Ok};
 ghost use Rattle.std.specs.Prelude.{IfOk, IfErr, IfSome, IsOk, IsSome, IsTrue, OnOk, OnErr};
 ghost use Rattle.std.specs.Prelude.{length, remove, slice_get, slice_index_or, sum};
-ghost use Rattle.bb_memory_base.specs.Chunk.{IsInside};
-ghost use Rattle.bb_memory_base.specs.LiveList.{IsSound};
+ghost use Rattle.bb_memory_base.specs.Chunk.{IsInside, IsSound};
 ghost use Rattle.uses.specs.declared.tenants.Lease.{Lease};
 ghost use Rattle.uses.specs.Tenants.{HasLeft, IsUnasked, IsWhyNotAdmitted, IsWhyNotLeased};
 ghost use Rattle.uses.specs.Tenants.{bytes_for, bytes_out, chunks_of, lease_at};

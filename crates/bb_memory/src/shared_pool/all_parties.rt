@@ -1,13 +1,9 @@
 //! The law of parties of a shared pool that met.
-ghost use Rattle.std.specs.Prelude.{◌≡◌, ◌≢◌, ◌↔◌, ◌<◌, ℕ, All, Any, Contains, List};
-ghost use Rattle.std.specs.Prelude.{Some, [], length, slice_get, true};
-ghost use Rattle.bb_memory_base.specs.Chunk.{Chunk};
-ghost use Rattle.bb_memory_base.specs.LiveList.{IsSound};
+ghost use Rattle.std.specs.Prelude.{◌≡◌, ◌≢◌, ◌↔◌, ◌<◌, ℕ, All, Any, Contains, List, Some, [], length, slice_get, true};
+ghost use Rattle.bb_memory_base.specs.Chunk.{Chunk, IsSound};
 ghost use Rattle.bb_memory_base.specs.PoolObject.{IsHeld};
 ghost use Rattle.bb_memory_base.specs.PoolMachine.{IsDetached, PoolScene, left_by};
-ghost use Rattle.bb_memory_base.specs.PoolCalls.{AreAsked, IsPoolRun};
-ghost use Rattle.bb_memory_base.specs.PoolHistory.{history_of, log_of};
-ghost use Rattle.bb_memory_base.specs.PoolLogs.{IsHeldAfter};
+ghost use Rattle.bb_memory_base.specs.PoolLogs.{AreAsked, IsPoolRun, history_of, log_of, IsHeldAfter};
 ghost use Rattle.bb_memory_base.specs.declared.layout.Layout.{Layout};
 ghost use Rattle.bb_memory.specs.SharedPool.{HasTaker, HaveMet, HoldApart, IsHeldByOne, IsHeldOrDetached};
 ghost use Rattle.bb_memory.specs.SharedPool.{IsSharedScene, PoolParty, TookOne, WasDetachedByOne, refused_pass};

@@ -1,8 +1,7 @@
 //! A shared pool of at most a constant of buckets.
 ghost use Rattle.std.specs.Prelude.{◌≡◌, ◌-◌, ◌<◌, ◌≤◌, ◌^◌, IfOk, IfErr};
 ghost use Rattle.bb_memory_base.specs.Chunk.{region_at};
-ghost use Rattle.bb_memory_core.specs.HeldBuckets.{IsCutAtMost};
-ghost use Rattle.bb_memory_core.specs.Pool.{MayBeCut};
+ghost use Rattle.bb_memory_core.specs.Pool.{IsCutAtMost, MayBeCut};
 ghost use Rattle.bb_memory.specs.SharedPool.{AreFresh};
 
 use super::buckets::SharedBucketPool;

@@ -6,11 +6,10 @@
 //! no log; `open` is before all sharing, and `geometry` touches no word.
 ghost use Rattle.std.specs.Prelude.{◌≡◌, ℕ, ◌<◌, ◌≤◌, [], IfOk, MatchBool};
 ghost use Rattle.bb_memory_base.specs.Chunk.{IsRegion};
-ghost use Rattle.bb_memory_base.specs.PoolGeometry.{IsPoolGeometry};
-ghost use Rattle.bb_memory.specs.FlagWords.{bucket_of, word_of, words_for};
+ghost use Rattle.bb_memory_base.specs.PoolObject.{IsPoolGeometry};
+ghost use Rattle.bb_memory.specs.SharedPoolRule.{bucket_of, word_of, words_for, MayDetachAt, MayAttachAt, StandsAt};
 ghost use Rattle.bb_memory_core.specs.Seats.{IsDealt, MayGather, Stays, both_of, number_of, view_log};
 ghost use Rattle.bb_memory.specs.SharedPoolRule.{AreTwoAt, IsHeldAt, IsIdleAt, IsDetachedAt, IsNextFor, IsOpened, IsSeatAt};
-ghost use Rattle.bb_memory.specs.SharedPoolRule.{MayDetachAt, MayAttachAt, StandsAt};
 ghost use Rattle.bb_memory.specs.SharedPoolSteps.{HasFound, HasDetachedAt, HasMissedAt, HasTakenAt, HasAttachedAt};
 ghost use Rattle.bb_memory.specs.SharedPoolSteps.{TellsLoss, TellsReturn, TellsTaking, TellsTwo};
 

@@ -1,9 +1,8 @@
 //! Runs of commands over any allocator.
 ghost use Rattle.std.specs.Prelude.{◌≡◌, ◌<◌, OnOk, IfSome, None, vec_len, vec_capacity};
 ghost use Rattle.bb_memory_base.specs.Chunk.{Chunk};
-ghost use Rattle.bb_memory_base.specs.Object.{object_of};
-ghost use Rattle.bb_memory_base.specs.Run.{AnswersRun, Applies, Step, note_after_run};
-ghost use Rattle.bb_memory_base.specs.ResizableObject.{MayBeGrown, ResizableStep, resizable_object_of};
+ghost use Rattle.bb_memory_base.specs.Object.{object_of, AnswersRun, Applies, Step, note_after_run};
+ghost use Rattle.bb_memory_base.specs.Object.{MayBeGrown, ResizableStep, resizable_object_of};
 
 use super::{Allocator, BaseAllocator, Command, Reply};
 use crate::layout::{Chunk, Layout};

@@ -1,8 +1,7 @@
 //! Chunks, which are what is given.
 ghost use Rattle.std.specs.Prelude.{◌≡◌, ◌∷◌, ◌++◌, ◌<◌, ◌≤◌, ◌%◌, ◌↔◌, ℕ, [], List, All, IsTrue, IfSome};
 ghost use Rattle.std.specs.Option.{SomeIff};
-ghost use Rattle.bb_memory_base.specs.Chunk.{Chunk, IsChunk, IsInside, IsPart, AreApart, chunk_end, Region};
-ghost use Rattle.bb_memory_base.specs.LiveList.{IsSound};
+ghost use Rattle.bb_memory_base.specs.Chunk.{Chunk, IsChunk, IsInside, IsPart, AreApart, chunk_end, Region, IsSound};
 ghost use Rattle.bb_memory_base.specs.BumpObject.{chunk_at_or_after};
 ghost use Rattle.bb_memory_base.specs.HeldBytes.{first_part, part_behind};
 

@@ -1,13 +1,12 @@
 //! The bump machine's steps, and what holds of every list of them.
 ghost use Rattle.std.specs.Prelude.{◌≡◌, ◌+◌, ◌≤◌, ◌<◌, ◌++◌, ◌≢◌, ℕ, List, [], All, Some, None, slice_get};
-ghost use Rattle.bb_memory_base.specs.Chunk.{Region, Chunk, AreApart, chunk_end, Layout};
-ghost use Rattle.bb_memory_base.specs.LiveList.{IsSound};
+ghost use Rattle.bb_memory_base.specs.Chunk.{Region, Chunk, AreApart, chunk_end, Layout, IsSound};
 ghost use Rattle.bb_memory_base.specs.BumpObject.{StandsFor, used_space};
 ghost use Rattle.bb_memory_base.specs.BumpMachine.{BumpScene, OngoingCall, IsIdle, IsFitting, IsInCall, exchange_move, left_by};
 ghost use Rattle.bb_memory_base.specs.BumpMachine.{read_move, BumpStep, Read, Exchange, Load, Loaded};
-ghost use Rattle.bb_memory_base.specs.BumpHistory.{BumpLog, HasNoClear, IsLossAt, chunks_won, calls_begun_in, entries_by};
-ghost use Rattle.bb_memory_base.specs.BumpHistory.{entry_of, history_of, log_of, losses_in, outcome_after, stretch_after};
-ghost use Rattle.bb_memory_base.specs.BumpCalls.{IsCallRun, OpensWith, calls_after, calls_of, live_after};
+ghost use Rattle.bb_memory_base.specs.BumpLogs.{BumpLog, HasNoClear, IsLossAt, chunks_won, calls_begun_in, entries_by};
+ghost use Rattle.bb_memory_base.specs.BumpLogs.{entry_of, history_of, log_of, losses_in, outcome_after, stretch_after};
+ghost use Rattle.bb_memory_base.specs.BumpLogs.{IsCallRun, OpensWith, calls_after, calls_of, live_after};
 ghost use Rattle.bb_memory_base.specs.BumpLogs.{AllAllowed, CommonInterleaving, HasLog, Interleaving, LogsAgree};
 ghost use Rattle.bb_memory_base.specs.BumpLogs.{HasPositionUpTo, call_in, call_through, greatest_in, seen_in, with_entry};
 

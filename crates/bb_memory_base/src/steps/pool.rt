@@ -1,16 +1,13 @@
 //! The pool machine's steps, and what holds of every list of them.
 ghost use Rattle.std.specs.Prelude.{◌≡◌, ◌<◌, ◌≤◌, ◌↔◌, ◌⊎◌, ◌∷◌, ℕ, Bool, true, false, List, [], Some, None, All, drop};
 ghost use Rattle.std.specs.Prelude.{length, replicate, slice_get, slice_set, take};
-ghost use Rattle.bb_memory_base.specs.Chunk.{Region, Chunk, Layout};
-ghost use Rattle.bb_memory_base.specs.LiveList.{IsSound};
-ghost use Rattle.bb_memory_base.specs.PoolGeometry.{PoolGeometry, pool_geometry, FillsRegion, IsPoolGeometry, at_most};
-ghost use Rattle.bb_memory_base.specs.PoolObject.{IsHeld};
+ghost use Rattle.bb_memory_base.specs.Chunk.{Region, Chunk, Layout, IsSound};
+ghost use Rattle.bb_memory_base.specs.PoolObject.{PoolGeometry, pool_geometry, FillsRegion, IsPoolGeometry, at_most, IsHeld};
 ghost use Rattle.bb_memory_base.specs.PoolMachine.{PoolScene, IsHolder, IsDetached, IsTaken, left_by, opening_state, pool_step};
 ghost use Rattle.bb_memory_base.specs.PoolMachine.{PoolStep, Try, GiveBack, TryAt, Detach, Attach, Takes, Gives, Misses};
 ghost use Rattle.bb_memory_base.specs.PoolMachine.{Detaches, Attaches};
-ghost use Rattle.bb_memory_base.specs.PoolHistory.{PoolLog, entry_of, history_of, log_of};
-ghost use Rattle.bb_memory_base.specs.PoolCalls.{AreAsked, FoundHeld, IsCallRun, IsHeldInRun, IsPoolRun};
-ghost use Rattle.bb_memory_base.specs.PoolCalls.{IsRefusedAt, LosesAt, MissesAt};
+ghost use Rattle.bb_memory_base.specs.PoolLogs.{PoolLog, entry_of, history_of, log_of, IsRefusedAt, LosesAt, MissesAt};
+ghost use Rattle.bb_memory_base.specs.PoolLogs.{AreAsked, FoundHeld, IsCallRun, IsHeldInRun, IsPoolRun};
 ghost use Rattle.bb_memory_base.specs.PoolLogs.{AllAllowed, CommonInterleaving, WasDetached, HasLog, Interleaving, IsHeldAfter};
 ghost use Rattle.bb_memory_base.specs.PoolLogs.{IsDetachedAfter, LogsAgree, loss_at, next_bucket, pass_in, with_entry};
 

@@ -19,7 +19,7 @@ pub struct Flags<const N: usize> {
 
 impl<const N: usize> Model for Flags<N> {
     ghost use Rattle.std.specs.Prelude.{Bool, List, take};
-    ghost use Rattle.bb_memory_core.specs.Flags.{AreFlags, held_numbers};
+    ghost use Rattle.bb_memory_core.specs.IndexSets.{AreFlags, held_numbers};
 
     ghost Value = { List Bool };
 

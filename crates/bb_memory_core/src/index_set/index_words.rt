@@ -4,7 +4,7 @@
 //! make a new one.
 ghost use Rattle.std.specs.Prelude.{◌≡◌, ◌≢◌, ℕ, ◌+◌, ◌-◌, ◌/◌, ◌^◌, ◌<◌, ◌≤◌, false, IsTrue};
 ghost use Rattle.std.specs.Prelude.{IsFalse, length, replicate, slice_index, slice_set, IfOk};
-ghost use Rattle.bb_memory_core.specs.Words.{SetsBit, PutsAt, has_bit};
+ghost use Rattle.bb_memory_core.specs.IndexSets.{SetsBit, PutsAt, has_bit};
 
 use std::alloc::{AllocError, Allocator};
 use std::marker::Model;
@@ -53,7 +53,7 @@ pub struct IndexWords<A: Allocator> {
 
 impl<A: Allocator> Model for IndexWords<A> {
     ghost use Rattle.std.specs.Prelude.{◌≤◌, length};
-    ghost use Rattle.bb_memory_core.specs.Words.{Slots, slots_of};
+    ghost use Rattle.bb_memory_core.specs.IndexSets.{Slots, slots_of};
 
     ghost Value = { Slots };
 

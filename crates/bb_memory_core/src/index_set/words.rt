@@ -22,7 +22,7 @@ pub struct Words<A: Allocator> {
 
 impl<A: Allocator> Model for Words<A> {
     ghost use Rattle.std.specs.Prelude.{Bool, List};
-    ghost use Rattle.bb_memory_core.specs.Words.{numbers_of, IsWordSet};
+    ghost use Rattle.bb_memory_core.specs.IndexSets.{numbers_of, IsWordSet};
 
     ghost Value = { List Bool };
 
@@ -56,7 +56,7 @@ impl<A: Allocator> Words<A> {
 }
 
 impl<A: Allocator> IndexSet for Words<A> {
-    ghost use Rattle.bb_memory_core.specs.IndexWords.{index_words};
+    ghost use Rattle.bb_memory_core.specs.IndexSets.{index_words};
 
     ghost numbers = { λ set. set };
 

@@ -2,14 +2,11 @@
 ghost use Rattle.std.specs.Prelude.{◌≡◌, ◌≢◌, ◌↔◌, ◌≤◌, ℕ, false, true, List, OnOk, Some};
 ghost use Rattle.std.specs.Prelude.{IfSome, IsSome, IsTrue, length, remove, slice_get};
 ghost use Rattle.bb_memory_base.specs.Chunk.{Chunk};
-ghost use Rattle.bb_memory_base.specs.Run.{AnswersRun, Step};
-ghost use Rattle.bb_memory_base.specs.ResizableObject.{ResizableStep};
-ghost use Rattle.bb_memory_base.specs.PoolGeometry.{bucket_place};
-ghost use Rattle.bb_memory_base.specs.PoolObject.{pool_object};
+ghost use Rattle.bb_memory_base.specs.Object.{AnswersRun, Step, ResizableStep};
+ghost use Rattle.bb_memory_base.specs.PoolObject.{bucket_place, pool_object};
 ghost use Rattle.bb_memory_core.specs.Buckets.{TellsNumber, TellsPlace};
-ghost use Rattle.bb_memory_core.specs.HeldBuckets.{held_count};
-ghost use Rattle.bb_memory_core.specs.NumberSet.{Has, Lacks};
-ghost use Rattle.bb_memory_core.specs.Pool.{FreesBucket, HoldsPlace, IsPool, StandsFor};
+ghost use Rattle.bb_memory_core.specs.Pool.{held_count, FreesBucket, HoldsPlace, IsPool, StandsFor};
+ghost use Rattle.bb_memory_core.specs.IndexSets.{Has, Lacks};
 ghost use Rattle.bb_memory_core.specs.Pool.{Takes, pool_of, reads_after, reads_of};
 
 use super::geometry::Geometry;
@@ -215,10 +212,8 @@ fn take<S: IndexSet>(
 
 impl<S: IndexSet> BaseAllocator for BucketPool<S> {
     ghost use Rattle.std.specs.Prelude.{ℕ, false};
-    ghost use Rattle.bb_memory_base.specs.PoolGeometry.{PoolGeometry};
-    ghost use Rattle.bb_memory_base.specs.PoolObject.{MayAllocate};
-    ghost use Rattle.bb_memory_core.specs.Pool.{StandsFor, HoldsPlace, TakesBucket, FreesBucket, reads_of};
-    ghost use Rattle.bb_memory_core.specs.PoolLaws.{held_place};
+    ghost use Rattle.bb_memory_base.specs.PoolObject.{PoolGeometry, MayAllocate};
+    ghost use Rattle.bb_memory_core.specs.Pool.{StandsFor, HoldsPlace, TakesBucket, FreesBucket, reads_of, held_place};
 
     const RELEASE_EMPTIES: bool = false;
 
@@ -283,10 +278,9 @@ impl<S: IndexSet> BaseAllocator for BucketPool<S> {
 }
 
 impl<S: IndexSet> Allocator for BucketPool<S> {
-    ghost use Rattle.bb_memory_core.specs.PoolLaws.{covered, held_is_live};
+    ghost use Rattle.bb_memory_core.specs.Pool.{covered, held_is_live};
     ghost use Rattle.std.specs.Prelude.{refl};
-    ghost use Rattle.bb_memory_base.specs.PoolGeometry.{PoolGeometry};
-    ghost use Rattle.bb_memory_base.specs.PoolObject.{MayGrow, MayShrink};
+    ghost use Rattle.bb_memory_base.specs.PoolObject.{PoolGeometry, MayGrow, MayShrink};
 
     ghost Figures = { PoolGeometry };
 

@@ -1,12 +1,10 @@
 //! Where the buckets of a region are.
 ghost use Rattle.std.specs.Prelude.{◌≡◌, ℕ, ◌<◌, ◌≤◌, ◌/◌, ◌%◌, ◌↔◌, IfOk, IfSome, IfNone, IsTrue};
-ghost use Rattle.bb_memory_base.specs.Chunk.{IsRegion, region_at, Chunk, IsInside};
-ghost use Rattle.bb_memory_base.specs.FirstPlace.{first_place};
-ghost use Rattle.bb_memory_base.specs.PoolGeometry.{IsCut, IsPoolGeometry, at_most, bucket_place, pool_geometry, stride};
+ghost use Rattle.bb_memory_base.specs.Chunk.{IsRegion, region_at, Chunk, IsInside, first_place};
+ghost use Rattle.bb_memory_base.specs.PoolObject.{IsCut, IsPoolGeometry, at_most, bucket_place, pool_geometry, stride};
 ghost use Rattle.bb_memory_base.specs.PoolObject.{MayGrow, MayShrink};
 ghost use Rattle.bb_memory_core.specs.Buckets.{IsPlaceOfBucket, Shifts, TellsPlace};
-ghost use Rattle.bb_memory_core.specs.HeldBuckets.{IsCutAtMost};
-ghost use Rattle.bb_memory_core.specs.Pool.{MayBeCut};
+ghost use Rattle.bb_memory_core.specs.Pool.{IsCutAtMost, MayBeCut};
 
 use crate::allocator::{AllocationGrowError, AllocationShrinkError};
 use crate::layout::{Chunk, Layout, round_up};
@@ -44,7 +42,7 @@ pub struct Geometry {
 
 impl Model for Geometry {
     ghost use Rattle.bb_memory_base.specs.Chunk.{IsRegion, region_at};
-    ghost use Rattle.bb_memory_base.specs.PoolGeometry.{PoolGeometry, pool_geometry};
+    ghost use Rattle.bb_memory_base.specs.PoolObject.{PoolGeometry, pool_geometry};
     ghost use Rattle.bb_memory_core.specs.Buckets.{IsMeasured};
 
     ghost Value = { PoolGeometry };

@@ -1,12 +1,9 @@
 //! Laws that say in plain words what the definitions of the pool object and of its geometry come to.
 ghost use Rattle.std.specs.Prelude.{◌≡◌, ◌≢◌, ◌+◌, ◌-◌, ◌/◌, ◌^◌, ◌<◌, ◌≤◌, ◌%◌, [], List, All};
 ghost use Rattle.std.specs.Prelude.{AllPairs, ℕ, Result, Ok, Err, Some, IsOk, length, remove, slice_get};
-ghost use Rattle.bb_memory_base.specs.Chunk.{Region, IsRegion, region_end, Chunk, IsInside};
-ghost use Rattle.bb_memory_base.specs.FirstPlace.{first_place};
-ghost use Rattle.bb_memory_base.specs.Object.{AnswersAll, GivesOnly};
-ghost use Rattle.bb_memory_base.specs.Run.{IsRun, Step};
-ghost use Rattle.bb_memory_base.specs.ResizableObject.{ResizableStep};
-ghost use Rattle.bb_memory_base.specs.PoolGeometry.{PoolGeometry, IsCut, IsPoolGeometry, at_most, bucket_place, stride};
+ghost use Rattle.bb_memory_base.specs.Chunk.{Region, IsRegion, region_end, Chunk, IsInside, first_place};
+ghost use Rattle.bb_memory_base.specs.Object.{AnswersAll, GivesOnly, IsRun, Step, ResizableStep};
+ghost use Rattle.bb_memory_base.specs.PoolObject.{PoolGeometry, IsCut, IsPoolGeometry, at_most, bucket_place, stride};
 ghost use Rattle.bb_memory_base.specs.PoolObject.{IsWithin, MayAllocate, MayGrow, MayShrink, pool_object};
 ghost use Rattle.bb_memory_base.specs.declared.layout.Layout.{Layout};
 ghost use Rattle.bb_memory_base.specs.declared.allocator.AllocationError.{AllocationError};
@@ -14,7 +11,7 @@ ghost use Rattle.bb_memory_base.specs.declared.allocator.AllocationGrowError.{Al
 ghost use Rattle.bb_memory_base.specs.declared.allocator.AllocationShrinkError.{AllocationShrinkError};
 ghost use Rattle.bb_memory_base.specs.declared.allocator.Command.{Command};
 ghost use Rattle.bb_memory_base.specs.declared.allocator.Reply.{Reply};
-ghost use Rattle.bb_memory_core.specs.NumberSet.{Has};
+ghost use Rattle.bb_memory_core.specs.IndexSets.{Has};
 ghost use Rattle.bb_memory_core.specs.Pool.{AreAStrideApart, HoldsPlace, IsPool, MayBeCut, Pool, StandsFor, fresh_pool};
 
 /// Says what the definition of a pool's geometry says of every region and every layout of a bucket. A region is cut in one way

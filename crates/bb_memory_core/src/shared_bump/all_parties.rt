@@ -3,8 +3,7 @@ ghost use Rattle.std.specs.Prelude.{◌≡◌, ◌≢◌, ◌++◌, ℕ, All, An
 ghost use Rattle.bb_memory_base.specs.Chunk.{Chunk};
 ghost use Rattle.bb_memory_base.specs.BumpObject.{StandsFor};
 ghost use Rattle.bb_memory_base.specs.BumpMachine.{BumpScene};
-ghost use Rattle.bb_memory_base.specs.BumpHistory.{chunks_won, history_of, log_of};
-ghost use Rattle.bb_memory_base.specs.BumpCalls.{IsCallRun, OpensWith, calls_of, live_after};
+ghost use Rattle.bb_memory_base.specs.BumpLogs.{chunks_won, history_of, log_of, IsCallRun, OpensWith, calls_of, live_after};
 ghost use Rattle.bb_memory_core.specs.SharedBump.{AgreeAt, BumpParty, HaveChunksApart, IsSharedScene};
 
 /// Says what follows for parties of a shared bump that met ([`meet_all`](super::SharedBumpAllocator::meet_all)), and above all of

@@ -2,7 +2,7 @@
 use Rattle.std.specs.Prelude.{ℕ, ◌≡◌, ◌-◌, List, ◌++◌, codes}
 use Rattle.std.specs.Fmt.{decimal}
 use Rattle.bb_memory_base.specs.Chunk.{IsRegion, Chunk}
-use Rattle.bb_memory_base.specs.Run.{Step, IsRun}
+use Rattle.bb_memory_base.specs.Object.{Step, IsRun}
 use Rattle.bb_memory_base.specs.BumpObject.{bump_object, StandsFor}
 use Rattle.bb_memory_base.specs.declared.allocator.Command.{Command}
 use Rattle.bb_memory_base.specs.declared.allocator.Reply.{Reply}

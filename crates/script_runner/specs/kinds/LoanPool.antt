@@ -1,7 +1,7 @@
 -- Scripts that loan samples from a pool.
 use Rattle.std.specs.Prelude.{ℕ, ◌≡◌, ◌^◌, ◌<◌, List, [], codes, true, false, Contains}
 use Rattle.bb_memory_base.specs.PoolObject.{MayAllocate}
-use Rattle.bb_memory_base.specs.Run.{IsRun}
+use Rattle.bb_memory_base.specs.Object.{IsRun}
 use Rattle.bb_memory_core.specs.Pool.{CountedPool, StandsFor}
 use Rattle.loan_book.specs.Book.{chunks_out}
 use Rattle.loan_book.specs.LoanBook.{LoanBook}

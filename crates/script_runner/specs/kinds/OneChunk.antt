@@ -2,8 +2,7 @@
 use Rattle.std.specs.Prelude.{ℕ, ◌≡◌, List, ◌++◌, codes, Option, Some, None}
 use Rattle.std.specs.Fmt.{decimal}
 use Rattle.bb_memory_base.specs.Chunk.{IsRegion, Chunk}
-use Rattle.bb_memory_base.specs.Run.{IsRun}
-use Rattle.bb_memory_base.specs.ResizableObject.{ResizableStep}
+use Rattle.bb_memory_base.specs.Object.{IsRun, ResizableStep}
 use Rattle.bb_memory_base.specs.declared.allocator.Command.{Command}
 use Rattle.bb_memory_base.specs.declared.allocator.Reply.{Reply}
 use Rattle.bb_memory_core.specs.OneChunk.{OneChunk, StandsFor}

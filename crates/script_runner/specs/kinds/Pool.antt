@@ -1,15 +1,12 @@
 -- Scripts that drive a pool, or a fixed one.
 use Rattle.std.specs.Prelude.{ℕ, ◌≡◌, List, ◌++◌, codes}
 use Rattle.std.specs.Fmt.{decimal}
-use Rattle.bb_memory_base.specs.Chunk.{Chunk, Region, region_at}
-use Rattle.bb_memory_base.specs.FirstPlace.{first_place}
-use Rattle.bb_memory_base.specs.PoolGeometry.{PoolGeometry, IsCut, at_most}
-use Rattle.bb_memory_base.specs.PoolObject.{pool_object}
-use Rattle.bb_memory_base.specs.ResizableObject.{ResizableStep}
-use Rattle.bb_memory_base.specs.Run.{IsRun}
+use Rattle.bb_memory_base.specs.Chunk.{Chunk, Region, region_at, first_place}
+use Rattle.bb_memory_base.specs.PoolObject.{PoolGeometry, IsCut, at_most, pool_object}
+use Rattle.bb_memory_base.specs.Object.{ResizableStep, IsRun}
 use Rattle.bb_memory_base.specs.declared.allocator.Command.{Command}
 use Rattle.bb_memory_base.specs.declared.allocator.Reply.{Reply}
-use Rattle.bb_memory_core.specs.IndexWords.{index_words}
+use Rattle.bb_memory_core.specs.IndexSets.{index_words}
 use Rattle.bb_memory_core.specs.Pool.{Pool, StandsFor, fresh_pool, CountedPool, counted, reads_after, MayBeCut}
 use Rattle.script_runner.specs.declared.kinds.pool.PoolPlan.{PoolPlan}
 use Rattle.script_runner.specs.declared.words.Numbers.{Numbers}

@@ -1,7 +1,7 @@
 use Rattle.std.proofs.Common.{arith}
 use Rattle.std.specs.Prelude.{All}
 use Rattle.bb_memory_base.specs.Chunk.{AreApart}
-use Rattle.bb_memory_base.specs.BumpHistory.{chunks_won}
+use Rattle.bb_memory_base.specs.BumpLogs.{chunks_won}
 use Rattle.bb_memory_base.proofs.BumpMeetings.{common_apart}
 use Rattle.bb_memory_base.proofs.BumpPositions.{interleaving_stands}
 use Rattle.bb_memory_base.proofs.BumpRuns.{calls_run}

@@ -1,5 +1,5 @@
 use Rattle.std.proofs.Common.{◌≡◌, ◌≤◌, take, length, vec_len, vec_capacity}
-use Rattle.bb_memory_base.specs.Run.{IsRun}
+use Rattle.bb_memory_base.specs.Object.{IsRun}
 use Rattle.loan_book.specs.Runs.{BookStep}
 use Rattle.loan_book.proofs.run.run_loans.Given as goal
 

@@ -1,7 +1,6 @@
 use Rattle.std.proofs.Common.{◌≡◌, ◌+◌, ◌≤◌, take, length, vec_len, vec_capacity}
-use Rattle.bb_memory_base.specs.Object.{object_of}
-use Rattle.bb_memory_base.specs.Run.{Step, IsRun, EachGiven, note_after_run}
-use Rattle.bb_memory_base.specs.Fitting.{Fits}
+use Rattle.bb_memory_base.specs.Object.{object_of, Step, IsRun, EachGiven, note_after_run}
+use Rattle.bb_memory_base.specs.Chunk.{Fits}
 use Rattle.bb_memory_base.proofs.allocator.run.run_base.Given as goal
 
 -- the commands so far are a run, and there is room for what is left

@@ -1,10 +1,7 @@
 use Rattle.std.proofs.Common.{◌≡◌, ◌+◌, ◌∷◌, ◌++◌, [], take, ap, sym, ◌∙◌, subst, arith}
 use Rattle.std.proofs.lemmas.List.{take_more, take_all, length-take-le}
-use Rattle.bb_memory_base.specs.Chunk.{Layout, Chunk}
-use Rattle.bb_memory_base.specs.Run.{note_after_command}
-use Rattle.bb_memory_base.specs.ResizableObject.{ResizableStep, resizable_object_of}
-use Rattle.bb_memory_base.specs.Fitting.{Fits}
-use Rattle.bb_memory_base.specs.LiveList.{IsSound}
+use Rattle.bb_memory_base.specs.Chunk.{Layout, Chunk, Fits, IsSound}
+use Rattle.bb_memory_base.specs.Object.{note_after_command, ResizableStep, resizable_object_of}
 use Rattle.bb_memory_base.proofs.Runs.{IsRun-push, EachGiven-push, note-push}
 use Rattle.bb_memory_base.proofs.allocator.run.run_full.Goals as goal
 

@@ -1,16 +1,15 @@
 use Rattle.std.proofs.Common.{sym, subst}
-use Rattle.bb_memory_base.specs.PoolHistory.{PoolLog}
-use Rattle.bb_memory_base.specs.PoolLogs.{IsHeldAfter}
-use Rattle.bb_memory_base.proofs.PoolLogFacts.{logs_apart, free_not_held, held_is_taken, taken_is_held_alone}
-use Rattle.bb_memory_base.proofs.PoolLogFacts.{length-flags, nobody_else, interleaved_log, interleaved_logs, detached_from_logs}
+use Rattle.bb_memory_base.specs.PoolLogs.{PoolLog, IsHeldAfter}
+use Rattle.bb_memory_base.proofs.PoolLogFacts.{logs_apart, free_not_held, held_is_taken, taken_is_held_alone, length-flags}
+use Rattle.bb_memory_base.proofs.PoolLogFacts.{nobody_else, interleaved_log, interleaved_logs, detached_from_logs, first_takes}
+use Rattle.bb_memory_base.proofs.PoolLogFacts.{taken_is_held_whole}
 use Rattle.bb_memory_base.proofs.PoolLogEntries.{log_pass}
-use Rattle.bb_memory_base.proofs.PoolLogSteps.{opening_agrees, take_agrees, lose_agrees, give_agrees}
-use Rattle.bb_memory_base.proofs.PoolLogSteps.{detach_agrees, detached_after, miss_agrees, take_at_agrees, attach_agrees}
+use Rattle.bb_memory_base.proofs.PoolLogSteps.{opening_agrees, take_agrees, lose_agrees, give_agrees, detach_agrees}
+use Rattle.bb_memory_base.proofs.PoolLogSteps.{detached_after, miss_agrees, take_at_agrees, attach_agrees}
 use Rattle.bb_memory_base.proofs.PoolHolders.{one_holder}
 use Rattle.bb_memory_base.proofs.PoolFlags.{taken_from_flag, flag_from_taken}
 use Rattle.bb_memory_base.proofs.PoolRuns.{pool_run, taken_is_held}
 use Rattle.bb_memory_base.specs.PoolMachine.{left_by}
-use Rattle.bb_memory_base.proofs.PoolLogFacts.{first_takes, taken_is_held_whole}
 use Rattle.bb_memory_base.proofs.steps.pool.pool_log_theorem.Goals as goal
 
 pub returns : goal.returns

@@ -1,4 +1,4 @@
-use Rattle.bb_memory_core.specs.PoolLaws.{bucket_held_at, held_at_bucket, held_place}
+use Rattle.bb_memory_core.specs.Pool.{bucket_held_at, held_at_bucket, held_place}
 use Rattle.bb_memory_core.proofs.pool_allocator.laws.pool_held_law.Goals as goal
 
 pub returns-clause-listed : goal.returns-clause-listed

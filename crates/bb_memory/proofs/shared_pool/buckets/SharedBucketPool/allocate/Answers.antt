@@ -1,6 +1,6 @@
 use Rattle.std.proofs.Common.{◌+◌, Some, None, ap, ◌∙◌, arith}
 use Rattle.std.specs.Prelude.{Ok, Err}
-use Rattle.bb_memory_base.specs.PoolGeometry.{PoolGeometry}
+use Rattle.bb_memory_base.specs.PoolObject.{PoolGeometry}
 use Rattle.bb_memory_base.specs.declared.layout.Layout.{Layout}
 use Rattle.bb_memory_base.specs.declared.allocator.AllocationError.TheVariants.{OutOfMemory}
 use Rattle.bb_memory_core.specs.Seats.{number_of, view_log}

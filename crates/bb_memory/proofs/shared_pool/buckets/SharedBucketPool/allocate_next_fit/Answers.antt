@@ -1,5 +1,5 @@
 use Rattle.std.proofs.Common.{◌+◌, Some, None, ap, ◌∙◌, arith}
-use Rattle.bb_memory_base.specs.PoolGeometry.{PoolGeometry}
+use Rattle.bb_memory_base.specs.PoolObject.{PoolGeometry}
 use Rattle.bb_memory_base.specs.declared.layout.Layout.{Layout}
 use Rattle.bb_memory_base.specs.declared.allocator.AllocationError.TheVariants.{OutOfMemory}
 use Rattle.bb_memory_core.specs.Seats.{number_of, view_log}

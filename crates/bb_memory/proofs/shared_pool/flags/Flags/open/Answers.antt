@@ -1,6 +1,6 @@
 use Rattle.std.proofs.Common.{ℕ, replicate, ap, ◌∙◌}
 use Rattle.bb_memory_base.specs.PoolMachine.{PoolScene}
-use Rattle.bb_memory.specs.FlagWords.{words_for}
+use Rattle.bb_memory.specs.SharedPoolRule.{words_for}
 use Rattle.bb_memory.proofs.SharedPoolSeats.{opens}
 use Rattle.bb_memory.proofs.shared_pool.flags.Flags.open.Goals as goal
 

@@ -1,6 +1,5 @@
 use Rattle.std.proofs.Common.{◌≡◌, ◌∙◌, ℕ, List, ap, arith, set, ◌-◌, ◌<◌, length, length-set}
-use Rattle.bb_memory_core.specs.IndexWords.{index_words}
-use Rattle.bb_memory_core.specs.Words.{Slots, numbers_of}
+use Rattle.bb_memory_core.specs.IndexSets.{index_words, Slots, numbers_of}
 use Rattle.bb_memory_core.proofs.NumberWords.{fresh_whole, fresh_part, last_word, zeros}
 use Rattle.bb_memory_core.proofs.OpenWords.{fresh_set, named_more}
 use Rattle.bb_memory_core.proofs.index_set.words.Words.new.Goals as goal

@@ -1,6 +1,5 @@
 use Rattle.std.proofs.Common.{refl, subst}
-use Rattle.bb_memory_core.specs.Pool.{HoldsPlace}
-use Rattle.bb_memory_core.specs.PoolLaws.{held_place}
+use Rattle.bb_memory_core.specs.Pool.{HoldsPlace, held_place}
 use Rattle.bb_memory_core.proofs.PoolCalls.{FreesBucket-is, released-stands}
 use Rattle.bb_memory_core.proofs.pool_allocator.bucket_pool.BucketPool.deallocate_if_held.Goals as goal
 

@@ -1,6 +1,6 @@
 use Rattle.std.proofs.Common.{◌≡◌, ◌∙◌, ◌+◌, ◌<◌, ℕ, ap, arith, length, subst, sym, List, Bool}
 use Rattle.std.proofs.lemmas.Bool.{false≢true}
-use Rattle.bb_memory_core.specs.NumberSet.{Has}
+use Rattle.bb_memory_core.specs.IndexSets.{Has}
 use Rattle.bb_memory_core.specs.Pool.{CountedPool}
 use Rattle.bb_memory_core.proofs.HeldBuckets.{none-more, one-more}
 use Rattle.bb_memory_core.proofs.pool_allocator.bucket_pool.BucketPool.held_buckets.Goals as goal

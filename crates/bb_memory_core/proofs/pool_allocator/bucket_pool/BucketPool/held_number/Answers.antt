@@ -1,6 +1,6 @@
 use Rattle.std.proofs.Common.{rules, refl, subst}
-use Rattle.bb_memory_core.specs.NumberSet.{Has}
-use Rattle.bb_memory_core.specs.PoolLaws.{bucket_held_at, held_at_bucket}
+use Rattle.bb_memory_core.specs.IndexSets.{Has}
+use Rattle.bb_memory_core.specs.Pool.{bucket_held_at, held_at_bucket}
 use Rattle.bb_memory_core.proofs.Pools.{held_bucket_below}
 use Rattle.bb_memory_core.proofs.pool_allocator.bucket_pool.BucketPool.held_number.Goals as goal
 

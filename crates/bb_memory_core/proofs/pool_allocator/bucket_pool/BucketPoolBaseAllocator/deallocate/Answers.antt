@@ -1,5 +1,5 @@
 use Rattle.std.proofs.Common.{arith}
-use Rattle.bb_memory_core.specs.PoolLaws.{bucket_held_at}
+use Rattle.bb_memory_core.specs.Pool.{bucket_held_at}
 use Rattle.bb_memory_core.proofs.PoolCalls.{FreesBucket-is, number-held, released-stands}
 use Rattle.bb_memory_core.proofs.pool_allocator.bucket_pool.BucketPoolBaseAllocator.deallocate.Goals as goal
 

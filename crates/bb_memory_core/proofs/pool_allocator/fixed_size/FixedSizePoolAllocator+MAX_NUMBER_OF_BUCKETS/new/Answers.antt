@@ -1,5 +1,5 @@
 use Rattle.std.proofs.Common.{Bool, false, List, [], replicate, sym, ap, subst, ◌∙◌}
-use Rattle.bb_memory_base.specs.PoolGeometry.{PoolGeometry, at_most}
+use Rattle.bb_memory_base.specs.PoolObject.{PoolGeometry, at_most}
 use Rattle.bb_memory_core.specs.Pool.{CountedPool, Pool, StandsFor, counted, pool_of, fresh_pool}
 use Rattle.bb_memory_core.proofs.Pools.{fresh-stands}
 use Rattle.bb_memory_core.proofs.pool_allocator.fixed_size.FixedSizePoolAllocator+MAX_NUMBER_OF_BUCKETS.new.Goals as goal

@@ -1,6 +1,6 @@
 use Rattle.std.proofs.Common.{sym, subst}
 use Rattle.bb_memory_base.specs.Chunk.{IsChunk, IsInside, region_at}
-use Rattle.bb_memory_base.specs.PoolGeometry.{PoolGeometry, pool_geometry}
+use Rattle.bb_memory_base.specs.PoolObject.{PoolGeometry, pool_geometry}
 use Rattle.bb_memory_core.proofs.Cuts.{some-if, some-value}
 use Rattle.bb_memory_core.proofs.Measures.{measured-chunk, measured-inside, measured-place}
 use Rattle.bb_memory_core.proofs.pool_allocator.geometry.Geometry.chunk.Goals as goal

@@ -1,6 +1,6 @@
 use Rattle.std.proofs.Common.{◌≡◌, ◌-◌, ◌/◌, ◌<◌, ℕ, ap, sym, ◌∙◌}
-use Rattle.bb_memory_base.specs.FirstPlace.{first_place}
-use Rattle.bb_memory_base.specs.PoolGeometry.{PoolGeometry, bucket_place, stride}
+use Rattle.bb_memory_base.specs.Chunk.{first_place}
+use Rattle.bb_memory_base.specs.PoolObject.{PoolGeometry, bucket_place, stride}
 use Rattle.bb_memory_core.proofs.Cuts.{number-at}
 use Rattle.bb_memory_core.proofs.pool_allocator.geometry.Geometry.number_at.Goals as goal
 

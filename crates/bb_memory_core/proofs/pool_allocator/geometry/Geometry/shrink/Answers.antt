@@ -1,6 +1,6 @@
 use Rattle.std.proofs.Common.{◌%◌, ◌≤◌, ℕ, ap, arith, subst, sym, ◌∙◌}
 use Rattle.bb_memory_base.specs.Chunk.{Chunk, IsInside, region_at}
-use Rattle.bb_memory_base.specs.PoolGeometry.{PoolGeometry, pool_geometry}
+use Rattle.bb_memory_base.specs.PoolObject.{PoolGeometry, pool_geometry}
 use Rattle.bb_memory_base.proofs.Layouts.{multiple}
 use Rattle.bb_memory_base.proofs.PoolGeometries.{bucket_place-aligned}
 use Rattle.bb_memory_core.proofs.Cuts.{some-if, some-value}

@@ -1,9 +1,32 @@
--- A set of numbers below a bound, as the bits of words.
-use Rattle.std.specs.Prelude.{◌≡◌, ◌≢◌, ℕ, ◌+◌, ◌-◌, ◌*◌, ◌/◌, ◌%◌, ◌^◌, ◌<◌, ◌≤◌, ◌==◌}
-use Rattle.std.specs.Prelude.{if◌then◌else◌, Bool, true, List, length, map, take, drop, slice_index}
-use Rattle.std.specs.List.{range_with_len}
+-- A set of numbers below a bound, as a flag for each number.
+use Rattle.std.specs.Prelude.{◌≡◌, ℕ, ◌<◌, Bool, true, false, List, Some, length, slice_get, ◌+◌, ◌-◌, ◌/◌, ◌≢◌, ◌*◌, ◌%◌, ◌^◌}
+use Rattle.std.specs.Prelude.{◌≤◌, ◌==◌, if◌then◌else◌, map, take, drop, slice_index, not, eqb}
+use Rattle.std.specs.List.{range_with_len, list_any}
 use Rattle.std.specs.Int.{bit_at}
-use Rattle.bb_memory_core.specs.IndexWords.{index_words}
+
+-- the number is in the set
+abbrev pub Has : List Bool → ℕ → Type 0
+Has set number = slice_get set number ≡ Some true
+
+-- the number is below the bound, and not in the set
+abbrev pub Lacks : List Bool → ℕ → Type 0
+Lacks set number = slice_get set number ≡ Some false
+
+-- every number below the bound is in the set
+abbrev pub IsFull : List Bool → Type 0
+IsFull set = (number : ℕ) → number < length set → Has set number
+
+-- How many words of 64 bits keep a set of numbers.
+
+-- how many words hold a bit for each of so many numbers: the number of them divided by 64, rounded up
+abbrev pub index_words : ℕ → ℕ
+index_words numbers = (numbers + 63) / 64
+
+-- how many words of memory that takes: these, and a list with room for each but one
+abbrev pub words_with_list : ℕ → ℕ
+words_with_list numbers = index_words numbers + (index_words numbers - 1)
+
+-- A set of numbers below a bound, as the bits of words.
 
 -- whether a number's bit is set: the bits are counted from the lowest of the first word
 abbrev pub has_bit : List ℕ → ℕ → Bool
@@ -59,3 +82,28 @@ pub record IsWordSet
   pub room : length listed ≡ length words - 1
   pub in_hand : 0 < length words → hand < length words
   pub listing : IsListing words (open_word listed hand top) top
+
+-- A set of numbers below a bound, as flags, with a list of the numbers that aren't in it.
+
+-- whether a number is not in the list
+abbrev pub is_held : List ℕ → ℕ → Bool
+is_held free number = not (list_any (eqb number) free)
+
+-- the set: for each number below the bound, whether it is not in the list
+unfoldable pub held_numbers : ℕ → List ℕ → List Bool
+held_numbers bound free = map (is_held free) (range_with_len 0 bound)
+
+-- the first entries of the array, so many, are numbers below the bound, no two the same
+pub record IsFreeList (room : ℕ) (bound : ℕ) (free : List ℕ) (left : ℕ) : Type 0 where
+  pub len : length free ≡ room
+  pub fits : bound ≤ room
+  pub few : left ≤ bound
+  pub below : (k : ℕ) → k < left → slice_index free k < bound
+  pub once : (i : ℕ) (k : ℕ) → i < k → k < left → slice_index free i ≢ slice_index free k
+
+-- the first entries are such a list, and each flag below the bound says that its number isn't among them
+pub record AreFlags (room : ℕ) (bound : ℕ) (held : List Bool) (free : List ℕ) (left : ℕ)
+    : Type 0 where
+  pub listed : IsFreeList room bound free left
+  pub len : length held ≡ room
+  pub flags : take bound held ≡ held_numbers bound (take left free)
