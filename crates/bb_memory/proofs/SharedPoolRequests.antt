@@ -91,7 +91,7 @@ module _ (pool : SharedPool) (table new_table : TableId) (me new : Me ℕ SeatVi
           is_party = is_party new_table number next new now;
           held = now_holds (Some bucket) asked bucket
               ∙ ap (λ (b : Bool). if b then true else held_through bucket false party.log) same;
-          still_held = still (Some bucket) asked;
+          others_kept = still (Some bucket) asked;
           others = others (Some bucket) asked;
           inside = subst (λ (p : SharedPool). IsInside pool.scene.geometry.region (chunk_of (taken_bucket p bucket len)))
               (sym its_is) (bucket-inside pool.scene.geometry bucket len geometry asked.found.0 (omega (arith, len_is, short)));
@@ -115,7 +115,7 @@ module _ (pool : SharedPool) (table new_table : TableId) (me new : Me ℕ SeatVi
       number = ap (λ (p : PoolParty). p.number) view_is;
       is_party = is_party new_table number next new now;
       held = tt;
-      still_held = still None asked;
+      others_kept = still None asked;
       others = others None asked;
       inside = tt;
       aligned = tt;

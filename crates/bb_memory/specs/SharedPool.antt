@@ -163,7 +163,7 @@ pub record Serves (pool : SharedPool) (old : PoolParty) (layout : Layout) (answe
   pub number : new.number ≡ old.number
   pub is_party : IsParty new
   pub held : IfOk answer (λ bucket. IsHeldAfter new.log bucket.number)
-  pub still_held : (other : ℕ) → IsHeldAfter old.log other → IsHeldAfter new.log other
+  pub others_kept : (other : ℕ) → IsHeldAfter old.log other → IsHeldAfter new.log other
   pub others : (other : ℕ) → IfOk answer (λ bucket. other ≢ bucket.number) → IsHeldAfter new.log other →
       IsHeldAfter old.log other
   pub inside : IfOk answer (λ bucket. IsInside pool.scene.geometry.region (chunk_of bucket))

@@ -17,7 +17,7 @@ pub record HasDetached (pool : SharedPool) (old : PoolParty) (bucket : TakenBuck
   pub party : new.allocator ≡ pool
   pub is_party : IsSameParty old new
   pub was_detached : ¬ IsHeldAfter new.log bucket.number
-  pub still_held : (other : ℕ) → other ≢ bucket.number → IsHeldAfter old.log other → IsHeldAfter new.log other
+  pub others_kept : (other : ℕ) → other ≢ bucket.number → IsHeldAfter old.log other → IsHeldAfter new.log other
   pub others : (other : ℕ) → IsHeldAfter new.log other → IsHeldAfter old.log other
 
 -- a party and a detached bucket are this pool's
@@ -32,5 +32,5 @@ pub record HasAttached (pool : SharedPool) (old : PoolParty) (detached : TakenBu
   pub is_party : IsSameParty old new
   pub not_held : ¬ IsHeldAfter old.log detached.number
   pub held : IsHeldAfter new.log detached.number
-  pub still_held : (other : ℕ) → IsHeldAfter old.log other → IsHeldAfter new.log other
+  pub others_kept : (other : ℕ) → IsHeldAfter old.log other → IsHeldAfter new.log other
   pub others : (other : ℕ) → other ≢ detached.number → IsHeldAfter new.log other → IsHeldAfter old.log other

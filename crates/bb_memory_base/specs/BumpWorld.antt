@@ -68,4 +68,4 @@ pub record Replays {Z E : Type 0} (old : BumpWorld) (steps : List BumpStep) (ans
     (new : BumpWorld) : Type 0 where
   pub outcomes : IfOk answer (λ found. found.items ≡ outcomes_of old steps)
   pub state : OnOk answer (new ≡ after_steps old steps)
-  pub still : OnErr answer (new ≡ old)
+  pub unchanged : OnErr answer (new ≡ old)

@@ -41,7 +41,7 @@ first_part size chunk = record { place = chunk.place; len = size }
 pub record ZeroesAnswered {Error : Type 0} (part : Chunk → Chunk) (old new : HeldBytes)
     (answer : Result Chunk Error) : Type 0 where
   pub zeroed : IfOk answer (λ chunk. ZeroesOnly old new (part chunk))
-  pub still : OnErr answer (new ≡ old)
+  pub unchanged : OnErr answer (new ≡ old)
 
 -- the rest of a chunk behind its first bytes
 abbrev pub part_behind : ℕ → Chunk → Chunk

@@ -122,7 +122,7 @@ pub record AnswersRun {Allocator Geometry Alloc Error : Type 0} (stands_for : Al
   pub sound : OnOk answer (IsSound (region_of (geometry_of old)) left)
   pub fits : IfOk answer (λ replies. EachGiven (Fits (region_of (geometry_of old))) commands replies.items)
   pub geometry : geometry_of new ≡ geometry_of old
-  pub still : OnErr answer (new ≡ old)
+  pub unchanged : OnErr answer (new ≡ old)
   pub kept : OnErr answer (left ≡ live)
 
 -- RESIZABLE OBJECTS: chunks are resized in place, and a release takes out one chunk alone

@@ -56,5 +56,5 @@ pub record Grown {Allocator : Type 0} (stands_for : Allocator → List Chunk →
   pub within : IfOk result (λ grown. grown.len ≤ reserved)
   pub inside : IfOk result (IsInside region)
   -- the allocator
-  pub still : new ≡ old
+  pub unchanged : new ≡ old
   pub value : grows old place from to result new

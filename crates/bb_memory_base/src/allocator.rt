@@ -269,7 +269,7 @@ pub trait Allocator: BaseAllocator {
         ensures long_enough { IfOk result (λ grown. new.size ≤ grown.len) }
         ensures within { IfOk result (λ grown. grown.len ≤ reserved_at (figures self.old) place) }
         ensures inside { IfOk result (IsInside (Self.region_of (Self.geometry self.old))) }
-        ensures still { self.new ≡ self.old }
+        ensures unchanged { self.new ≡ self.old }
         ensures value { grows self.old place old new result self.new };
 
     /// Gives the live chunk at this place a smaller size. The place has to be a multiple of the old alignment, and the old
@@ -295,7 +295,7 @@ pub trait Allocator: BaseAllocator {
         ensures long_enough { IfOk result (λ shrunk. new.size ≤ shrunk.len) }
         ensures within { IfOk result (λ shrunk. shrunk.len ≤ reserved_at (figures self.old) place) }
         ensures inside { IfOk result (IsInside (Self.region_of (Self.geometry self.old))) }
-        ensures still { self.new ≡ self.old }
+        ensures unchanged { self.new ≡ self.old }
         ensures value { shrinks self.old place old new result self.new };
 
     /// Grows a chunk as `grow` does, with all that it promises (`Grown`), and makes the bytes behind its old size zero, up to the

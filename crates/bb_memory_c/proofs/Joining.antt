@@ -13,7 +13,7 @@ module _ {X Y Z : Type 0} {made after : X} {party : Option Y} {left : X → ℕ}
     joins = λ _. (value joined, is, takes.joins.0, takes.joins.1);
     none_left = (λ wrong. absurd (cc), λ no. let wrong = takes.none_left.1 no in absurd (cc));
     else_memory = λ not. absurd (not refl);
-    still = λ not. absurd (not refl);
+    unchanged = λ not. absurd (not refl);
   }
 
   -- or none, for this reason
@@ -23,5 +23,5 @@ module _ {X Y Z : Type 0} {made after : X} {party : Option Y} {left : X → ℕ}
     joins = neither code ok either (λ wrong. cc) (λ wrong. cc);
     none_left = (λ so. takes.none_left.0 (ap Err so), λ no. let so = takes.none_left.1 no in cc);
     else_memory = λ _ not. either not;
-    still = λ _. (takes.still, none);
+    unchanged = λ _. (takes.unchanged, none);
   }

@@ -44,7 +44,7 @@ module _ {X : Type 0} {old new : Option X} {size align : ℕ} {may room : Layout
               (fails (is_layout size align lacks.1.0 lacks.1.1)),
         );
         else_memory = λ _ _ no not _. absurd (not (either no));
-        still = λ _. still;
+        unchanged = λ _. still;
       }
 
   module _ (bucket : Layout) (of : IsOf size align bucket) where
@@ -60,7 +60,7 @@ module _ {X : Type 0} {old new : Option X} {size align : ℕ} {may room : Layout
         λ lacks. absurd (not (subst may (same_of size align lacks.1.0 bucket lacks.1.1 of) lacks.1.2)),
       );
       else_memory = λ _ _ _ no _. absurd (no refl);
-      still = λ _. still;
+      unchanged = λ _. still;
     }
 
     module _ (may_be : may bucket) where
@@ -76,7 +76,7 @@ module _ {X : Type 0} {old new : Option X} {size align : ℕ} {may room : Layout
         );
         no_room = (λ _. (none, (bucket, of, may_be, not)), λ _. refl);
         else_memory = λ _ _ _ _ no. absurd (no refl);
-        still = λ _. still;
+        unchanged = λ _. still;
       }
 
       -- it is made, or memory for it was refused
@@ -98,5 +98,5 @@ module _ {X : Type 0} {old new : Option X} {size align : ℕ} {may room : Layout
           λ lacks. absurd (lacks.1.3 (subst room (same_of size align bucket lacks.1.0 of lacks.1.1) has)),
         );
         else_memory = λ not _ _ _ _. either not;
-        still = still;
+        unchanged = still;
       }

@@ -63,7 +63,7 @@ pub record TellsResized {E : Type 0} (held fits : Type 0) (code : E → ℕ) (ma
 -- an answer by which all stays
 pub record AnswersStill {X : Type 0} (old new : X) (answered : Type 0) : Type 0 where
   pub answer : answered
-  pub still : new ≡ old
+  pub unchanged : new ≡ old
 
 -- what C is told of two layouts, where numbers made them, and else that they make none
 abbrev pub TellsOfLayouts : Option (Layout × Layout) → Answer → (Layout → Layout → Type 0) → Type 0

@@ -99,7 +99,7 @@ pub record AnswersMake {X : Type 0} (old new : Option X) (code : ℕ) (may : Typ
   pub held_one : (code ≡ already_initialized) ↔ (old ≢ None)
   pub cannot : (code ≡ invalid_argument) ↔ ((old ≡ None) × (¬ may))
   pub else_memory : code ≢ ok → code ≢ already_initialized → code ≢ invalid_argument → code ≡ malloc_refused
-  pub still : code ≢ ok → new ≡ old
+  pub unchanged : code ≢ ok → new ≡ old
 
 -- A value that is cut into buckets is made so, whose layout is made of two of its numbers, where there is room for one.
 pub record AnswersPoolMake {X : Type 0} (old new : Option X) (size align : ℕ) (code : ℕ) (may room : Layout → Type 0)
@@ -111,7 +111,7 @@ pub record AnswersPoolMake {X : Type 0} (old new : Option X) (size align : ℕ) 
   pub no_room : (code ≡ no_bucket) ↔ ((old ≡ None) × LacksRoomOf size align may room)
   pub else_memory : code ≢ ok → code ≢ already_initialized → code ≢ invalid_layout → code ≢ invalid_argument → code ≢ no_bucket
       → code ≡ malloc_refused
-  pub still : code ≢ ok → new ≡ old
+  pub unchanged : code ≢ ok → new ≡ old
 
 -- the handle is empty then, and C is told whether it was
 pub record AnswersFree {X : Type 0} (old new : Option X) (code : ℕ) : Type 0 where
@@ -127,7 +127,7 @@ pub record TellsJoin {X Y : Type 0} (made after : X) (party : Option Y) (code : 
   pub joins : code ≡ ok → (joined : Y) × (party ≡ Some joined) × (made ≡ with_party after joined) × at after joined
   pub none_left : (code ≡ no_party) ↔ (left made ≡ 0)
   pub else_memory : code ≢ ok → code ≢ no_party → code ≡ malloc_refused
-  pub still : code ≢ ok → (after ≡ made) × (party ≡ None)
+  pub unchanged : code ≢ ok → (after ≡ made) × (party ≡ None)
 
 -- The party's handle has to be empty.
 pub record AnswersJoin {X Y : Type 0} (old new : Option X) (old_party new_party : Option Y) (code : ℕ) (left : X → ℕ)
@@ -142,7 +142,7 @@ pub record TakesParty {X Y : Type 0} (old new : X) (told : Result Y ℕ) (left :
   pub joins : IfOk told (λ party. (old ≡ with_party new party) × at new party)
   pub none_left : (told ≡ Err no_party) ↔ (left old ≡ 0)
   pub else_memory : IfErr told (λ code. code ≢ no_party → code ≡ malloc_refused)
-  pub still : OnErr told (new ≡ old)
+  pub unchanged : OnErr told (new ≡ old)
 
 -- where there are both, they are so
 abbrev pub IfBoth : {X Y : Type 0} → Option X → Option Y → (X → Y → Type 0) → Type 0
@@ -163,4 +163,4 @@ pub record AnswersLeave {X Y : Type 0} (old new : Option X) (old_party new_party
   pub returned : IfBoth old old_party (λ made party. (after : Y) × leaves party after
       × (code ≡ ok) × (new ≡ Some (with_party made after)) × (new_party ≡ None))
   pub empty : (old ≡ None) ⊎ (old_party ≡ None) → code ≡ uninitialized
-  pub still : code ≢ ok → (new ≡ old) × (new_party ≡ old_party)
+  pub unchanged : code ≢ ok → (new ≡ old) × (new_party ≡ old_party)

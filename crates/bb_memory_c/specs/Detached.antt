@@ -53,7 +53,7 @@ pub record TellsDetach (party : PoolParty) (inside : Detached) (place len code :
   pub full : MayDetachChunk party place len → inside ≢ None → code ≡ detached_full
   pub detached : MayDetachChunk party place len → inside ≡ None →
       (code ≡ ok) × HasFilled party place len after filled
-  pub still : code ≢ ok → (after ≡ party) × (filled ≡ inside)
+  pub unchanged : code ≢ ok → (after ≡ party) × (filled ≡ inside)
 
 -- ATTACHING
 

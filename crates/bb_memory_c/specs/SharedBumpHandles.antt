@@ -27,4 +27,4 @@ pub record TellsReset (all after : BumpParties) (code : ℕ) : Type 0 where
   pub begun : code ≡ ok → AreFreshOver all.shared.scene.region all.shared.scene.parties after
   pub out : (code ≡ parties_joined) ↔ (left_at all < all.shared.scene.parties)
   pub else_memory : code ≢ ok → code ≢ parties_joined → code ≡ malloc_refused
-  pub still : code ≢ ok → after ≡ all
+  pub unchanged : code ≢ ok → after ≡ all

@@ -15,7 +15,7 @@ use std::alloc::Global;
 /// Returns whether something is made behind the handle, which stays.
 pub(crate) fn is_made<H: Handle>(handle: &mut H) -> bool
     ensures value { IsTrue result ↔ (H.made handle.old ≢ None) }
-    ensures still { H.made handle.new ≡ H.made handle.old }
+    ensures unchanged { H.made handle.new ≡ H.made handle.old }
 {
     match handle.made_mut() {
         Some(_) => true,

@@ -47,7 +47,7 @@ pub(crate) trait Keeps: Gives {
     fn give_back(&mut self, place: usize) -> bool
         ensures held { IsTrue result ↔ holds self.old place }
         ensures freed { IsTrue result → frees self.old place self.new }
-        ensures still { IsFalse result → self.new ≡ self.old };
+        ensures unchanged { IsFalse result → self.new ≡ self.old };
 }
 
 /// Is cut into buckets.

@@ -105,19 +105,19 @@ Takes-given pool layout (Ok chunk) new (i, within, lacks, given, after) =
 Takes-given pool layout (Err error) new takes = tt
 
 -- each that was held before still is
-pub Takes-still_held : (pool : Pool) (layout : Layout) (answer : Result Chunk AllocationError) (new : Pool) →
+pub Takes-others_kept : (pool : Pool) (layout : Layout) (answer : Result Chunk AllocationError) (new : Pool) →
     Takes pool layout answer new → (place : ℕ) → HoldsPlace pool place → HoldsPlace new place
-Takes-still_held pool layout (Ok chunk) new (i, within, lacks, given, after) place there =
+Takes-others_kept pool layout (Ok chunk) new (i, within, lacks, given, after) place there =
     let holds = bucket_held_at pool place there in
     subst (λ (p : Pool). HoldsPlace p place) (sym after)
     (held_at_bucket (with_flag pool i true) place holds.0 (Has-set_true pool.held i holds.0 lacks holds.1) holds.2)
-Takes-still_held pool layout (Err SizeTooLarge) new takes place holds =
+Takes-others_kept pool layout (Err SizeTooLarge) new takes place holds =
     subst (λ (p : Pool). HoldsPlace p place) (sym takes.1) holds
-Takes-still_held pool layout (Err AlignmentFailure) new takes place holds =
+Takes-others_kept pool layout (Err AlignmentFailure) new takes place holds =
     subst (λ (p : Pool). HoldsPlace p place) (sym takes.2) holds
-Takes-still_held pool layout (Err OutOfMemory) new takes place holds =
+Takes-others_kept pool layout (Err OutOfMemory) new takes place holds =
     subst (λ (p : Pool). HoldsPlace p place) (sym takes.2) holds
-Takes-still_held pool layout (Err SizeIsZero) new takes place holds = absurd takes
+Takes-others_kept pool layout (Err SizeIsZero) new takes place holds = absurd takes
 
 -- a refusal changes nothing, and comes only where the layout is too much for a bucket, or each is held
 refused : (pool : Pool) (layout : Layout) (error : AllocationError) (new : Pool) → IsPool pool →
@@ -165,7 +165,7 @@ TakesBucket-is old layout (Ok chunk) new words is most (i, within, lacks, given,
     record {
       taken = (i, within, lacks, given, after);
       accepted = (λ ok. (within, (i, lacks)), λ may. refl);
-      still = tt;
+      pool_unchanged = tt;
       was_free = λ there. let holds = bucket_held_at pool chunk.place there in
           differ chunk.place there (one_bucket pool.geometry is.geometry holds.0 i (sym holds.2 ∙ at));
       apart = λ place there. let holds = bucket_held_at pool place there in elim (cases_lt holds.0 i) [
@@ -174,7 +174,7 @@ TakesBucket-is old layout (Ok chunk) new words is most (i, within, lacks, given,
             let more : i < holds.0 = omega (arith, above, differ place there) in
             inr (omega (arith, bucket_place-after pool.geometry i holds.0 more, at, holds.2))
       ];
-      still_held = Takes-still_held pool layout (Ok chunk) new.pool (i, within, lacks, given, after);
+      others_kept = Takes-others_kept pool layout (Ok chunk) new.pool (i, within, lacks, given, after);
       bucket_aligned = ap (λ (c : Chunk). c.place % pool.geometry.bucket.align) given ∙ bucket_place-aligned pool.geometry i;
       one_read = λ _ some. reads ∙ reads_one pool.geometry.bucket words layout within some;
       uncounted = λ zero. omega (arith, zero, reads, reads_few pool.geometry.bucket words layout, most);
@@ -187,10 +187,10 @@ TakesBucket-is old layout (Err error) new words is most takes reads =
     record {
       taken = takes;
       accepted = (λ ok. absurd (cc), λ may. absurd (why may.0 may.1.0 may.1.1));
-      still = still;
+      pool_unchanged = still;
       was_free = tt;
       apart = tt;
-      still_held = λ place holds. subst (λ (p : Pool). HoldsPlace p place) (sym still) holds;
+      others_kept = λ place holds. subst (λ (p : Pool). HoldsPlace p place) (sym still) holds;
       bucket_aligned = tt;
       one_read = λ within some. reads ∙ reads_one old.pool.geometry.bucket words layout within some;
       uncounted = none;
@@ -213,8 +213,8 @@ number-held pool place first number holds begins divided some =
 -- of bucket i, which is held and begins at the place
 module _ (pool : Pool) (place i : ℕ) (is : IsPool pool) (has : Has pool.held i)
     (there : place ≡ bucket_place pool.geometry i) where
-  still_held : (other : ℕ) → HoldsPlace pool other → other ≢ place → HoldsPlace (with_flag pool i false) other
-  still_held other holds differ =
+  others_kept : (other : ℕ) → HoldsPlace pool other → other ≢ place → HoldsPlace (with_flag pool i false) other
+  others_kept other holds differ =
       let (j, other_has, at) = bucket_held_at pool other holds in
       let apart : j ≢ i = λ same. differ (at ∙ ap (bucket_place pool.geometry) same ∙ sym there) in
       held_at_bucket (with_flag pool i false) other j (slice_get-set_other pool.held i j false apart ∙ other_has) at
@@ -231,7 +231,7 @@ module _ (pool : Pool) (place i : ℕ) (is : IsPool pool) (has : Has pool.held i
   FreesBucket-is = record {
     freed = λ j other at.
         ap (λ n. with_flag pool n false) (one_bucket pool.geometry is.geometry i j (sym there ∙ at));
-    still_held = still_held;
+    others_kept = others_kept;
     given_back = given_back;
     room = (i, slice_get-set_same pool.held i false true has);
   }

@@ -92,7 +92,7 @@ module _ (scene : BumpScene) (table was : TableId) (number : ℕ) (old new : Me 
   then : (added : BumpLog) → HasEnded scene (number_of old.0) (view_log old.0) (met_by old.0) added new →
       party_in table number new.0 ≡ with_entries party added
   then added ended =
-      entries_added table was number (number_of old.0) scene added old new party same ended.seat.seat.is ended.still
+      entries_added table was number (number_of old.0) scene added old new party same ended.seat.seat.is ended.unchanged
       view_is scene_is
 
   found_by : (added : BumpLog) → HasEnded scene (number_of old.0) (view_log old.0) (met_by old.0) added new →

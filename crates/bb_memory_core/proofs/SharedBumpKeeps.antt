@@ -128,7 +128,7 @@ step_tells scene slots seat party log met left kind outcome fit sees state rule 
           interleaved = subst (Interleaving scene party new) seen_now explained;
           reached = subst (Interleaving scene party new) (omega (arith, seen_now, word, most, raises)) explained;
         };
-        still = refl;
+        unchanged = refl;
         seen = above;
         above = omega (arith, word, most);
         within = omega arith;

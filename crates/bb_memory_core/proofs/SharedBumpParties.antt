@@ -96,4 +96,4 @@ loaded_seat scene number found me new fields same told =
     party_seat scene number (view_log me.0 ++ entry_of (Load number) (Loaded found) ∷ []) new
     record { seat = here.seat; idle = load_rests number found (view_log me.0) fields.seat.idle }
     (subst (λ (s : BumpScene). number < s.parties) same fields.below) (subst IsSharedScene same fields.shared)
-    (omega (arith, here.still, here.above, here.within))
+    (omega (arith, here.unchanged, here.above, here.within))

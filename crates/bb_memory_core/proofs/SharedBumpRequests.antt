@@ -27,7 +27,7 @@ pub record IsTrying (scene : BumpScene) (number : ℕ) (log : BumpLog) (met : �
     (me : Me ℕ SeatView) : Type 0 where
   pub tried : BumpLog
   pub seat : IsSeatOf scene number (log ++ tried) me
-  pub still : met_by me.0 ≡ met
+  pub unchanged : met_by me.0 ≡ met
   pub tries : Tries scene.region number layout tried last
   pub counted : IsCounted scene log met tried
   pub few : losses_in tried + max (seen_in scene log) met ≤ last
@@ -99,7 +99,7 @@ module _ (scene : BumpScene) (party : ℕ) (log : BumpLog) (met : ℕ) (layout :
       let tells = read_told (Sees found) (read_answers scene.region found layout true fit) in record {
         tried = entry_of (Read party layout) (Sees found) ∷ [];
         seat = tells.seat;
-        still = tells.still;
+        unchanged = tells.unchanged;
         tries = by_read (entry_of (Read party layout) (Sees found) ∷ []) found refl fit;
         counted = read_counted (Sees found) (omega (arith, tells.seen, tells.above)) tells.within refl;
         few = let none = losses_in-cons (entry_of (Read party layout) (Sees found)) [] in
@@ -118,7 +118,7 @@ module _ (scene : BumpScene) (party : ℕ) (log : BumpLog) (met : ℕ) (layout :
         added = decides ∷ [];
         ended = record {
           seat = record { seat = tells.seat; idle = call_next log (Read party layout) (RefusedAtRead found) };
-          still = tells.still;
+          unchanged = tells.unchanged;
           counted = read_counted (RefusedAtRead found) (omega (arith, tells.seen, tells.above)) tells.within refl;
         };
         refused = at_read found refl unfit;
@@ -134,7 +134,7 @@ module _ (scene : BumpScene) (party : ℕ) (log : BumpLog) (met : ℕ) (layout :
   tells_so : Tells scene party (log ++ trying.tried) met (Exchange party)
       (exchange_move scene.region found (record { layout = layout; seen = last })).outcome found new
   tells_so =
-      subst (λ (n : ℕ). TellsExchange scene party (log ++ trying.tried) n found new) trying.still
+      subst (λ (n : ℕ). TellsExchange scene party (log ++ trying.tried) n found new) trying.unchanged
       (subst (λ (m : Me ℕ SeatView). TellsExchange scene (number_of m.0) (view_log m.0) (met_by me.0) found new)
       trying.seat.is told)
       (record { layout = layout; seen = last }) trying.call
@@ -184,7 +184,7 @@ module _ (scene : BumpScene) (party : ℕ) (log : BumpLog) (met : ℕ) (layout :
       record {
         tried = trying.tried ++ lost ∷ [];
         seat = then_seat (Loses found) tells;
-        still = tells.still;
+        unchanged = tells.unchanged;
         tries = by_loss trying.tried (trying.tried ++ lost ∷ []) last found trying.tries refl less fit;
         counted = counted_more scene log met trying.tried lost trying.counted (omega (arith, above, less)) tells.within
             (omega (arith, trying.few, less, tells.within));
@@ -211,7 +211,7 @@ module _ (scene : BumpScene) (party : ℕ) (log : BumpLog) (met : ℕ) (layout :
         added = trying.tried ++ decides ∷ [];
         ended = record {
           seat = record { seat = then_seat (RefusedAtLoss found) tells; idle = then_call (RefusedAtLoss found) };
-          still = tells.still;
+          unchanged = tells.unchanged;
           counted = counted_more scene log met trying.tried decides trying.counted from tells.within
               (omega (arith, trying.few, less, tells.within));
         };
@@ -240,7 +240,7 @@ module _ (scene : BumpScene) (party : ℕ) (log : BumpLog) (met : ℕ) (layout :
         added = trying.tried ++ decides ∷ [];
         ended = record {
           seat = record { seat = then_seat (Wins chunk) tells; idle = then_call (Wins chunk) };
-          still = tells.still;
+          unchanged = tells.unchanged;
           counted =
               counted_more scene log met trying.tried decides trying.counted from up_to
               (omega (arith, trying.few, trying.within));

@@ -36,7 +36,7 @@ pub record Takes (old : Bump) (layout : Layout) (answer : Result Chunk Allocatio
   pub behind : IfOk answer (λ chunk. old.region.start + old.used ≤ chunk.place)
   -- what is used then ends with the chunk, and a refusal leaves everything
   pub used : IfOk answer (λ chunk. new.region.start + new.used ≡ chunk_end chunk)
-  pub still : OnErr answer (new ≡ old)
+  pub unchanged : OnErr answer (new ≡ old)
 
 -- What the bump is after a release, whichever place it names, and so on each list that it stood for, the empty one too.
 pub record Frees (old new : Bump) : Type 0 where

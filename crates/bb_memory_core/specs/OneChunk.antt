@@ -50,7 +50,7 @@ pub record Takes (old : OneChunk) (layout : Layout) (answer : Result Chunk Alloc
   pub ends : IfOk answer (λ chunk. chunk_end chunk ≡ region_end old.region)
   pub keeps_place : IfOk answer (λ chunk. new.kept ≡ Some chunk.place)
   -- a refusal leaves everything
-  pub still : OnErr answer (new ≡ old)
+  pub unchanged : OnErr answer (new ≡ old)
 
 -- what the allocator is after a release: no place is kept
 abbrev pub Frees : OneChunk → OneChunk → Type 0

@@ -124,11 +124,11 @@ pub record TakesBucket (old : CountedPool) (layout : Layout) (answer : Result Ch
   pub taken : Takes old.pool layout answer new.pool
   pub accepted : IsOk answer
       ↔ (IsWithin old.pool.geometry.bucket layout × ((i : ℕ) × Lacks old.pool.held i))
-  pub still : OnErr answer (new.pool ≡ old.pool)
+  pub pool_unchanged : OnErr answer (new.pool ≡ old.pool)
   pub was_free : IfOk answer (λ chunk. ¬ HoldsPlace old.pool chunk.place)
   pub apart : IfOk answer (λ chunk. (place : ℕ) → HoldsPlace old.pool place
       → AreAStrideApart old.pool.geometry.bucket place chunk.place)
-  pub still_held : (place : ℕ) → HoldsPlace old.pool place → HoldsPlace new.pool place
+  pub others_kept : (place : ℕ) → HoldsPlace old.pool place → HoldsPlace new.pool place
   pub bucket_aligned : IfOk answer (λ chunk. chunk.place % old.pool.geometry.bucket.align ≡ 0)
   pub one_read : IsWithin old.pool.geometry.bucket layout → 0 < words → new.reads ≡ 1
   -- where no reads are counted, a refusal leaves all as it was
@@ -138,7 +138,7 @@ pub record TakesBucket (old : CountedPool) (layout : Layout) (answer : Result Ch
 -- What a pool is after a release by the value alone: that bucket is free, and each other one as it was.
 pub record FreesBucket (old : Pool) (place : ℕ) (new : Pool) : Type 0 where
   pub freed : Frees old place new
-  pub still_held : (other : ℕ) → HoldsPlace old other → other ≢ place → HoldsPlace new other
+  pub others_kept : (other : ℕ) → HoldsPlace old other → other ≢ place → HoldsPlace new other
   pub given_back : ¬ HoldsPlace new place
   pub room : (i : ℕ) × Lacks new.held i
 

@@ -24,7 +24,7 @@ use Rattle.bb_memory_core.specs.SharedBumpRule.{scene_of}
 pub record Tells (scene : BumpScene) (number : ℕ) (log : BumpLog) (met : ℕ) (step : BumpStep)
     (outcome : BumpOutcome) (found : ℕ) (new : Me ℕ SeatView) : Type 0 where
   pub seat : IsSeatOf scene number (log ++ entry_of step outcome ∷ []) new
-  pub still : met_by new.0 ≡ met
+  pub unchanged : met_by new.0 ≡ met
   pub seen : seen_in scene log ≤ found
   pub above : met ≤ found
   pub within : found ≤ scene.region.size
@@ -126,7 +126,7 @@ pub record IsCounted (scene : BumpScene) (log : BumpLog) (met : ℕ) (added : Bu
 pub record HasEnded (scene : BumpScene) (number : ℕ) (log : BumpLog) (met : ℕ) (added : BumpLog)
     (new : Me ℕ SeatView) : Type 0 where
   pub seat : IsSeatOfIdle scene number (log ++ added) new
-  pub still : met_by new.0 ≡ met
+  pub unchanged : met_by new.0 ≡ met
   pub counted : IsCounted scene log met added
 
 -- a request that won this chunk, which lies behind the party's floor; where the party is the only one, it is the one at what it

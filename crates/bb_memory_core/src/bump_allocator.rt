@@ -143,7 +143,7 @@ impl BumpAllocator {
         ensures theirs { IfOk result (λ shared.
             All (λ party. party.allocator ≡ shared.0) shared.1.items) }
 
-        ensures still { IfErr result (λ refused. refused.0 ≡ self) }
+        ensures unchanged { IfErr result (λ refused. refused.0 ≡ self) }
         ensures refused { IfErr result (λ refused. refused.1 ≡ OutOfMemory) }
     {
         let start = self.start;

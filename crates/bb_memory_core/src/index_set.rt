@@ -29,7 +29,7 @@ pub trait IndexSet: Drop {
         ensures taken { IfSome result (λ number. numbers self.new
             ≡ slice_set (numbers self.old) number true) }
         ensures full { IfNone result (IsFull (numbers self.old)) }
-        ensures still { IfNone result (numbers self.new ≡ numbers self.old) }
+        ensures unchanged { IfNone result (numbers self.new ≡ numbers self.old) }
         ensures counted { counter.new ≡ min (words (length (numbers self.old))) 1 };
 
     /// Takes a number, which has to be in the set, out of it, and no other.

@@ -160,7 +160,7 @@ impl<A: LanguageAllocator> PoolAllocator<A> {
         ensures released { (live : List Chunk) (position : ℕ) (chunk : Chunk)
             → StandsFor self.old.pool live → slice_get live position ≡ Some chunk
             → chunk.place ≡ place → StandsFor self.new.pool (remove live position) }
-        ensures still_held { (other : ℕ) → HoldsPlace self.old.pool other → other ≢ place
+        ensures others_kept { (other : ℕ) → HoldsPlace self.old.pool other → other ≢ place
             → HoldsPlace self.new.pool other }
         ensures given_back { ¬ HoldsPlace self.new.pool place }
         ensures room { (i : ℕ) × Lacks self.new.pool.held i }

@@ -129,7 +129,7 @@ impl<A: Allocator> LoanBook<A> {
         ensures stands { StillStands A.stands_for A.geometry self.old self.new }
         ensures waits { OnOk result (HasReturns self.new.book id (Some readers)) }
         ensures same_allocator { self.new.allocator ≡ self.old.allocator }
-        ensures still { OnErr result (self.new ≡ self.old) }
+        ensures unchanged { OnErr result (self.new ≡ self.old) }
     {
         // Proof hint: brings the type's invariant into scope.
         let _ = &self.next;
@@ -159,7 +159,7 @@ impl<A: Allocator> LoanBook<A> {
         ensures stands { StillStands A.stands_for A.geometry self.old self.new }
         ensures same_allocator { IfOk result
             (λ left. left ≡ false → self.new.allocator ≡ self.old.allocator) }
-        ensures still { OnErr result (self.new ≡ self.old) }
+        ensures unchanged { OnErr result (self.new ≡ self.old) }
     {
         // Proof hint: brings the type's invariant into scope.
         let _ = &self.next;

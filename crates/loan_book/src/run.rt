@@ -106,7 +106,7 @@ pub fn run_loans<A: Allocator>(
     ensures sound { OnOk result (IsSound (A.region_of (A.geometry book.old.allocator))
         (chunks_out book.new.book)) }
     ensures geometry { A.geometry book.new.allocator ≡ A.geometry book.old.allocator }
-    ensures still { OnErr result (book.new ≡ book.old) }
+    ensures unchanged { OnErr result (book.new ≡ book.old) }
 {
     book.law();
     let mut replies = Vec::with_capacity(alloc, calls.len())?;

@@ -32,7 +32,7 @@ pub record Stores {A G : Type 0} (geometry_of : A → G) (may_allocate : G → L
   pub refused : IfErr result (IsWhyNotStored
       (may_allocate (geometry_of old.allocator) old.chunks) (length bytes))
   pub unasked : IfErr result (λ error. IsUnasked error → new ≡ old)
-  pub still : OnErr result (new ≡ record old { allocator = new.allocator })
+  pub unchanged : OnErr result (new ≡ record old { allocator = new.allocator })
   pub geometry : geometry_of new.allocator ≡ geometry_of old.allocator
 
 -- just these records are left, in these chunks

@@ -84,7 +84,7 @@ impl ByteVec {
         ensures inside { self.new.offset + self.new.capacity ≤ length region.now.bytes }
         ensures contents { contents region.now self.new ≡ contents region.now self.old }
         ensures others { self.new ≡ record self.old { capacity = self.new.capacity } }
-        ensures still { OnErr result (self.new ≡ self.old) }
+        ensures unchanged { OnErr result (self.new ≡ self.old) }
         ensures answer { MakesRoom (A.stands_for allocator.old)
             (A.may_grow (A.figures allocator.old)) region.now.start self.old result self.new }
         ensures allocator { allocator.new ≡ allocator.old }
@@ -115,7 +115,7 @@ impl ByteVec {
         ensures pushed { OnOk result (IsPushed region.old region.new self.old byte self.new) }
         ensures longer { OnOk result (self.new.len ≡ self.old.len + 1) }
         ensures apart { OnOk result (KeepsOthers region.old self.old region.new) }
-        ensures still { OnErr result ((self.new ≡ self.old) × (region.new ≡ region.old)) }
+        ensures unchanged { OnErr result ((self.new ≡ self.old) × (region.new ≡ region.old)) }
         ensures answer { MakesRoom (A.stands_for allocator.old)
             (A.may_grow (A.figures allocator.old)) region.old.start self.old result self.new }
         ensures offset { self.new.offset ≡ self.old.offset }
@@ -190,7 +190,7 @@ fn grow_by_one<A: Allocator>(
         → A.stands_for allocator.old live → slice_get live position ≡ Some chunk
         → chunk.place ≡ place
         → IsWhyFull (A.may_grow (A.figures allocator.old) live chunk.place) size error) }
-    ensures still { allocator.new ≡ allocator.old }
+    ensures unchanged { allocator.new ≡ allocator.old }
 {
     let old = Layout::from_size_align(size, 1).map_err(PushError::TooLong)?;
     let new = Layout::from_size_align(size + 1, 1).map_err(PushError::TooLong)?;

@@ -105,7 +105,7 @@ impl<A: Allocator + Drop> MessageRing<A> {
             (A.may_allocate (A.geometry self.old.allocator) self.old.chunks)
             self.old.sent (length bytes.now)) }
         ensures unasked { IfErr result (λ error. IsUnasked error → self.new ≡ self.old) }
-        ensures still { OnErr result
+        ensures unchanged { OnErr result
             (self.new ≡ record self.old { allocator = self.new.allocator }) }
         ensures geometry { A.geometry self.new.allocator ≡ A.geometry self.old.allocator }
     {
@@ -168,7 +168,7 @@ fn loan_exactly<A: Allocator>(
         (chunks_out book.new.book) }
     ensures geometry { A.geometry book.new.allocator ≡ A.geometry book.old.allocator }
     ensures book { IsBook book.old.book }
-    ensures still { OnErr result (book.new.book ≡ book.old.book) }
+    ensures unchanged { OnErr result (book.new.book ≡ book.old.book) }
 {
     book.law();
     book.loan(size)

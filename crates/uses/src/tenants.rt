@@ -132,7 +132,7 @@ impl<A: Allocator + Drop> Tenants<A> {
         ensures within { OnOk result (sum self.old.limits + limit ≤ self.old.whole) }
         ensures admitted { OnOk result (self.new ≡ with_tenant self.old limit) }
         ensures refused { IfErr result (IsWhyNotAdmitted self.old limit) }
-        ensures still { OnErr result (self.new ≡ self.old) }
+        ensures unchanged { OnErr result (self.new ≡ self.old) }
     {
         if limit > self.whole - self.promised {
             return Err(AdmitError::OverWhole);
@@ -215,7 +215,7 @@ impl<A: Allocator + Drop> Tenants<A> {
             (A.may_allocate (A.geometry self.old.allocator) (chunks_of self.old.leases))
             self.old tenant layout) }
         ensures unasked { IfErr result (λ error. IsUnasked error → self.new ≡ self.old) }
-        ensures still { OnErr result
+        ensures unchanged { OnErr result
             (self.new ≡ record self.old { allocator = self.new.allocator }) }
         ensures geometry { A.geometry self.new.allocator ≡ A.geometry self.old.allocator }
     {
@@ -258,7 +258,7 @@ impl<A: Allocator + Drop> Tenants<A> {
         ensures held { IsOk result ↔ IsSome (lease_at tenant place self.old.leases) }
         ensures returned { IfSome (lease_at tenant place self.old.leases) (λ position.
             self.new ≡ without_lease self.old self.new.allocator position) }
-        ensures still { OnErr result (self.new ≡ self.old) }
+        ensures unchanged { OnErr result (self.new ≡ self.old) }
         ensures geometry { A.geometry self.new.allocator ≡ A.geometry self.old.allocator }
     {
         let Some(position) = lease_of(&self.leases, tenant, place) else {
@@ -347,7 +347,7 @@ pub fn leases_law()
         → chunks_of (remove leases position) ≡ remove (chunks_of leases) position }
     ensures held { (leases : List Lease) (lease : Lease)
         → IsSome (lease_at lease.tenant lease.chunk.place (leases ++ lease ∷ [])) }
-    ensures still_held { (leases : List Lease) (lease : Lease) (tenant place : ℕ)
+    ensures others_kept { (leases : List Lease) (lease : Lease) (tenant place : ℕ)
         → IsSome (lease_at tenant place leases)
         → IsSome (lease_at tenant place (leases ++ lease ∷ [])) }
     ensures together { (leases : List Lease) (used : List ℕ)

@@ -210,7 +210,7 @@ fn resize<A: Allocator>(
     ensures resized { IfOk result (λ resized. (live : List Chunk) (position : ℕ) (chunk : Chunk)
         → A.stands_for allocator.old live → slice_get live position ≡ Some chunk
         → chunk.place ≡ place → A.stands_for allocator.new (slice_set live position resized)) }
-    ensures still { allocator.new ≡ allocator.old }
+    ensures unchanged { allocator.new ≡ allocator.old }
     ensures region { held_region region.new ≡ held_region region.old }
 {
     let (old, new) = layouts;

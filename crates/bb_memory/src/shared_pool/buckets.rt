@@ -118,7 +118,7 @@ impl<const CAPPED: usize, const MOST: usize> SharedBucketPool<CAPPED, MOST> {
 
         // What is held after the party's log.
         ensures held { IfOk result (λ bucket. IsHeldAfter party.new.log bucket.number) }
-        ensures still_held { (other : ℕ) → IsHeldAfter party.old.log other
+        ensures others_kept { (other : ℕ) → IsHeldAfter party.old.log other
             → IsHeldAfter party.new.log other }
         ensures others { (other : ℕ) → IfOk result (λ bucket. other ≢ bucket.number)
             → IsHeldAfter party.new.log other → IsHeldAfter party.old.log other }
@@ -164,7 +164,7 @@ impl<const CAPPED: usize, const MOST: usize> SharedBucketPool<CAPPED, MOST> {
         ensures party { party.new.allocator ≡ self.now }
         ensures is_party { IsSameParty party.old party.new }
         ensures given_back { ¬ IsHeldAfter party.new.log bucket.entry.number }
-        ensures still_held { (other : ℕ) → other ≢ bucket.entry.number
+        ensures others_kept { (other : ℕ) → other ≢ bucket.entry.number
             → IsHeldAfter party.old.log other → IsHeldAfter party.new.log other }
         ensures others { (other : ℕ) → IsHeldAfter party.new.log other
             → IsHeldAfter party.old.log other }

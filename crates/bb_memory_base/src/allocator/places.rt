@@ -15,7 +15,7 @@ use crate::layout::{Chunk, Layout};
 /// ```
 pub fn deallocate_beside<A: Allocator>(allocator: &mut A, place: usize, layout: Layout)
     requires { A.may_release allocator.old place }
-    ensures still_given { (other : ℕ) → other ≢ place
+    ensures others_kept { (other : ℕ) → other ≢ place
         → A.may_release allocator.old other → A.may_release allocator.new other }
     ensures returned { Returned A.RELEASE_EMPTIES A.stands_for A.geometry A.note A.frees
         allocator.old place layout allocator.new }

@@ -154,9 +154,9 @@ impl<S: IndexSet> BucketPool<S> {
             → StandsFor self.old.pool live → slice_get live position ≡ Some chunk
             → chunk.place ≡ place → StandsFor self.new.pool (remove live position) }
         ensures given_back { ¬ HoldsPlace self.new.pool place }
-        ensures still_held { (other : ℕ) → HoldsPlace self.old.pool other → other ≢ place
+        ensures others_kept { (other : ℕ) → HoldsPlace self.old.pool other → other ≢ place
             → HoldsPlace self.new.pool other }
-        ensures still { result ≡ false → self.new ≡ self.old }
+        ensures unchanged { result ≡ false → self.new ≡ self.old }
         ensures geometry { self.new.pool.geometry ≡ self.old.pool.geometry }
         ensures reads { self.new.reads ≡ self.old.reads }
     {

@@ -47,7 +47,7 @@ pub trait Scripted: Drop {
         ensures run { IfOk result (λ replies.
             rules.runs self.old live.old.items commands.now replies.items self.new live.new.items) }
         ensures stands { OnOk result (stands_for self.new live.new.items) }
-        ensures still { OnErr result (self.new ≡ self.old) }
+        ensures unchanged { OnErr result (self.new ≡ self.old) }
         ensures kept { OnErr result (live.new.items ≡ live.old.items) };
 
     /// Adds the text of the state to a line.

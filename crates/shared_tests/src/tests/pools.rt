@@ -136,7 +136,7 @@ impl Pool {
         requires { party.old.allocator ≡ self.now }
         ensures party { party.new.allocator ≡ self.now }
         ensures kept { IfOk result (IsKeptBy self.now party.new) }
-        ensures still_held { (other : ℕ) → IsHeldAfter party.old.log other
+        ensures others_kept { (other : ℕ) → IsHeldAfter party.old.log other
             → IsHeldAfter party.new.log other }
     {
         match (&self.form, next_fit) {

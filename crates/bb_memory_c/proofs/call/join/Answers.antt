@@ -17,5 +17,5 @@ returns-in-Err g c = let none = is_empty _ _ c.is_made.ensures.value c.if-is_mad
   held_one = λ some. absurd (some none);
   joins = λ _.
       answers _ c.in-Some.ensures.value _ (at_lent _ _ c.in-Some.is (c.made_mut.follows.holds c.deal.new.self))
-      (none-dealt _ c.in-Err.code c.in-Err.ensures (c.is_made.ensures.still ∙ none));
+      (none-dealt _ c.in-Err.code c.in-Err.ensures (c.is_made.ensures.unchanged ∙ none));
 }

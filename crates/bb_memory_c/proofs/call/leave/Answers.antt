@@ -7,7 +7,7 @@ returns-in_default-take g c = let is = c.in-Some.ensures.value in
     let same = at_lent _ _ c.in-Some.is (c.made_mut.follows.holds _) ∙ sym is in record {
       returned = at_made _ _ _ is (at_none _ _ c.in_default-take.ensures.value);
       empty = λ _. refl;
-      still = search rules;
+      unchanged = search rules;
     }
 
 pub returns : goal.returns
@@ -22,5 +22,5 @@ returns g c = let is = c.in-Some.ensures.value in let party_is = c.in-Some-take.
         c.take.ensures.empty,
       ));
       empty = search rules;
-      still = λ not. absurd (not refl);
+      unchanged = λ not. absurd (not refl);
     }

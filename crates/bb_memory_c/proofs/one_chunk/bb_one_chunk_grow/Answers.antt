@@ -8,5 +8,5 @@ returns-in-Some c = let told = c.grow.ensures.answer in let layouts = c.layouts_
         answered = λ from to of. is_told _ _ _ _ (layouts.each from to of.0 of.1) told;
         no_layout = λ none. is_told_none _ _ _ (layouts.none none) told;
       },
-      c.grow.ensures.still,
+      c.grow.ensures.unchanged,
     )

@@ -8,5 +8,5 @@ returns-in-Some c = let told = c.shrink.ensures.answer in let layouts = c.layout
         answered = λ from to of. is_told _ _ _ _ (layouts.each from to of.0 of.1) told;
         no_layout = λ none. is_told_none _ _ _ (layouts.none none) told;
       },
-      c.shrink.ensures.still,
+      c.shrink.ensures.unchanged,
     )

@@ -7,13 +7,13 @@ use Rattle.bb_memory_c.proofs.pool.bb_pool_init.Goals as goal
 pub returns-in-Err : goal.returns-in-Err
 returns-in-Err c =
     not-cut (is_empty _ _ c.is_made.ensures.value c.if-is_made.false) (region_at c.args.start c.args.size)
-    c.cut_into.result c.in-Err.code c.is_made.ensures.still c.in-Err.is c.cut_into.ensures.invalid_layout
+    c.cut_into.result c.in-Err.code c.is_made.ensures.unchanged c.in-Err.is c.cut_into.ensures.invalid_layout
     c.cut_into.ensures.invalid_argument c.in-Err.ensures.others (λ _ may. may)
 
 pub returns-then-not-has_room : goal.returns-then-not-has_room
 returns-then-not-has_room c =
     not-room (is_empty _ _ c.is_made.ensures.value c.if-is_made.false) c.in-Ok.bucket c.in-Ok.ensures.cut.layout
-    c.in-Ok.ensures.cut.may c.is_made.ensures.still (λ has. false≢true (c.if-not-has_room.ensures.1 has))
+    c.in-Ok.ensures.cut.may c.is_made.ensures.unchanged (λ has. false≢true (c.if-not-has_room.ensures.1 has))
 
 pub returns : goal.returns
 returns c =

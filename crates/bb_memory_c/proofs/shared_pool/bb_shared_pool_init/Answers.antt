@@ -13,18 +13,18 @@ no_party parties none one = omega arith
 pub returns-in-Err : goal.returns-in-Err
 returns-in-Err c =
     not-cut (is_empty _ _ c.is_made.ensures.value c.if-is_made.false) (region_at c.args.start c.args.size)
-    c.cut_into.result c.in-Err.code c.is_made.ensures.still c.in-Err.is c.cut_into.ensures.invalid_layout
+    c.cut_into.result c.in-Err.code c.is_made.ensures.unchanged c.in-Err.is c.cut_into.ensures.invalid_layout
     c.cut_into.ensures.invalid_argument c.in-Err.ensures.others (λ _ may. may.1)
 
 pub returns-then-parties-eq0 : goal.returns-then-parties-eq0
 returns-then-parties-eq0 c =
     not-may (is_empty _ _ c.is_made.ensures.value c.if-is_made.false) c.in-Ok.bucket c.in-Ok.ensures.cut.layout
-    c.is_made.ensures.still (λ may. no_party _ c.if-parties-eq0.true may.0)
+    c.is_made.ensures.unchanged (λ may. no_party _ c.if-parties-eq0.true may.0)
 
 pub returns-then-not-has_room : goal.returns-then-not-has_room
 returns-then-not-has_room c =
     not-room (is_empty _ _ c.is_made.ensures.value c.if-is_made.false) c.in-Ok.bucket c.in-Ok.ensures.cut.layout
-    (some_party _ c.if-parties-eq0.false, c.in-Ok.ensures.cut.may) c.is_made.ensures.still
+    (some_party _ c.if-parties-eq0.false, c.in-Ok.ensures.cut.may) c.is_made.ensures.unchanged
     (λ has. false≢true (c.if-not-has_room.ensures.1 has))
 
 pub returns-in_default : goal.returns-in_default
@@ -32,7 +32,7 @@ returns-in_default c =
     tried (is_empty _ _ c.is_made.ensures.value c.if-is_made.false) c.in-Ok.bucket c.in-Ok.ensures.cut.layout
     (some_party _ c.if-parties-eq0.false, c.in-Ok.ensures.cut.may) _
     (c.has_room.ensures.0 c.if-not-has_room.false)
-    (λ wrong. absurd (cc)) (λ _. refl) (λ _. c.is_made.ensures.still)
+    (λ wrong. absurd (cc)) (λ _. refl) (λ _. c.is_made.ensures.unchanged)
 
 pub returns : goal.returns
 returns c =

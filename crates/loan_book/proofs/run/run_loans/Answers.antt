@@ -53,5 +53,5 @@ returns g c =
       stands = search rules;
       sound = search rules;
       geometry = search rules;
-      still = search rules;
+      unchanged = search rules;
     }

@@ -5,8 +5,8 @@ use Rattle.bb_memory_base.specs.Object.{released}
 use Rattle.bb_memory_base.proofs.Positions.{slice_get-unremoved}
 use Rattle.bb_memory_base.proofs.allocator.places.deallocate_beside.Goals as goal
 
-pub returns-clause-still_given : goal.returns-clause-still_given
-returns-clause-still_given g c = λ other apart held.
+pub returns-clause-others_kept : goal.returns-clause-others_kept
+returns-clause-others_kept g c = λ other apart held.
     let A = g.A.BaseAllocator in
     let (live, stands) = c.stands_for_some_list.ensures in
     let left = c.deallocate.new.self in

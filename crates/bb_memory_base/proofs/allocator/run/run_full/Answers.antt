@@ -62,6 +62,6 @@ returns-clause-run g c =
           invariant.geometry sound;
       fits = rw all at invariant.fits;
       geometry = invariant.geometry;
-      still = tt;
+      unchanged = tt;
       kept = tt;
     }

@@ -55,5 +55,5 @@ returns-in_default-clause-value c =
       exact_size = tt;
       behind = tt;
       used = tt;
-      still = refl;
+      unchanged = refl;
     }

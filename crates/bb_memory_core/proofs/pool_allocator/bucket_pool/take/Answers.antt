@@ -59,7 +59,7 @@ returns-in_default g c =
       taken = (
         within,
         c.in_default.ensures.full,
-        ap (λ (held : List Bool). pool_of geometry held) c.in_default.ensures.still,
+        ap (λ (held : List Bool). pool_of geometry held) c.in_default.ensures.unchanged,
       );
       reads = c.in_default.ensures.counted
           ∙ within_reads g.S.IndexSet.words _ geometry c.args.layout within c.requires.as_many;

@@ -81,8 +81,8 @@ returns-in-Some-clause-is_party g c = record { number = (took g c).serves.number
 pub returns-in-Some-clause-held : goal.returns-in-Some-clause-held
 returns-in-Some-clause-held g c = (took g c).serves.held
 
-pub returns-in-Some-clause-still_held : goal.returns-in-Some-clause-still_held
-returns-in-Some-clause-still_held g c = (took g c).serves.still_held
+pub returns-in-Some-clause-others_kept : goal.returns-in-Some-clause-others_kept
+returns-in-Some-clause-others_kept g c = (took g c).serves.others_kept
 
 pub returns-in-Some-clause-others : goal.returns-in-Some-clause-others
 returns-in-Some-clause-others g c = (took g c).serves.others
@@ -99,8 +99,8 @@ returns-in-Some-clause-alone g c = (took g c).alone
 pub returns-in-None-clause-is_party : goal.returns-in-None-clause-is_party
 returns-in-None-clause-is_party g c = record { number = (lost g c).serves.number; is_party = (lost g c).serves.is_party }
 
-pub returns-in-None-clause-still_held : goal.returns-in-None-clause-still_held
-returns-in-None-clause-still_held g c = (lost g c).serves.still_held
+pub returns-in-None-clause-others_kept : goal.returns-in-None-clause-others_kept
+returns-in-None-clause-others_kept g c = (lost g c).serves.others_kept
 
 pub returns-in-None-clause-others : goal.returns-in-None-clause-others
 returns-in-None-clause-others g c = (lost g c).serves.others

@@ -48,8 +48,8 @@ returns-clause-given_back g c held =
     not_held_after_return c.args.party.now.number c.args.bucket.number c.args.party.now.log
     (subst (λ (p : PoolParty). IsHeldAfter p.log c.args.bucket.number) (returns-clause-logged g c) held)
 
-pub returns-clause-still_held : goal.returns-clause-still_held
-returns-clause-still_held g c other apart held =
+pub returns-clause-others_kept : goal.returns-clause-others_kept
+returns-clause-others_kept g c other apart held =
     subst (λ (p : PoolParty). IsHeldAfter p.log other) (sym (returns-clause-logged g c))
     (held_after_return c.args.party.now.number c.args.bucket.number other c.args.party.now.log apart held)
 

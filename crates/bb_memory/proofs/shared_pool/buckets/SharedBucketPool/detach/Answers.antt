@@ -46,7 +46,7 @@ returns-clause-party g c =
       };
       was_detached = λ held. not_held_after_detach old.number bucket old.log
           (subst (λ (p : PoolParty). IsHeldAfter p.log bucket) logged held);
-      still_held = λ other apart held. subst (λ (p : PoolParty). IsHeldAfter p.log other) (sym logged)
+      others_kept = λ other apart held. subst (λ (p : PoolParty). IsHeldAfter p.log other) (sym logged)
           (held_after_detach old.number bucket other old.log apart held);
       others = λ other held. was_held_too old bucket other (subst (λ (p : PoolParty). IsHeldAfter p.log other) logged held);
     }

@@ -24,5 +24,5 @@ returns-clause-released g c =
 pub returns-clause-given_back : goal.returns-clause-given_back
 returns-clause-given_back g c = (returns-clause-freed g c refl).given_back
 
-pub returns-clause-still_held : goal.returns-clause-still_held
-returns-clause-still_held g c = (returns-clause-freed g c refl).still_held
+pub returns-clause-others_kept : goal.returns-clause-others_kept
+returns-clause-others_kept g c = (returns-clause-freed g c refl).others_kept
