@@ -1,6 +1,6 @@
 //! Scripts with what they write, faults of readers and writers, and the program with memory refused.
 mod faults;
-mod refused_in_turn;
+mod out_of_memory;
 mod rows;
 mod table;
 

@@ -1,5 +1,5 @@
 //! Scripts that hold with any one request for memory refused: the program ends with status 4, and what it wrote begins what
-//! it writes where none is refused. `.ci/refuse-in-turn` runs each test with its first request refused, then its second, and
+//! it writes where none is refused. `.ci/out-of-memory` runs each test with its first request refused, then its second, and
 //! so on, until none is left to refuse.
 use super::table::{add_answer, field_and_rest, lines};
 use super::{check, check_named};
@@ -7,7 +7,7 @@ use script_runner::Status;
 use std::alloc::Global;
 use std::process::Abort;
 
-/// A request of a size that no other has: `.ci/refuse-in-turn` refuses it exactly where it has refused another one before.
+/// A request of a size that no other has: `.ci/out-of-memory` refuses it exactly where it has refused another one before.
 const REFUSED_MARK: usize = 100_049;
 
 /// Returns whether a request for memory was refused since the test began.
