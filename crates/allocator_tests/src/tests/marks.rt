@@ -1,4 +1,4 @@
-//! Marks by which a test and the sweep of refused memory, `.ci/refuse-in-turn`, tell each other where the making ends and where
+//! Marks by which a test and the sweep of refused memory, `.ci/out-of-memory`, tell each other where the making ends and where
 //! the calls do, and whether memory was refused: requests of sizes that no other request has. The first one, and each request
 //! behind it, is refused; the second one is refused exactly where another came between the two. A third mark between them is
 //! refused exactly where nothing was given back since the first, and a fourth, anywhere, exactly where a request that is no mark

@@ -1,4 +1,4 @@
-//! Each layer, driven by rows: with ample memory, and with any one request refused. `.ci/refuse-in-turn` runs each test with its
+//! Each layer, driven by rows: with ample memory, and with any one request refused. `.ci/out-of-memory` runs each test with its
 //! first request refused, then with its second, and so on. A refused call changes nothing, and is made again.
 ghost use Rattle.std.specs.Prelude.{◌≡◌, [], IfSome};
 ghost use Rattle.bb_memory_base.specs.Chunk.{region_at};
