@@ -2,8 +2,8 @@
 mod checks;
 mod layers;
 mod marks;
-mod owner;
 mod out_of_memory;
+mod owner;
 mod results;
 mod rows;
 mod shared;
