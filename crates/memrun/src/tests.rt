@@ -1,6 +1,6 @@
 //! Scripts with what they write, faults of readers and writers, and the program with memory refused.
 mod faults;
-mod refused_in_turn;
+mod out_of_memory;
 mod rows;
 mod table;
 
@@ -9,6 +9,11 @@ use std::process::Abort;
 /// Checks a condition.
 fn check(rt: &impl Abort, found: bool) {
     assert!(rt; found);
+}
+
+/// Checks a condition. A failure says the name.
+fn check_named(rt: &impl Abort, found: bool, name: &str) {
+    assert!(rt; found, "{name}");
 }
 
 /// Checks a condition. A failure names the number.

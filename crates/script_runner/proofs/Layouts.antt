@@ -12,8 +12,8 @@ use Rattle.bb_memory_base.specs.declared.steps.bump.BumpStep.TheVariants.{Read, 
 use Rattle.bb_memory_base.specs.declared.layout.Layout.{Layout}
 use Rattle.bb_memory_base.proofs.Layouts.{same_layout}
 use Rattle.script_runner.specs.declared.words.Numbers.TheVariants.{Two, Three, Five}
-use Rattle.script_runner.specs.kinds.Allocators.{command_words}
-use Rattle.script_runner.specs.kinds.BumpSteps.{step_words}
+use Rattle.script_runner.specs.Allocators.{command_words}
+use Rattle.script_runner.specs.Steps.{bump_step_words}
 
 -- what is made of the numbers of a layout is that layout
 pub result_ok-layout : {E : Type 0} (r : Result Layout E) (size align : ℕ) (layout : Layout)
@@ -38,7 +38,7 @@ reads_two made size align (Shrink position old new) makes e = absurd (cc)
 
 -- three numbers say a `read`
 pub reads_three : (made : Option Layout) (party size align : ℕ) (step : BumpStep) → Makes made size align
-    → Three party size align ≡ (step_words step).numbers → option_map (λ layout. Read party layout) made ≡ Some step
+    → Three party size align ≡ (bump_step_words step).numbers → option_map (λ layout. Read party layout) made ≡ Some step
 reads_three made party size align (Read other layout) makes e =
     let same : party ≡ other = cc in
     ap (option_map (λ l. Read party l)) (makes layout (cc) (cc)) ∙ ap (λ p. Some (Read p layout)) same

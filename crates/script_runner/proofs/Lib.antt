@@ -1,7 +1,6 @@
 mod Layouts
 mod LineWords
 mod Numbers
-mod PoolShows
 mod ScriptLines
 mod Sending
 mod Tables

@@ -1,10 +1,10 @@
 -- The words of a line: there is one way only to read them.
-use Rattle.std.proofs.Common.{arith, ◌≡◌, ◌≢◌, ℕ, ◌<◌, ◌^◌, ◌+◌, suc, List, [], ◌∷◌, ◌++◌, All, length, drop, take, get_or}
+use Rattle.std.proofs.Common.{arith, ◌≡◌, ◌≢◌, ℕ, ◌<◌, ◌^◌, suc, List, [], ◌∷◌, ◌++◌, All, length, drop}
 use Rattle.std.proofs.Common.{refl, sym, ap, ap₂, ◌∙◌}
 use Rattle.std.specs.Fmt.{decimal}
 use Rattle.std.specs.Str.Parse.{digits_value}
 use Rattle.std.proofs.lemmas.Fmt.{digits_decimal, digits_value-decimal}
-use Rattle.std.proofs.lemmas.List.{append_assoc, append-nil, get_or_default, take_more}
+use Rattle.std.proofs.lemmas.List.{append_assoc, get_or_default}
 use Rattle.std.proofs.lemmas.Str.Parse.{digit_at}
 use Rattle.script_runner.proofs.Numbers.{own}
 use Rattle.script_runner.specs.Words.{Words, AreNumbers, AreWords, StartsWith, list_of, numbers_text}
@@ -142,26 +142,6 @@ at_most_five (Two a b) h = omega (arith, h)
 at_most_five (Three a b c) h = omega (arith, h)
 at_most_five (Four a b c d) h = omega (arith, h)
 at_most_five (Five a b c d e) h = omega (arith, h)
-
--- the text of numbers, and one more
-text_more : (ns after : List ℕ) (n : ℕ) →
-    numbers_text (ns ++ n ∷ []) ++ after ≡ numbers_text ns ++ 32 ∷ (decimal n ++ after)
-text_more [] after n = ap (λ l. 32 ∷ (l ++ after)) (append-nil (decimal n))
-text_more (m ∷ ns) after n =
-    ap (λ l. 32 ∷ l)
-    (append_assoc (decimal m) (numbers_text (ns ++ n ∷ [])) after
-    ∙ (ap (λ l. decimal m ++ l) (text_more ns after n)
-    ∙ sym (append_assoc (decimal m) (numbers_text ns) (32 ∷ (decimal n ++ after)))))
-
--- the numbers up to an index, and then the one there
-pub numbers_text-take : (ns : List ℕ) (index : ℕ) → index < length ns →
-    numbers_text (take (index + 1) ns) ≡ numbers_text (take index ns) ++ 32 ∷ decimal (get_or ns index 0)
-numbers_text-take ns index below =
-    let n : ℕ = get_or ns index 0 in
-    let before : List ℕ = take index ns in
-    ap numbers_text (take_more ns index 0 below)
-    ∙ (sym (append-nil (numbers_text (before ++ n ∷ [])))
-    ∙ (text_more before [] n ∙ ap (λ l. numbers_text before ++ 32 ∷ l) (append-nil (decimal n))))
 
 -- a rest with a byte is a space and what is behind it
 pub space_first : (rest front after : List ℕ) → StartsWith 32 rest → 0 < length rest → front ++ after ≡ drop 1 rest

@@ -1,5 +1,5 @@
 -- Numbers in decimal, without a sign or a leading zero.
-use Rattle.std.proofs.Common.{arith, ◌≡◌, ℕ, ◌+◌, ◌-◌, ◌*◌, ◌<◌, ◌≤◌, ◌^◌, zero, suc, List, [], length, take, take_all}
+use Rattle.std.proofs.Common.{arith, ◌≡◌, ℕ, ◌+◌, ◌*◌, ◌<◌, ◌≤◌, ◌^◌, zero, suc, List, [], length, take, take_all}
 use Rattle.std.proofs.Common.{get_or, slice_index, Option, Some, None, IfSome, sym, ap, ◌∙◌, ◌∷◌}
 use Rattle.std.specs.Char.{digit_value}
 use Rattle.std.specs.Fmt.{decimal}
@@ -74,7 +74,3 @@ IsPlain-decimal (suc n) small =
 -- so is a field that writes a number
 pub IsPlain-writes : (field : List ℕ) (n : ℕ) → n < 2 ^ 64 → field ≡ decimal n → IsPlain field
 IsPlain-writes field n small e = rw e (IsPlain-decimal n small)
-
--- what is free is what isn't used
-pub what_is_free : (used free size : ℕ) → used + free ≡ size → free ≡ size - used
-what_is_free used free size whole = omega (arith, whole)

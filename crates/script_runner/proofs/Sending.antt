@@ -6,9 +6,9 @@ use Rattle.std.specs.Io.KnownBytes.{Appends, Keeps}
 use Rattle.std.proofs.lemmas.List.{append_assoc, append-nil, take-append-drop, take_rest}
 use Rattle.script_runner.specs.Inputs.{Ends, IsAnswered, IsOutput, IsUnreadable}
 use Rattle.script_runner.specs.declared.status.Status.{Status}
-use Rattle.script_runner.specs.declared.status.Status.TheVariants.{Done, Unreadable, InputFailed, OutputFailed, OutOfMemory}
-use Rattle.script_runner.specs.Status.{IsCutShort}
-use Rattle.script_runner.specs.engine.Transcript.{AppendsPart, Sends, unreadable_text}
+use Rattle.script_runner.specs.declared.status.Status.TheVariants.{Done, Unreadable, OutputFailed, OutOfMemory}
+use Rattle.script_runner.specs.Scripts.{AppendsPart, Sends}
+use Rattle.script_runner.specs.Words.{unreadable_text}
 
 -- known bytes grow by no byte
 pub appends_nothing : (known : Option (List ℕ)) → Appends known known []
@@ -101,17 +101,3 @@ ends_refused input old = record {
   cut_short = λ short. inl (keeps_same old);
   input_read = λ is. cc;
 }
-
--- statuses are apart
-pub refused_apart : {P : Type 0} (status : Status) → (status ≡ Done) ⊎ (status ≡ Unreadable) ⊎ (status ≡ InputFailed)
-    → status ≡ OutOfMemory → P
-refused_apart status (inl done) refused = absurd (cc)
-refused_apart status (inr (inl unread)) refused = absurd (cc)
-refused_apart status (inr (inr failed)) refused = absurd (cc)
-
-pub failed_apart : {P : Type 0} (status : Status) → (status ≡ Done) ⊎ (status ≡ Unreadable) ⊎ IsCutShort status
-    → status ≡ InputFailed → P
-failed_apart status (inl done) failed = absurd (cc)
-failed_apart status (inr (inl unread)) failed = absurd (cc)
-failed_apart status (inr (inr (inl sent))) failed = absurd (cc)
-failed_apart status (inr (inr (inr refused))) failed = absurd (cc)

@@ -11,9 +11,14 @@ use Rattle.script_runner.specs.declared.engine.driving.Outcome.{Outcome}
 use Rattle.script_runner.specs.declared.engine.driving.Outcome.TheVariants.{Answered, Unreadable, OutOfMemory}
 use Rattle.script_runner.specs.declared.engine.script.Line.{Line}
 use Rattle.script_runner.specs.Words.{Words, MayStand, AreWords, words_text}
-use Rattle.script_runner.specs.engine.Rules.{Rules, Kind, kind, SomeOf, header_words, is_new}
-use Rattle.script_runner.specs.Inputs.{HasHeader, HasHeaderOf, IsScriptOf, IsAnsweredBy, IsOutcome, AreReadable, IsUnreadableAt}
-use Rattle.script_runner.specs.engine.Transcript.{IsLineText, IsFirstUnreadable, AreScript, IsPlayed}
+use Rattle.script_runner.specs.Scripts.{Rules, Kind, kind, SomeOf, header_words, is_new, IsLineText, IsFirstUnreadable}
+use Rattle.script_runner.specs.Scripts.{AreScript, IsPlayed}
+use Rattle.script_runner.specs.Inputs.{HasHeader, IsScriptOf, IsAnsweredBy, IsOutcome, AreReadable, IsUnreadableAt}
+
+-- the first line is of this kind
+abbrev pub HasHeaderOf : List (List ℕ) → Kind → Type 0
+HasHeaderOf lines kind =
+    (header : kind.Header) × (rest : List (List ℕ)) × HasHeader kind lines header rest
 
 -- what holds of some kind, in other words
 some-map : (table : List Kind) (P Q : Kind → Type 0) → ((one : Kind) → P one → Q one) → SomeOf table P → SomeOf table Q

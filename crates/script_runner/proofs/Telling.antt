@@ -2,11 +2,16 @@
 use Rattle.std.proofs.Common.{ℕ, ◌+◌, ◌<◌, ◌≡◌, List, [], ◌∷◌, ◌++◌, length, take, drop, get_or, sym, ap, ◌∙◌, refl, subst}
 use Rattle.std.proofs.Common.{Result, Ok, Err, OnOk}
 use Rattle.std.specs.List.{flat_map}
-use Rattle.std.proofs.lemmas.List.{append_assoc, append-nil, take_more, take-append-drop, drop_more}
+use Rattle.std.specs.Prelude.{slice_get, unwrap_or}
+use Rattle.std.proofs.lemmas.List.{append_assoc, append-nil, get_or_default, take_more, take-append-drop, drop_more}
+use Rattle.std.proofs.lemmas.Option.{unwrap_or-slice_get}
+use Rattle.bb_memory_base.specs.PoolMachine.{holder_in}
+use Rattle.bb_memory_base.specs.declared.steps.pool.Flag.{Flag}
+use Rattle.bb_memory_base.specs.declared.steps.pool.Flag.TheVariants.{Free}
+use Rattle.script_runner.specs.Steps.{flag_text, holder_text}
 use Rattle.std.proofs.lemmas.Grind.{flat_map-append}
-use Rattle.script_runner.specs.engine.Rules.{Rules}
+use Rattle.script_runner.specs.Scripts.{Rules, IsStep, IsTold}
 use Rattle.script_runner.specs.declared.engine.script.Line.{Line}
-use Rattle.script_runner.specs.engine.Transcript.{IsStep, IsTold}
 
 -- one text more
 pub texts_push : {V : Type 0} (bytes : V → List ℕ) (before grown : List V) (value : V) (text : List ℕ)
@@ -22,6 +27,17 @@ pub texts_more : {X : Type 0} (text_of : X → List ℕ) (items : List X) (index
 texts_more text_of items index item below is =
     texts_push text_of (take index items) (take (index + 1) items) (get_or items index item) (text_of item)
     (take_more items index item below) (ap text_of (sym is))
+
+-- the holders of the flags so far are written, and then one more
+pub holders_more : (old mid new : List ℕ) (flags : List Flag) (i : ℕ) → i < length flags
+    → mid ≡ old ++ flat_map flag_text (take i flags)
+    → new ≡ mid ++ holder_text (holder_in (unwrap_or (slice_get flags i) Free))
+    → new ≡ old ++ flat_map flag_text (take (i + 1) flags)
+holders_more old mid new flags i below before more =
+    let flag : Flag = unwrap_or (slice_get flags i) Free in
+    let is : flag ≡ get_or flags i flag = unwrap_or-slice_get flags i Free ∙ get_or_default flags i Free flag below in
+    rw (texts_more flag_text flags i flag below is) (more ∙ (ap (λ l. l ++ flag_text flag) before
+    ∙ append_assoc old (flat_map flag_text (take i flags)) (flag_text flag)))
 
 -- the texts up to an item, its own and those after it
 pub texts_at : {X : Type 0} (text_of : X → List ℕ) (items : List X) (index : ℕ) (item : X) → index < length items

@@ -5,8 +5,7 @@ use Rattle.std.proofs.Common.{inl, inr, ◌⊎◌, append_assoc, subst, append-n
 use Rattle.std.specs.List.{onto_first}
 use Rattle.std.proofs.lemmas.List.{append_cancel_right, flat_map_more}
 use Rattle.std.proofs.lemmas.List.Elements.{All-nil, All-cons, All-head, All-tail}
-use Rattle.script_runner.specs.Words.{StartsWith}
-use Rattle.script_runner.specs.engine.Lines.{lines_of, ended, EndsInText, AreLines}
+use Rattle.script_runner.specs.Words.{StartsWith, lines_of, ended, EndsInText, AreLines}
 
 -- whether a byte is a line feed
 abbrev feed : ℕ → Bool

@@ -1,24 +1,18 @@
 -- What is written of an input.
-use Rattle.std.specs.Prelude.{ℕ, ◌≡◌, ◌≢◌, ◌-◌, ◌⊎◌, List, [], ◌∷◌, All, Option, IfSome, take}
-use Rattle.std.specs.List.{flat_map}
 use Rattle.std.specs.Io.KnownBytes.{Keeps, Appends}
-use Rattle.script_runner.specs.kinds.Bump.{bump_rules}
-use Rattle.script_runner.specs.kinds.BumpSteps.{bump_step_rules}
-use Rattle.script_runner.specs.kinds.Allocators.{live_rules}
-use Rattle.script_runner.specs.kinds.LoanPool.{loan_pool_rules}
-use Rattle.script_runner.specs.kinds.OneChunk.{one_chunk_rules}
-use Rattle.script_runner.specs.kinds.Pool.{fixed_rules, pool_rules}
-use Rattle.script_runner.specs.kinds.PoolSteps.{pool_step_rules}
-use Rattle.script_runner.specs.Status.{IsCutShort}
-use Rattle.script_runner.specs.declared.status.Status.{Status}
-use Rattle.script_runner.specs.declared.status.Status.TheVariants.{Done, Unreadable, InputFailed}
-use Rattle.script_runner.specs.engine.Lines.{lines_of}
-use Rattle.script_runner.specs.Words.{MayStand, words_text}
-use Rattle.script_runner.specs.engine.Rules.{Kind, kind, SomeOf, header_words}
+use Rattle.std.specs.List.{flat_map}
+use Rattle.std.specs.Prelude.{ℕ, ◌≡◌, ◌≢◌, ◌-◌, ◌⊎◌, List, [], ◌∷◌, All, Option, IfSome, take}
+use Rattle.script_runner.specs.Scripts.{IsCutShort, Kind, kind, SomeOf, header_words, Begins, AreScript, IsPlayed, IsLineText}
+use Rattle.script_runner.specs.Words.{unreadable_text}
+use Rattle.script_runner.specs.Words.{MayStand, words_text, lines_of}
+use Rattle.script_runner.specs.Allocators.{live_rules, bump_rules, one_chunk_rules, fixed_rules, pool_rules}
+use Rattle.script_runner.specs.Steps.{bump_step_rules, pool_step_rules}
+use Rattle.script_runner.specs.LoanPool.{loan_pool_rules}
 use Rattle.script_runner.specs.declared.engine.driving.Outcome.{Outcome}
 use Rattle.script_runner.specs.declared.engine.driving.Outcome.TheVariants as outcome
 use Rattle.script_runner.specs.declared.engine.script.Line.{Line}
-use Rattle.script_runner.specs.engine.Transcript.{Begins, AreScript, IsPlayed, IsLineText, unreadable_text}
+use Rattle.script_runner.specs.declared.status.Status.{Status}
+use Rattle.script_runner.specs.declared.status.Status.TheVariants.{Done, Unreadable, InputFailed}
 
 -- the lines are a first line of this kind, that says this of what is to be made, and the rest
 pub record HasHeader (kind : Kind) (lines : List (List ℕ))
@@ -26,11 +20,6 @@ pub record HasHeader (kind : Kind) (lines : List (List ℕ))
   pub allowed : kind.rules.is_header header
   pub stand : MayStand (header_words kind.rules header)
   pub cut : lines ≡ words_text (header_words kind.rules header) ∷ rest
-
--- the first line is of this kind
-abbrev pub HasHeaderOf : List (List ℕ) → Kind → Type 0
-HasHeaderOf lines kind =
-    (header : kind.Header) × (rest : List (List ℕ)) × HasHeader kind lines header rest
 
 -- the first line is of this kind, and so is each further line
 abbrev pub IsScriptOf : List (List ℕ) → Kind → Type 0

@@ -1,5 +1,6 @@
+pub mod Allocators
 pub mod Inputs
-pub mod Status
+pub mod LoanPool
+pub mod Scripts
+pub mod Steps
 pub mod Words
-pub mod engine
-pub mod kinds

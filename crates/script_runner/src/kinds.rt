@@ -38,9 +38,8 @@ type FromLoanPool = (LoanPool, ());
 pub trait Kinds {
     ghost use Rattle.std.specs.Prelude.{◌≡◌, ◌∷◌, List, true};
     ghost use Rattle.script_runner.specs.Inputs.{IsOutcome};
-    ghost use Rattle.script_runner.specs.Words.{words, words_text, MayStand};
-    ghost use Rattle.script_runner.specs.engine.Lines.{lines_of};
-    ghost use Rattle.script_runner.specs.engine.Rules.{Kind, are_apart};
+    ghost use Rattle.script_runner.specs.Words.{words, words_text, MayStand, lines_of};
+    ghost use Rattle.script_runner.specs.Scripts.{Kind, are_apart};
 
     ghost table: { List Kind };
 
@@ -63,7 +62,7 @@ impl Kinds for () {
 
 impl<K: Driven, Others: Kinds> Kinds for (K, Others) {
     ghost use Rattle.std.specs.Prelude.{◌∷◌};
-    ghost use Rattle.script_runner.specs.engine.Rules.{kind};
+    ghost use Rattle.script_runner.specs.Scripts.{kind};
 
     ghost table = { kind K.rules ∷ Others.table };
 

@@ -1,7 +1,7 @@
 //! Runs a script: reads it to its end, drives an allocator, a machine of steps or a loan book by it, and writes a line for each
 //! reply. What a script is, and how it is answered, is told in `docs/script-format.md`, and in `specs` for the clauses.
 //!
-//! The files, in the order in which to read them; `specs` has the same rooms:
+//! The files, in the order in which to read them:
 //!
 //! - `running`: from the bytes of a script to the bytes that it is answered. `status`: how a run ends. `laws`: what holds of
 //!   every input and every status.

@@ -2,18 +2,16 @@
 ghost use Rattle.std.specs.Prelude.{◌≡◌, ◌⊎◌, ℕ, List, true};
 ghost use Rattle.std.specs.List.{flat_map};
 ghost use Rattle.std.specs.Io.KnownBytes.{Keeps, Appends};
-ghost use Rattle.script_runner.specs.Status.{IsCutShort};
+ghost use Rattle.script_runner.specs.Scripts.{IsCutShort, Sends};
 ghost use Rattle.script_runner.specs.Inputs.{IsAnswered, IsUnreadable, BeginsOutput, IsLeft, IsOutcome, Ends, kinds};
 ghost use Rattle.script_runner.specs.declared.status.Status.TheVariants.{OutputFailed};
-ghost use Rattle.script_runner.specs.engine.Lines.{lines_of};
-ghost use Rattle.script_runner.specs.engine.Rules.{are_apart};
-ghost use Rattle.script_runner.specs.engine.Transcript.{Sends, unreadable_text};
+ghost use Rattle.script_runner.specs.Words.{lines_of, unreadable_text};
 
 use crate::engine::driving::Outcome;
 use crate::engine::script::first_line;
 use crate::kinds::{AllKinds, Kinds};
 use crate::status::Status;
-use crate::words::{Numbers, Text, words};
+use crate::words::{Text, words};
 use std::alloc::Global;
 use std::io::{ErrorKind, Read, Write};
 
@@ -52,7 +50,7 @@ fn answer<W: Write>(alloc: Global, input: &[u8], writer: &mut W) -> Status
             finish(sent, Status::Done, writer)
         }
         Outcome::Unreadable(number) => {
-            match Text::new(b"line", Numbers::One(number), b": refused\n").written(alloc) {
+            match Text::Unreadable(number).written(alloc) {
                 Ok(line) => {
                     let sent = send(&line, writer);
                     finish(sent, Status::Unreadable, writer)
@@ -68,19 +66,11 @@ fn answer<W: Write>(alloc: Global, input: &[u8], writer: &mut W) -> Status
 fn outcome_of(alloc: Global, input: &[u8]) -> Outcome
     ensures { IsOutcome kinds (lines_of input.now) result }
 {
-    outcome_by::<AllKinds>(alloc, input)
-}
-
-/// Checks every line of an input, and then runs it, by a table of kinds.
-fn outcome_by<K: Kinds>(alloc: Global, input: &[u8]) -> Outcome
-    requires { are_apart K.table ≡ true }
-    ensures { IsOutcome K.table (lines_of input.now) result }
-{
     let Some((first, rest)) = first_line(input) else {
         return Outcome::Unreadable(1);
     };
     match words(first) {
-        Some((name, numbers)) => K::run(alloc, name, numbers, rest),
+        Some((name, numbers)) => AllKinds::run(alloc, name, numbers, rest),
         None => Outcome::Unreadable(1),
     }
 }

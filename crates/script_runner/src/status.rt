@@ -1,6 +1,6 @@
 //! The status of a run.
 ghost use Rattle.std.specs.Prelude.{◌≡◌, MatchOption, None, Some};
-ghost use Rattle.script_runner.specs.Status.{code_of, message_of};
+ghost use Rattle.script_runner.specs.Scripts.{code_of, message_of};
 
 /// The end of a run, and what was written.
 #[derive(Debug, Clone, Copy, PartialEq, Eq)]

@@ -6,13 +6,12 @@ ghost use Rattle.std.specs.Option.{SomeIff};
 ghost use Rattle.std.specs.Str.Parse.{AllDigits, digits_value};
 ghost use Rattle.bb_memory_base.specs.Chunk.{IsRegion};
 ghost use Rattle.bb_memory_base.specs.declared.layout.Layout.{Layout};
-ghost use Rattle.script_runner.specs.Words.{Words, words, words_then, text_bytes, list_of, AreWords, StartsWith, IsParty};
-ghost use Rattle.script_runner.specs.Words.{region_of, bounds_numbers};
+ghost use Rattle.script_runner.specs.Words.{Words, words, words_then, figures_then, text_bytes, list_of, AreWords, StartsWith};
+ghost use Rattle.script_runner.specs.Words.{IsParty, region_of, bounds_numbers};
 
 use bb_memory_core::layout::Layout;
 use bb_memory_core::region::Region;
 use std::alloc::{AllocError, Global};
-use std::io;
 use std::io::Write;
 
 /// The number of parties in scripts of steps.
@@ -135,45 +134,92 @@ fn value(digits: &[u8]) -> Option<usize>
     Some(value)
 }
 
-/// A text to write: a name and numbers, and then an end.
+/// A line to write.
 #[derive(Clone, Copy)]
-pub struct Text {
-    pub name: &'static [u8],
-    pub numbers: Numbers,
-    pub end: &'static [u8],
+pub enum Text {
+    /// A name and numbers.
+    Line(&'static [u8], Numbers),
+    /// A name and numbers, of a step that was refused memory.
+    Refused(&'static [u8], Numbers),
+    /// The number of the first unreadable line.
+    Unreadable(usize),
 }
 
 impl Text {
-    /// Returns the text of these parts.
-    pub fn new(name: &'static [u8], numbers: Numbers, end: &'static [u8]) -> Text
-        ensures { text_bytes result ≡ words_then name.now numbers end.now }
-    {
-        Text { name, numbers, end }
-    }
-
-    /// Returns the bytes of the text.
+    /// Returns the bytes of the line.
     pub fn written(self, alloc: Global) -> Result<Vec<u8>, AllocError>
         ensures { IfOk result (λ line. line.items ≡ text_bytes self) }
     {
         let mut line = Vec::new(alloc);
-        match write_words(self.name, self.numbers, self.end, &mut line) {
-            Ok(()) => Ok(line),
-            Err(_) => Err(AllocError),
+        self.write(&mut line)?;
+        Ok(line)
+    }
+
+    /// Adds the bytes of the line.
+    fn write(self, line: &mut Vec<u8>) -> Result<(), AllocError>
+        ensures { OnOk result (line.new.items ≡ line.old.items ++ text_bytes self) }
+    {
+        match self {
+            Text::Line(name, numbers) => write_words(name, numbers, b"\n", line),
+            Text::Refused(name, numbers) => write_words(
+                name,
+                numbers,
+                b" refused OutOfMemory\n",
+                line,
+            ),
+            Text::Unreadable(number) => write_words(
+                b"line",
+                Numbers::One(number),
+                b": refused\n",
+                line,
+            ),
         }
     }
 }
 
 /// Writes a name and numbers, and then a text.
-pub fn write_words(name: &[u8], numbers: Numbers, end: &[u8], line: &mut Vec<u8>) -> io::Result<()>
+pub fn write_words(
+    name: &[u8],
+    numbers: Numbers,
+    end: &[u8],
+    line: &mut Vec<u8>,
+) -> Result<(), AllocError>
     ensures { OnOk result (line.new.items ≡ line.old.items ++ words_then name.now numbers end.now) }
 {
-    line.write_all(name)?;
+    line.extend_from_slice(name)?;
     let mut left = numbers;
     while let Some((number, rest)) = left.split_first() {
-        write!(line, " {number}")?;
+        write_figure(b" ", number, line)?;
         left = rest;
     }
-    line.write_all(end)
+    line.extend_from_slice(end)
+}
+
+/// A label, and the figure behind it.
+#[derive(Clone, Copy)]
+pub struct Figure(pub &'static [u8], pub usize);
+
+/// Writes each label with its figure behind it, and then a text.
+pub fn write_figures(figures: &[Figure], end: &[u8], line: &mut Vec<u8>) -> Result<(), AllocError>
+    ensures { OnOk result (line.new.items ≡ line.old.items ++ figures_then figures.now end.now) }
+{
+    let mut left = figures;
+    while let Some((Figure(label, value), rest)) = left.split_first() {
+        write_figure(label, *value, line)?;
+        left = rest;
+    }
+    line.extend_from_slice(end)
+}
+
+/// Writes a label, and a number behind it.
+fn write_figure(label: &[u8], value: usize, line: &mut Vec<u8>) -> Result<(), AllocError>
+    ensures { OnOk result (line.new.items ≡ line.old.items ++ (label.now ++ decimal value)) }
+{
+    line.extend_from_slice(label)?;
+    match write!(line, "{value}") {
+        Ok(()) => Ok(()),
+        Err(_) => Err(AllocError),
+    }
 }
 
 /// Tests that a name is this text.

@@ -1,6 +1,8 @@
 //! Checks, proved once: a test's own proof carries no more of a check than its call.
-use crate::rows::layout_of;
+use crate::tests::marks::some_was_refused;
+use crate::tests::rows::layout_of;
 use bb_memory::layout::{Chunk, Layout};
+use std::alloc::Global;
 use std::process::Abort;
 
 /// Checks a condition.
@@ -8,14 +10,21 @@ pub(super) fn check(rt: &impl Abort, found: bool) {
     assert!(rt; found);
 }
 
-/// Checks a condition of a row's call. A failure names both.
-pub(super) fn check_at(rt: &impl Abort, found: bool, row: &str, at: usize) {
-    assert!(rt; found, "{row}: call {at}");
+/// Checks that no call of a row was answered otherwise.
+pub(super) fn check_row(rt: &impl Abort, wrong: Option<&str>, row: &str) {
+    if let Some(call) = wrong {
+        panic!(rt; "{row}: {call}");
+    }
 }
 
-/// Checks that no call of a row was answered otherwise.
-pub(super) fn check_row(rt: &impl Abort, wrong: Option<usize>, row: &str) {
-    assert!(rt; wrong.is_none(), "{row}: call {wrong:?}");
+/// Ends the test.
+pub(super) fn fail(rt: &impl Abort, cause: &str) {
+    panic!(rt; "{cause}");
+}
+
+/// Ends a test that couldn't make what it needs: for that a request has to have been refused.
+pub(super) fn ends_unmade(rt: &impl Abort, alloc: Global) {
+    check(rt, some_was_refused(alloc));
 }
 
 /// Makes a layout, which has to be there.

@@ -1,16 +1,15 @@
 //! The driver of rows: an owner of an allocator and its region makes a row's calls. Each call stands in a function without
 //! a clause, so a test's own proof carries none of the library's.
-ghost use Rattle.std.specs.Prelude.{◌≡◌, [], ℕ, List, Some, IfOk, IfSome, slice_get, slice_set};
-ghost use Rattle.bb_memory_base.specs.Chunk.{Chunk, region_at};
+ghost use Rattle.std.specs.Prelude.{◌≡◌, ◌%◌, [], Some, IfSome, slice_get};
+ghost use Rattle.bb_memory_base.specs.Chunk.{region_at};
 ghost use Rattle.bb_memory_base.specs.HeldBytes.{held_region};
 
-use self::kinds::{Figures, Kind, Run};
-use super::checks::{check, check_row};
-use super::refused_in_turn::ends_unmade;
-use crate::marks::{none_was_asked, refuse_memory, some_was_refused};
-use crate::rows::{
-    Answers, Words, alone, call_and_answer, counted, field_and_rest, first_wrong, layout_of,
-    may_be_told, of_chunk, of_growth, of_refusal, of_reply, of_shrinking, yes_or_no,
+use self::kinds::{Figures, Kind, Row, Run};
+use super::checks::{check, check_row, ends_unmade, fail};
+use crate::tests::marks::{none_was_asked, refuse_memory, some_was_refused};
+use crate::tests::rows::{
+    Answers, PASSED_OVER, Words, alone, call_and_answer, counted, field_and_rest, first_wrong,
+    layout_of, of_chunk, of_growth, of_refusal, of_reply, of_shrinking, yes_or_no,
 };
 use bb_memory::allocator::{Allocator, BaseAllocator, Command, Reply, run_base, run_full};
 use bb_memory::layout::{Chunk, Layout};
@@ -19,24 +18,59 @@ use std::alloc::{AllocError, Global};
 use std::marker::Model;
 use std::process::Abort;
 
-pub(super) mod kinds;
+pub(crate) mod kinds;
 
-/// Makes a region of `size` bytes at `start`, each a 7.
-fn sevens(alloc: Global, start: usize, size: usize) -> Option<Region>
+/// Makes a region of `size` bytes at `start`, each of them `byte`, or `None` where memory was refused.
+pub(crate) fn region_of(alloc: Global, start: usize, size: usize, byte: u8) -> Option<Region>
     ensures { IfSome result (λ region. held_region region ≡ region_at start size) }
 {
     if !Region::can_make(start, size) {
         return None;
     }
-    match vec![in alloc; 7; size] {
+    match vec![in alloc; byte; size] {
         Ok(bytes) => Some(Region::new(start, bytes)),
         Err(_) => None,
     }
 }
 
+/// A call, by its word.
+#[derive(Drop)]
+pub(super) enum Word {
+    Alloc { zeroed: bool },
+    Free,
+    Out,
+    At,
+    Zeros,
+    Count,
+    Reserved,
+    Grow,
+    GrowZeroed,
+    Shrink,
+    Unknown,
+}
+
+impl Word {
+    pub(super) fn of(word: &str) -> Word {
+        match word {
+            "count" => Word::Count,
+            "alloc" => Word::Alloc { zeroed: false },
+            "alloc-zeroed" => Word::Alloc { zeroed: true },
+            "free" => Word::Free,
+            "out" => Word::Out,
+            "at" => Word::At,
+            "zeros" => Word::Zeros,
+            "reserved" => Word::Reserved,
+            "grow" => Word::Grow,
+            "grow-zeroed" => Word::GrowZeroed,
+            "shrink" => Word::Shrink,
+            _ => Word::Unknown,
+        }
+    }
+}
+
 /// An allocator, its region and its live chunks.
 #[derive(Drop)]
-pub(super) struct Owner<A: BaseAllocator + Drop> {
+pub(crate) struct Owner<A: BaseAllocator + Drop> {
     allocator: A,
     region: Region,
     live: Vec<Chunk>,
@@ -63,7 +97,7 @@ impl<A: BaseAllocator + Drop> Owner<A> {
         requires fresh { A.stands_for allocator [] }
         requires region { A.region_of (A.geometry allocator) ≡ region_at start size }
     {
-        let region = sevens(alloc, start, size)?;
+        let region = region_of(alloc, start, size, 7)?;
         let live = Vec::with_capacity(alloc, 8).ok()?;
         Some(Owner {
             allocator,
@@ -73,30 +107,49 @@ impl<A: BaseAllocator + Drop> Owner<A> {
         })
     }
 
-    /// Returns whether just `count` chunks are live, at `start` and each `stride` bytes further on.
-    fn are_at(&self, start: usize, stride: usize, count: usize) -> bool {
-        let mut place = start;
+    /// Returns whether a chunk is live at `place`.
+    fn is_live(&self, place: usize) -> bool {
+        for chunk in &self.live {
+            if chunk.place() == place {
+                return true;
+            }
+        }
+        false
+    }
+
+    /// Returns whether just `count` chunks are live, at `place` and each `stride` bytes further on.
+    fn are_at(&self, numbers: [usize; 6]) -> Words<'static> {
+        let [mut place, stride, count, ..] = numbers;
         for _ in 0..count {
-            if !self.live.iter().any(|chunk| chunk.place() == place) {
-                return false;
+            if !self.is_live(place) {
+                return alone("no");
             }
             place = place.saturating_add(stride);
         }
-        self.live.len() == count
+        yes_or_no(self.live.len() == count)
     }
 
     /// Returns whether `count` bytes are zero, from `behind` bytes after the first chunk's place on, and every other byte is a 7.
-    fn has_zeros(&self, behind: usize, count: usize) -> bool {
-        let start = self.first.saturating_add(behind);
+    fn has_zeros(&self, numbers: [usize; 6]) -> Words<'static> {
+        let start = self.first.saturating_add(numbers[0]);
+        let end = start.saturating_add(numbers[1]);
         let mut place = self.region.start_address();
         for byte in self.region.bytes() {
-            let is_zero = start <= place && place - start < count;
-            if *byte != if is_zero { 0 } else { 7 } {
-                return false;
+            let wanted = if start <= place && place < end { 0 } else { 7 };
+            if *byte != wanted {
+                return alone("no");
             }
             place = place.saturating_add(1);
         }
-        true
+        alone("yes")
+    }
+
+    /// Notes the place of a first chunk.
+    fn noted(&mut self, chunk: Chunk) -> Words<'static> {
+        if self.first == 0 {
+            self.first = chunk.place();
+        }
+        of_chunk(chunk)
     }
 
     fn allocate(&mut self, layout: Layout, zeroed: bool) -> Words<'static> {
@@ -111,12 +164,17 @@ impl<A: BaseAllocator + Drop> Owner<A> {
         match given {
             Ok(chunk) => {
                 self.live.push_reserved(chunk);
-                if self.first == 0 {
-                    self.first = chunk.place();
-                }
-                of_chunk(chunk)
+                self.noted(chunk)
             }
             Err(error) => of_refusal(error),
+        }
+    }
+
+    /// Asks for a chunk of a size and an alignment.
+    fn request(&mut self, numbers: [usize; 6], zeroed: bool) -> Words<'static> {
+        match layout_of(numbers[0], numbers[1]) {
+            Some(layout) => self.allocate(layout, zeroed),
+            None => alone("passed"),
         }
     }
 
@@ -133,23 +191,24 @@ impl<A: BaseAllocator + Drop> Owner<A> {
         alone("released")
     }
 
+    /// Returns the live chunk at a position.
+    fn out(&self, position: usize) -> Words<'static> {
+        match chunk_at(&self.live, position) {
+            Some(chunk) => of_chunk(chunk),
+            None => alone("passed"),
+        }
+    }
+
     /// Makes a call of a `BaseAllocator`.
     fn answer_base(&mut self, call: Words<'_>) -> Words<'static> {
-        let [first, second, third, ..] = call.1;
-        match (
-            call.0,
-            layout_of(first, second),
-            chunk_at(&self.live, first),
-        ) {
-            ("alloc", Some(layout), _) => self.allocate(layout, false),
-            ("alloc-zeroed", Some(layout), _) => self.allocate(layout, true),
-            ("free", _, _) => self.deallocate(first),
-            ("out", _, Some(chunk)) => of_chunk(chunk),
-            ("at", _, _) => yes_or_no(self.are_at(first, second, third)),
-            ("zeros", _, _) => yes_or_no(self.has_zeros(first, second)),
-            ("alloc" | "alloc-zeroed" | "out" | "reserved", _, _)
-            | ("grow" | "grow-zeroed" | "shrink", _, _) => alone("passed"),
-            _ => alone("no such call"),
+        match Word::of(call.0) {
+            Word::Alloc { zeroed } => self.request(call.1, zeroed),
+            Word::Free => self.deallocate(call.1[0]),
+            Word::Out => self.out(call.1[0]),
+            Word::At => self.are_at(call.1),
+            Word::Zeros => self.has_zeros(call.1),
+            Word::Reserved | Word::Grow | Word::GrowZeroed | Word::Shrink => alone("passed"),
+            Word::Count | Word::Unknown => alone("no such call"),
         }
     }
 
@@ -160,29 +219,69 @@ impl<A: BaseAllocator + Drop> Owner<A> {
 }
 
 impl<A: Allocator + Drop> Owner<A> {
+    fn grow(&mut self, position: usize, layouts: Option<(Layout, Layout)>) -> Words<'static> {
+        let Some((chunk, old, new)) = resized_at(&self.live, position, layouts) else {
+            return alone("passed");
+        };
+        match self.allocator.grow(chunk.place(), old, new) {
+            Ok(grown) => {
+                self.live[position] = grown;
+                of_chunk(grown)
+            }
+            Err(error) => of_growth(error),
+        }
+    }
+
+    fn grow_zeroed(
+        &mut self,
+        position: usize,
+        layouts: Option<(Layout, Layout)>,
+    ) -> Words<'static> {
+        let Some((chunk, old, new)) = resized_at(&self.live, position, layouts) else {
+            return alone("passed");
+        };
+        match self
+            .allocator
+            .grow_zeroed(chunk.place(), old, new, &mut self.region)
+        {
+            Ok(grown) => {
+                self.live[position] = grown;
+                of_chunk(grown)
+            }
+            Err(error) => of_growth(error),
+        }
+    }
+
+    fn shrink(&mut self, position: usize, layouts: Option<(Layout, Layout)>) -> Words<'static> {
+        let Some((chunk, old, new)) = resized_at(&self.live, position, layouts) else {
+            return alone("passed");
+        };
+        if old.size() > self.allocator.reserved(chunk.place()) {
+            return alone("passed");
+        }
+        match self.allocator.shrink(chunk.place(), old, new) {
+            Ok(shrunk) => {
+                self.live[position] = shrunk;
+                of_chunk(shrunk)
+            }
+            Err(error) => of_shrinking(error),
+        }
+    }
+
+    fn reserved(&self, position: usize) -> Words<'static> {
+        match chunk_at(&self.live, position) {
+            Some(chunk) => counted("bytes", self.allocator.reserved(chunk.place())),
+            None => alone("passed"),
+        }
+    }
+
     /// Makes a call of an `Allocator`.
     fn answer_full(&mut self, call: Words<'_>) -> Words<'static> {
-        let position = call.1[0];
-        match (chunk_at(&self.live, position), layouts(call)) {
-            (Some(chunk), _) if call.0 == "reserved" => {
-                counted("bytes", self.allocator.reserved(chunk.place()))
-            }
-            (Some(chunk), Some(layouts)) => {
-                let place = chunk.place();
-                match resize(
-                    &mut self.allocator,
-                    &mut self.region,
-                    place,
-                    call.0,
-                    layouts,
-                ) {
-                    Ok(resized) => {
-                        self.live[position] = resized;
-                        of_chunk(resized)
-                    }
-                    Err(answer) => answer,
-                }
-            }
+        match Word::of(call.0) {
+            Word::Reserved => self.reserved(call.1[0]),
+            Word::Grow => self.grow(call.1[0], layouts(call.1)),
+            Word::GrowZeroed => self.grow_zeroed(call.1[0], layouts(call.1)),
+            Word::Shrink => self.shrink(call.1[0], layouts(call.1)),
             _ => self.answer_base(call),
         }
     }
@@ -197,51 +296,14 @@ impl<A: Allocator + Drop> Owner<A> {
     }
 }
 
-/// Resizes the live chunk at `place`, where the call's conditions hold.
-fn resize<A: Allocator>(
-    allocator: &mut A,
-    region: &mut Region,
-    place: usize,
-    call: &str,
-    layouts: (Layout, Layout),
-) -> Result<Chunk, Words<'static>>
-    requires live { A.may_release allocator.old place }
-    requires same_region { held_region region.old ≡ A.region_of (A.geometry allocator.old) }
-    ensures resized { IfOk result (λ resized. (live : List Chunk) (position : ℕ) (chunk : Chunk)
-        → A.stands_for allocator.old live → slice_get live position ≡ Some chunk
-        → chunk.place ≡ place → A.stands_for allocator.new (slice_set live position resized)) }
-    ensures unchanged { allocator.new ≡ allocator.old }
-    ensures region { held_region region.new ≡ held_region region.old }
-{
-    let (old, new) = layouts;
-    if place % old.align() != 0 {
-        return Err(alone("passed"));
-    }
-    match call {
-        "grow" => match allocator.grow(place, old, new) {
-            Ok(grown) => Ok(grown),
-            Err(error) => Err(of_growth(error)),
-        },
-        "grow-zeroed" => match allocator.grow_zeroed(place, old, new, region) {
-            Ok(grown) => Ok(grown),
-            Err(error) => Err(of_growth(error)),
-        },
-        _ if old.size() > allocator.reserved(place) => Err(alone("passed")),
-        _ => match allocator.shrink(place, old, new) {
-            Ok(shrunk) => Ok(shrunk),
-            Err(error) => Err(of_shrinking(error)),
-        },
-    }
-}
-
 /// Returns the old and the new layout of a resize.
-pub(super) fn layouts(call: Words<'_>) -> Option<(Layout, Layout)> {
-    let [_, old_size, old_align, new_size, new_align, _] = call.1;
-    match call.0 {
-        "grow" | "grow-zeroed" | "shrink" => {
-            let old = layout_of(old_size, old_align)?;
-            Some((old, layout_of(new_size, new_align)?))
-        }
+pub(super) fn layouts(numbers: [usize; 6]) -> Option<(Layout, Layout)> {
+    let [_, old_size, old_align, new_size, new_align, _] = numbers;
+    match (
+        layout_of(old_size, old_align),
+        layout_of(new_size, new_align),
+    ) {
+        (Some(old), Some(new)) => Some((old, new)),
         _ => None,
     }
 }
@@ -253,14 +315,47 @@ fn chunk_at(live: &Vec<Chunk>, position: usize) -> Option<Chunk>
     live.get(position).copied()
 }
 
+/// Returns the live chunk at a position with the layouts of its resize, where its place is a multiple of the old alignment.
+fn resized_at(
+    live: &Vec<Chunk>,
+    position: usize,
+    layouts: Option<(Layout, Layout)>,
+) -> Option<(Chunk, Layout, Layout)>
+    ensures at { IfSome result (λ resized. slice_get live.now.items position ≡ Some resized.0) }
+    ensures aligned { IfSome result (λ resized. resized.0.place % resized.1.align ≡ 0) }
+{
+    let (old, new) = layouts?;
+    let chunk = chunk_at(live, position)?;
+    if chunk.place() % old.align() != 0 {
+        return None;
+    }
+    Some((chunk, old, new))
+}
+
+/// Returns a request as a command.
+fn request_of(numbers: [usize; 6]) -> Option<Command> {
+    match layout_of(numbers[0], numbers[1]) {
+        Some(layout) => Some(Command::Allocate(layout)),
+        None => None,
+    }
+}
+
+/// Returns a resize as a command.
+fn resize_of(numbers: [usize; 6], grows: bool) -> Option<Command> {
+    match layouts(numbers) {
+        Some((old, new)) if grows => Some(Command::Grow(numbers[0], old, new)),
+        Some((old, new)) => Some(Command::Shrink(numbers[0], old, new)),
+        None => None,
+    }
+}
+
 /// Returns a call as a command.
 fn command_of(call: Words<'_>) -> Option<Command> {
-    let [first, second, ..] = call.1;
-    match (call.0, layouts(call)) {
-        ("alloc", _) => Some(Command::Allocate(layout_of(first, second)?)),
-        ("free", _) => Some(Command::Release(first)),
-        ("grow", Some((old, new))) => Some(Command::Grow(first, old, new)),
-        ("shrink", Some((old, new))) => Some(Command::Shrink(first, old, new)),
+    match Word::of(call.0) {
+        Word::Alloc { zeroed: false } => request_of(call.1),
+        Word::Free => Some(Command::Release(call.1[0])),
+        Word::Grow => resize_of(call.1, true),
+        Word::Shrink => resize_of(call.1, false),
         _ => None,
     }
 }
@@ -279,10 +374,10 @@ fn commands_of(alloc: Global, calls: &str) -> Option<Vec<Command>> {
 struct Replies<'a> {
     left: &'a [Reply],
     run: Run,
-    /// The place of the first allocated chunk, or 0.
-    first: usize,
-    /// True where the last call was passed over.
-    passed_over: bool,
+}
+
+fn is_resize(word: &str) -> bool {
+    matches!(Word::of(word), Word::Grow | Word::Shrink)
 }
 
 impl<'a> Answers for Replies<'a> {
@@ -290,31 +385,20 @@ impl<'a> Answers for Replies<'a> {
         let Some((reply, left)) = self.left.split_first() else {
             return alone("no reply");
         };
-        let told = of_reply(*reply);
         self.left = left;
-        self.passed_over = layouts(call).is_some() && !self.run.resizes;
-        if self.first == 0 && told.0 == "chunk" {
-            self.first = told.1[0];
+        if self.run.resizes || !is_resize(call.0) {
+            return of_reply(*reply);
         }
-        told
-    }
-
-    fn is_wanted(&self, told: Words<'_>, wanted: Words<'_>) -> bool {
-        if self.passed_over {
-            return told == alone("passed");
+        match reply {
+            Reply::Passed => alone(PASSED_OVER),
+            _ => alone("a run without resizes made one"),
         }
-        may_be_told(told, wanted, self.first)
     }
 }
 
 /// Returns whether a run replies what a row's calls want.
 fn are_replies(run: Run, replies: &[Reply], calls: &str) -> bool {
-    let mut replies = Replies {
-        left: replies,
-        run,
-        first: 0,
-        passed_over: false,
-    };
+    let mut replies = Replies { left: replies, run };
     first_wrong(&mut replies, calls).is_none() && replies.left.is_empty()
 }
 
@@ -327,10 +411,6 @@ impl<A: Kind> Answers for Owner<A> {
         self.allocator.stands_for_some_list();
         self.allocator.answers_fit();
         ("are", self.allocator.figures())
-    }
-
-    fn is_wanted(&self, told: Words<'_>, wanted: Words<'_>) -> bool {
-        may_be_told(told, wanted, self.first)
     }
 }
 
@@ -353,35 +433,51 @@ impl<A: Kind> Owner<A> {
         A::run(self, run, commands)
     }
 
-    /// Makes a row's calls by a run, and checks each reply; then makes the calls of the last field.
-    fn keeps_by_run(&mut self, rt: &impl Abort, alloc: Global, run: Run, name: &str, rows: &str) {
-        let (calls, then) = field_and_rest(rows);
+    /// Makes calls by a run, and checks each reply.
+    fn keeps_run(
+        &mut self,
+        rt: &impl Abort,
+        alloc: Global,
+        run: Run,
+        commands: &[Command],
+        (name, calls): (&str, &str),
+    ) {
+        match self.replies(rt, alloc, run, commands) {
+            Ok(replies) => check_run(rt, are_replies(run, &replies, calls), name, run),
+            Err(_) => fail(rt, name),
+        }
+    }
+
+    /// Makes a row's calls by a run, and then those of its last field.
+    fn keeps_by_run(&mut self, rt: &impl Abort, alloc: Global, run: Run, name: &str, calls: &str) {
+        let (calls, then) = field_and_rest(calls);
         let Some(commands) = commands_of(alloc, calls) else {
             return ends_unmade(rt, alloc);
         };
-        match self.replies(rt, alloc, run, &commands) {
-            Ok(replies) => assert!(rt; are_replies(run, &replies, calls), "{name}: {run:?}"),
-            Err(_) => panic!(rt; "there is memory again"),
-        }
+        self.keeps_run(rt, alloc, run, &commands, (name, calls));
         check_row(rt, first_wrong(self, then), name);
+    }
+
+    /// Makes a row's calls one by one without memory.
+    fn keeps_alone(&mut self, rt: &impl Abort, alloc: Global, name: &str, calls: &str) {
+        refuse_memory(alloc);
+        check_row(rt, first_wrong(self, calls), name);
+        check(rt, none_was_asked(alloc));
     }
 }
 
+/// Checks the replies of a run.
+fn check_run(rt: &impl Abort, are_right: bool, name: &str, run: Run) {
+    assert!(rt; are_right, "{name}: {run:?}");
+}
+
 /// Makes a row's calls by a run, or one by one without memory. Ends the test where memory for the owner was refused.
-fn keeps<A: Kind>(
-    rt: &impl Abort,
-    alloc: Global,
-    made: Option<Owner<A>>,
-    run: Option<Run>,
-    (name, calls): (&str, &str),
-) {
-    match (made, run) {
-        (Some(mut owner), Some(run)) => owner.keeps_by_run(rt, alloc, run, name, calls),
-        (Some(mut owner), None) => {
-            refuse_memory(alloc);
-            check_row(rt, first_wrong(&mut owner, calls), name);
-            check(rt, none_was_asked(alloc));
-        }
-        (None, _) => ends_unmade(rt, alloc),
+fn keeps<A: Kind>(rt: &impl Abort, alloc: Global, run: Option<Run>, row: Row<'_>) {
+    let Some(mut owner) = A::owner(alloc, row.of) else {
+        return ends_unmade(rt, alloc);
+    };
+    match run {
+        Some(run) => owner.keeps_by_run(rt, alloc, run, row.name, row.calls),
+        None => owner.keeps_alone(rt, alloc, row.name, row.calls),
     }
 }

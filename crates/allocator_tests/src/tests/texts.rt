@@ -72,15 +72,16 @@ const OF_LOANS: [(LoanError, &str); 7] = [
 
 #[test]
 fn texts_of_errors(rt: HostRuntime) {
+    let alloc = rt.alloc();
     let text = "the alignment is no power of two or the rounded size is too large";
     match Layout::from_size_align(8, 3) {
         Ok(_) => panic!(&rt; "the alignment 3 was accepted"),
-        Err(refused) => has_text(&rt, rt.alloc(), &refused, text),
+        Err(refused) => has_text(&rt, alloc, &refused, text),
     }
-    have_texts(&rt, rt.alloc(), &OF_REQUESTS);
-    have_texts(&rt, rt.alloc(), &OF_GROWTHS);
-    have_texts(&rt, rt.alloc(), &OF_SHRINKS);
-    have_texts(&rt, rt.alloc(), &OF_LOANS);
+    have_texts(&rt, alloc, &OF_REQUESTS);
+    have_texts(&rt, alloc, &OF_GROWTHS);
+    have_texts(&rt, alloc, &OF_SHRINKS);
+    have_texts(&rt, alloc, &OF_LOANS);
 }
 
 #[test]
@@ -99,12 +100,13 @@ fn debug_text(rt: &impl Abort, alloc: Global, value: &impl Debug) -> String {
 /// A request that a full pool refuses doesn't change its Debug text.
 #[test]
 fn a_refusal_shows_nothing(rt: HostRuntime) {
+    let alloc = rt.alloc();
     let bucket = layout(&rt, 8, 8);
     let mut pool = fixed_over::<4>(bucket, 4096, 64).expect(&rt, "there is such a pool");
     for _ in 0..4 {
         check(&rt, pool.allocate(bucket).is_ok());
     }
-    let before = debug_text(&rt, rt.alloc(), &pool);
+    let before = debug_text(&rt, alloc, &pool);
     check(&rt, pool.allocate(bucket).is_err());
-    check(&rt, debug_text(&rt, rt.alloc(), &pool) == before);
+    check(&rt, debug_text(&rt, alloc, &pool) == before);
 }

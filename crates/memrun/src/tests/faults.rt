@@ -1,6 +1,6 @@
 //! Readers and writers that fail at each of their calls in turn, and a script that is cut at every byte.
 use super::check_at;
-use super::table::answer;
+use super::table::ends;
 use script_runner::{Status, run};
 use std::alloc::Global;
 use std::io;
@@ -20,8 +20,10 @@ OutOfMemory\n\
 BumpAllocator { start: 4096, size: 1024, current_position: 1024 }\n\
 used 1024 free 0 total 1024\n";
 
-/// Two scripts, each with its output, how many writes that takes, and its status.
-const SCRIPTS: [(&[u8], &[u8], usize, Status); 2] = [
+/// A script, with its output, how many writes that takes, and its status.
+type Row = (&'static [u8], &'static [u8], usize, Status);
+
+const SCRIPTS: [Row; 2] = [
     (FIRST_PATH, FIRST_PATH_LINES, 50, Status::Done),
     (
         b"bump 4096 8\nbad\n",
@@ -31,20 +33,37 @@ const SCRIPTS: [(&[u8], &[u8], usize, Status); 2] = [
     ),
 ];
 
+/// An error of a reader or a writer.
+#[derive(Clone, Copy)]
+enum Fault {
+    Other,
+    OutOfMemory,
+    Interrupted,
+}
+
+/// Returns the error of a fault.
+fn error_of(fault: Fault) -> io::Error {
+    match fault {
+        Fault::Other => io::Error::from(ErrorKind::Other),
+        Fault::OutOfMemory => io::Error::from(ErrorKind::OutOfMemory),
+        Fault::Interrupted => io::Error::from(ErrorKind::Interrupted),
+    }
+}
+
 /// Gives its bytes seven at a time, and fails at one of its reads.
 #[derive(Drop)]
 struct FailingReader<'a> {
     left: &'a [u8],
     reads: usize,
     /// The number of the read that is answered with this error, counted from 1.
-    fails_read: (usize, ErrorKind),
+    fails_read: (usize, Fault),
 }
 
 impl Read for FailingReader<'_> {
     fn read(&mut self, buf: &mut [u8]) -> io::Result<usize> {
         self.reads = self.reads.saturating_add(1);
         if self.reads == self.fails_read.0 {
-            return Err(io::Error::from(self.fails_read.1));
+            return Err(error_of(self.fails_read.1));
         }
         let most = buf.len().min(7);
         self.left.read(&mut buf[..most])
@@ -59,7 +78,7 @@ struct CountingWriter<'a> {
     writes: usize,
     flushes: usize,
     /// The number of the write that is answered with this error, counted from 1.
-    fails_write: (usize, ErrorKind),
+    fails_write: (usize, Fault),
     fails_flush: bool,
 }
 
@@ -67,7 +86,7 @@ impl Write for CountingWriter<'_> {
     fn write(&mut self, buf: &[u8]) -> io::Result<usize> {
         self.writes = self.writes.saturating_add(1);
         if self.writes == self.fails_write.0 {
-            return Err(io::Error::from(self.fails_write.1));
+            return Err(error_of(self.fails_write.1));
         }
         let most = buf.len().min(5);
         self.kept.write(&buf[..most])
@@ -76,20 +95,14 @@ impl Write for CountingWriter<'_> {
     fn flush(&mut self) -> io::Result<()> {
         self.flushes = self.flushes.saturating_add(1);
         if self.fails_flush {
-            return Err(io::Error::from(ErrorKind::Other));
+            return Err(error_of(Fault::Other));
         }
         Ok(())
     }
 }
 
 /// Runs the script of row `bump-first-path` over a failing reader, and checks status and output.
-fn reads(
-    rt: &impl Abort,
-    alloc: Global,
-    fails_read: (usize, ErrorKind),
-    ends: Status,
-    lines: &[u8],
-) {
+fn reads(rt: &impl Abort, alloc: Global, fails_read: (usize, Fault), ends: Status, lines: &[u8]) {
     let mut told = Vec::new(alloc);
     let reader = FailingReader {
         left: FIRST_PATH,
@@ -100,104 +113,142 @@ fn reads(
     check_at(rt, ended == ends && told.as_slice() == lines, fails_read.0);
 }
 
+/// Fails each read in turn. The script has 70 bytes: ten reads, and one that finds its end.
+fn each_read_fails(rt: &impl Abort, alloc: Global, fault: Fault, ends: Status) {
+    for at in 1..12 {
+        reads(rt, alloc, (at, fault), ends, b"");
+    }
+    reads(rt, alloc, (12, fault), Status::Done, FIRST_PATH_LINES);
+}
+
 #[test]
 fn reader_fails_in_turn(rt: HostRuntime) {
-    for (kind, status) in [
-        (ErrorKind::Other, Status::InputFailed),
-        (ErrorKind::OutOfMemory, Status::OutOfMemory),
-    ] {
-        // The script has 70 bytes: ten reads, and one that finds its end.
-        for at in 1..12 {
-            reads(&rt, rt.alloc(), (at, kind), status, b"");
-        }
-        reads(&rt, rt.alloc(), (12, kind), Status::Done, FIRST_PATH_LINES);
-    }
-    let interrupted = (3, ErrorKind::Interrupted);
+    each_read_fails(&rt, rt.alloc(), Fault::Other, Status::InputFailed);
+    each_read_fails(&rt, rt.alloc(), Fault::OutOfMemory, Status::OutOfMemory);
+    let interrupted = (3, Fault::Interrupted);
     reads(&rt, rt.alloc(), interrupted, Status::Done, FIRST_PATH_LINES);
 }
 
-/// Runs a script over a failing writer, and checks the status and the numbers of writes and flushes. The output begins `lines`,
-/// and is `lines` before the flush.
+/// Runs a script over a writer, and checks the status and the numbers of writes and flushes. The output begins `lines`, and is
+/// `lines` before the flush.
 fn writes(
     rt: &impl Abort,
     alloc: Global,
     (script, lines): (&[u8], &[u8]),
-    (fails_write, fails_flush): ((usize, ErrorKind), bool),
+    (fails_write, fails_flush): ((usize, Fault), bool),
     ends: (Status, usize, usize),
 ) {
     let mut told = Vec::new(alloc);
+    let found = counts(alloc, script, &mut told, (fails_write, fails_flush));
+    let is_begun = lines.starts_with(told.as_slice());
+    let is_whole = told.len() == lines.len();
+    check_at(
+        rt,
+        found == ends && is_begun && (is_whole || found.2 == 0),
+        fails_write.0,
+    );
+}
+
+/// Runs a script over a writer. Returns the status and the numbers of writes and flushes.
+fn counts(
+    alloc: Global,
+    script: &[u8],
+    kept: &mut Vec<u8>,
+    (fails_write, fails_flush): ((usize, Fault), bool),
+) -> (Status, usize, usize) {
     let mut writer = CountingWriter {
-        kept: &mut told,
+        kept,
         writes: 0,
         flushes: 0,
         fails_write,
         fails_flush,
     };
     let status = run(alloc, script, &mut writer);
-    let CountingWriter {
-        writes,
-        flushes,
-        ..
-    } = writer;
-    check_at(rt, (status, writes, flushes) == ends, fails_write.0);
-    check_at(rt, lines.starts_with(told.as_slice()), fails_write.0);
-    check_at(rt, flushes == 0 || told.len() == lines.len(), fails_write.0);
+    (status, writer.writes, writer.flushes)
 }
 
-/// A failed write is the last call, and an interrupted write is tried again. No write has number 0.
+/// Fails the write of this number, and interrupts it.
+fn write_fails(rt: &impl Abort, alloc: Global, at: usize, row: &Row) {
+    let texts = (row.0, row.1);
+    let failed = (Status::OutputFailed, at, 0);
+    writes(rt, alloc, texts, ((at, Fault::Other), false), failed);
+    let done = (row.3, row.2.saturating_add(1), 1);
+    writes(rt, alloc, texts, ((at, Fault::Interrupted), false), done);
+}
+
+/// Runs a script with no failing write, as no write has number 0, and then with a failing flush.
+fn flush_fails(rt: &impl Abort, alloc: Global, row: &Row) {
+    let texts = (row.0, row.1);
+    let none = (0, Fault::Other);
+    writes(rt, alloc, texts, (none, false), (row.3, row.2, 1));
+    writes(
+        rt,
+        alloc,
+        texts,
+        (none, true),
+        (Status::OutputFailed, row.2, 1),
+    );
+}
+
+/// A failed write is the last call, and an interrupted write is tried again.
 #[test]
 fn writer_fails_in_turn(rt: HostRuntime) {
-    let failed = Status::OutputFailed;
-    for (script, lines, count, status) in SCRIPTS {
-        let texts = (script, lines);
-        for at in 1..count + 1 {
-            let fault = ((at, ErrorKind::Other), false);
-            writes(&rt, rt.alloc(), texts, fault, (failed, at, 0));
-            let fault = ((at, ErrorKind::Interrupted), false);
-            writes(&rt, rt.alloc(), texts, fault, (status, count + 1, 1));
+    for row in &SCRIPTS {
+        for at in 0..row.2 {
+            write_fails(&rt, rt.alloc(), at.saturating_add(1), row);
         }
-        for (fails_flush, ends) in [(false, status), (true, failed)] {
-            let fault = ((0, ErrorKind::Other), fails_flush);
-            writes(&rt, rt.alloc(), texts, fault, (ends, count, 1));
-        }
+        flush_fails(&rt, rt.alloc(), row);
     }
 }
 
-/// Returns whether the script of row `bump-first-path`, cut behind `cut` bytes, ends so: done with so many bytes of the whole
-/// script's output, or unreadable with this line.
-fn is_answered(alloc: Global, cut: usize, end: Result<usize, &[u8]>) -> bool {
-    let Some(script) = FIRST_PATH.get(..cut) else {
-        return false;
-    };
-    let (ended, told) = answer(alloc, script);
-    match end {
-        Ok(len) => ended == Status::Done && Some(told.as_slice()) == FIRST_PATH_LINES.get(..len),
-        Err(refused) => ended == Status::Unreadable && told.as_slice() == refused,
+/// Checks that the script of row `bump-first-path`, cut in front of each byte from `from` up to `to`, ends so.
+fn cuts(
+    rt: &impl Abort,
+    alloc: Global,
+    (from, to): (usize, usize),
+    (status, lines): (Status, &[u8]),
+) {
+    for cut in from..to {
+        let script = FIRST_PATH.get(..cut).unwrap_or(b"");
+        check_at(rt, ends(alloc, script, status, lines), cut);
+    }
+}
+
+/// Cut in front of the bytes from the first number up to the second, the script has this line unreadable. So has `alloc 10 3`,
+/// as 3 is no power of two.
+const UNREADABLE_CUTS: [(usize, usize, &[u8]); 7] = [
+    (0, 11, b"line 1: refused\n"),
+    (16, 25, b"line 2: refused\n"),
+    (27, 30, b"line 3: refused\n"),
+    (32, 42, b"line 4: refused\n"),
+    (44, 54, b"line 5: refused\n"),
+    (56, 64, b"line 6: refused\n"),
+    (66, 69, b"line 7: refused\n"),
+];
+
+/// Cut in front of the bytes from the first number up to the second, the script is done with so many bytes of the whole script's
+/// lines. So is `bump 4096 1`, as that is a region, too.
+const DONE_CUTS: [(usize, usize, usize); 7] = [
+    (11, 16, 0),
+    (25, 27, 14),
+    (30, 32, 106),
+    (42, 44, 120),
+    (54, 56, 135),
+    (64, 66, 147),
+    (69, 71, FIRST_PATH_LINES.len()),
+];
+
+#[test]
+fn script_cut_to_unreadable_lines(rt: HostRuntime) {
+    for row in &UNREADABLE_CUTS {
+        cuts(&rt, rt.alloc(), (row.0, row.1), (Status::Unreadable, row.2));
     }
 }
 
 #[test]
-fn script_cut_at_every_byte(rt: HostRuntime) {
-    // Cut in front of these bytes, a script ends so: with the line of this number unreadable (`alloc 10 3` too, as 3 is no
-    // power of two), or done with so many bytes of the whole script's lines (`bump 4096 1` is a region, too).
-    for (from, to, end) in [
-        (0, 10, Err(b"line 1: refused\n".as_slice())),
-        (11, 15, Ok(0)),
-        (16, 24, Err(b"line 2: refused\n".as_slice())),
-        (25, 26, Ok(14)),
-        (27, 29, Err(b"line 3: refused\n".as_slice())),
-        (30, 31, Ok(106)),
-        (32, 41, Err(b"line 4: refused\n".as_slice())),
-        (42, 43, Ok(120)),
-        (44, 53, Err(b"line 5: refused\n".as_slice())),
-        (54, 55, Ok(135)),
-        (56, 63, Err(b"line 6: refused\n".as_slice())),
-        (64, 65, Ok(147)),
-        (66, 68, Err(b"line 7: refused\n".as_slice())),
-        (69, 70, Ok(FIRST_PATH_LINES.len())),
-    ] {
-        for cut in from..to + 1 {
-            check_at(&rt, is_answered(rt.alloc(), cut, end), cut);
-        }
+fn script_cut_to_other_scripts(rt: HostRuntime) {
+    for row in &DONE_CUTS {
+        let lines = FIRST_PATH_LINES.get(..row.2).unwrap_or(b"no such lines");
+        cuts(&rt, rt.alloc(), (row.0, row.1), (Status::Done, lines));
     }
 }

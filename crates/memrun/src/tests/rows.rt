@@ -1,6 +1,6 @@
 //! Scripts with what they write, each row by its name. Scripts of thousands of lines and of many buckets, `.ci/run-memrun` has.
-use super::check;
-use super::table::{answer, check_rows};
+use super::table::{check_rows, ends};
+use super::{check, check_named};
 use script_runner::{Status, equality_law, lines_law};
 use std::alloc::Global;
 
@@ -155,9 +155,13 @@ an allocator's line | loan-pool 4096 128 128 8; alloc 1 1 | line 2: refused";
 
 #[test]
 fn scripts_that_are_done(rt: HostRuntime) {
-    for table in [BUMP, ONE_CHUNK, POOLS, STEPS, LOANS, LARGE] {
-        check_rows(&rt, rt.alloc(), Status::Done, table);
-    }
+    let alloc = rt.alloc();
+    check_rows(&rt, alloc, Status::Done, BUMP);
+    check_rows(&rt, alloc, Status::Done, ONE_CHUNK);
+    check_rows(&rt, alloc, Status::Done, POOLS);
+    check_rows(&rt, alloc, Status::Done, STEPS);
+    check_rows(&rt, alloc, Status::Done, LOANS);
+    check_rows(&rt, alloc, Status::Done, LARGE);
 }
 
 #[test]
@@ -165,55 +169,59 @@ fn unreadable_scripts(rt: HostRuntime) {
     check_rows(&rt, rt.alloc(), Status::Unreadable, UNREADABLE);
 }
 
-/// Returns whether a script ends with this status and writes just these lines.
-fn ends(alloc: Global, script: &[u8], status: Status, lines: &[u8]) -> bool {
-    let (ended, told) = answer(alloc, script);
-    ended == status && told.as_slice() == lines
-}
+/// Scripts that no row of a table can have, each with its name, its status and its output.
+const OTHER_BYTES: [(&str, &[u8], Status, &[u8]); 4] = [
+    (
+        "script-no-last-line-feed",
+        b"bump 4096 8\nalloc 1 1",
+        Status::Done,
+        b"chunk 4096 1\n",
+    ),
+    (
+        "script-empty",
+        b"",
+        Status::Unreadable,
+        b"line 1: refused\n",
+    ),
+    (
+        "one line feed",
+        b"\n",
+        Status::Unreadable,
+        b"line 1: refused\n",
+    ),
+    (
+        "script-stray-byte",
+        b"bump 4096 8\n\xff\n",
+        Status::Unreadable,
+        b"line 2: refused\n",
+    ),
+];
 
-/// Scripts that no row of a table can have, each row by its name.
 #[test]
 fn scripts_of_other_bytes(rt: HostRuntime) {
-    for (name, script, status, lines) in [
-        (
-            "script-no-last-line-feed",
-            b"bump 4096 8\nalloc 1 1".as_slice(),
-            Status::Done,
-            b"chunk 4096 1\n".as_slice(),
-        ),
-        (
-            "script-empty",
-            b"",
-            Status::Unreadable,
-            b"line 1: refused\n",
-        ),
-        (
-            "one line feed",
-            b"\n",
-            Status::Unreadable,
-            b"line 1: refused\n",
-        ),
-        (
-            "script-stray-byte",
-            b"bump 4096 8\n\xff\n",
-            Status::Unreadable,
-            b"line 2: refused\n",
-        ),
-    ] {
-        assert!(&rt; ends(rt.alloc(), script, status, lines), "{name}");
+    for row in &OTHER_BYTES {
+        check_named(&rt, ends(rt.alloc(), row.1, row.2, row.3), row.0);
     }
+}
+
+/// Each status, with its code and its message.
+const STATUSES: [(Status, u8, Option<&str>); 5] = [
+    (Status::Done, 0, None),
+    (Status::Unreadable, 2, None),
+    (Status::InputFailed, 3, Some("input failed")),
+    (Status::OutputFailed, 3, Some("output failed")),
+    (Status::OutOfMemory, 4, Some("out of memory")),
+];
+
+/// Returns whether a status has this code and this message.
+fn says(status: Status, code: u8, message: Option<&str>) -> bool {
+    status.code() == code && status.message() == message
 }
 
 #[test]
 fn statuses(rt: HostRuntime) {
-    for (status, code, message) in [
-        (Status::Done, 0, None),
-        (Status::Unreadable, 2, None),
-        (Status::InputFailed, 3, Some("input failed")),
-        (Status::OutputFailed, 3, Some("output failed")),
-        (Status::OutOfMemory, 4, Some("out of memory")),
-    ] {
-        check(&rt, status.code() == code && status.message() == message);
+    for row in &STATUSES {
+        check(&rt, says(row.0, row.1, row.2));
     }
 }
 

@@ -1,30 +1,38 @@
 //! Tables of scripts. Each line is a row: `NAME | SCRIPT | OUTPUT`, where `; ` stands for a line feed. Where a pool may give any
 //! bucket, a fourth field has the places of all, and `P`, `Q` to `W` in the output stand for different ones of these.
+use super::check_named;
 use script_runner::{Status, run};
 use std::alloc::{AllocError, Global};
 use std::process::Abort;
 
 /// The names of places, in order.
-const NAMES: [&str; 8] = ["P", "Q", "R", "S", "T", "U", "V", "W"];
+const NAMES: &str = "PQRSTUVW";
 
 /// Returns a field as lines.
-pub(super) fn lines(alloc: Global, text: &str) -> Result<Vec<u8>, AllocError> {
-    let mut bytes = Vec::new(alloc);
-    if text.is_empty() {
-        return Ok(bytes);
+pub(super) fn lines(alloc: Global, text: &str) -> Result<String, AllocError> {
+    let mut lines = text.replace(alloc, "; ", "\n")?;
+    if !text.is_empty() {
+        lines.push('\n')?;
     }
-    for part in text.split("; ") {
-        bytes.extend_from_slice(part.as_bytes())?;
-        bytes.push(b'\n')?;
-    }
-    Ok(bytes)
+    Ok(lines)
+}
+
+/// Runs a script, and adds its output. Returns its status.
+pub(super) fn add_answer(alloc: Global, script: &[u8], told: &mut Vec<u8>) -> Status {
+    run(alloc, script, told)
 }
 
 /// Runs a script. Returns its status and its output.
-pub(super) fn answer(alloc: Global, script: &[u8]) -> (Status, Vec<u8>) {
+fn answer(alloc: Global, script: &[u8]) -> (Status, Vec<u8>) {
     let mut told = Vec::new(alloc);
-    let status = run(alloc, script, &mut told);
+    let status = add_answer(alloc, script, &mut told);
     (status, told)
+}
+
+/// Returns whether a script ends with this status and writes just these lines.
+pub(super) fn ends(alloc: Global, script: &[u8], status: Status, lines: &[u8]) -> bool {
+    let (ended, told) = answer(alloc, script);
+    ended == status && told.as_slice() == lines
 }
 
 /// Splits a row behind its first field.
@@ -32,56 +40,81 @@ pub(super) fn field_and_rest(row: &str) -> (&str, &str) {
     row.split_once(" | ").unwrap_or((row, ""))
 }
 
-/// Returns whether a word of the output is `wanted`. A name's first place becomes its place: one of `places` without a name.
-fn is_word<'a>(
-    named: &mut Vec<&'a str>,
-    places: &str,
-    told: &'a str,
-    wanted: &str,
-) -> Result<bool, AllocError> {
-    let Some(number) = NAMES.iter().position(|name| *name == wanted) else {
-        return Ok(told == wanted);
-    };
-    if let Some(place) = named.get(number) {
-        return Ok(told == *place);
+/// Returns the number of a name.
+fn number_of(word: &str) -> Option<usize> {
+    if word.len() == 1 {
+        NAMES.find(word)
+    } else {
+        None
     }
-    let is_new = number == named.len() && named.iter().all(|place| *place != told);
-    named.push(told)?;
-    Ok(is_new && places.split(' ').any(|place| place == told))
 }
 
-/// Returns whether the output is `wanted`.
-fn is_told(alloc: Global, places: &str, told: &str, wanted: &str) -> Result<bool, AllocError> {
-    let mut named = Vec::new(alloc);
+/// Returns whether a word is one of these.
+fn is_among(words: &str, word: &str) -> bool {
+    for other in words.split(' ') {
+        if other == word {
+            return true;
+        }
+    }
+    false
+}
+
+/// Returns whether a word of the output is `wanted`. A name's first place becomes its place: one of `places` without a name.
+fn is_word<'a>(named: &mut [&'a str], places: &str, told: &'a str, wanted: &str) -> bool {
+    let Some(number) = number_of(wanted) else {
+        return told == wanted;
+    };
+    if number >= named.len() {
+        return false;
+    }
+    if !named[number].is_empty() {
+        return told == named[number];
+    }
+    let is_new = !named.contains(&told) && is_among(places, told);
+    named[number] = told;
+    is_new
+}
+
+/// Returns whether the output is `wanted`, where the places have these names.
+fn is_told<'a>(named: &mut [&'a str], places: &str, told: &'a str, wanted: &str) -> bool {
     let mut told = told.split(' ');
     for wanted in wanted.split(' ') {
         let Some(word) = told.next() else {
-            return Ok(false);
+            return false;
         };
-        if !is_word(&mut named, places, word, wanted)? {
-            return Ok(false);
+        if !is_word(named, places, word, wanted) {
+            return false;
         }
     }
-    Ok(told.next().is_none())
+    told.next().is_none()
+}
+
+/// Returns whether a script ends with this status and writes just the output.
+fn is_answered(alloc: Global, ends: Status, script: &str, (wanted, places): (&str, &str)) -> bool {
+    let (status, told) = answer(alloc, script.as_bytes());
+    match str::from_utf8(&told) {
+        Ok(told) => status == ends && is_told(&mut [""; 8], places, told, wanted),
+        Err(_) => false,
+    }
 }
 
 /// Returns whether a row's script ends with this status and writes just the row's output.
-fn keeps_row(alloc: Global, ends: Status, row: &str) -> Result<bool, AllocError> {
+fn keeps_row(alloc: Global, ends: Status, row: &str) -> bool {
     let (script, row) = field_and_rest(row);
     let (wrote, places) = field_and_rest(row);
-    let script = lines(alloc, script)?;
-    let wanted = lines(alloc, wrote)?;
-    let (status, told) = answer(alloc, &script);
-    let (Ok(told), Ok(wanted)) = (str::from_utf8(&told), str::from_utf8(&wanted)) else {
-        return Ok(false);
+    let Ok(script) = lines(alloc, script) else {
+        return false;
     };
-    Ok(status == ends && is_told(alloc, places, told, wanted)?)
+    match lines(alloc, wrote) {
+        Ok(wanted) => is_answered(alloc, ends, &script, (&wanted, places)),
+        Err(_) => false,
+    }
 }
 
 /// Runs the script of each row, and checks its status and its output.
 pub(super) fn check_rows(rt: &impl Abort, alloc: Global, ends: Status, table: &str) {
-    for row in table.split("\n") {
+    for row in table.lines() {
         let (name, row) = field_and_rest(row);
-        assert!(rt; keeps_row(alloc, ends, row) == Ok(true), "{name}");
+        check_named(rt, keeps_row(alloc, ends, row), name);
     }
 }

@@ -2,20 +2,17 @@
 ghost use Rattle.std.specs.Prelude.{◌≡◌, ◌++◌, ◌∷◌, [], List, ℕ, IfOk, OnOk};
 ghost use Rattle.std.specs.List.{flat_map};
 ghost use Rattle.script_runner.specs.Inputs.{IsOutcome};
-ghost use Rattle.script_runner.specs.Words.{MayStand, words_text};
-ghost use Rattle.script_runner.specs.engine.Lines.{lines_of};
-ghost use Rattle.script_runner.specs.engine.Rules.{kind, header_words};
-ghost use Rattle.script_runner.specs.engine.Transcript.{IsPlayed, IsStep};
+ghost use Rattle.script_runner.specs.Words.{MayStand, words_text, lines_of};
+ghost use Rattle.script_runner.specs.Scripts.{kind, header_words, IsPlayed, IsStep};
 
 use crate::engine::script::{Line, read_script};
 use crate::words::{Numbers, Text};
 use std::alloc::{AllocError, Global};
-use std::io;
 
 /// A kind of script: it is made by a header, takes commands, and gives one reply to each.
 pub trait Driven: Drop {
     ghost use Rattle.std.specs.Prelude.{◌≡◌, ◌++◌, Bool, OnOk, IfOk, IfSome, Some};
-    ghost use Rattle.script_runner.specs.engine.Rules.{Rules};
+    ghost use Rattle.script_runner.specs.Scripts.{Rules};
     ghost use Rattle.script_runner.specs.Words.{text_bytes};
 
     /// The value that a header names.
@@ -69,7 +66,7 @@ pub trait Driven: Drop {
         ensures { text_bytes result ≡ rules.reply_text reply.now };
 
     /// Adds the text of the state to a line.
-    fn write_state(&self, line: &mut Vec<u8>) -> io::Result<()>
+    fn write_state(&self, line: &mut Vec<u8>) -> Result<(), AllocError>
         ensures { OnOk result (line.new.items ≡ line.old.items ++ rules.state_text self.now) };
 }
 

@@ -1,8 +1,7 @@
 //! How an input is cut into lines, and what the lines behind the header say.
 ghost use Rattle.std.specs.Prelude.{◌≡◌, ◌<◌, ◌∷◌, [], length, IfOk, IfErr, IfSome, IfNone};
-ghost use Rattle.script_runner.specs.engine.Lines.{lines_of};
-ghost use Rattle.script_runner.specs.engine.Rules.{IsLine, line_text};
-ghost use Rattle.script_runner.specs.engine.Transcript.{AreScript, IsFirstUnreadable, IsLineText};
+ghost use Rattle.script_runner.specs.Words.{lines_of};
+ghost use Rattle.script_runner.specs.Scripts.{IsLine, line_text, AreScript, IsFirstUnreadable, IsLineText};
 
 use crate::engine::driving::Driven;
 use crate::words::{is, split_before, words};

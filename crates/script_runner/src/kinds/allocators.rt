@@ -2,7 +2,7 @@
 ghost use Rattle.std.specs.Prelude.{◌≡◌, IfSome, Some, codes};
 ghost use Rattle.bb_memory_base.specs.declared.allocator.Command.{Command};
 ghost use Rattle.script_runner.specs.Words.{words_then, text_bytes};
-ghost use Rattle.script_runner.specs.kinds.Allocators.{command_words, refusal_name, grow_refusal_name, shrink_refusal_name};
+ghost use Rattle.script_runner.specs.Allocators.{command_words, refusal_name, grow_refusal_name, shrink_refusal_name};
 
 use crate::engine::driving::Driven;
 use crate::words::{Numbers, Text, is, layout};
@@ -11,14 +11,13 @@ use bb_memory_core::allocator::{
 };
 use bb_memory_core::layout::Chunk;
 use std::alloc::{AllocError, Global};
-use std::io;
 use std::marker::Model;
 
 /// An allocator that a script drives: how it is made by a header, run, and shown.
 pub trait Scripted: Drop {
     ghost use Rattle.std.specs.Prelude.{◌≡◌, ◌++◌, [], List, Some, OnOk, OnErr, IfOk, IfSome};
     ghost use Rattle.bb_memory_base.specs.Chunk.{Chunk};
-    ghost use Rattle.script_runner.specs.kinds.Allocators.{AllocatorRules};
+    ghost use Rattle.script_runner.specs.Allocators.{AllocatorRules};
 
     /// The value that a header names.
     type Header: Drop;
@@ -51,7 +50,7 @@ pub trait Scripted: Drop {
         ensures kept { OnErr result (live.new.items ≡ live.old.items) };
 
     /// Adds the text of the state to a line.
-    fn write_state(&self, live: usize, line: &mut Vec<u8>) -> io::Result<()>
+    fn write_state(&self, live: usize, line: &mut Vec<u8>) -> Result<(), AllocError>
         ensures { OnOk result (line.new.items ≡ line.old.items ++ rules.state_text self.now live) };
 }
 
@@ -63,7 +62,7 @@ pub struct Live<A: Scripted> {
 }
 
 impl<A: Scripted> Model for Live<A> {
-    ghost use Rattle.script_runner.specs.kinds.Allocators.{LiveState};
+    ghost use Rattle.script_runner.specs.Allocators.{LiveState};
 
     ghost Value = { LiveState A };
 
@@ -75,7 +74,7 @@ impl<A: Scripted> Model for Live<A> {
 impl<A: Scripted> Driven for Live<A> {
     ghost use Rattle.std.specs.Prelude.{true};
     ghost use Rattle.std.proofs.Common.{refl};
-    ghost use Rattle.script_runner.specs.kinds.Allocators.{live_rules};
+    ghost use Rattle.script_runner.specs.Allocators.{live_rules};
 
     type Header = A::Header;
 
@@ -111,20 +110,16 @@ impl<A: Scripted> Driven for Live<A> {
 
     fn reply_text(reply: &Reply) -> Text {
         match reply {
-            Reply::Chunk(chunk) => Text::new(
-                b"chunk",
-                Numbers::Two(chunk.place(), chunk.len()),
-                b"\n",
-            ),
-            Reply::Released => Text::new(b"released", Numbers::Zero, b"\n"),
-            Reply::Passed => Text::new(b"passed", Numbers::Zero, b"\n"),
-            Reply::Refused(error) => Text::new(refusal(*error), Numbers::Zero, b"\n"),
-            Reply::GrowRefused(error) => Text::new(grow_refusal(*error), Numbers::Zero, b"\n"),
-            Reply::ShrinkRefused(error) => Text::new(shrink_refusal(*error), Numbers::Zero, b"\n"),
+            Reply::Chunk(chunk) => Text::Line(b"chunk", Numbers::Two(chunk.place(), chunk.len())),
+            Reply::Released => Text::Line(b"released", Numbers::Zero),
+            Reply::Passed => Text::Line(b"passed", Numbers::Zero),
+            Reply::Refused(error) => Text::Line(refusal(*error), Numbers::Zero),
+            Reply::GrowRefused(error) => Text::Line(grow_refusal(*error), Numbers::Zero),
+            Reply::ShrinkRefused(error) => Text::Line(shrink_refusal(*error), Numbers::Zero),
         }
     }
 
-    fn write_state(&self, line: &mut Vec<u8>) -> io::Result<()> {
+    fn write_state(&self, line: &mut Vec<u8>) -> Result<(), AllocError> {
         self.allocator.write_state(self.live.len(), line)
     }
 }

@@ -1,17 +1,16 @@
 //! A bump that a script drives.
 
 use crate::kinds::allocators::Scripted;
-use crate::words::{Bounds, Numbers, region};
+use crate::words::{Bounds, Figure, Numbers, region, write_figures};
 use bb_memory_core::allocator::{Command, Reply};
 use bb_memory_core::bump_allocator::{BumpAllocator, run_bump};
 use bb_memory_core::layout::Chunk;
 use std::alloc::{AllocError, Global};
-use std::io;
 use std::io::Write;
 
 impl Scripted for BumpAllocator {
     ghost use Rattle.bb_memory_base.specs.BumpObject.{StandsFor};
-    ghost use Rattle.script_runner.specs.kinds.Bump.{bump_rules};
+    ghost use Rattle.script_runner.specs.Allocators.{bump_rules};
 
     type Header = Bounds;
 
@@ -35,10 +34,15 @@ impl Scripted for BumpAllocator {
         run_bump(self, live, commands)
     }
 
-    fn write_state(&self, _live: usize, line: &mut Vec<u8>) -> io::Result<()> {
-        let used = self.used_space();
-        let free = self.free_space();
-        let total = self.total_space();
-        writeln!(line, "{self}\nused {used} free {free} total {total}")
+    fn write_state(&self, _live: usize, line: &mut Vec<u8>) -> Result<(), AllocError> {
+        let Ok(()) = writeln!(line, "{self}") else {
+            return Err(AllocError);
+        };
+        let figures = [
+            Figure(b"used ", self.used_space()),
+            Figure(b" free ", self.free_space()),
+            Figure(b" total ", self.total_space()),
+        ];
+        write_figures(&figures, b"\n", line)
     }
 }

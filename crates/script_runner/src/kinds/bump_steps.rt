@@ -4,12 +4,11 @@ use crate::engine::driving::Driven;
 use crate::words::{Bounds, Numbers, PARTIES, Text, is, layout, party_of, region, write_words};
 use bb_memory_core::steps::{BumpOutcome, BumpStep, BumpWorld};
 use std::alloc::{AllocError, Global};
-use std::io;
 
 impl Driven for BumpWorld {
     ghost use Rattle.std.specs.Prelude.{true};
     ghost use Rattle.std.proofs.Common.{refl};
-    ghost use Rattle.script_runner.specs.kinds.BumpSteps.{bump_step_rules};
+    ghost use Rattle.script_runner.specs.Steps.{bump_step_rules};
 
     type Header = Bounds;
 
@@ -57,30 +56,20 @@ impl Driven for BumpWorld {
 
     fn reply_text(outcome: &BumpOutcome) -> Text {
         match outcome {
-            BumpOutcome::Sees(used) => Text::new(b"sees", Numbers::One(*used), b"\n"),
-            BumpOutcome::RefusedAtRead(used) => Text::new(
-                b"sees",
-                Numbers::One(*used),
-                b" refused OutOfMemory\n",
-            ),
-            BumpOutcome::Wins(chunk) => Text::new(
-                b"wins",
-                Numbers::Two(chunk.place(), chunk.len()),
-                b"\n",
-            ),
-            BumpOutcome::Loses(used) => Text::new(b"loses", Numbers::One(*used), b"\n"),
-            BumpOutcome::RefusedAtLoss(used) => Text::new(
-                b"loses",
-                Numbers::One(*used),
-                b" refused OutOfMemory\n",
-            ),
-            BumpOutcome::Loaded(used) => Text::new(b"used", Numbers::One(*used), b"\n"),
-            BumpOutcome::Cleared => Text::new(b"cleared", Numbers::Zero, b"\n"),
-            BumpOutcome::Passed => Text::new(b"passed", Numbers::Zero, b"\n"),
+            BumpOutcome::Sees(used) => Text::Line(b"sees", Numbers::One(*used)),
+            BumpOutcome::RefusedAtRead(used) => Text::Refused(b"sees", Numbers::One(*used)),
+            BumpOutcome::Wins(chunk) => {
+                Text::Line(b"wins", Numbers::Two(chunk.place(), chunk.len()))
+            }
+            BumpOutcome::Loses(used) => Text::Line(b"loses", Numbers::One(*used)),
+            BumpOutcome::RefusedAtLoss(used) => Text::Refused(b"loses", Numbers::One(*used)),
+            BumpOutcome::Loaded(used) => Text::Line(b"used", Numbers::One(*used)),
+            BumpOutcome::Cleared => Text::Line(b"cleared", Numbers::Zero),
+            BumpOutcome::Passed => Text::Line(b"passed", Numbers::Zero),
         }
     }
 
-    fn write_state(&self, line: &mut Vec<u8>) -> io::Result<()> {
+    fn write_state(&self, line: &mut Vec<u8>) -> Result<(), AllocError> {
         write_words(b"used", Numbers::One(self.used_space()), b"\n", line)
     }
 }

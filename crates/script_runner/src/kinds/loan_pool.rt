@@ -1,6 +1,6 @@
 //! A loan book over a pool that a script drives.
 ghost use Rattle.std.specs.Prelude.{◌≡◌};
-ghost use Rattle.script_runner.specs.kinds.LoanPool.{loan_refusal_name};
+ghost use Rattle.script_runner.specs.LoanPool.{loan_refusal_name};
 
 use crate::engine::driving::Driven;
 use crate::kinds::allocators::refusal;
@@ -9,7 +9,6 @@ use crate::words::{Numbers, Text, is, small};
 use bb_memory_core::pool_allocator::PoolAllocator;
 use loan_book::{LoanBook, LoanCall, LoanError, LoanReply, run_loans};
 use std::alloc::{AllocError, Global};
-use std::io;
 
 /// A loan book over a pool.
 pub type LoanPool = LoanBook<PoolAllocator<Global>>;
@@ -17,7 +16,7 @@ pub type LoanPool = LoanBook<PoolAllocator<Global>>;
 impl Driven for LoanPool {
     ghost use Rattle.std.specs.Prelude.{false};
     ghost use Rattle.std.proofs.Common.{refl};
-    ghost use Rattle.script_runner.specs.kinds.LoanPool.{loan_pool_rules};
+    ghost use Rattle.script_runner.specs.LoanPool.{loan_pool_rules};
 
     type Header = PoolPlan;
 
@@ -78,18 +77,18 @@ impl Driven for LoanPool {
         match reply {
             LoanReply::Loaned(id, chunk) => {
                 let numbers = Numbers::Three(*id as usize, chunk.place(), chunk.len());
-                Text::new(b"loan", numbers, b"\n")
+                Text::Line(b"loan", numbers)
             }
-            LoanReply::Published => Text::new(b"published", Numbers::Zero, b"\n"),
-            LoanReply::Returned => Text::new(b"returned", Numbers::Zero, b"\n"),
-            LoanReply::Kept => Text::new(b"kept", Numbers::Zero, b"\n"),
-            LoanReply::Out(true) => Text::new(b"yes", Numbers::Zero, b"\n"),
-            LoanReply::Out(false) => Text::new(b"no", Numbers::Zero, b"\n"),
-            LoanReply::Refused(error) => Text::new(loan_refusal(*error), Numbers::Zero, b"\n"),
+            LoanReply::Published => Text::Line(b"published", Numbers::Zero),
+            LoanReply::Returned => Text::Line(b"returned", Numbers::Zero),
+            LoanReply::Kept => Text::Line(b"kept", Numbers::Zero),
+            LoanReply::Out(true) => Text::Line(b"yes", Numbers::Zero),
+            LoanReply::Out(false) => Text::Line(b"no", Numbers::Zero),
+            LoanReply::Refused(error) => Text::Line(loan_refusal(*error), Numbers::Zero),
         }
     }
 
-    fn write_state(&self, _line: &mut Vec<u8>) -> io::Result<()> {
+    fn write_state(&self, _line: &mut Vec<u8>) -> Result<(), AllocError> {
         Ok(())
     }
 }

@@ -1,17 +1,15 @@
 //! A one chunk that a script drives.
 
 use crate::kinds::allocators::Scripted;
-use crate::words::{Bounds, Numbers, region};
+use crate::words::{Bounds, Figure, Numbers, region, write_figures};
 use bb_memory_core::allocator::{Command, Reply};
 use bb_memory_core::layout::Chunk;
 use bb_memory_core::one_chunk_allocator::{OneChunkAllocator, run_one_chunk};
 use std::alloc::{AllocError, Global};
-use std::io;
-use std::io::Write;
 
 impl Scripted for OneChunkAllocator {
     ghost use Rattle.bb_memory_core.specs.OneChunk.{StandsFor};
-    ghost use Rattle.script_runner.specs.kinds.OneChunk.{one_chunk_rules};
+    ghost use Rattle.script_runner.specs.Allocators.{one_chunk_rules};
 
     type Header = Bounds;
 
@@ -35,13 +33,15 @@ impl Scripted for OneChunkAllocator {
         run_one_chunk(self, live, commands)
     }
 
-    fn write_state(&self, _live: usize, line: &mut Vec<u8>) -> io::Result<()> {
-        let start = self.start_address();
-        let size = self.size();
+    fn write_state(&self, _live: usize, line: &mut Vec<u8>) -> Result<(), AllocError> {
+        let figures = [
+            Figure(b"one start ", self.start_address()),
+            Figure(b" size ", self.size()),
+        ];
         if self.has_chunk_available() {
-            writeln!(line, "one start {start} size {size} available yes")
+            write_figures(&figures, b" available yes\n", line)
         } else {
-            writeln!(line, "one start {start} size {size} available no")
+            write_figures(&figures, b" available no\n", line)
         }
     }
 }

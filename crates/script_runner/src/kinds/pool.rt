@@ -1,18 +1,16 @@
 //! A pool that a script drives, and a fixed one.
 ghost use Rattle.std.specs.Prelude.{◌≡◌, [], IfOk, IfSome, Some};
 ghost use Rattle.bb_memory_core.specs.Pool.{StandsFor};
-ghost use Rattle.script_runner.specs.kinds.Pool.{BeginsPool, IsPoolPlan, pool_numbers};
+ghost use Rattle.script_runner.specs.Allocators.{BeginsPool, IsPoolPlan, pool_numbers};
 
 use crate::kinds::allocators::Scripted;
-use crate::words::{Numbers, is, layout};
+use crate::words::{Figure, Numbers, is, layout, write_figures};
 use bb_memory_core::allocator::{Command, Reply};
 use bb_memory_core::layout::{Chunk, Layout};
 use bb_memory_core::pool_allocator::{
     FixedSizePoolAllocator, PoolAllocator, run_fixed_pool, run_pool,
 };
 use std::alloc::{AllocError, Global};
-use std::io;
-use std::io::Write;
 
 /// The region that a pool cuts, and the layout of each of its buckets.
 #[derive(Clone, Copy)]
@@ -48,7 +46,7 @@ pub fn pool_plan(kind: &[u8], name: &[u8], numbers: Numbers) -> Option<PoolPlan>
 
 impl Scripted for PoolAllocator<Global> {
     ghost use Rattle.bb_memory_core.specs.Pool.{StandsFor};
-    ghost use Rattle.script_runner.specs.kinds.Pool.{pool_rules};
+    ghost use Rattle.script_runner.specs.Allocators.{pool_rules};
 
     type Header = PoolPlan;
 
@@ -72,17 +70,17 @@ impl Scripted for PoolAllocator<Global> {
         run_pool(self, live, commands)
     }
 
-    fn write_state(&self, live: usize, line: &mut Vec<u8>) -> io::Result<()> {
-        let start = self.start_address();
-        let size = self.size();
-        let bucket = self.bucket_size();
-        let align = self.max_alignment();
-        let buckets = self.number_of_buckets();
-        let reads = self.last_reads();
-        writeln!(
-            line,
-            "pool start {start} size {size} bucket {bucket} align {align} buckets {buckets} live {live} reads {reads}"
-        )
+    fn write_state(&self, live: usize, line: &mut Vec<u8>) -> Result<(), AllocError> {
+        let figures = [
+            Figure(b"pool start ", self.start_address()),
+            Figure(b" size ", self.size()),
+            Figure(b" bucket ", self.bucket_size()),
+            Figure(b" align ", self.max_alignment()),
+            Figure(b" buckets ", self.number_of_buckets() as usize),
+            Figure(b" live ", live),
+            Figure(b" reads ", self.last_reads() as usize),
+        ];
+        write_figures(&figures, b"\n", line)
     }
 }
 
@@ -104,7 +102,7 @@ pub type Fixed = FixedSizePoolAllocator<512>;
 
 impl Scripted for Fixed {
     ghost use Rattle.bb_memory_core.specs.Pool.{StandsFor};
-    ghost use Rattle.script_runner.specs.kinds.Pool.{fixed_rules};
+    ghost use Rattle.script_runner.specs.Allocators.{fixed_rules};
 
     type Header = PoolPlan;
 
@@ -128,14 +126,14 @@ impl Scripted for Fixed {
         run_fixed_pool(self, live, commands)
     }
 
-    fn write_state(&self, live: usize, line: &mut Vec<u8>) -> io::Result<()> {
-        let size = self.size();
-        let bucket = self.bucket_size();
-        let align = self.max_alignment();
-        let buckets = self.number_of_buckets();
-        writeln!(
-            line,
-            "fixed size {size} bucket {bucket} align {align} buckets {buckets} live {live}"
-        )
+    fn write_state(&self, live: usize, line: &mut Vec<u8>) -> Result<(), AllocError> {
+        let figures = [
+            Figure(b"fixed size ", self.size()),
+            Figure(b" bucket ", self.bucket_size()),
+            Figure(b" align ", self.max_alignment()),
+            Figure(b" buckets ", self.number_of_buckets() as usize),
+            Figure(b" live ", live),
+        ];
+        write_figures(&figures, b"\n", line)
     }
 }

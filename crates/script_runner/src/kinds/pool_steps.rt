@@ -1,14 +1,12 @@
 //! A pool world that a script drives by its steps.
 ghost use Rattle.std.specs.Prelude.{◌≡◌, ◌++◌, OnOk};
 ghost use Rattle.std.specs.List.{flat_map};
-ghost use Rattle.script_runner.specs.kinds.PoolSteps.{flag_text};
+ghost use Rattle.script_runner.specs.Steps.{flag_text};
 
 use crate::engine::driving::Driven;
 use crate::words::{Numbers, PARTIES, Text, is, party_of, small, write_words};
 use bb_memory_core::steps::{PoolOutcome, PoolStep, PoolWorld};
 use std::alloc::{AllocError, Global};
-use std::io;
-use std::io::Write;
 
 /// The most buckets that a script may ask for.
 const MOST_BUCKETS: usize = 4096;
@@ -16,7 +14,7 @@ const MOST_BUCKETS: usize = 4096;
 impl Driven for PoolWorld {
     ghost use Rattle.std.specs.Prelude.{true};
     ghost use Rattle.std.proofs.Common.{refl};
-    ghost use Rattle.script_runner.specs.kinds.PoolSteps.{pool_step_rules};
+    ghost use Rattle.script_runner.specs.Steps.{pool_step_rules};
 
     type Header = u32;
 
@@ -68,62 +66,40 @@ impl Driven for PoolWorld {
 
     fn reply_text(outcome: &PoolOutcome) -> Text {
         match outcome {
-            PoolOutcome::Takes(bucket) => Text::new(
-                b"takes",
-                Numbers::One(*bucket as usize),
-                b"\n",
-            ),
-            PoolOutcome::Loses(bucket) => Text::new(
-                b"loses",
-                Numbers::One(*bucket as usize),
-                b"\n",
-            ),
+            PoolOutcome::Takes(bucket) => Text::Line(b"takes", Numbers::One(*bucket as usize)),
+            PoolOutcome::Loses(bucket) => Text::Line(b"loses", Numbers::One(*bucket as usize)),
             PoolOutcome::RefusedAtLoss(bucket) => {
-                Text::new(
-                    b"loses",
-                    Numbers::One(*bucket as usize),
-                    b" refused OutOfMemory\n",
-                )
+                Text::Refused(b"loses", Numbers::One(*bucket as usize))
             }
-            PoolOutcome::Gives(bucket) => Text::new(
-                b"gives",
-                Numbers::One(*bucket as usize),
-                b"\n",
-            ),
-            PoolOutcome::Passed => Text::new(b"passed", Numbers::Zero, b"\n"),
-            PoolOutcome::Misses(bucket) => Text::new(
-                b"misses",
-                Numbers::One(*bucket as usize),
-                b"\n",
-            ),
-            PoolOutcome::Detaches(bucket) => Text::new(
+            PoolOutcome::Gives(bucket) => Text::Line(b"gives", Numbers::One(*bucket as usize)),
+            PoolOutcome::Passed => Text::Line(b"passed", Numbers::Zero),
+            PoolOutcome::Misses(bucket) => Text::Line(b"misses", Numbers::One(*bucket as usize)),
+            PoolOutcome::Detaches(bucket) => Text::Line(
                 b"detaches",
                 Numbers::One(*bucket as usize),
-                b"\n",
             ),
-            PoolOutcome::Attaches(bucket) => Text::new(
+            PoolOutcome::Attaches(bucket) => Text::Line(
                 b"attaches",
                 Numbers::One(*bucket as usize),
-                b"\n",
             ),
         }
     }
 
-    fn write_state(&self, line: &mut Vec<u8>) -> io::Result<()> {
-        line.write_all(b"held")?;
+    fn write_state(&self, line: &mut Vec<u8>) -> Result<(), AllocError> {
+        line.extend_from_slice(b"held")?;
         write_holders(self, line)?;
-        line.write_all(b"\n")
+        line.extend_from_slice(b"\n")
     }
 }
 
 /// Writes the holder of each bucket.
-fn write_holders(world: &PoolWorld, line: &mut Vec<u8>) -> io::Result<()>
+fn write_holders(world: &PoolWorld, line: &mut Vec<u8>) -> Result<(), AllocError>
     ensures { OnOk result (line.new.items ≡ line.old.items ++ flat_map flag_text world.now.flags) }
 {
     for bucket in 0..world.number_of_buckets() {
         match world.holder(bucket) {
             Some(party) => write_words(b"", Numbers::One(party as usize), b"", line)?,
-            None => line.write_all(b" -")?,
+            None => line.extend_from_slice(b" -")?,
         }
     }
     Ok(())

@@ -4,7 +4,8 @@ ghost use Rattle.bb_memory_base.specs.Chunk.{region_at};
 ghost use Rattle.bb_memory.specs.Pool.{StandsFor};
 
 use super::{Owner, keeps};
-use crate::rows::{Words, field_and_rest, layout_of, words};
+use crate::tests::checks::fail;
+use crate::tests::rows::{Words, field_and_rest, layout_of, words};
 use bb_memory::allocator::{BaseAllocator, Command, Reply};
 use bb_memory::bump_allocator::{BumpAllocator, run_bump};
 use bb_memory::layout::Layout;
@@ -15,6 +16,7 @@ use bb_memory::pool_allocator::{
 };
 use std::alloc::{AllocError, Global};
 use std::process::Abort;
+use uses::chunk_budget::ChunkBudget;
 
 /// The getters' answers, in the order of the declarations, then zeros.
 pub(crate) type Figures = [usize; 6];
@@ -29,8 +31,19 @@ pub(crate) struct Run {
     pub(crate) by_name: bool,
 }
 
+/// A row: its name, the region's start and size with the layout of a pool's bucket and a budget's chunks, and its calls.
+#[derive(Clone, Copy)]
+pub(crate) struct Row<'a> {
+    pub(crate) name: &'a str,
+    pub(crate) of: [usize; 6],
+    pub(crate) calls: &'a str,
+}
+
 /// An allocator that rows can name.
 pub(crate) trait Kind: BaseAllocator + Drop {
+    /// Makes a fresh allocator with its region.
+    fn owner(alloc: Global, of: [usize; 6]) -> Option<Owner<Self>>;
+
     fn figures(&self) -> Figures;
 
     /// Makes a call. Answers `passed` where the allocator has no such call.
@@ -41,6 +54,14 @@ pub(crate) trait Kind: BaseAllocator + Drop {
 }
 
 impl Kind for BumpAllocator {
+    fn owner(alloc: Global, of: [usize; 6]) -> Option<Owner<Self>> {
+        let [start, size, ..] = of;
+        if !BumpAllocator::can_make(start, size) {
+            return None;
+        }
+        Owner::new(alloc, BumpAllocator::new(start, size), start, size)
+    }
+
     fn figures(&self) -> Figures {
         let (start, total) = (self.start_address(), self.total_space());
         [start, self.used_space(), self.free_space(), total, 0, 0]
@@ -60,6 +81,14 @@ impl Kind for BumpAllocator {
 }
 
 impl Kind for OneChunkAllocator {
+    fn owner(alloc: Global, of: [usize; 6]) -> Option<Owner<Self>> {
+        let [start, size, ..] = of;
+        if !OneChunkAllocator::can_make(start, size) {
+            return None;
+        }
+        Owner::new(alloc, OneChunkAllocator::new(start, size), start, size)
+    }
+
     /// The third figure is 1 where a chunk is available, the fourth where one is held at 4100.
     fn figures(&self) -> Figures {
         let available = usize::from(self.has_chunk_available());
@@ -81,6 +110,12 @@ impl Kind for OneChunkAllocator {
 }
 
 impl Kind for PoolAllocator<Global> {
+    fn owner(alloc: Global, of: [usize; 6]) -> Option<Owner<Self>> {
+        let [start, size, ..] = of;
+        let pool = pool_over(alloc, bucket_of(of)?, start, size)?;
+        Owner::new(alloc, pool, start, size)
+    }
+
     /// The last figure is `last_reads`.
     fn figures(&self) -> Figures {
         let (buckets, reads) = (
@@ -105,6 +140,12 @@ impl Kind for PoolAllocator<Global> {
 }
 
 impl<const N: usize> Kind for FixedSizePoolAllocator<N> {
+    fn owner(alloc: Global, of: [usize; 6]) -> Option<Owner<Self>> {
+        let [start, size, ..] = of;
+        let pool = fixed_over::<N>(bucket_of(of)?, start, size)?;
+        Owner::new(alloc, pool, start, size)
+    }
+
     fn figures(&self) -> Figures {
         let (buckets, size) = (self.number_of_buckets() as usize, self.size());
         [
@@ -163,52 +204,47 @@ pub(crate) fn fixed_over<const N: usize>(
     Some(FixedSizePoolAllocator::new(bucket, start, size))
 }
 
-/// A row's second field: the allocator's name with the region's start and size, and the layout of a pool's bucket.
-type Made<'a> = (Words<'a>, Option<Layout>);
+/// Returns the layout of a pool's bucket.
+fn bucket_of(of: [usize; 6]) -> Option<Layout> {
+    layout_of(of[2], of[3])
+}
 
-fn bump((made, _): Made<'_>, alloc: Global) -> Option<Owner<BumpAllocator>> {
-    let [start, size, ..] = made.1;
-    if !BumpAllocator::can_make(start, size) {
-        return None;
+/// A budget of chunks over a pool of at most 16 buckets.
+impl Kind for ChunkBudget<FixedSizePoolAllocator<16>> {
+    fn owner(alloc: Global, of: [usize; 6]) -> Option<Owner<Self>> {
+        let [start, size, _, _, most, _] = of;
+        let pool = fixed_over::<16>(bucket_of(of)?, start, size)?;
+        Owner::new(alloc, ChunkBudget::new(pool, most), start, size)
     }
-    Owner::new(alloc, BumpAllocator::new(start, size), start, size)
-}
 
-fn one((made, _): Made<'_>, alloc: Global) -> Option<Owner<OneChunkAllocator>> {
-    let [start, size, ..] = made.1;
-    if !OneChunkAllocator::can_make(start, size) {
-        return None;
+    /// The first figure is the number of chunks that are out.
+    fn figures(&self) -> Figures {
+        [self.out(), 0, 0, 0, 0, 0]
     }
-    Owner::new(alloc, OneChunkAllocator::new(start, size), start, size)
+
+    fn answer(owner: &mut Owner<Self>, call: Words<'_>) -> Words<'static> {
+        owner.answer_full(call)
+    }
+
+    fn run(owner: &mut Owner<Self>, run: Run, commands: &[Command]) -> Replies {
+        owner.run_any(run, commands)
+    }
 }
 
-fn pool((made, bucket): Made<'_>, alloc: Global) -> Option<Owner<PoolAllocator<Global>>> {
-    let [start, size, ..] = made.1;
-    Owner::new(alloc, pool_over(alloc, bucket?, start, size)?, start, size)
-}
-
-fn fixed<const N: usize>(
-    (made, bucket): Made<'_>,
-    alloc: Global,
-) -> Option<Owner<FixedSizePoolAllocator<N>>> {
-    let [start, size, ..] = made.1;
-    Owner::new(alloc, fixed_over::<N>(bucket?, start, size)?, start, size)
-}
-
-/// Makes the allocator that a row names, and the row's calls by a run or one by one. A `fixed` pool has at most 512 buckets, a
-/// `four` at most four.
+/// Makes the allocator that a row's second field names, and the row's calls by a run or one by one. A `fixed` pool has at most
+/// 512 buckets, a `four` at most four. The last number of a `budget` is its most chunks.
 pub(crate) fn keeps_row(rt: &impl Abort, alloc: Global, run: Option<Run>, row: &str) {
     let (name, row) = field_and_rest(row);
     let (made, calls) = field_and_rest(row);
-    let made = words(made);
-    let row = (name, calls);
-    let of = (made, layout_of(made.1[2], made.1[3]));
-    match made.0 {
-        "bump" => keeps(rt, alloc, bump(of, alloc), run, row),
-        "one" => keeps(rt, alloc, one(of, alloc), run, row),
-        "pool" => keeps(rt, alloc, pool(of, alloc), run, row),
-        "fixed" => keeps(rt, alloc, fixed::<512>(of, alloc), run, row),
-        "four" => keeps(rt, alloc, fixed::<4>(of, alloc), run, row),
-        _ => panic!(rt; "{name}: an unknown kind"),
+    let (kind, of) = words(made);
+    let row = Row { name, of, calls };
+    match kind {
+        "bump" => keeps::<BumpAllocator>(rt, alloc, run, row),
+        "one" => keeps::<OneChunkAllocator>(rt, alloc, run, row),
+        "pool" => keeps::<PoolAllocator<Global>>(rt, alloc, run, row),
+        "fixed" => keeps::<FixedSizePoolAllocator<512>>(rt, alloc, run, row),
+        "four" => keeps::<FixedSizePoolAllocator<4>>(rt, alloc, run, row),
+        "budget" => keeps::<ChunkBudget<FixedSizePoolAllocator<16>>>(rt, alloc, run, row),
+        _ => fail(rt, name),
     }
 }

@@ -1,6 +1,6 @@
-use Rattle.std.proofs.Common.{inl, inr, refl, ◌∙◌}
+use Rattle.std.proofs.Common.{inl, inr, refl}
 use Rattle.std.specs.List.{flat_map}
-use Rattle.script_runner.specs.engine.Transcript.{unreadable_text}
+use Rattle.script_runner.specs.Words.{unreadable_text}
 use Rattle.script_runner.specs.declared.status.Status.TheVariants.{Done, Unreadable}
 use Rattle.script_runner.proofs.Sending.{ends_sent, ends_done, ends_unreadable, ends_refused}
 use Rattle.script_runner.proofs.running.answer.Goals as goal
@@ -18,11 +18,11 @@ pub returns-in-Ok : goal.returns-in-Ok
 returns-in-Ok g c =
     let number = c.in-Unreadable.number in
     let text = unreadable_text number in
-    let is = c.in-Ok.ensures ∙ c.new.ensures in
     let unread = c.in-Unreadable.ensures in
+    let sends = rw (c.deref-in-Ok.ensures.value, c.in-Ok.ensures) at c.send-sent.ensures in
     ends_sent c.args.input.now (g.W.Write.contents c.args.writer.now) (g.W.Write.contents c.send-sent.new.writer)
     (g.W.Write.contents c.finish-in-Ok.new.writer) text c.send-sent.result c.finish-in-Ok.result Unreadable
-    (rw (c.deref-in-Ok.ensures.value, is) at c.send-sent.ensures) c.finish-in-Ok.ensures.kept c.finish-in-Ok.ensures.status
+    sends c.finish-in-Ok.ensures.kept c.finish-in-Ok.ensures.status
     (inr (number, unread, refl)) (λ wrote. ends_unreadable _ _ _ number unread wrote)
 
 pub returns-in-Err : goal.returns-in-Err

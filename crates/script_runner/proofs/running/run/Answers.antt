@@ -1,6 +1,6 @@
-use Rattle.std.proofs.Common.{inl, inr, refl}
+use Rattle.std.proofs.Common.{inl, inr}
 use Rattle.script_runner.specs.Inputs.{IsLeft}
-use Rattle.script_runner.proofs.Sending.{failed_apart, keeps_same, refused_apart}
+use Rattle.script_runner.proofs.Sending.{keeps_same}
 use Rattle.script_runner.proofs.running.run.Goals as goal
 
 pub returns-in-Ok-clause-done : goal.returns-in-Ok-clause-done
@@ -30,10 +30,10 @@ pub returns-in-Ok-clause-input_failed : goal.returns-in-Ok-clause-input_failed
 returns-in-Ok-clause-input_failed g c e = absurd (c.answer.ensures.input_read e)
 
 pub returns-in-Err-clause-done : goal.returns-in-Err-clause-done
-returns-in-Err-clause-done g c e = refused_apart _ (inl e) refl
+returns-in-Err-clause-done g c e = absurd (cc)
 
 pub returns-in-Err-clause-unreadable : goal.returns-in-Err-clause-unreadable
-returns-in-Err-clause-unreadable g c e = refused_apart _ (inr (inl e)) refl
+returns-in-Err-clause-unreadable g c e = absurd (cc)
 
 pub returns-in-Err-clause-input_failed : goal.returns-in-Err-clause-input_failed
 returns-in-Err-clause-input_failed g c e = keeps_same _
@@ -42,10 +42,10 @@ pub returns-in-Err-clause-cut_short : goal.returns-in-Err-clause-cut_short
 returns-in-Err-clause-cut_short g c short = inl (keeps_same _)
 
 pub returns-clause-done : goal.returns-clause-done
-returns-clause-done g c e = failed_apart _ (inl e) refl
+returns-clause-done g c e = absurd (cc)
 
 pub returns-clause-unreadable : goal.returns-clause-unreadable
-returns-clause-unreadable g c e = failed_apart _ (inr (inl e)) refl
+returns-clause-unreadable g c e = absurd (cc)
 
 pub returns-clause-input_failed : goal.returns-clause-input_failed
 returns-clause-input_failed g c e = keeps_same _

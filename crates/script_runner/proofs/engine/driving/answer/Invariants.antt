@@ -1,6 +1,6 @@
 use Rattle.std.proofs.Common.{[], take}
 use Rattle.std.specs.List.{flat_map}
-use Rattle.script_runner.specs.engine.Transcript.{IsTold}
+use Rattle.script_runner.specs.Scripts.{IsTold}
 use Rattle.script_runner.proofs.engine.driving.answer.Given as goal
 
 -- the lines so far are told

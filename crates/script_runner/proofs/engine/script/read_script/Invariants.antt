@@ -1,6 +1,6 @@
 use Rattle.std.proofs.Common.{◌≡◌, ◌+◌, ◌≤◌, ◌++◌, length, map, All}
-use Rattle.script_runner.specs.engine.Lines.{lines_of}
-use Rattle.script_runner.specs.engine.Rules.{IsLine, line_text}
+use Rattle.script_runner.specs.Words.{lines_of}
+use Rattle.script_runner.specs.Scripts.{IsLine, line_text}
 use Rattle.script_runner.proofs.engine.script.read_script.Given as goal
 
 -- the lines so far are the script's

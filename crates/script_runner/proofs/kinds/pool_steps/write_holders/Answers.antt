@@ -2,11 +2,11 @@ use Rattle.std.proofs.Common.{arith, ◌≡◌, ◌<◌, ◌++◌, ◌∙◌, ap
 use Rattle.std.proofs.lemmas.List.{append-nil}
 use Rattle.script_runner.specs.Words.{words, words_text}
 use Rattle.script_runner.specs.declared.words.Numbers.TheVariants.{One}
-use Rattle.script_runner.specs.kinds.PoolSteps.{holder_text}
-use Rattle.script_runner.proofs.PoolShows.{holders_more}
+use Rattle.script_runner.specs.Steps.{holder_text}
+use Rattle.script_runner.proofs.Telling.{holders_more}
 use Rattle.script_runner.proofs.kinds.pool_steps.write_holders.Goals as goal
 use Rattle.script_runner.proofs.kinds.pool_steps.write_holders.Goals.{in-Some+in_ok-write_words-in-Some}
-use Rattle.script_runner.proofs.kinds.pool_steps.write_holders.Goals.{in-None+in_ok-write_all-in-None}
+use Rattle.script_runner.proofs.kinds.pool_steps.write_holders.Goals.{in-None+in_ok-extend_from_slice-in-None}
 
 pub loop-bucket-preserved : goal.loop-bucket-preserved
 loop-bucket-preserved c =
@@ -19,8 +19,8 @@ loop-bucket-preserved c =
       | in-Some+in_ok-write_words-in-Some w ↦
           rw w.in-Some.is (ap (λ l. l.items) w.line-is ∙ (w.in_ok-write_words-in-Some.ensures
           ∙ ap (λ l. before ++ l) (append-nil (words_text (words [] (One w.in-Some.party))))))
-      | in-None+in_ok-write_all-in-None w ↦
-          rw w.in-None.is (ap (λ l. l.items) w.line-is ∙ w.in_ok-write_all-in-None.ensures.bytes)
+      | in-None+in_ok-extend_from_slice-in-None w ↦
+          rw w.in-None.is (ap (λ l. l.items) w.line-is ∙ w.in_ok-extend_from_slice-in-None.ensures.items)
     ] in
     holders_more c.args.line.now.items before c.match-holder.line.items flags bucket below c.loop-bucket.invariant
     (rw c.holder.ensures at more)

@@ -1,6 +1,6 @@
 use Rattle.std.proofs.Common.{◌≡◌, ◌++◌, take}
 use Rattle.std.specs.List.{flat_map}
-use Rattle.script_runner.specs.kinds.PoolSteps.{flag_text}
+use Rattle.script_runner.specs.Steps.{flag_text}
 use Rattle.script_runner.proofs.kinds.pool_steps.write_holders.Given as goal
 
 -- the holders of the buckets so far are written

@@ -1,5 +1,5 @@
 use Rattle.std.proofs.Common.{subst, sym}
-use Rattle.script_runner.specs.kinds.Pool.{BeginsPool}
+use Rattle.script_runner.specs.Allocators.{BeginsPool}
 use Rattle.script_runner.proofs.kinds.loan_pool.LoanPoolDriven.make.Goals as goal
 
 pub returns : goal.returns

@@ -1,0 +1,212 @@
+-- Scripts that drive an allocator: what all of them share, and the rules of each.
+use Rattle.std.specs.Fmt.{decimal}
+use Rattle.std.specs.Prelude.{ℕ, ◌≡◌, List, [], codes, length, true, ◌-◌, ◌++◌, Option, Some, None}
+use Rattle.bb_memory_base.specs.BumpObject.{bump_object, StandsFor as BumpStandsFor}
+use Rattle.bb_memory_base.specs.Chunk.{Chunk, IsRegion, Region, region_at, first_place}
+use Rattle.bb_memory_base.specs.OneChunkObject.{one_chunk_object}
+use Rattle.bb_memory_base.specs.PoolObject.{PoolGeometry, IsCut, at_most, pool_object}
+use Rattle.bb_memory_base.specs.Object.{ResizableStep, Step, IsRun}
+use Rattle.bb_memory_base.specs.declared.allocator.AllocationError.{AllocationError}
+use Rattle.bb_memory_base.specs.declared.allocator.AllocationError.TheVariants as refused
+use Rattle.bb_memory_base.specs.declared.allocator.AllocationGrowError.{AllocationGrowError}
+use Rattle.bb_memory_base.specs.declared.allocator.AllocationGrowError.TheVariants as grow
+use Rattle.bb_memory_base.specs.declared.allocator.AllocationShrinkError.{AllocationShrinkError}
+use Rattle.bb_memory_base.specs.declared.allocator.AllocationShrinkError.TheVariants as shrink
+use Rattle.bb_memory_base.specs.declared.allocator.Command.{Command}
+use Rattle.bb_memory_base.specs.declared.allocator.Command.TheVariants.{Allocate, Release, Grow, Shrink}
+use Rattle.bb_memory_base.specs.declared.allocator.Reply.{Reply}
+use Rattle.bb_memory_base.specs.declared.allocator.Reply.TheVariants as reply
+use Rattle.bb_memory_core.specs.Bump.{Bump, bump_text}
+use Rattle.bb_memory_core.specs.IndexSets.{index_words}
+use Rattle.bb_memory_core.specs.OneChunk.{OneChunk, StandsFor as OneChunkStandsFor}
+use Rattle.bb_memory_core.specs.Pool.{Pool, StandsFor as PoolStandsFor, fresh_pool, CountedPool, counted, reads_after, MayBeCut}
+use Rattle.script_runner.specs.Words.{Words, words, words_then, region_of, bounds_numbers, name_line}
+use Rattle.script_runner.specs.Scripts.{Rules}
+use Rattle.script_runner.specs.declared.kinds.pool.PoolPlan.{PoolPlan}
+use Rattle.script_runner.specs.declared.words.Bounds.{Bounds}
+use Rattle.script_runner.specs.declared.words.Numbers.{Numbers}
+use Rattle.script_runner.specs.declared.words.Numbers.TheVariants.{One, Two, Five, Four}
+
+-- the words that write a command
+abbrev pub command_words : Command → Words
+command_words (Allocate layout) = words (codes "alloc") (Two layout.size layout.align)
+command_words (Release position) = words (codes "free") (One position)
+command_words (Grow position old new) = words (codes "grow") (Five position old.size old.align new.size new.align)
+command_words (Shrink position old new) = words (codes "shrink") (Five position old.size old.align new.size new.align)
+
+-- a refusal is written by its name
+abbrev pub refusal_name : AllocationError → List ℕ
+refusal_name refused.SizeIsZero = codes "SizeIsZero"
+refusal_name refused.SizeTooLarge = codes "SizeTooLarge"
+refusal_name refused.AlignmentFailure = codes "AlignmentFailure"
+refusal_name refused.OutOfMemory = codes "OutOfMemory"
+
+abbrev pub grow_refusal_name : AllocationGrowError → List ℕ
+grow_refusal_name grow.GrowWouldShrink = codes "GrowWouldShrink"
+grow_refusal_name grow.AlignmentFailure = codes "AlignmentFailure"
+grow_refusal_name grow.OutOfMemory = codes "OutOfMemory"
+
+abbrev pub shrink_refusal_name : AllocationShrinkError → List ℕ
+shrink_refusal_name shrink.ShrinkWouldGrow = codes "ShrinkWouldGrow"
+shrink_refusal_name shrink.AlignmentFailure = codes "AlignmentFailure"
+shrink_refusal_name shrink.SizeIsZero = codes "SizeIsZero"
+
+-- the line of a reply
+abbrev pub reply_line : Reply → List ℕ
+reply_line (reply.Chunk chunk) = words_then (codes "chunk") (Two chunk.place chunk.len) (codes "\n")
+reply_line reply.Released = name_line (codes "released")
+reply_line reply.Passed = name_line (codes "passed")
+reply_line (reply.Refused error) = name_line (refusal_name error)
+reply_line (reply.GrowRefused error) = name_line (grow_refusal_name error)
+reply_line (reply.ShrinkRefused error) = name_line (shrink_refusal_name error)
+
+-- an allocator that a script drives, and the chunks that it has out
+pub record LiveState (A : Type 0) : Type 0 where
+  pub allocator : A
+  pub live : List Chunk
+
+-- what is said of an allocator A that is made of an header O
+pub record AllocatorRules (A O : Type 0) : Type 1 where
+  pub name : List ℕ
+  pub is_header : O → Type 0
+  pub header_numbers : O → Numbers
+  pub starts : O → A → Type 0
+  pub runs : A → List Chunk → List Command → List Reply → A → List Chunk → Type 0
+  pub state_text : A → ℕ → List ℕ
+
+-- the scripts that drive it: it begins with nothing live
+abbrev pub live_rules : {A O : Type 0} → AllocatorRules A O → Rules (LiveState A) O Command Reply
+live_rules rules = record {
+  name = rules.name;
+  is_header = rules.is_header;
+  header_numbers = rules.header_numbers;
+  is_command = λ _. Unit {0};
+  command_words = command_words;
+  can_show = true;
+  starts = λ header state. rules.starts header state.allocator × (state.live ≡ []);
+  runs = λ old commands replies new.
+      rules.runs old.allocator old.live commands replies new.allocator new.live;
+  reply_text = reply_line;
+  state_text = λ state. rules.state_text state.allocator (length state.live);
+}
+
+-- the replies are a run of the bump object over the bump's region, and the bump stands for the list that the run leaves
+pub record BumpRuns (old : Bump) (live : List Chunk) (commands : List Command)
+    (replies : List Reply) (new : Bump) (left : List Chunk) : Type 0 where
+  pub run : IsRun (Step (bump_object old.region)) live commands replies left
+  pub region : new.region ≡ old.region
+  pub stands : BumpStandsFor new.region new.used left
+
+-- how much is used, free and there
+abbrev pub figures_line : ℕ → ℕ → ℕ → List ℕ
+figures_line used free total =
+    codes "used " ++ (decimal used ++ (codes " free " ++ (decimal free
+    ++ (codes " total " ++ (decimal total ++ codes "\n")))))
+
+-- a bump that a script drives: it begins with nothing used
+abbrev pub bump_rules : AllocatorRules Bump Bounds
+bump_rules = record {
+  name = codes "bump";
+  is_header = λ bounds. IsRegion (region_of bounds);
+  header_numbers = bounds_numbers;
+  starts = λ bounds bump. bump ≡ record { region = region_of bounds; used = 0 };
+  runs = BumpRuns;
+  state_text = λ bump _.
+      (bump_text bump ++ codes "\n") ++ figures_line bump.used (bump.region.size - bump.used) bump.region.size;
+}
+
+-- the replies are a run of the one-chunk object over its region, and it stands for the list that the run leaves
+pub record OneChunkRuns (old : OneChunk) (live : List Chunk) (commands : List Command)
+    (replies : List Reply) (new : OneChunk) (left : List Chunk) : Type 0 where
+  pub run : IsRun (ResizableStep (one_chunk_object old.region)) live commands replies left
+  pub region : new.region ≡ old.region
+  pub stands : OneChunkStandsFor new left
+
+-- whether no place is kept
+abbrev pub available_text : Option ℕ → List ℕ
+available_text None = codes " available yes\n"
+available_text (Some place) = codes " available no\n"
+
+-- a one chunk that a script drives: it begins with nothing kept
+abbrev pub one_chunk_rules : AllocatorRules OneChunk Bounds
+one_chunk_rules = record {
+  name = codes "one";
+  is_header = λ bounds. IsRegion (region_of bounds);
+  header_numbers = bounds_numbers;
+  starts = λ bounds one. one ≡ record { region = region_of bounds; kept = None };
+  runs = OneChunkRuns;
+  state_text = λ one _.
+      codes "one start " ++ (decimal one.region.start
+      ++ (codes " size " ++ (decimal one.region.size ++ available_text one.kept)));
+}
+
+-- the region that is to be cut
+abbrev pub plan_region : PoolPlan → Region
+plan_region plan = region_at plan.start plan.size
+
+-- a pool may be made by the plan
+abbrev pub IsPoolPlan : PoolPlan → Type 0
+IsPoolPlan plan = MayBeCut (plan_region plan) plan.bucket
+
+abbrev pub pool_numbers : PoolPlan → Numbers
+pool_numbers plan = Four plan.start plan.size plan.bucket.size plan.bucket.align
+
+-- the pool's region is cut into all the buckets that it has room for; none is held, and no index word was read
+abbrev pub BeginsPool : PoolPlan → CountedPool → Type 0
+BeginsPool plan pool =
+    (geometry : PoolGeometry) × IsCut (plan_region plan) plan.bucket geometry
+    × (pool ≡ counted (fresh_pool geometry) 0)
+
+-- the replies are a run of the pool object over the pool's geometry, and the pool stands for the list that the run leaves
+pub record PoolRuns (old : Pool) (live : List Chunk) (commands : List Command)
+    (replies : List Reply) (new : Pool) (left : List Chunk) : Type 0 where
+  pub run : IsRun (ResizableStep (pool_object old.geometry)) live commands replies left
+  pub geometry : new.geometry ≡ old.geometry
+  pub stands : PoolStandsFor new left
+
+-- the replies are such a run, and what was read is what the last request among the commands reads, or what it was before where
+-- they have none
+pub record CountedPoolRuns (old : CountedPool) (live : List Chunk) (commands : List Command)
+    (replies : List Reply) (new : CountedPool) (left : List Chunk) : Type 0 where
+  pub runs : PoolRuns old.pool live commands replies new.pool left
+  pub reads : new.reads
+      ≡ reads_after old.pool.geometry.bucket (index_words old.pool.geometry.buckets) old.reads commands
+
+-- the figures that `show` writes of either pool with so many chunks live, and then the rest of the line
+abbrev pub pool_figures : PoolGeometry → ℕ → List ℕ → List ℕ
+pool_figures geometry live rest =
+    codes " size " ++ (decimal geometry.region.size
+    ++ (codes " bucket " ++ (decimal geometry.bucket.size
+    ++ (codes " align " ++ (decimal geometry.bucket.align
+    ++ (codes " buckets " ++ (decimal geometry.buckets
+    ++ (codes " live " ++ (decimal live ++ rest)))))))))
+
+-- a pool that a script drives: it begins with no bucket held
+abbrev pub pool_rules : AllocatorRules CountedPool PoolPlan
+pool_rules = record {
+  name = codes "pool";
+  is_header = IsPoolPlan;
+  header_numbers = pool_numbers;
+  starts = BeginsPool;
+  runs = CountedPoolRuns;
+  state_text = λ pool live.
+      codes "pool start " ++ (decimal (first_place pool.pool.geometry.region pool.pool.geometry.bucket)
+      ++ pool_figures pool.pool.geometry live (codes " reads " ++ (decimal pool.reads ++ codes "\n")));
+}
+
+-- the pool's region is cut into the buckets that it has room for, but into at most 512; none is held
+abbrev pub BeginsFixed : PoolPlan → CountedPool → Type 0
+BeginsFixed plan pool =
+    (whole : PoolGeometry) × IsCut (plan_region plan) plan.bucket whole
+    × (pool ≡ counted (fresh_pool (at_most 512 whole)) 0)
+
+-- a fixed pool that a script drives: it begins with no bucket held
+abbrev pub fixed_rules : AllocatorRules CountedPool PoolPlan
+fixed_rules = record {
+  name = codes "fixed";
+  is_header = IsPoolPlan;
+  header_numbers = pool_numbers;
+  starts = BeginsFixed;
+  runs = λ old live commands replies new left. PoolRuns old.pool live commands replies new.pool left;
+  state_text = λ pool live. codes "fixed" ++ pool_figures pool.pool.geometry live (codes "\n");
+}

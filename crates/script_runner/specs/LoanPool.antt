@@ -1,0 +1,81 @@
+-- Scripts that loan samples from a pool.
+use Rattle.std.specs.Prelude.{ℕ, ◌≡◌, ◌^◌, ◌<◌, List, [], codes, true, false, Contains}
+use Rattle.bb_memory_base.specs.PoolObject.{MayAllocate}
+use Rattle.bb_memory_base.specs.Object.{IsRun}
+use Rattle.bb_memory_core.specs.Pool.{CountedPool, StandsFor}
+use Rattle.loan_book.specs.Book.{chunks_out}
+use Rattle.loan_book.specs.LoanBook.{LoanBook}
+use Rattle.loan_book.specs.Runs.{BookStep}
+use Rattle.loan_book.specs.declared.error.LoanError.{LoanError}
+use Rattle.loan_book.specs.declared.error.LoanError.TheVariants as refused
+use Rattle.loan_book.specs.declared.run.LoanCall.{LoanCall}
+use Rattle.loan_book.specs.declared.run.LoanCall.TheVariants.{Loan, Publish, GiveBack, IsOut}
+use Rattle.loan_book.specs.declared.run.LoanReply.{LoanReply}
+use Rattle.loan_book.specs.declared.run.LoanReply.TheVariants as reply
+use Rattle.script_runner.specs.Words.{Words, words, words_then, name_line}
+use Rattle.script_runner.specs.Scripts.{Rules}
+use Rattle.script_runner.specs.Allocators.{refusal_name, IsPoolPlan, pool_numbers, BeginsPool}
+use Rattle.script_runner.specs.declared.kinds.pool.PoolPlan.{PoolPlan}
+use Rattle.script_runner.specs.declared.words.Numbers.TheVariants.{One, Two, Three}
+
+-- a number that counts readers has at most 32 bits
+abbrev pub IsCall : LoanCall → Type 0
+IsCall (Publish id readers) = readers < 2 ^ 32
+IsCall _ = Unit {0}
+
+-- the words that write a call
+abbrev pub call_words : LoanCall → Words
+call_words (Loan size) = words (codes "loan") (One size)
+call_words (Publish id readers) = words (codes "publish") (Two id readers)
+call_words (GiveBack id) = words (codes "back") (One id)
+call_words (IsOut id) = words (codes "out") (One id)
+
+-- a refusal is written by its name, and the pool's by the name that the pool gave it
+abbrev pub loan_refusal_name : LoanError → List ℕ
+loan_refusal_name refused.Size = codes "Size"
+loan_refusal_name refused.IdsExhausted = codes "IdsExhausted"
+loan_refusal_name refused.Memory = codes "Memory"
+loan_refusal_name (refused.Allocation error) = refusal_name error
+loan_refusal_name refused.UnknownSample = codes "UnknownSample"
+loan_refusal_name refused.AlreadyPublished = codes "AlreadyPublished"
+loan_refusal_name refused.NoReaders = codes "NoReaders"
+
+-- the line of a reply
+abbrev pub loan_reply_line : LoanReply → List ℕ
+loan_reply_line (reply.Loaned id chunk) = words_then (codes "loan") (Three id chunk.place chunk.len) (codes "\n")
+loan_reply_line reply.Published = name_line (codes "published")
+loan_reply_line reply.Returned = name_line (codes "returned")
+loan_reply_line reply.Kept = name_line (codes "kept")
+loan_reply_line (reply.Out true) = name_line (codes "yes")
+loan_reply_line (reply.Out false) = name_line (codes "no")
+loan_reply_line (reply.Refused error) = name_line (loan_refusal_name error)
+
+-- the replies are a run of a book over the pool object of the pool's geometry, none is that a record found no memory, and
+-- the pool stands for exactly the chunks of the samples that are out
+pub record LoansRun (old : LoanBook CountedPool) (calls : List LoanCall)
+    (replies : List LoanReply) (new : LoanBook CountedPool) : Type 0 where
+  pub run : IsRun (BookStep (MayAllocate old.allocator.pool.geometry))
+      old.book calls replies new.book
+  pub remembered : ¬ Contains replies (reply.Refused refused.Memory)
+  pub geometry : new.allocator.pool.geometry ≡ old.allocator.pool.geometry
+  pub stands : StandsFor new.allocator.pool (chunks_out new.book)
+
+-- a fresh pool by the plan, and a book of which nothing was loaned yet
+pub record BeginsLoans (plan : PoolPlan) (loans : LoanBook CountedPool) : Type 0 where
+  pub pool : BeginsPool plan loans.allocator
+  pub book : loans.book ≡ record { loaned = 0; out = [] }
+
+-- a loan book over a pool that a script drives; it can't be shown
+abbrev pub loan_pool_rules : Rules (LoanBook CountedPool) PoolPlan LoanCall LoanReply
+loan_pool_rules = record {
+  name = codes "loan-pool";
+  is_header = IsPoolPlan;
+  header_numbers = pool_numbers;
+  is_command = IsCall;
+  command_words = call_words;
+  can_show = false;
+  starts = BeginsLoans;
+  runs = LoansRun;
+  reply_text = loan_reply_line;
+  state_text = λ loans. [];
+}
