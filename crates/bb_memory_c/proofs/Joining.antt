@@ -23,5 +23,5 @@ module _ {X Y Z : Type 0} {made after : X} {party : Option Y} {left : X → ℕ}
     joins = neither code ok either (λ wrong. cc) (λ wrong. cc);
     none_left = (λ so. takes.none_left.0 (ap Err so), λ no. let so = takes.none_left.1 no in cc);
     else_memory = λ _ not. either not;
-    unchanged = λ _. (takes.still, none);
+    unchanged = λ _. (takes.unchanged, none);
   }
