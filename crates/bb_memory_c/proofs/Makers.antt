@@ -24,7 +24,8 @@ module _ {X : Type 0} {old new : Option X} {size align : ℕ} {may room : Layout
     (none : old ≡ None) where
   -- the numbers make no layout, or none by which the region may be cut
   pub not-cut : (region : Region) (cut : Result Layout ℕ) (code : ℕ) → new ≡ old → cut ≡ Err code
-      → ((cut ≡ Err invalid_layout) ↔ (¬ IsLayout size align)) → ((cut ≡ Err invalid_argument) ↔ FailsOf size align (MayBeCut region))
+      → ((cut ≡ Err invalid_layout) ↔ (¬ IsLayout size align))
+      → ((cut ≡ Err invalid_argument) ↔ FailsOf size align (MayBeCut region))
       → (code ≢ invalid_layout → code ≡ invalid_argument) → ((bucket : Layout) → may bucket → MayBeCut region bucket)
       → AnswersPoolMake old new size align code may room fresh
   not-cut region cut code still is no_layout cannot either cuts =

@@ -1,4 +1,6 @@
 //! Two chunks of a bump.
+#![tactic(auto, unfolding(bb_memory_base::specs::LeastPlace::least_place))]
+
 use bb_memory::bump_allocator::{AllocationError, BaseAllocator, BumpAllocator};
 use bb_memory::layout::Layout;
 

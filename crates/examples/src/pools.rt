@@ -1,4 +1,6 @@
 //! The pools with one owner.
+#![tactic(auto, unfolding(bb_memory_base::specs::LeastPlace::least_place))]
+
 ghost use Rattle.std.specs.Prelude.{◌≢◌, IfOk};
 ghost use Rattle.bb_memory.specs.Pool.{HoldsPlace};
 
@@ -8,7 +10,6 @@ use bb_memory::pool_allocator::{
 };
 
 /// A region of 1024 bytes has 8 buckets of 128. The law decides the makers' condition at literals.
-#[tactic(auto, unfolding(bb_memory_base::specs::LeastPlace::least_place))]
 pub fn eight_buckets() -> FixedSizePoolAllocator<16> {
     pool_count_law();
     let bucket = Layout::from_size_align(128, 8).unwrap();
