@@ -16,7 +16,7 @@
 //         }
 //         bb_answer chunk = bb_pool_allocate(&pool, 48, 8);                // 48 bytes at a multiple of 8
 //         if (chunk.code != BB_OK) return 1;
-//         memset(chunk.place, 0, chunk.len);
+//         memset(chunk.place, 0, 48);
 //         struct bb_pool_info info;
 //         if (bb_pool_info(&pool, &info) != BB_OK || info.held_buckets != 1) return 1;
 //         if (bb_pool_deallocate(&pool, chunk.place) != BB_OK) return 1;
@@ -42,18 +42,17 @@
 //  4. Threads that call at once use a party each, or share a handle under a lock. A handle goes to another thread where a lock,
 //     an atomic, or a thread's start or join orders the calls.
 //  5. `place_at` and `number_at` may run beside other calls with their handle but `destroy` and `leave` (examples/c/places.c).
-//  6. A call that takes two handles gets two. A party leaves what it joined, and attaches buckets of its own pool.
+//  6. A call that takes two handles gets two. Two shared pools, or bumps, of which a party or a detached bucket is left begin at
+//     different places: by its place another's party or bucket is refused (BB_OTHER_POOL).
 //  7. Call nothing in a signal handler, nor in a child that a process of several threads forked. After any other fork either
 //     parent or child goes on with a region that both map.
-//  8. A region serves one allocator at a time, and is yours while chunks in it are used. An allocator over a chunk of another
-//     works: that chunk serves nothing else, and goes back when its allocator is done with.
+//  8. A region serves one allocator at a time, and is yours while chunks in it are used. It may be a chunk of another one.
 //  9. `malloc`, `realloc` and `free` come from one allocator, which aligns as C says.
 // 10. Return each chunk once. A wild place is refused by a code, and so is a second return before the place is given anew. A
 //     later one takes the chunk from its new holder.
 //
 // No function reads or writes a byte of a region. Chunks that are out lie inside it, at multiples of the asked alignment, and
-// never overlap. Sizes and alignments are in bytes. MemorySanitizer doesn't see what the library writes: call `__msan_unpoison`
-// for each struct that a call returned or filled.
+// never overlap. Sizes and alignments are in bytes. MemorySanitizer needs `__msan_unpoison` of each struct that a call filled.
 #ifndef BB_MEMORY_H
 #define BB_MEMORY_H
 
@@ -75,14 +74,12 @@ extern "C" {
 #define BB_VERSION_MINOR 13
 #define BB_VERSION_PATCH 0
 #define BB_VERSION_NUMBER (BB_VERSION_MAJOR * 10000 + BB_VERSION_MINOR * 100 + BB_VERSION_PATCH)
-// The shared library's SONAME is `libbb_memory.so.` and this number. It grows where a function goes, or a type, a struct's fields
-// or a code's number changes, and stays where functions and codes are added. So a program runs with each library of its number
-// from the version on with which it was linked.
+// The number in the shared library's SONAME. It grows where a function goes, or a type, a struct's fields or a code's number
+// changes. So a program runs with each library of its number from the version on with which it was linked.
 #define BB_ABI 1
 
-// The address of a byte: a place is where a region or a chunk begins, and an address is a place that is handed in alone. The
-// functions see their numbers alone. A host whose places are other numbers, such as offsets, defines BB_PLACES_ARE_NUMBERS above
-// the header, and has them as numbers.
+// A place is where a region or a chunk begins, and an address is a place that is handed in alone. The functions see their numbers
+// alone: a host whose places are numbers, such as offsets, defines BB_PLACES_ARE_NUMBERS above the header.
 #ifdef BB_PLACES_ARE_NUMBERS
 typedef size_t bb_address, bb_place;
 #else
@@ -116,39 +113,38 @@ enum {
     BB_DETACHED_FULL = 20,        // of a detach alone: a detached bucket is there already
     BB_DETACHED_EMPTY = 21,       // of an attach alone: no detached bucket is there
     BB_NOT_A_BUCKET = 22,         // of place_at and number_at alone: no bucket has the number, or begins at the place
-    BB_LAST_CODE = BB_NOT_A_BUCKET
+    BB_OTHER_POOL = 23,           // of a leave and an attach alone: the party, or the detached bucket, is of another pool or bump
+    BB_READERS_LEFT = 24,         // of a share and an attach alone: a reader hasn't released the detached bucket
+    BB_NO_READER = 25,            // of a release alone: the detached bucket waits for no reader
+    BB_LAST_CODE = BB_NO_READER
 };
 
 // Returns what a code says, for a log.
 static inline const char *bb_text(uint32_t code) {
     switch (code) {
-    case BB_OK: return "done";
-    case BB_SIZE_IS_ZERO: return "the size is zero";
+    case BB_OK: return "done"; case BB_SIZE_IS_ZERO: return "the size is zero";
     case BB_SIZE_TOO_LARGE: return "the size is greater than a bucket's";
     case BB_ALIGNMENT_FAILURE: return "the alignment is greater than can be had";
     case BB_OUT_OF_MEMORY: return "no room is left in the region";
     case BB_GROW_WOULD_SHRINK: return "the new size is not greater than the old one";
     case BB_SHRINK_WOULD_GROW: return "the new size is not smaller than the old one";
-    case BB_INVALID_LAYOUT: return "size and alignment make no layout";
-    case BB_UNINITIALIZED: return "the handle is empty";
-    case BB_NOT_HELD: return "nothing is held at the place";
-    case BB_ALREADY_INITIALIZED: return "the handle is not empty";
+    case BB_INVALID_LAYOUT: return "size and alignment make no layout"; case BB_UNINITIALIZED: return "the handle is empty";
+    case BB_NOT_HELD: return "nothing is held at the place"; case BB_ALREADY_INITIALIZED: return "the handle is not empty";
     case BB_INVALID_ARGUMENT: return "the region, the buckets or the parties cannot be";
     case BB_NO_PARTY: return "no party is left to join";
-    case BB_LAYOUT_MISMATCH: return "the chunk cannot have the old layout";
-    case BB_MALLOC_REFUSED: return "malloc refused";
+    case BB_LAYOUT_MISMATCH: return "the chunk cannot have the old layout"; case BB_MALLOC_REFUSED: return "malloc refused";
     case BB_MORE_THAN_RESERVED: return "the new size is greater than what is reserved";
     case BB_NO_BUCKET: return "the region has no room for one bucket";
-    case BB_PARTIES_JOINED: return "not each party has left";
-    case BB_ONE_PARTY: return "the pool has no other party";
+    case BB_PARTIES_JOINED: return "not each party has left"; case BB_ONE_PARTY: return "the pool has no other party";
     case BB_DETACHED_FULL: return "a detached bucket is there already";
     case BB_DETACHED_EMPTY: return "no detached bucket is there";
     case BB_NOT_A_BUCKET: return "no bucket has the number, or begins at the place";
+    case BB_OTHER_POOL: return "it is of another pool or bump"; case BB_READERS_LEFT: return "a reader has not released it";
+    case BB_NO_READER: return "it waits for no reader";
     default: return "not a code of bb_memory";
     }
 }
 
-// Compilers warn where the answer of a function with this mark isn't used.
 #ifdef __GNUC__
 #define BB_MUST_USE __attribute__((warn_unused_result))
 #else
@@ -174,8 +170,8 @@ typedef struct bb_shared_pool { void *at; bool made; } bb_shared_pool;
 typedef struct bb_pool_party { void *at; bool made; } bb_pool_party;
 typedef struct bb_detached { void *at; bool made; } bb_detached;
 
-// A chunk that was given: where it begins, and how many bytes it has. A number that was asked for; of a place, its number.
-typedef struct bb_answer { uint32_t code; bb_place place; size_t len; } bb_answer;
+// Where a chunk begins that was given. A number that was asked for; of a place, its number. Both are returned in registers.
+typedef struct bb_answer { uint32_t code; bb_place place; } bb_answer;
 typedef struct bb_figure { uint32_t code; size_t number; } bb_figure;
 
 // Each kind has a `destroy`, which frees what is behind its handle. The handle is empty then, and may be initialized again; one
@@ -183,7 +179,6 @@ typedef struct bb_figure { uint32_t code; size_t number; } bb_figure;
 // figures of what is behind the handle; where that is empty, it is BB_UNINITIALIZED, and the struct stays as it was.
 //
 // Only `init`, `join` and `reset` take memory, outside the region. They ask `malloc` for at most so many bytes in all:
-//
 //     bb_bump, bb_one_chunk, bb_detached    64
 //     bb_pool                               256, and 16 for each 64 buckets
 //     bb_shared_bump                        256, and 16 for each party (as many to reset, before it frees those); 64 to join
@@ -218,8 +213,10 @@ BB_MUST_USE bb_answer bb_one_chunk_grow(bb_one_chunk *, bb_address place, size_t
 // A shrunk chunk gets exactly the new size, which may be 0. BB_SHRINK_WOULD_GROW, then BB_ALIGNMENT_FAILURE as above.
 BB_MUST_USE bb_answer bb_one_chunk_shrink(bb_one_chunk *, bb_address place, size_t old_size, size_t old_align, size_t new_size,
                                           size_t new_align);
-// 1 where this is the place of the chunk that is out, else 0.
+// 1 where this is the place of the chunk that is out, else 0. And how many bytes are reserved for it: all of the region from its
+// place on, and so many bytes an allocated or a grown chunk has. BB_NOT_HELD of another place.
 bb_figure bb_one_chunk_holds(bb_one_chunk *, bb_address place);
+bb_figure bb_one_chunk_reserved(bb_one_chunk *, bb_address place);
 struct bb_one_chunk_info { size_t start_address, size; bool has_chunk_available; };
 uint32_t bb_one_chunk_info(bb_one_chunk *, struct bb_one_chunk_info *);
 
@@ -276,13 +273,12 @@ BB_MUST_USE static inline uint32_t bb_pool_init_at_least(bb_pool *pool, size_t b
 // again. One thread at a time calls `join`, `leave`, `reset` or `destroy` of what is shared; parties may be used meanwhile. The
 // shared object stays as long as its own handle or one of its parties does. A party that is destroyed instead of leaving can't
 // join again, and what it holds stays held for good.
-//
 // BB_INVALID_ARGUMENT where the start is 0, start plus size exceeds SIZE_MAX, or there is no party.
 BB_MUST_USE uint32_t bb_shared_bump_init(bb_shared_bump *, bb_place start, size_t size, uint32_t parties);
 uint32_t bb_shared_bump_destroy(bb_shared_bump *);
 // BB_ALREADY_INITIALIZED where the party isn't empty, then BB_UNINITIALIZED, then BB_NO_PARTY.
 BB_MUST_USE uint32_t bb_shared_bump_join(bb_shared_bump *, bb_bump_party *);
-// The party's handle is empty then. The chunks that it took stay used. BB_UNINITIALIZED where one of the handles is empty.
+// The party's handle is empty then, and what it took stays used. BB_UNINITIALIZED where one handle is empty; BB_OTHER_POOL.
 uint32_t bb_shared_bump_leave(bb_shared_bump *, bb_bump_party *);
 // The bump starts again over its region, with as many parties, none of which has joined: nothing is used. So the host uses no
 // chunk that was given before. BB_UNINITIALIZED; then BB_PARTIES_JOINED where not each party has left, which is for good where
@@ -330,18 +326,22 @@ BB_MUST_USE static inline uint32_t bb_shared_pool_init_at_least(bb_shared_pool *
 
 // DETACHED BUCKETS: in a pool of two parties or more a party detaches a bucket that it holds into a `bb_detached`. No party
 // holds the bucket then. Whoever has the `bb_detached` attaches the bucket by a party of the same pool, in any thread, and gives
-// it back there, as the receiver of a message does (examples/c/returns.c). Several threads may read a detached bucket, and the
-// last of them attaches it (examples/c/pubsub.c). Neither call takes memory or waits. A `bb_detached` serves one bucket after
+// it back there, as the receiver of a message does (examples/c/returns.c). Several threads may read a detached bucket that is
+// shared with them (examples/c/pubsub.c). Only `init` takes memory, and no call waits. A `bb_detached` serves one bucket after
 // another, and keeps no pool. A bucket in a destroyed one stays detached for good.
 BB_MUST_USE uint32_t bb_detached_init(bb_detached *);
 uint32_t bb_detached_destroy(bb_detached *);
-// 1 where a bucket is in it, else 0.
-bb_figure bb_detached_is_full(bb_detached *);
+// The length of the chunk with which the bucket in it was detached, or BB_DETACHED_EMPTY.
+bb_figure bb_detached_len(bb_detached *);
+// The bucket waits for so many readers: until each has released it, no party attaches it. BB_DETACHED_EMPTY; BB_READERS_LEFT;
+// BB_INVALID_ARGUMENT of 0. A release answers how many are left: 0 tells the last one, which sees to the attach. BB_NO_READER.
+BB_MUST_USE uint32_t bb_detached_share(bb_detached *, uint32_t readers);
+BB_MUST_USE bb_figure bb_detached_release(bb_detached *);
 // Detaches the bucket at this place, with a chunk of `len` bytes. BB_UNINITIALIZED where one of the handles is empty; then
 // BB_ONE_PARTY; BB_NOT_HELD where this party holds no bucket there; BB_SIZE_TOO_LARGE, of `len`; and BB_DETACHED_FULL.
 BB_MUST_USE uint32_t bb_pool_party_detach(bb_pool_party *, bb_address place, size_t len, bb_detached *);
-// This party holds the bucket that is in the `bb_detached`, which has none then. The answer is the chunk, at its place and with
-// the length with which it was detached. BB_UNINITIALIZED where one of the handles is empty; then BB_DETACHED_EMPTY.
+// This party holds the bucket that is in the `bb_detached`, which has none then. BB_UNINITIALIZED where one of the handles is
+// empty; then BB_DETACHED_EMPTY; BB_OTHER_POOL; BB_READERS_LEFT.
 BB_MUST_USE bb_answer bb_pool_party_attach(bb_pool_party *, bb_detached *);
 
 #ifdef __cplusplus

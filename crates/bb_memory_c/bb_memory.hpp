@@ -38,7 +38,8 @@ enum class [[nodiscard]] error : std::uint32_t {
     layout_mismatch = BB_LAYOUT_MISMATCH, malloc_refused = BB_MALLOC_REFUSED,
     more_than_reserved = BB_MORE_THAN_RESERVED, no_bucket = BB_NO_BUCKET, parties_joined = BB_PARTIES_JOINED,
     one_party = BB_ONE_PARTY, detached_full = BB_DETACHED_FULL, detached_empty = BB_DETACHED_EMPTY,
-    not_a_bucket = BB_NOT_A_BUCKET,
+    not_a_bucket = BB_NOT_A_BUCKET, other_pool = BB_OTHER_POOL,
+    readers_left = BB_READERS_LEFT, no_reader = BB_NO_READER,
 };
 
 inline const char *text(error code) noexcept { return bb_text(static_cast<std::uint32_t>(code)); }

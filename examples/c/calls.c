@@ -34,11 +34,11 @@ static void expect_at(int line, int holds) {
 
 #define EXPECT(holds) expect_at(__LINE__, holds)
 
-static int given(bb_answer answer, size_t place, size_t len) {
-    return answer.code == BB_OK && answer.place == place && answer.len == len;
+static int given(bb_answer answer, size_t place) {
+    return answer.code == BB_OK && answer.place == place;
 }
 
-static int refused(bb_answer answer, uint32_t code) { return answer.code == code && answer.place == 0 && answer.len == 0; }
+static int refused(bb_answer answer, uint32_t code) { return answer.code == code && answer.place == 0; }
 
 static int is(bb_figure figure, size_t number) { return figure.code == BB_OK && figure.number == number; }
 
@@ -109,9 +109,9 @@ static void run_bump(void) {
     EXPECT(refused(bb_bump_allocate(&bump, 8, 8), BB_UNINITIALIZED) && bb_bump_deallocate(&bump) == BB_UNINITIALIZED);
     EXPECT(bb_bump_init(&bump, 4096, 1024) == BB_OK && bb_bump_init(&bump, 4096, 1024) == BB_ALREADY_INITIALIZED);
     requests = 0;
-    EXPECT(given(bb_bump_allocate(&bump, 48, 4), 4096, 48) && given(bb_bump_allocate(&bump, 10, 32), 4160, 10));
+    EXPECT(given(bb_bump_allocate(&bump, 48, 4), 4096) && given(bb_bump_allocate(&bump, 10, 32), 4160));
     EXPECT(same(of_bump(&bump).used_space, 74) && same(of_bump(&bump).free_space, 950));
-    EXPECT(given(bb_bump_allocate(&bump, 950, 1), 4170, 950) && refused(bb_bump_allocate(&bump, 1, 1), BB_OUT_OF_MEMORY));
+    EXPECT(given(bb_bump_allocate(&bump, 950, 1), 4170) && refused(bb_bump_allocate(&bump, 1, 1), BB_OUT_OF_MEMORY));
     EXPECT(refused(bb_bump_allocate(&bump, 0, 1), BB_SIZE_IS_ZERO) && refused(bb_bump_allocate(&bump, 1, 3), BB_INVALID_LAYOUT));
     EXPECT(bb_bump_deallocate(&bump) == BB_OK && same(of_bump(&bump).used_space, 0));
     EXPECT(same(of_bump(&bump).total_space, 1024) && same(of_bump(&bump).start_address, 4096));
@@ -129,15 +129,16 @@ static void run_one_chunk(void) {
     EXPECT(same(of_one_chunk(&one).has_chunk_available, 1));
     EXPECT(same(of_one_chunk(&one).start_address, 4097) && same(of_one_chunk(&one).size, 1024));
     EXPECT(refused(bb_one_chunk_allocate(&one, 1022, 4), BB_OUT_OF_MEMORY));
-    EXPECT(given(bb_one_chunk_allocate(&one, 48, 4), 4100, 1021) && same(of_one_chunk(&one).has_chunk_available, 0));
+    EXPECT(given(bb_one_chunk_allocate(&one, 48, 4), 4100) && same(of_one_chunk(&one).has_chunk_available, 0));
     EXPECT(refused(bb_one_chunk_allocate(&one, 1, 1), BB_OUT_OF_MEMORY));
     EXPECT(is(bb_one_chunk_holds(&one, 4100), 1) && is(bb_one_chunk_holds(&one, 4101), 0));
-    EXPECT(given(bb_one_chunk_shrink(&one, 4100, 64, 4, 32, 4), 4100, 32));
-    EXPECT(given(bb_one_chunk_grow(&one, 4100, 48, 4, 64, 4), 4100, 1021));
+    EXPECT(is(bb_one_chunk_reserved(&one, 4100), 1021) && has_none(bb_one_chunk_reserved(&one, 4101), BB_NOT_HELD));
+    EXPECT(given(bb_one_chunk_shrink(&one, 4100, 64, 4, 32, 4), 4100));
+    EXPECT(given(bb_one_chunk_grow(&one, 4100, 48, 4, 64, 4), 4100));
     EXPECT(refused(bb_one_chunk_grow(&one, 4100, 64, 4, 64, 4), BB_GROW_WOULD_SHRINK));
     EXPECT(refused(bb_one_chunk_grow(&one, 4100, 48, 4, 64, 8), BB_ALIGNMENT_FAILURE));
     EXPECT(refused(bb_one_chunk_grow(&one, 4100, 48, 4, 1022, 4), BB_MORE_THAN_RESERVED));
-    EXPECT(given(bb_one_chunk_grow(&one, 4100, 48, 4, 1021, 4), 4100, 1021));
+    EXPECT(given(bb_one_chunk_grow(&one, 4100, 48, 4, 1021, 4), 4100));
     EXPECT(refused(bb_one_chunk_grow(&one, 4100, 48, 16, 64, 16), BB_LAYOUT_MISMATCH));
     EXPECT(refused(bb_one_chunk_grow(&one, 4104, 48, 4, 64, 4), BB_NOT_HELD));
     EXPECT(refused(bb_one_chunk_grow(&one, 4100, 48, 3, 64, 4), BB_INVALID_LAYOUT));
@@ -150,6 +151,7 @@ static void run_one_chunk(void) {
     EXPECT(requests == 0);
     EXPECT(bb_one_chunk_destroy(&one) == BB_OK && bb_one_chunk_destroy(&one) == BB_UNINITIALIZED);
     EXPECT(refused(bb_one_chunk_grow(&one, 4100, 48, 4, 64, 4), BB_UNINITIALIZED));
+    EXPECT(has_none(bb_one_chunk_reserved(&one, 4100), BB_UNINITIALIZED));
 }
 
 static void run_pool(void) {
@@ -168,7 +170,7 @@ static void run_pool(void) {
     size_t places[7];
     for (size_t at = 0; at < 7; at++) {
         bb_answer answer = bb_pool_allocate(&pool, 48, 4);
-        EXPECT(answer.code == BB_OK && answer.len == 48 && (answer.place - 4104) % 128 == 0);
+        EXPECT(answer.code == BB_OK && (answer.place - 4104) % 128 == 0);
         places[at] = answer.place;
         EXPECT(same(of_pool(&pool).held_buckets, at + 1));
     }
@@ -177,7 +179,7 @@ static void run_pool(void) {
     EXPECT(is(bb_pool_holds(&pool, place), 1) && is(bb_pool_holds(&pool, place + 1), 0));
     EXPECT(bb_pool_deallocate(&pool, place + 1) == BB_NOT_HELD && bb_pool_deallocate(&pool, place) == BB_OK);
     EXPECT(bb_pool_deallocate(&pool, place) == BB_NOT_HELD && same(of_pool(&pool).held_buckets, 6));
-    EXPECT(given(bb_pool_allocate(&pool, 48, 4), place, 48));
+    EXPECT(given(bb_pool_allocate(&pool, 48, 4), place));
     EXPECT(requests == 0);
     EXPECT(bb_pool_destroy(&pool) == BB_OK && bb_pool_destroy(&pool) == BB_UNINITIALIZED);
     EXPECT(bb_pool_deallocate(&pool, place) == BB_UNINITIALIZED);
@@ -310,14 +312,14 @@ static void run_freed_pool_party(void) {
     EXPECT(bb_shared_pool_init(&pool, 64, 8, 4096, 128, 2) == BB_OK);
     EXPECT(bb_shared_pool_join(&pool, &freed) == BB_OK && bb_shared_pool_join(&pool, &other) == BB_OK);
     bb_answer kept = bb_pool_party_allocate(&freed, 64, 8);
-    EXPECT(kept.code == BB_OK && kept.len == 64 && (kept.place == 4096 || kept.place == 4160));
+    EXPECT(kept.code == BB_OK && (kept.place == 4096 || kept.place == 4160));
     EXPECT(bb_pool_party_destroy(&freed) == BB_OK && bb_shared_pool_join(&pool, &freed) == BB_NO_PARTY);
     size_t place = kept.place == 4096 ? 4160 : 4096;
-    EXPECT(given(bb_pool_party_allocate(&other, 64, 8), place, 64));
+    EXPECT(given(bb_pool_party_allocate(&other, 64, 8), place));
     EXPECT(refused(bb_pool_party_allocate(&other, 64, 8), BB_OUT_OF_MEMORY));
     EXPECT(bb_pool_party_deallocate(&other, kept.place) == BB_NOT_HELD);
     EXPECT(bb_shared_pool_destroy(&pool) == BB_OK && bb_pool_party_deallocate(&other, place) == BB_OK);
-    EXPECT(given(bb_pool_party_allocate(&other, 48, 8), place, 48));
+    EXPECT(given(bb_pool_party_allocate(&other, 48, 8), place));
     EXPECT(bb_pool_party_destroy(&other) == BB_OK && bb_pool_party_destroy(&freed) == BB_UNINITIALIZED);
 }
 
@@ -327,10 +329,10 @@ static void run_freed_bump_party(void) {
     bb_bump_party freed = BB_EMPTY, other = BB_EMPTY;
     EXPECT(bb_shared_bump_init(&bump, 4096, 64, 2) == BB_OK);
     EXPECT(bb_shared_bump_join(&bump, &freed) == BB_OK && bb_shared_bump_join(&bump, &other) == BB_OK);
-    EXPECT(given(bb_bump_party_allocate(&freed, 40, 8), 4096, 40));
+    EXPECT(given(bb_bump_party_allocate(&freed, 40, 8), 4096));
     EXPECT(bb_bump_party_destroy(&freed) == BB_OK && bb_shared_bump_join(&bump, &freed) == BB_NO_PARTY);
     EXPECT(bb_shared_bump_destroy(&bump) == BB_OK && same(of_bump_party(&other).used_space, 40));
-    EXPECT(given(bb_bump_party_allocate(&other, 24, 8), 4136, 24));
+    EXPECT(given(bb_bump_party_allocate(&other, 24, 8), 4136));
     EXPECT(refused(bb_bump_party_allocate(&other, 1, 1), BB_OUT_OF_MEMORY));
     EXPECT(bb_bump_party_destroy(&other) == BB_OK && bb_bump_party_destroy(&freed) == BB_UNINITIALIZED);
 }
@@ -341,8 +343,8 @@ static void run_large(void) {
     bb_one_chunk one = BB_EMPTY;
     bb_pool pool = BB_EMPTY;
     size_t gibibyte = (size_t)1 << 30;
-    EXPECT(bb_bump_init(&bump, 4096, gibibyte) == BB_OK && given(bb_bump_allocate(&bump, gibibyte, 1), 4096, gibibyte));
-    EXPECT(bb_one_chunk_init(&one, 4096, gibibyte) == BB_OK && given(bb_one_chunk_allocate(&one, 0, 1), 4096, gibibyte));
+    EXPECT(bb_bump_init(&bump, 4096, gibibyte) == BB_OK && given(bb_bump_allocate(&bump, gibibyte, 1), 4096));
+    EXPECT(bb_one_chunk_init(&one, 4096, gibibyte) == BB_OK && given(bb_one_chunk_allocate(&one, 0, 1), 4096));
     EXPECT(bb_pool_init(&pool, 64, 8, 4096, gibibyte / 16) == BB_OK && same(of_pool(&pool).number_of_buckets, 1048576));
     EXPECT(bb_bump_destroy(&bump) == BB_OK && bb_one_chunk_destroy(&one) == BB_OK);
     EXPECT(bb_pool_destroy(&pool) == BB_OK);
@@ -409,11 +411,11 @@ static void run_refused_memory(void) {
     EXPECT(bb_shared_bump_join(&shared_bump, &no_bump_party) == BB_NO_PARTY);
     // No other call takes memory.
     requests = 0;
-    EXPECT(given(bb_bump_party_allocate(&bump_partys[0], 40, 1), 4096, 40));
+    EXPECT(given(bb_bump_party_allocate(&bump_partys[0], 40, 1), 4096));
     EXPECT(same(of_bump_party(&bump_partys[1]).used_space, 40) && same(of_bump_party(&bump_partys[1]).free_space, 984));
     // The first round of party 1 of two begins in the second half of the eight buckets.
     size_t fifth = 4096 + 4 * 128;
-    EXPECT(given(bb_pool_party_allocate(&pool_partys[0], 48, 4), fifth, 48));
+    EXPECT(given(bb_pool_party_allocate(&pool_partys[0], 48, 4), fifth));
     EXPECT(bb_pool_party_deallocate(&pool_partys[1], fifth) == BB_NOT_HELD);
     EXPECT(bb_pool_party_deallocate(&pool_partys[0], fifth) == BB_OK);
     EXPECT(bb_pool_allocate(&pool, 48, 4).code == BB_OK && bb_bump_allocate(&bump, 48, 4).code == BB_OK);
@@ -432,7 +434,7 @@ static void run_reset(void) {
     EXPECT(bb_shared_bump_reset(&bump) == BB_UNINITIALIZED && bb_shared_bump_leave(&bump, &one) == BB_UNINITIALIZED);
     EXPECT(bb_shared_bump_init(&bump, 4096, 64, 2) == BB_OK && bb_shared_bump_leave(&bump, &one) == BB_UNINITIALIZED);
     EXPECT(bb_shared_bump_join(&bump, &one) == BB_OK && bb_shared_bump_join(&bump, &other) == BB_OK);
-    EXPECT(given(bb_bump_party_allocate(&one, 40, 8), 4096, 40) && given(bb_bump_party_allocate(&other, 24, 8), 4136, 24));
+    EXPECT(given(bb_bump_party_allocate(&one, 40, 8), 4096) && given(bb_bump_party_allocate(&other, 24, 8), 4136));
     EXPECT(refused(bb_bump_party_allocate(&one, 1, 1), BB_OUT_OF_MEMORY) && bb_shared_bump_reset(&bump) == BB_PARTIES_JOINED);
     // A party leaves and joins again, and what it took stays used.
     requests = 0;
@@ -444,12 +446,12 @@ static void run_reset(void) {
     WITH_EACH_REFUSED(bb_bump_party_destroy(&one), bb_shared_bump_reset(&bump));
     EXPECT(bb_shared_bump_join(&bump, &one) == BB_OK && bb_shared_bump_join(&bump, &other) == BB_OK);
     EXPECT(same(of_bump_party(&one).used_space, 0) && same(of_bump_party(&one).total_space, 64));
-    EXPECT(same(of_bump_party(&one).start_address, 4096) && given(bb_bump_party_allocate(&other, 64, 8), 4096, 64));
+    EXPECT(same(of_bump_party(&one).start_address, 4096) && given(bb_bump_party_allocate(&other, 64, 8), 4096));
     for (size_t round = 0; round < 1000; round++) {
         EXPECT(bb_shared_bump_leave(&bump, &one) == BB_OK && bb_shared_bump_leave(&bump, &other) == BB_OK);
         WITHIN(256 + 16 * 2, bb_shared_bump_reset(&bump));
         EXPECT(bb_shared_bump_join(&bump, &one) == BB_OK && bb_shared_bump_join(&bump, &other) == BB_OK);
-        EXPECT(given(bb_bump_party_allocate(&one, 48, 8), 4096, 48) && given(bb_bump_party_allocate(&other, 16, 8), 4144, 16));
+        EXPECT(given(bb_bump_party_allocate(&one, 48, 8), 4096) && given(bb_bump_party_allocate(&other, 16, 8), 4144));
     }
     // A destroyed party doesn't come back.
     EXPECT(bb_bump_party_destroy(&one) == BB_OK && bb_shared_bump_leave(&bump, &other) == BB_OK);
@@ -491,6 +493,39 @@ static void run_parties_come_and_go(void) {
     EXPECT(bb_pool_party_destroy(&other) == BB_OK);
 }
 
+// A party of another pool or bump, and a bucket of another pool or one that is read, are refused by codes, and stay as they are.
+static void run_others(void) {
+    bb_shared_pool pool = BB_EMPTY, far = BB_EMPTY;
+    bb_pool_party party = BB_EMPTY, stranger = BB_EMPTY;
+    bb_detached detached = BB_EMPTY;
+    EXPECT(bb_shared_pool_init(&pool, 64, 8, 4096, 128, 2) == BB_OK && bb_shared_pool_init(&far, 64, 8, 8192, 128, 2) == BB_OK);
+    EXPECT(bb_shared_pool_join(&pool, &party) == BB_OK && bb_shared_pool_join(&far, &stranger) == BB_OK);
+    EXPECT(bb_shared_pool_leave(&far, &party) == BB_OTHER_POOL && bb_shared_pool_leave(&pool, &stranger) == BB_OTHER_POOL);
+    bb_answer sent = bb_pool_party_allocate(&party, 40, 8);
+    EXPECT(bb_detached_init(&detached) == BB_OK && bb_pool_party_detach(&party, sent.place, 40, &detached) == BB_OK);
+    EXPECT(refused(bb_pool_party_attach(&stranger, &detached), BB_OTHER_POOL) && is(bb_detached_len(&detached), 40));
+    EXPECT(same(of_pool_party(&stranger).held_buckets, 0));
+    // Until each of two readers has released it, the bucket stays in its `bb_detached`.
+    EXPECT(bb_detached_share(&detached, 0) == BB_INVALID_ARGUMENT && has_none(bb_detached_release(&detached), BB_NO_READER));
+    EXPECT(bb_detached_share(&detached, 2) == BB_OK && bb_detached_share(&detached, 1) == BB_READERS_LEFT);
+    EXPECT(refused(bb_pool_party_attach(&party, &detached), BB_READERS_LEFT) && is(bb_detached_release(&detached), 1));
+    EXPECT(refused(bb_pool_party_attach(&stranger, &detached), BB_OTHER_POOL));
+    EXPECT(refused(bb_pool_party_attach(&party, &detached), BB_READERS_LEFT) && is(bb_detached_release(&detached), 0));
+    EXPECT(has_none(bb_detached_release(&detached), BB_NO_READER) && is(bb_detached_len(&detached), 40));
+    EXPECT(given(bb_pool_party_attach(&party, &detached), sent.place));
+    EXPECT(bb_detached_share(&detached, 1) == BB_DETACHED_EMPTY && bb_detached_destroy(&detached) == BB_OK);
+    EXPECT(bb_detached_share(&detached, 1) == BB_UNINITIALIZED && has_none(bb_detached_release(&detached), BB_UNINITIALIZED));
+    EXPECT(bb_shared_pool_leave(&pool, &party) == BB_OK && bb_shared_pool_leave(&far, &stranger) == BB_OK);
+    EXPECT(bb_shared_pool_destroy(&pool) == BB_OK && bb_shared_pool_destroy(&far) == BB_OK);
+
+    bb_shared_bump bump = BB_EMPTY, other = BB_EMPTY;
+    bb_bump_party taker = BB_EMPTY;
+    EXPECT(bb_shared_bump_init(&bump, 4096, 64, 1) == BB_OK && bb_shared_bump_init(&other, 8192, 64, 1) == BB_OK);
+    EXPECT(bb_shared_bump_join(&bump, &taker) == BB_OK && bb_shared_bump_leave(&other, &taker) == BB_OTHER_POOL);
+    EXPECT(bb_shared_bump_leave(&bump, &taker) == BB_OK && bb_shared_bump_destroy(&bump) == BB_OK);
+    EXPECT(bb_shared_bump_destroy(&other) == BB_OK);
+}
+
 // A bucket goes from one party to another, and each refusal comes by its first cause.
 static void run_detached(void) {
     bb_shared_pool pool = BB_EMPTY;
@@ -498,13 +533,13 @@ static void run_detached(void) {
     bb_detached detached = BB_EMPTY, other = BB_EMPTY;
     EXPECT(bb_pool_party_detach(&parties[0], 4096, 65, &detached) == BB_UNINITIALIZED);
     EXPECT(refused(bb_pool_party_attach(&parties[0], &detached), BB_UNINITIALIZED));
-    EXPECT(has_none(bb_detached_is_full(&detached), BB_UNINITIALIZED));
+    EXPECT(has_none(bb_detached_len(&detached), BB_UNINITIALIZED));
     EXPECT(bb_shared_pool_init(&pool, 64, 8, 4096, 128, 2) == BB_OK);
     EXPECT(bb_shared_pool_join(&pool, &parties[0]) == BB_OK && bb_shared_pool_join(&pool, &parties[1]) == BB_OK);
     EXPECT(bb_pool_party_detach(&parties[0], 4096, 65, &detached) == BB_UNINITIALIZED);
     EXPECT(refused(bb_pool_party_attach(&parties[0], &detached), BB_UNINITIALIZED));
     EXPECT(bb_detached_init(&detached) == BB_OK && bb_detached_init(&detached) == BB_ALREADY_INITIALIZED);
-    EXPECT(bb_detached_init(&other) == BB_OK && is(bb_detached_is_full(&detached), 0));
+    EXPECT(bb_detached_init(&other) == BB_OK && has_none(bb_detached_len(&detached), BB_DETACHED_EMPTY));
     EXPECT(refused(bb_pool_party_attach(&parties[0], &detached), BB_DETACHED_EMPTY));
 
     requests = 0;
@@ -513,8 +548,8 @@ static void run_detached(void) {
     EXPECT(bb_pool_party_detach(&parties[0], sent.place + 1, 65, &detached) == BB_NOT_HELD);
     EXPECT(bb_pool_party_detach(&parties[1], sent.place, 65, &detached) == BB_NOT_HELD);
     EXPECT(bb_pool_party_detach(&parties[0], sent.place, 65, &detached) == BB_SIZE_TOO_LARGE);
-    EXPECT(is(bb_detached_is_full(&detached), 0) && same(of_pool_party(&parties[0]).held_buckets, 2));
-    EXPECT(bb_pool_party_detach(&parties[0], sent.place, 40, &detached) == BB_OK && is(bb_detached_is_full(&detached), 1));
+    EXPECT(has_none(bb_detached_len(&detached), BB_DETACHED_EMPTY) && same(of_pool_party(&parties[0]).held_buckets, 2));
+    EXPECT(bb_pool_party_detach(&parties[0], sent.place, 40, &detached) == BB_OK && is(bb_detached_len(&detached), 40));
     EXPECT(is(bb_pool_party_holds(&parties[0], sent.place), 0) && same(of_pool_party(&parties[0]).held_buckets, 1));
     EXPECT(bb_pool_party_deallocate(&parties[0], sent.place) == BB_NOT_HELD);
     EXPECT(bb_pool_party_detach(&parties[0], sent.place, 40, &other) == BB_NOT_HELD);
@@ -525,22 +560,22 @@ static void run_detached(void) {
     EXPECT(refused(bb_pool_party_allocate(&parties[1], 8, 8), BB_OUT_OF_MEMORY));
     // A `bb_detached` may be moved, and serves again.
     bb_detached moved = detached;
-    EXPECT(given(bb_pool_party_attach(&parties[1], &moved), sent.place, 40) && is(bb_detached_is_full(&moved), 0));
+    EXPECT(given(bb_pool_party_attach(&parties[1], &moved), sent.place) && has_none(bb_detached_len(&moved), BB_DETACHED_EMPTY));
     EXPECT(is(bb_pool_party_holds(&parties[1], sent.place), 1) && same(of_pool_party(&parties[1]).held_buckets, 1));
     EXPECT(refused(bb_pool_party_attach(&parties[1], &moved), BB_DETACHED_EMPTY));
     EXPECT(bb_pool_party_deallocate(&parties[0], sent.place) == BB_NOT_HELD);
     EXPECT(bb_pool_party_deallocate(&parties[1], sent.place) == BB_OK);
     // A party may attach what it detached, with another length, and 0 is one.
     EXPECT(bb_pool_party_detach(&parties[0], kept.place, 0, &moved) == BB_OK);
-    EXPECT(given(bb_pool_party_attach(&parties[0], &moved), kept.place, 0));
+    EXPECT(given(bb_pool_party_attach(&parties[0], &moved), kept.place));
     EXPECT(is(bb_pool_party_holds(&parties[0], kept.place), 1));
 
     // A party that leaves gives back what it attached, and not what it detached.
     EXPECT(bb_pool_party_detach(&parties[0], kept.place, 64, &moved) == BB_OK);
     EXPECT(bb_shared_pool_leave(&pool, &parties[0]) == BB_OK);
-    EXPECT(given(bb_pool_party_allocate(&parties[1], 8, 8), sent.place, 8));
+    EXPECT(given(bb_pool_party_allocate(&parties[1], 8, 8), sent.place));
     EXPECT(refused(bb_pool_party_allocate(&parties[1], 8, 8), BB_OUT_OF_MEMORY));
-    EXPECT(given(bb_pool_party_attach(&parties[1], &moved), kept.place, 64) && bb_shared_pool_leave(&pool, &parties[1]) == BB_OK);
+    EXPECT(given(bb_pool_party_attach(&parties[1], &moved), kept.place) && bb_shared_pool_leave(&pool, &parties[1]) == BB_OK);
     EXPECT(requests == 0 && bb_shared_pool_join(&pool, &parties[0]) == BB_OK);
     sent = bb_pool_party_allocate(&parties[0], 48, 8);
     kept = bb_pool_party_allocate(&parties[0], 48, 8);
@@ -550,12 +585,12 @@ static void run_detached(void) {
     EXPECT(bb_pool_party_detach(&parties[0], sent.place, 48, &moved) == BB_OK && bb_detached_destroy(&moved) == BB_OK);
     EXPECT(bb_detached_destroy(&moved) == BB_UNINITIALIZED && bb_shared_pool_leave(&pool, &parties[0]) == BB_OK);
     EXPECT(bb_shared_pool_join(&pool, &parties[0]) == BB_OK);
-    EXPECT(given(bb_pool_party_allocate(&parties[0], 48, 8), kept.place, 48));
+    EXPECT(given(bb_pool_party_allocate(&parties[0], 48, 8), kept.place));
     EXPECT(refused(bb_pool_party_allocate(&parties[0], 48, 8), BB_OUT_OF_MEMORY));
     // A `bb_detached` keeps no pool: it is freed behind the pool of which the bucket in it was.
     EXPECT(bb_pool_party_detach(&parties[0], kept.place, 48, &other) == BB_OK);
     EXPECT(bb_shared_pool_destroy(&pool) == BB_OK && bb_pool_party_destroy(&parties[0]) == BB_OK);
-    EXPECT(is(bb_detached_is_full(&other), 1) && bb_detached_destroy(&other) == BB_OK);
+    EXPECT(is(bb_detached_len(&other), 48) && bb_detached_destroy(&other) == BB_OK);
 }
 
 // In a pool of one party nothing is detached, whatever the place.
@@ -564,10 +599,10 @@ static void run_one_party(void) {
     bb_pool_party party = BB_EMPTY;
     bb_detached detached = BB_EMPTY;
     EXPECT(bb_shared_pool_init(&pool, 64, 8, 4096, 64, 1) == BB_OK && bb_shared_pool_join(&pool, &party) == BB_OK);
-    EXPECT(bb_detached_init(&detached) == BB_OK && given(bb_pool_party_allocate(&party, 64, 8), 4096, 64));
+    EXPECT(bb_detached_init(&detached) == BB_OK && given(bb_pool_party_allocate(&party, 64, 8), 4096));
     EXPECT(bb_pool_party_detach(&party, 4096, 64, &detached) == BB_ONE_PARTY);
     EXPECT(bb_pool_party_detach(&party, 4097, 65, &detached) == BB_ONE_PARTY);
-    EXPECT(is(bb_pool_party_holds(&party, 4096), 1) && is(bb_detached_is_full(&detached), 0));
+    EXPECT(is(bb_pool_party_holds(&party, 4096), 1) && has_none(bb_detached_len(&detached), BB_DETACHED_EMPTY));
     EXPECT(refused(bb_pool_party_attach(&party, &detached), BB_DETACHED_EMPTY));
     EXPECT(bb_shared_pool_destroy(&pool) == BB_OK && bb_pool_party_destroy(&party) == BB_OK);
     EXPECT(bb_detached_destroy(&detached) == BB_OK);
@@ -592,6 +627,7 @@ int main(void) {
     run_refused_memory();
     run_reset();
     run_parties_come_and_go();
+    run_others();
     run_detached();
     run_one_party();
     puts("calls: each is answered as it has to be");

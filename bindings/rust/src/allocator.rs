@@ -199,13 +199,15 @@ macro_rules! figures {
     };
 }
 
-/// Writes the calls of what knows a chunk by its place, and has `try_deallocate`.
+/// Writes the calls of what knows a chunk by its place, and has `try_deallocate`. `$whole` makes the chunk of its place.
 macro_rules! base {
-    ($name:ident: $allocate:ident) => {
+    ($name:ident: $allocate:ident $($whole:ident)?) => {
         impl BaseAllocator for $name<'_> {
             fn allocate(&self, layout: Layout) -> Result<NonNull<[u8]>, AllocationError> {
                 // SAFETY: the function is of this kind.
-                unsafe { self.owned.allocate(ffi::$allocate, layout) }
+                let chunk = unsafe { self.owned.allocate(ffi::$allocate, layout)? };
+                $(let chunk = self.$whole(chunk.cast());)?
+                Ok(chunk)
             }
 
             unsafe fn deallocate(&self, ptr: NonNull<u8>, _layout: Layout) {
@@ -231,7 +233,8 @@ macro_rules! buckets {
 
             fn holds(&self, ptr: NonNull<u8>) -> bool {
                 // SAFETY: as above.
-                is_so(unsafe { ffi::$holds(self.owned.handle(), ptr.as_ptr().cast()) })
+                let told = unsafe { ffi::$holds(self.owned.handle(), ptr.as_ptr().cast()) };
+                number_if(ffi::OK, told) == Some(1)
             }
 
             unsafe fn try_deallocate(&self, ptr: NonNull<u8>) -> Result<(), DeallocationError> {

@@ -22,10 +22,7 @@ macro_rules! error {
 
             #[allow(dead_code)]
             pub(crate) fn unless_ok(code: u32) -> Result<(), $name> {
-                match code {
-                    ffi::OK => Ok(()),
-                    _ => Err($name::of(code)),
-                }
+                if code == ffi::OK { Ok(()) } else { Err($name::of(code)) }
             }
         }
 

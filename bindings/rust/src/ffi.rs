@@ -13,12 +13,11 @@ impl Handle {
     pub const EMPTY: Handle = Handle { at: ptr::null_mut(), made: false };
 }
 
-/// A code, and with [`OK`] the chunk that was given.
+/// A code, and with [`OK`] the place of the chunk that was given.
 #[repr(C)]
 pub struct Answer {
     pub code: u32,
     pub place: *mut c_void,
-    pub len: usize,
 }
 
 /// A code, and with [`OK`] the number that was asked for.
@@ -152,7 +151,6 @@ functions! {
     bb_pool_party_number_at(*const c_void) -> Figure;
     bb_detached_init() -> u32;
     bb_detached_destroy() -> u32;
-    bb_detached_is_full() -> Figure;
     bb_pool_party_detach(*const c_void, usize, *mut Handle) -> u32;
     bb_pool_party_attach(*mut Handle) -> Answer;
 }

@@ -73,16 +73,15 @@ impl<'region> Owned<'region> {
         NonNull::new(place).unwrap_or_else(|| no_such_answer(ffi::OK))
     }
 
-    /// Returns the chunk that was given, by the pointer with which the region was handed in.
-    pub fn chunk(&self, answer: ffi::Answer) -> Result<NonNull<[u8]>, u32> {
-        if answer.code != ffi::OK {
-            return Err(answer.code);
+    /// Returns where the chunk is that was given, by the pointer with which the region was handed in.
+    pub fn place(&self, answer: ffi::Answer) -> Result<NonNull<u8>, u32> {
+        match answer.code {
+            ffi::OK => Ok(self.at(answer.place.addr())),
+            code => Err(code),
         }
-        let place = self.at(answer.place.addr());
-        Ok(NonNull::slice_from_raw_parts(place, answer.len))
     }
 
-    /// Asks for a chunk.
+    /// Asks for a chunk of the layout's size.
     /// # Safety
     /// `allocate` is of this kind.
     pub unsafe fn allocate(
@@ -92,7 +91,8 @@ impl<'region> Owned<'region> {
     ) -> Result<NonNull<[u8]>, AllocationError> {
         // SAFETY: the function is of this kind, and no other call has the handle.
         let answer = unsafe { allocate(self.handle(), layout.size(), layout.align()) };
-        self.chunk(answer).map_err(AllocationError::of)
+        let place = self.place(answer).map_err(AllocationError::of)?;
+        Ok(NonNull::slice_from_raw_parts(place, layout.size()))
     }
 }
 
@@ -201,11 +201,6 @@ pub fn number_if(none: u32, figure: ffi::Figure) -> Option<usize> {
         code if code == none => None,
         code => no_such_answer(code),
     }
-}
-
-/// Returns whether a question is answered by 1.
-pub fn is_so(figure: ffi::Figure) -> bool {
-    number_if(ffi::OK, figure) == Some(1)
 }
 
 /// Panics on an answer that the call doesn't have.

@@ -3,7 +3,7 @@ use crate::allocator::{Allocator, Pool, base, buckets, figures, over_region, sho
 use crate::error::{
     AllocationError, AllocationGrowError, AllocationShrinkError, DeallocationError, InitError,
 };
-use crate::owned::{Memory, Owned, expect_ok, is_so, number_if};
+use crate::owned::{Memory, Owned, expect_ok, number_if};
 use crate::{BaseAllocator, ffi};
 use core::alloc::Layout;
 use core::fmt;
@@ -97,13 +97,14 @@ figures! {
     OneChunkAllocator: OneChunkInfo by bb_one_chunk_info: start_address: usize, size: usize, has_chunk_available: bool
 }
 
-base! { OneChunkAllocator: bb_one_chunk_allocate }
+base! { OneChunkAllocator: bb_one_chunk_allocate whole }
 
 impl OneChunkAllocator<'_> {
     /// Returns whether the chunk that is out begins here.
     pub fn holds(&self, ptr: NonNull<u8>) -> bool {
         // SAFETY: the function is of this kind, and no other call has the handle, here and below.
-        is_so(unsafe { ffi::bb_one_chunk_holds(self.owned.handle(), ptr.as_ptr().cast()) })
+        let told = unsafe { ffi::bb_one_chunk_holds(self.owned.handle(), ptr.as_ptr().cast()) };
+        number_if(ffi::OK, told) == Some(1)
     }
 
     /// Gives back the chunk that begins here, and refuses where none does.
@@ -118,16 +119,22 @@ impl OneChunkAllocator<'_> {
         DeallocationError::unless_ok(code)
     }
 
+    /// Returns the chunk that begins here, up to the region's end.
+    fn whole(&self, place: NonNull<u8>) -> NonNull<[u8]> {
+        let end = self.start_address() + self.size();
+        NonNull::slice_from_raw_parts(place, end - place.addr().get())
+    }
+
     fn resize(
         &self,
         resize: ffi::Resize,
         place: NonNull<u8>,
         old: Layout,
         new: Layout,
-    ) -> Result<NonNull<[u8]>, u32> {
+    ) -> Result<NonNull<u8>, u32> {
         let (handle, place) = (self.owned.handle(), place.as_ptr().cast());
         // SAFETY: as of `holds`: `grow` and `shrink` hand in functions of this kind.
-        self.owned.chunk(unsafe {
+        self.owned.place(unsafe {
             resize(handle, place, old.size(), old.align(), new.size(), new.align())
         })
     }
@@ -141,6 +148,7 @@ impl Allocator for OneChunkAllocator<'_> {
         new_layout: Layout,
     ) -> Result<NonNull<[u8]>, AllocationGrowError> {
         self.resize(ffi::bb_one_chunk_grow, ptr, old_layout, new_layout)
+            .map(|place| self.whole(place))
             .map_err(AllocationGrowError::of)
     }
 
@@ -151,6 +159,7 @@ impl Allocator for OneChunkAllocator<'_> {
         new_layout: Layout,
     ) -> Result<NonNull<[u8]>, AllocationShrinkError> {
         self.resize(ffi::bb_one_chunk_shrink, ptr, old_layout, new_layout)
+            .map(|place| NonNull::slice_from_raw_parts(place, new_layout.size()))
             .map_err(AllocationShrinkError::of)
     }
 }

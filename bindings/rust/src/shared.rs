@@ -4,9 +4,7 @@ use crate::error::{
     AllocationError, DeallocationError, DetachError, InitError, JoinError, ResetError,
     no_such_answer,
 };
-use crate::owned::{
-    Common, Joining, Member, Memory, Owned, Shared, expect_ok, is_so, lock, number_if,
-};
+use crate::owned::{Common, Joining, Member, Memory, Owned, Shared, expect_ok, lock, number_if};
 use crate::{BaseAllocator, ffi};
 use core::alloc::Layout;
 use core::fmt;
@@ -77,8 +75,7 @@ impl fmt::Debug for SharedBumpAllocator<'_> {
     }
 }
 
-/// A party of a [`SharedBumpAllocator`], for one thread at a time. It refuses size 0. Dropped, it leaves; the chunks that it took
-/// stay used.
+/// A party of a [`SharedBumpAllocator`], for one thread at a time, which leaves when it is dropped. It refuses size 0.
 pub struct BumpParty<'region> {
     pub(crate) owned: Member<'region>,
 }
@@ -226,8 +223,8 @@ buckets! {
 /// ```
 pub struct DetachedBucket<'region> {
     owned: Owned<'static>,
-    /// The pool of which the bucket is that is in it.
-    of: Option<Shared<'region>>,
+    /// The pool of which the bucket is that is in it, and the length of its chunk.
+    of: Option<(Shared<'region>, usize)>,
 }
 
 impl DetachedBucket<'_> {
@@ -244,15 +241,15 @@ impl DetachedBucket<'_> {
 
     /// Returns whether a bucket is in it.
     pub fn is_full(&self) -> bool {
-        // SAFETY: the function is of this kind, and no other call has the handle.
-        is_so(unsafe { ffi::bb_detached_is_full(self.owned.handle()) })
+        self.of.is_some()
     }
 
-    /// Returns the chunk that is attached by a party of the bucket's pool.
-    fn attach_by(&mut self, party: &Owned<'_>) -> NonNull<[u8]> {
+    /// Returns the chunk of `len` bytes that is attached by a party of the bucket's pool.
+    fn attach_by(&mut self, party: &Owned<'_>, len: usize) -> NonNull<[u8]> {
         // SAFETY: both handles are of their kinds, no other call has one of them, and the bucket is of the party's pool.
         let answer = unsafe { ffi::bb_pool_party_attach(party.handle(), self.owned.handle()) };
-        party.chunk(answer).unwrap_or_else(|code| no_such_answer(code))
+        let place = party.place(answer).unwrap_or_else(|code| no_such_answer(code));
+        NonNull::slice_from_raw_parts(place, len)
     }
 }
 
@@ -264,9 +261,9 @@ impl fmt::Debug for DetachedBucket<'_> {
 
 impl Drop for DetachedBucket<'_> {
     fn drop(&mut self) {
-        let Some(of) = self.of.take() else { return };
+        let Some((of, len)) = self.of.take() else { return };
         if let Some(keeper) = &lock(&of).keeper {
-            let place = self.attach_by(keeper).cast::<u8>().as_ptr().cast();
+            let place = self.attach_by(keeper, len).cast::<u8>().as_ptr().cast();
             // SAFETY: the function is of this kind; and no party holds the bucket, so nobody uses its chunk any more.
             expect_ok(unsafe { ffi::bb_pool_party_deallocate(keeper.handle(), place) });
         }
@@ -290,7 +287,7 @@ impl<'region> PoolParty<'region> {
         // SAFETY: both handles are of their kinds, no other call has one of them, and they are two.
         let code = unsafe { ffi::bb_pool_party_detach(party, place, len, detached.owned.handle()) };
         DetachError::unless_ok(code)?;
-        detached.of = Some(Arc::clone(&self.owned.of));
+        detached.of = Some((Arc::clone(&self.owned.of), len));
         Ok(())
     }
 
@@ -301,9 +298,9 @@ impl<'region> PoolParty<'region> {
     ///
     /// Where the bucket is another pool's, which stays in `detached`.
     pub fn attach(&self, detached: &mut DetachedBucket<'region>) -> Option<NonNull<[u8]>> {
-        let pool = detached.of.as_ref()?;
+        let &(ref pool, len) = detached.of.as_ref()?;
         assert!(Arc::ptr_eq(pool, &self.owned.of), "the bucket is another pool's");
         detached.of = None;
-        Some(detached.attach_by(&self.owned))
+        Some(detached.attach_by(&self.owned, len))
     }
 }

@@ -1,6 +1,5 @@
 //! Rows of library calls. Almost all of them stand under `out_of_memory`: with ample memory they are rows as any other.
 mod checks;
-mod layers;
 mod marks;
 mod out_of_memory;
 mod owner;

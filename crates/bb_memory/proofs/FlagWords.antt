@@ -1,24 +1,13 @@
 -- Each bucket of a shared pool has a word of its own, and what a step on that word makes of the flags.
-use Rattle.std.proofs.Common.{◌≡◌, ℕ, zero, suc, ◌<◌, List, [], ◌∷◌, set, get_or, replicate, Bool, true, false, Some, Option}
+use Rattle.std.proofs.Common.{◌≡◌, ℕ, zero, suc, List, [], ◌∷◌, set, get_or, replicate, Bool, true, false, Some, Option}
 use Rattle.std.proofs.Common.{refl, sym, ap, ◌∙◌, subst, arith}
 use Rattle.std.specs.Prelude.{slice_get, slice_set, unwrap_or}
 use Rattle.std.proofs.lemmas.Option.{slice_get_within, unwrap_or-slice_get}
 use Rattle.std.proofs.lemmas.List.{length-replicate}
 use native.Mathlib.Decide.{ℕ_discrete}
 use Rattle.atomic_table.specs.Table.{State, Me, Allows}
-use Rattle.bb_memory_base.proofs.SliceGets.{slice_get-replicate, slice_get-replicated, slice_get-set_other, slice_get-set_same}
+use Rattle.bb_memory_traits.proofs.SliceGets.{slice_get-replicate, slice_get-replicated, slice_get-set_other, slice_get-set_same}
 use Rattle.bb_memory.specs.SharedPoolRule.{HaveFlags, as_word, bucket_of, word_of, words_for, SeatView}
-
--- THE WORD OF A BUCKET
-
-pub back : (bucket : ℕ) → bucket_of (word_of bucket) ≡ bucket
-back bucket = omega arith
-
-apart : (one other : ℕ) → word_of one ≡ word_of other → one ≡ other
-apart one other same = sym (back one) ∙ ap bucket_of same ∙ back other
-
-pub within : (bucket buckets : ℕ) → bucket < buckets → word_of bucket < words_for buckets
-within bucket buckets below = omega arith
 
 -- WORDS AND FLAGS
 
@@ -39,7 +28,7 @@ changed words flags bucket was flag have at other its is = elim (ℕ_discrete ot
       ∙ ap (λ (f : Bool). Some (as_word f))
       (one_flag flag its (sym (slice_get-set_same flags bucket flag was at) ∙ sym there ∙ is))
   | no differ ↦
-      slice_get-set_other words (word_of bucket) (word_of other) (as_word flag) (λ both. differ (apart other bucket both))
+      slice_get-set_other words (word_of bucket) (word_of other) (as_word flag) (λ both. differ (omega arith))
       ∙ have other its (sym (slice_get-set_other flags bucket other flag differ) ∙ is)
 ]
   where
@@ -64,7 +53,7 @@ pub all_free : (buckets : ℕ) → HaveFlags (replicate (words_for buckets) 0) (
 all_free buckets bucket flag at =
     let here = slice_get_within (replicate buckets false) bucket flag at in
     let count = length-replicate buckets false in
-    slice_get-replicate (words_for buckets) (word_of bucket) 0 (within bucket buckets (omega arith))
+    slice_get-replicate (words_for buckets) (word_of bucket) 0 (omega arith)
     ∙ ap (λ (f : Bool). Some (as_word f)) (slice_get-replicated buckets bucket false flag at)
 
 -- STEPS AT THE WORD OF A BUCKET
@@ -75,5 +64,5 @@ pub at_word : (holds : State ℕ SeatView → Type 0) (slots seat bucket word : 
     Allows holds slots seat me (word_of bucket) becomes (tells bucket) →
     Allows holds slots seat me word becomes (tells (bucket_of word))
 at_word holds slots seat bucket word me becomes tells is allowed =
-    subst (λ (b : ℕ). Allows holds slots seat me word becomes (tells b)) (sym (ap bucket_of is ∙ back bucket))
+    subst (λ (b : ℕ). Allows holds slots seat me word becomes (tells b)) (omega arith)
     (subst (λ (w : ℕ). Allows holds slots seat me w becomes (tells bucket)) (sym is) allowed)

@@ -1,5 +1,6 @@
 mod FlagWords
 mod SharedPoolGatherings
+mod SharedPoolCaching
 mod SharedPoolDetaching
 mod SharedPoolHolds
 mod SharedPoolKeeps

@@ -12,9 +12,9 @@ use Rattle.bb_memory_base.specs.declared.steps.pool.PoolOutcome.TheVariants.{Los
 use Rattle.bb_memory_base.proofs.PoolHolders.{held_through}
 use Rattle.bb_memory_base.proofs.PoolSteps.{test_apart}
 use Rattle.bb_memory_base.proofs.SliceSets.{slice_get-set_other, slice_get-set_same}
-use Rattle.bb_memory_core.specs.Seats.{head_of, tail_of, times_detached, times_of}
+use Rattle.bb_memory_bump.specs.Seats.{head_of, tail_of, times_detached, times_of}
 use Rattle.bb_memory.specs.SharedPoolRule.{AreDetached, SeatView}
-use Rattle.bb_memory_core.proofs.Seatings.{one_apart, one_same, total-at, total-push, total-set}
+use Rattle.bb_memory_bump.proofs.Seatings.{one_apart, one_same, total-at, total-push, total-set}
 use Rattle.bb_memory.proofs.SharedPoolTries.{held-append}
 
 -- HOW OFTEN A BUCKET STANDS IN VIEWS

@@ -9,12 +9,12 @@ use Rattle.bb_memory_base.specs.declared.steps.pool.PoolStep.TheVariants.{Detach
 use Rattle.bb_memory_base.specs.declared.steps.pool.PoolOutcome.TheVariants.{Detaches, Attaches}
 use Rattle.bb_memory_base.proofs.PoolLogFacts.{interleaved_log}
 use Rattle.bb_memory_base.proofs.PoolLogSteps.{detach_agrees, detached_after, attach_agrees}
-use Rattle.bb_memory_base.proofs.SliceGets.{length-set_at, slice_get-set_same}
+use Rattle.bb_memory_traits.proofs.SliceGets.{length-set_at, slice_get-set_same}
 use Rattle.bb_memory.specs.SharedPoolRule.{HaveFlags, word_of, SeatView, WordsAndLogsAgree}
-use Rattle.bb_memory_core.specs.Seats.{alone, alone_with, number_of, view_log}
-use Rattle.bb_memory.specs.SharedPoolSteps.{HasAttachedAt, TellsDetach, detaches, attaches}
+use Rattle.bb_memory_bump.specs.Seats.{alone, alone_with, number_of, view_log}
+use Rattle.bb_memory.specs.SharedPoolRule.{HasAttachedAt, TellsDetach, detaches, attaches}
 use Rattle.bb_memory.proofs.FlagWords.{at_word}
-use Rattle.bb_memory_core.proofs.Seatings.{seated_with}
+use Rattle.bb_memory_bump.proofs.Seatings.{seated_with}
 use Rattle.bb_memory.proofs.SharedPoolMeetings.{same_word}
 use Rattle.bb_memory.proofs.SharedPoolDetached.{no_hold_left, no_hold_other, still_detached, fewer_detached_one, more_detached}
 use Rattle.bb_memory.proofs.SharedPoolDetached.{detached_of_seat}

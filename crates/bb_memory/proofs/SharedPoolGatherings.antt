@@ -12,12 +12,12 @@ use Rattle.bb_memory_base.specs.PoolLogs.{PoolLog, HasLog, IsHeldAfter}
 use Rattle.bb_memory_base.proofs.PoolFlags.{flag_from_taken}
 use Rattle.bb_memory_base.proofs.PoolLogFacts.{held_is_taken, taken_is_held_whole}
 use Rattle.bb_memory_base.proofs.PoolLogSteps.{opening_agrees}
-use Rattle.bb_memory_core.specs.Seats.{both_of, standing_for, times_in}
+use Rattle.bb_memory_bump.specs.Seats.{both_of, standing_for, times_in}
 use Rattle.bb_memory.specs.SharedPool.{HaveMet, IsHeldByOne, IsSharedScene, PoolParty, SharedPool}
 use Rattle.bb_memory.specs.SharedPoolRule.{IsPartySeat, NumberedLog, SeatView, numbered_of, party_in}
-use Rattle.bb_memory.specs.SharedPoolSteps.{TellsMeeting}
-use Rattle.bb_memory_core.proofs.PartyNumbers.{all_there, has_number, logs_had, numbers_differ, owner}
-use Rattle.bb_memory_core.proofs.Contained.{any_contained}
+use Rattle.bb_memory.specs.SharedPoolRule.{TellsMeeting}
+use Rattle.bb_memory_bump.proofs.PartyNumbers.{all_there, has_number, logs_had, numbers_differ, owner}
+use Rattle.bb_memory_bump.proofs.Contained.{any_contained}
 
 -- GATHERING
 

@@ -4,8 +4,8 @@ use Rattle.std.proofs.Common.{ap, subst, add-one, append_assoc, arith, inl, inr,
 use Rattle.std.specs.Prelude.{filter, if◌then◌else◌, slice_get}
 use Rattle.std.proofs.lemmas.Bool.{cases_Bool, cases_lt, le-ltb}
 use Rattle.std.proofs.lemmas.Option.{slice_get_within}
-use Rattle.bb_memory_base.specs.Chunk.{AreApart, Chunk}
-use Rattle.bb_memory_base.specs.PoolObject.{PoolGeometry, IsPoolGeometry, bucket_place, IsHeld}
+use Rattle.bb_memory_traits.specs.Chunk.{AreApart, Chunk}
+use Rattle.bb_memory_traits.specs.PoolObject.{PoolGeometry, IsPoolGeometry, bucket_place, IsHeld}
 use Rattle.bb_memory_base.specs.PoolMachine.{PoolScene, IsHolder, left_by}
 use Rattle.bb_memory_base.specs.PoolLogs.{PoolEntry, PoolLog, entries_by, entry_of, history_of, is_by, log_of, IsPoolRun}
 use Rattle.bb_memory_base.specs.PoolLogs.{IsRefusedAt, MissesAt, IsHeldAfter, loss_at}
@@ -14,8 +14,8 @@ use Rattle.bb_memory_base.specs.declared.steps.pool.PoolStep.{PoolStep}
 use Rattle.bb_memory_base.specs.declared.steps.pool.PoolStep.TheVariants.{Try, TryAt}
 use Rattle.bb_memory_base.specs.declared.steps.pool.PoolOutcome.{PoolOutcome}
 use Rattle.bb_memory_base.specs.declared.steps.pool.PoolOutcome.TheVariants.{Loses, Misses, RefusedAtLoss}
-use Rattle.bb_memory_base.specs.declared.layout.Layout.{Layout}
-use Rattle.bb_memory_base.proofs.PoolGeometries.{bucket_place-after, stride-above}
+use Rattle.bb_memory_traits.specs.declared.layout.Layout.{Layout}
+use Rattle.bb_memory_traits.proofs.PoolGeometries.{bucket_place-after, stride-above}
 use Rattle.bb_memory_base.proofs.PoolHolders.{holder_in_log, one_holder}
 use Rattle.bb_memory_base.proofs.PoolPasses.{missed_is_held, refused_found_held}
 use Rattle.bb_memory_base.proofs.PoolRuns.{taken_is_held}

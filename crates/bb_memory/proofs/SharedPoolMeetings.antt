@@ -7,10 +7,10 @@ use Rattle.atomic_table.proofs.Lists.{set_again}
 use Rattle.bb_memory_base.specs.PoolMachine.{PoolScene}
 use Rattle.bb_memory_base.specs.PoolLogs.{PoolLog}
 use Rattle.bb_memory_base.proofs.PoolLogFacts.{logs_apart, interleaved_logs}
-use Rattle.bb_memory_core.specs.Seats.{numbered, standing_for}
+use Rattle.bb_memory_bump.specs.Seats.{numbered, standing_for}
 use Rattle.bb_memory.specs.SharedPoolRule.{NumberedLog, SeatView, WordsAndLogsAgree}
-use Rattle.bb_memory.specs.SharedPoolSteps.{TellsMeeting, TellsTwo, meets}
-use Rattle.bb_memory_core.proofs.Seatings.{once_in, two_parties}
+use Rattle.bb_memory.specs.SharedPoolRule.{TellsMeeting, TellsTwo, meets}
+use Rattle.bb_memory_bump.proofs.Seatings.{once_in, two_parties}
 
 -- what the rule tells a seat
 told_by : (scene : PoolScene) (state : State ℕ SeatView) (rule : WordsAndLogsAgree scene state) (seat : ℕ)

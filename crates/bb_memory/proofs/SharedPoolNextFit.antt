@@ -1,4 +1,4 @@
--- How a search goes on: from its first exchange to the step that ends it.
+-- How a search goes on: from its first probe to the step that ends it.
 use Rattle.std.proofs.Common.{◌≡◌, ℕ, zero, suc, ◌+◌, ◌-◌, ◌<◌, ◌≤◌, ◌%◌, Bool, true, false, ◌++◌, append_assoc, append-nil}
 use Rattle.std.proofs.Common.{add-one, refl, sym, ap, ◌∙◌, subst, arith, Some, None, inl, inr}
 use Rattle.std.specs.Prelude.{◌==◌, if◌then◌else◌}
@@ -8,10 +8,10 @@ use borrow.Author.Count.{below_more}
 use Rattle.atomic_table.specs.Table.{Me}
 use Rattle.bb_memory_base.specs.PoolMachine.{PoolScene}
 use Rattle.bb_memory_base.specs.PoolLogs.{PoolLog, IsHeldAfter}
-use Rattle.bb_memory_core.specs.Seats.{number_of, view_log}
+use Rattle.bb_memory_bump.specs.Seats.{number_of, view_log}
 use Rattle.bb_memory.specs.SharedPoolNextFit.{probed, miss_at, misses, start_of, refused_search, taking_at, taking_search}
 use Rattle.bb_memory.specs.SharedPoolRule.{IsSeatOfIdle, SeatView}
-use Rattle.bb_memory.specs.SharedPoolSteps.{HasEnded, HasMissedAt, HasRefusedFrom, HasTakenAt, HasTakenFrom}
+use Rattle.bb_memory.specs.SharedPoolRule.{HasMissedAt, HasRefusedFrom, HasTakenAt, HasTakenFrom, IsInSearch}
 use Rattle.bb_memory.proofs.SharedPoolRequests.{HasAsked}
 use Rattle.bb_memory_base.proofs.PoolHolders.{held_through}
 use Rattle.bb_memory.proofs.SharedPoolTries.{held-append, hint-append, hint_through, test_below, test_not_below}
@@ -133,10 +133,11 @@ held_by_search buckets party first probe taken bucket log there =
 
 -- ONE SEARCH
 
--- a search under way: since it began, the seat's party has missed the buckets of the probes before this one
-pub record IsInSearch (scene : PoolScene) (number : ℕ) (log : PoolLog) (first probe : ℕ) (me : Me ℕ SeatView) : Type 0 where
-  pub ended : HasEnded scene number log (misses scene.geometry.buckets number first probe) me
-  pub held : scene.parties ≡ 1 → (earlier : ℕ) → earlier < probe → IsHeldAfter log (probed scene.geometry.buckets first earlier)
+-- the seat of an idle party, told by the seat's own number and log
+pub idle_where : (scene : PoolScene) (number : ℕ) (log : PoolLog) (me : Me ℕ SeatView) → IsSeatOfIdle scene number log me →
+    IsSeatOfIdle scene (number_of me.0) (view_log me.0) me
+idle_where scene number log me is = subst (λ (m : Me ℕ SeatView). IsSeatOfIdle scene (number_of m.0) (view_log m.0) me)
+    (sym is.seat.is) is
 
 module _ (scene : PoolScene) (number : ℕ) (log : PoolLog) (first : ℕ) where
   pub search_begins : (me : Me ℕ SeatView) → IsSeatOfIdle scene number log me → IsInSearch scene number log first 0 me

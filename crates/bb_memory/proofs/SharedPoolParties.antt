@@ -7,11 +7,11 @@ use Rattle.bb_memory_base.specs.PoolMachine.{PoolScene}
 use Rattle.bb_memory_base.specs.PoolLogs.{PoolEntry, PoolLog, entry_of, IsAllowed}
 use Rattle.bb_memory_base.specs.declared.steps.pool.PoolStep.TheVariants.{Detach}
 use Rattle.bb_memory_base.specs.declared.steps.pool.PoolOutcome.TheVariants.{Detaches}
-use Rattle.bb_memory_core.specs.Seats.{alone, number_of, view_log}
+use Rattle.bb_memory_bump.specs.Seats.{alone, number_of, view_log}
 use Rattle.bb_memory.specs.SharedPool.{IsParty, IsSharedScene, PoolParty, SharedPool, detach_entry, return_entry, with_entries}
 use Rattle.bb_memory.specs.SharedPoolNextFit.{hint_in, part_of}
 use Rattle.bb_memory.specs.SharedPoolRule.{IsDetachedAt, IsPartySeat, IsSeatOfIdle, SeatView, party_in, pool_in}
-use Rattle.bb_memory.specs.SharedPoolSteps.{HasEnded, HasDetachedAt, TellsReturn}
+use Rattle.bb_memory.specs.SharedPoolRule.{HasEnded, HasDetachedAt, TellsReturn}
 use Rattle.bb_memory.proofs.SharedPoolTries.{hint-append, hint_through, idle_after_one, idle_after_return}
 
 pub party_seat : (scene : PoolScene) (number hint : ℕ) (log : PoolLog) (me : Me ℕ SeatView) →

@@ -7,10 +7,10 @@ use Rattle.bb_memory_base.specs.PoolMachine.{PoolScene}
 use Rattle.bb_memory_base.specs.PoolLogs.{PoolEntry, PoolLog, entry_of, IsHeldAfter, loss_at, next_bucket, pass_in}
 use Rattle.bb_memory_base.specs.declared.steps.pool.PoolStep.TheVariants.{Try}
 use Rattle.bb_memory_base.specs.declared.steps.pool.PoolOutcome.TheVariants.{Takes}
-use Rattle.bb_memory_core.specs.Seats.{number_of, view_log}
+use Rattle.bb_memory_bump.specs.Seats.{number_of, view_log}
 use Rattle.bb_memory.specs.SharedPool.{AreAllHeldAfter, losses, refused_pass, taking_pass}
 use Rattle.bb_memory.specs.SharedPoolRule.{IsSeatOf, SeatView}
-use Rattle.bb_memory.specs.SharedPoolSteps.{HasRefused, HasTaken, TellsLoss, TellsTaking}
+use Rattle.bb_memory.specs.SharedPoolRule.{HasRefused, HasTaken, TellsLoss, TellsTaking}
 use Rattle.bb_memory.proofs.SharedPoolRequests.{HasAsked}
 use Rattle.bb_memory.proofs.SharedPoolTries.{held-taking, idle_after_refusal, idle_after_taking, next_after_losses, same_held}
 

@@ -1,27 +1,27 @@
--- What a request has of its party once its exchanges have ended, whichever buckets it tried.
+-- What a request has of its party once its tries have ended, whichever buckets it tried.
 use Rattle.std.proofs.Common.{◌≡◌, ◌≢◌, ℕ, ◌<◌, ◌≤◌, ◌++◌, Bool, true, false, refl, sym, ap, ◌∙◌, subst, arith, Option, Some}
 use Rattle.std.proofs.Common.{None}
 use Rattle.std.specs.Prelude.{MatchOption, Ok, Err, ◌==◌, if◌then◌else◌, ◌%◌}
 use Rattle.std.proofs.lemmas.Bool.Decides.{nat_tests}
 use Rattle.atomic_table.specs.Seated.{TableId}
 use Rattle.atomic_table.specs.Table.{Me}
-use Rattle.bb_memory_base.specs.Chunk.{IsInside}
-use Rattle.bb_memory_base.specs.PoolObject.{IsPoolGeometry}
+use Rattle.bb_memory_traits.specs.Chunk.{IsInside}
+use Rattle.bb_memory_traits.specs.PoolObject.{IsPoolGeometry}
 use Rattle.bb_memory_base.specs.PoolMachine.{PoolScene}
 use Rattle.bb_memory_base.specs.PoolLogs.{PoolLog, IsHeldAfter}
-use Rattle.bb_memory_base.specs.declared.layout.Layout.{Layout}
-use Rattle.bb_memory_base.specs.declared.allocator.AllocationError.{AllocationError}
+use Rattle.bb_memory_traits.specs.declared.layout.Layout.{Layout}
+use Rattle.bb_memory_traits.specs.declared.allocator.AllocationError.{AllocationError}
 use Rattle.bb_memory_base.proofs.PoolHolders.{held_through}
 use Rattle.bb_memory_base.proofs.PoolSteps.{test_apart}
-use Rattle.bb_memory_core.specs.Seats.{number_of, view_log}
+use Rattle.bb_memory_bump.specs.Seats.{number_of, view_log}
 use Rattle.bb_memory_core.proofs.Measures.{bucket-inside}
 use Rattle.bb_memory_core.proofs.PoolCalls.{bucket_place-multiple}
 use Rattle.bb_memory.specs.SharedPool.{AreAllHeldAfter, PoolParty, ServesNextFit, SharedPool, chunk_of, taken_bucket}
 use Rattle.bb_memory.specs.SharedPoolRule.{IsPartySeat, SeatView, party_in, pool_in}
-use Rattle.bb_memory.specs.SharedPoolSteps.{HasEnded}
+use Rattle.bb_memory.specs.SharedPoolRule.{HasEnded}
 use Rattle.bb_memory.proofs.SharedPoolParties.{is_party}
 
--- whether a bucket is held behind exchanges that took this one, or none
+-- whether a bucket is held behind tries that took this one, or none
 abbrev pub held_with : Option ℕ → ℕ → Bool → Bool
 held_with (Some taken) bucket held = if taken == bucket then true else held
 held_with None bucket held = held
@@ -40,7 +40,7 @@ other_with None bucket held apart is = is
 other_with (Some taken) bucket held apart is =
     sym (ap (λ (b : Bool). if b then true else held) (test_apart taken bucket (λ same. apart (sym same)))) ∙ is
 
--- exchanges that have ended: what they add to the log, what is held then, and what they found
+-- tries that have ended: what they add to the log, what is held then, and what they found
 pub record HasAsked (scene : PoolScene) (number : ℕ) (log added : PoolLog) (result : Option ℕ) (new : Me ℕ SeatView)
     : Type 0 where
   pub ended : HasEnded scene number log added new
@@ -49,7 +49,7 @@ pub record HasAsked (scene : PoolScene) (number : ℕ) (log added : PoolLog) (re
   pub found : MatchOption result (scene.parties ≡ 1 → AreAllHeldAfter log scene.geometry.buckets)
       (λ bucket. (bucket < scene.geometry.buckets) × (¬ IsHeldAfter log bucket))
 
--- a party of this pool, before its exchanges and behind them
+-- a party of this pool, before its tries and behind them
 module _ (pool : SharedPool) (table new_table : TableId) (me new : Me ℕ SeatView) (number hint next : ℕ) (added : PoolLog)
     (party : PoolParty) (layout : Layout) (is : IsPartySeat number hint me) (now : IsPartySeat number next new)
     (view_is : party_in table number me.0 ≡ party) (own : party.allocator ≡ pool) where

@@ -8,9 +8,9 @@ use Rattle.bb_memory_base.specs.PoolMachine.{PoolScene}
 use Rattle.bb_memory_base.specs.PoolLogs.{PoolEntry, PoolLog}
 use Rattle.bb_memory_base.proofs.PoolLogSteps.{opening_agrees}
 use Rattle.bb_memory.specs.SharedPoolRule.{HaveFlags, words_for, AreDetached, SeatView, WordsAndLogsAgree, all_parties, nobody}
-use Rattle.bb_memory_core.specs.Seats.{AreSeated, both_detached, both_of, first_detached, first_of, others_detached, others_of}
+use Rattle.bb_memory_bump.specs.Seats.{AreSeated, both_detached, both_of, first_detached, first_of, others_detached, others_of}
 use Rattle.bb_memory.proofs.FlagWords.{all_free}
-use Rattle.bb_memory_core.proofs.Seatings.{seated_joined, seated_opening, seated_others, seated_split}
+use Rattle.bb_memory_bump.proofs.Seatings.{seated_joined, seated_opening, seated_others, seated_split}
 use Rattle.bb_memory.proofs.SharedPoolDetached.{both_parts, times_of-parts, detached_joined, detached_split}
 
 -- the rule with other views
@@ -37,7 +37,8 @@ gives_first scene seat view state rule at = reseated scene state rule _
 pub gathers : (scene : PoolScene) (seat other : ℕ) (view guest : SeatView) →
     Joins (WordsAndLogsAgree scene) seat view other guest (both_of view guest) nobody
 gathers scene seat other view guest state rule at apart there = reseated scene state rule _
-    (seated_joined scene.parties rule.logs state.views seat view other guest view.scene nobody.scene [] rule.seated at apart there)
+    (seated_joined scene.parties rule.logs state.views seat view other guest view.scene nobody.scene []
+    rule.seated at apart there)
     (detached_joined rule.flags rule.logs state.views seat other view guest (both_of view guest) nobody refl
     (λ bucket. omega arith) rule.detached at there)
 

@@ -5,12 +5,12 @@ use Rattle.std.specs.Prelude.{◌↔◌, Any, Contains, nat_lt, slice_get, if◌
 use Rattle.std.specs.List.{All}
 use Rattle.std.proofs.lemmas.Option.{slice_get_within}
 use Rattle.std.proofs.lemmas.List.Elements.{All-append, All-cons, All-contains, All-contains_itself, All-nil, All-weaker}
-use Rattle.bb_memory_base.specs.Chunk.{Chunk}
-use Rattle.bb_memory_base.specs.PoolObject.{IsHeld}
+use Rattle.bb_memory_traits.specs.Chunk.{Chunk}
+use Rattle.bb_memory_traits.specs.PoolObject.{IsHeld}
 use Rattle.bb_memory_base.specs.PoolMachine.{IsDetached, PoolScene, left_by, opening_state, pool_step}
 use Rattle.bb_memory_base.specs.PoolLogs.{IsPoolRun, PoolEntry, PoolLog, entry_of, history_of, is_by, log_of, pool_history}
 use Rattle.bb_memory_base.specs.PoolLogs.{AllAllowed, HasLog, IsHeldAfter, loss_at}
-use Rattle.bb_memory_base.specs.declared.layout.Layout.{Layout}
+use Rattle.bb_memory_traits.specs.declared.layout.Layout.{Layout}
 use Rattle.bb_memory_base.specs.declared.steps.pool.PoolStep.{PoolStep}
 use Rattle.bb_memory_base.specs.declared.steps.pool.PoolStep.TheVariants.{Try, GiveBack, TryAt, Detach, Attach}
 use Rattle.bb_memory_base.specs.declared.steps.pool.PoolOutcome.{PoolOutcome}
@@ -23,7 +23,7 @@ use Rattle.bb_memory_base.proofs.PoolSteps.{test_same}
 use Rattle.bb_memory_base.proofs.PoolDetached.{was_detached_before}
 use Rattle.bb_memory.specs.SharedPool.{HasTaker, HaveMet, WasDetachedByOne, IsHeldByOne, IsHeldOrDetached, IsSharedScene}
 use Rattle.bb_memory.specs.SharedPool.{IsTaking, PoolParty, TookOne, losses, refused_pass}
-use Rattle.bb_memory_core.proofs.Contained.{any_contained, contains-first, contains_at, stands_in_log}
+use Rattle.bb_memory_bump.proofs.Contained.{any_contained, contains-first, contains_at, stands_in_log}
 
 module _ (scene : PoolScene) (parties : List PoolParty) (met : HaveMet scene parties) where
   abbrev steps : List PoolStep
@@ -71,7 +71,8 @@ module _ (scene : PoolScene) (parties : List PoolParty) (met : HaveMet scene par
   numbered : (entry : PoolEntry) (number : ℕ) → length parties ≡ scene.parties → Contains history entry →
       is_by number entry.step ≡ true → Any (λ party. Contains party.log entry) parties
   numbered entry number all there by =
-      stands_in_log (λ (party : PoolParty). party.number) (λ party. party.log) (λ n other. is_by n other.step) history scene.parties
+      stands_in_log (λ (party : PoolParty). party.number) (λ party. party.log) (λ n other. is_by n other.step)
+      history scene.parties
       parties (met.1.whole all).0 met_logged (λ n past. nobody_else scene steps n past met.1.agree.allowed) entry number there by
 
   owned : (step : PoolStep) (outcome : PoolOutcome) → length parties ≡ scene.parties →

@@ -3,16 +3,16 @@
 use Rattle.std.specs.Prelude.{◌≡◌, ◌≢◌, ℕ, zero, suc, ◌<◌, ◌≤◌, List, [], ◌∷◌, ◌++◌, None, Result, Ok, Err, ◌+◌, take, ◌↔◌, ◌⊎◌}
 use Rattle.std.specs.Prelude.{◌%◌, All, Any, Bool, true, Contains, IfOk, IsErr, OnErr, Some, length, map, slice_get}
 use Rattle.atomic_table.specs.Seated.{TableId}
-use Rattle.bb_memory_base.specs.Chunk.{Chunk, IsInside}
-use Rattle.bb_memory_base.specs.PoolObject.{PoolGeometry, IsPoolGeometry, bucket_place, IsWithin}
+use Rattle.bb_memory_traits.specs.Chunk.{Chunk, IsInside}
+use Rattle.bb_memory_traits.specs.PoolObject.{PoolGeometry, IsPoolGeometry, bucket_place, IsWithin}
 use Rattle.bb_memory_base.specs.PoolMachine.{IsDetached, PoolScene, left_by}
 use Rattle.bb_memory_base.specs.PoolLogs.{PoolLog, entries_by, entry_of, history_of, FoundHeld, IsPoolRun, IsRefusedAt}
-use Rattle.bb_memory_base.specs.PoolLogs.{CommonInterleaving, WasDetached, HasLog, Interleaving, IsHeldAfter, LogsAgree, loss_at}
-use Rattle.bb_memory_base.specs.PoolLogs.{pass_in}
-use Rattle.bb_memory_base.specs.declared.layout.Layout.{Layout}
-use Rattle.bb_memory_base.specs.declared.allocator.AllocationError.{AllocationError}
-use Rattle.bb_memory_base.specs.declared.allocator.AllocationError.TheVariants.{SizeIsZero, SizeTooLarge, AlignmentFailure}
-use Rattle.bb_memory_base.specs.declared.allocator.AllocationError.TheVariants.{OutOfMemory}
+use Rattle.bb_memory_base.specs.PoolLogs.{CommonInterleaving, WasDetached, HasLog, Interleaving, IsHeldAfter, LogsAgree}
+use Rattle.bb_memory_base.specs.PoolLogs.{loss_at, pass_in}
+use Rattle.bb_memory_traits.specs.declared.layout.Layout.{Layout}
+use Rattle.bb_memory_traits.specs.declared.allocator.AllocationError.{AllocationError}
+use Rattle.bb_memory_traits.specs.declared.allocator.AllocationError.TheVariants.{SizeIsZero, SizeTooLarge, AlignmentFailure}
+use Rattle.bb_memory_traits.specs.declared.allocator.AllocationError.TheVariants.{OutOfMemory}
 use Rattle.bb_memory_base.specs.declared.steps.pool.PoolStep.{PoolStep}
 use Rattle.bb_memory_base.specs.declared.steps.pool.PoolStep.TheVariants.{Try, GiveBack, Detach, Attach}
 use Rattle.bb_memory_base.specs.declared.steps.pool.PoolOutcome.{PoolOutcome}
@@ -119,21 +119,18 @@ abbrev pub MayTake : PoolParty → Layout → Result TakenBucket AllocationError
 -- a whole pass, which took some bucket
 MayTake party layout (Ok bucket) new =
     let buckets = party.allocator.scene.geometry.buckets in
-    MayTakeBucket party layout bucket.number
-    × (bucket ≡ taken_bucket party.allocator bucket.number layout.size)
+    MayTakeBucket party layout bucket.number × (bucket ≡ taken_bucket party.allocator bucket.number layout.size)
     × (new ≡ with_entries party (taking_pass buckets party.number bucket.number))
 -- no step
 MayTake party layout (Err SizeTooLarge) new =
     (party.allocator.scene.geometry.bucket.size < layout.size) × (new ≡ party)
 MayTake party layout (Err AlignmentFailure) new =
-    (layout.size ≤ party.allocator.scene.geometry.bucket.size)
-    × (party.allocator.scene.geometry.bucket.align < layout.align)
+    (layout.size ≤ party.allocator.scene.geometry.bucket.size) × (party.allocator.scene.geometry.bucket.align < layout.align)
     × (new ≡ party)
 -- a whole pass, which lost at each bucket
 MayTake party layout (Err OutOfMemory) new =
     let buckets = party.allocator.scene.geometry.buckets in
-    IsWithin party.allocator.scene.geometry.bucket layout
-    × (new ≡ with_entries party (refused_pass buckets party.number))
+    IsWithin party.allocator.scene.geometry.bucket layout × (new ≡ with_entries party (refused_pass buckets party.number))
 -- a pool never refuses so
 MayTake party layout (Err SizeIsZero) new = ⊥
 
@@ -263,8 +260,7 @@ pub record AgreeWith (scene : PoolScene) (flags : List Bool) (parties : List Poo
   pub theirs : All (λ party. HasLog logs party.number party.log) parties
   pub differ : (i j : ℕ) (one other : PoolParty) → slice_get parties i ≡ Some one → slice_get parties j ≡ Some other → i ≢ j →
       one.number ≢ other.number
-  pub whole : length parties ≡ scene.parties →
-      HaveAllNumbers scene.parties parties
+  pub whole : length parties ≡ scene.parties → HaveAllNumbers scene.parties parties
       × ((bucket : ℕ) → (slice_get flags bucket ≡ Some true) ↔ IsHeldOrDetached scene agree.steps parties bucket)
 
 -- parties that have met: their logs, and the flags as they were then, agree
@@ -277,3 +273,36 @@ HaveMet scene parties = (flags : List Bool) × AgreeWith scene flags parties
 abbrev pub IsHistoryRun : (party : PoolParty) → IsParty party → List Layout → List Chunk → Type 0
 IsHistoryRun party is layouts live =
     IsPoolRun party.allocator.scene is.interleaved.steps layouts live
+
+-- DETACHED BUCKETS
+
+-- a party of this pool, which isn't its only one, may detach this bucket of the pool, as it holds the bucket
+pub record MayDetach (pool : SharedPool) (party : PoolParty) (bucket : TakenBucket) : Type 0 where
+  pub others : 1 < pool.scene.parties
+  pub its_party : party.allocator ≡ pool
+  pub its_bucket : bucket.allocator ≡ pool
+  pub held : IsHeldAfter party.log bucket.number
+
+-- the party has detached the bucket: its log has the step, and it holds just its other buckets
+pub record HasDetached (pool : SharedPool) (old : PoolParty) (bucket : TakenBucket) (new : PoolParty) : Type 0 where
+  pub logged : new ≡ with_entries old (detach_entry old.number bucket.number)
+  pub party : new.allocator ≡ pool
+  pub is_party : IsSameParty old new
+  pub was_detached : ¬ IsHeldAfter new.log bucket.number
+  pub others_kept : (other : ℕ) → other ≢ bucket.number → IsHeldAfter old.log other → IsHeldAfter new.log other
+  pub others : (other : ℕ) → IsHeldAfter new.log other → IsHeldAfter old.log other
+
+-- a party and a detached bucket are this pool's
+pub record AreOf (pool : SharedPool) (party : PoolParty) (detached : TakenBucket) : Type 0 where
+  pub its_party : party.allocator ≡ pool
+  pub its_bucket : detached.allocator ≡ pool
+
+-- the party, which didn't hold the bucket, has attached it: its log has the step, and it holds one bucket more
+pub record HasAttached (pool : SharedPool) (old : PoolParty) (detached : TakenBucket) (new : PoolParty) : Type 0 where
+  pub logged : new ≡ with_entries old (attach_entry old.number detached.number)
+  pub party : new.allocator ≡ pool
+  pub is_party : IsSameParty old new
+  pub not_held : ¬ IsHeldAfter old.log detached.number
+  pub held : IsHeldAfter new.log detached.number
+  pub others_kept : (other : ℕ) → IsHeldAfter old.log other → IsHeldAfter new.log other
+  pub others : (other : ℕ) → other ≢ detached.number → IsHeldAfter new.log other → IsHeldAfter old.log other

@@ -2,13 +2,13 @@
 -- and what they may be answered.
 use Rattle.std.specs.Prelude.{◌≡◌, ℕ, zero, suc, ◌+◌, ◌*◌, ◌/◌, ◌%◌, ◌<◌, ◌≤◌, nat_lt, if◌then◌else◌, [], ◌∷◌, ◌++◌, Result, Ok}
 use Rattle.std.specs.Prelude.{Err, fold, take}
-use Rattle.bb_memory_base.specs.PoolObject.{IsWithin}
+use Rattle.bb_memory_traits.specs.PoolObject.{IsWithin}
 use Rattle.bb_memory_base.specs.PoolMachine.{PoolScene}
 use Rattle.bb_memory_base.specs.PoolLogs.{PoolLog, entries_by, entry_of, history_of, IsHeldInRun, MissesAt}
-use Rattle.bb_memory_base.specs.declared.layout.Layout.{Layout}
-use Rattle.bb_memory_base.specs.declared.allocator.AllocationError.{AllocationError}
-use Rattle.bb_memory_base.specs.declared.allocator.AllocationError.TheVariants.{SizeIsZero, SizeTooLarge, AlignmentFailure}
-use Rattle.bb_memory_base.specs.declared.allocator.AllocationError.TheVariants.{OutOfMemory}
+use Rattle.bb_memory_traits.specs.declared.layout.Layout.{Layout}
+use Rattle.bb_memory_traits.specs.declared.allocator.AllocationError.{AllocationError}
+use Rattle.bb_memory_traits.specs.declared.allocator.AllocationError.TheVariants.{SizeIsZero, SizeTooLarge, AlignmentFailure}
+use Rattle.bb_memory_traits.specs.declared.allocator.AllocationError.TheVariants.{OutOfMemory}
 use Rattle.bb_memory_base.specs.declared.steps.pool.PoolStep.TheVariants.{TryAt}
 use Rattle.bb_memory_base.specs.declared.steps.pool.PoolOutcome.{PoolOutcome}
 use Rattle.bb_memory_base.specs.declared.steps.pool.PoolOutcome.TheVariants.{Takes, Misses, Gives}
@@ -82,15 +82,13 @@ abbrev pub MayTakeFrom : ℕ → PoolParty → Layout → Result TakenBucket All
     → Type 0
 -- a search, which took some bucket
 MayTakeFrom first party layout (Ok bucket) new =
-    MayTakeBucket party layout bucket.number
-    × (bucket ≡ taken_bucket party.allocator bucket.number layout.size)
+    MayTakeBucket party layout bucket.number × (bucket ≡ taken_bucket party.allocator bucket.number layout.size)
     × TakesBySearch party first bucket.number new
 -- no step
 MayTakeFrom first party layout (Err SizeTooLarge) new =
     (party.allocator.scene.geometry.bucket.size < layout.size) × (new ≡ party)
 MayTakeFrom first party layout (Err AlignmentFailure) new =
-    (layout.size ≤ party.allocator.scene.geometry.bucket.size)
-    × (party.allocator.scene.geometry.bucket.align < layout.align)
+    (layout.size ≤ party.allocator.scene.geometry.bucket.size) × (party.allocator.scene.geometry.bucket.align < layout.align)
     × (new ≡ party)
 -- a whole search, which missed each bucket
 MayTakeFrom first party layout (Err OutOfMemory) new =
@@ -110,8 +108,7 @@ pub record MissesInSearch (party : PoolParty) (is : IsParty party) (before : Poo
   pub step : ℕ
   pub its_probe : let history = history_of party.allocator.scene is.interleaved.steps in
       let buckets = party.allocator.scene.geometry.buckets in
-      entries_by party.number (take (step + 1) history)
-      ≡ before ++ misses buckets party.number first (probe + 1)
+      entries_by party.number (take (step + 1) history) ≡ before ++ misses buckets party.number first (probe + 1)
   pub missed : let history = history_of party.allocator.scene is.interleaved.steps in
       MissesAt history party.number bucket step
   pub held : IsHeldInRun party.allocator.scene (take step is.interleaved.steps) bucket

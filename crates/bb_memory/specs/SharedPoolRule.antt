@@ -1,36 +1,39 @@
--- The rule of a shared pool's words, and what its seats and fields stand for.
-use Rattle.std.specs.Prelude.{◌≡◌, ℕ, ◌+◌, ◌-◌, ◌*◌, ◌/◌, ◌%◌, Bool, true, false, List, Some, slice_get, ◌<◌, ◌≤◌, [], All, None}
-use Rattle.std.specs.Prelude.{length}
+-- The rule of a shared pool's words, what its seats and fields stand for, and what each step on a word tells the party that
+-- makes it.
+use Rattle.std.specs.Prelude.{◌≡◌, ℕ, ◌+◌, ◌-◌, Bool, true, false, List, Some, slice_get, ◌<◌, ◌≤◌, [], All}
+use Rattle.std.specs.Prelude.{None, length, ◌≢◌, ◌∷◌, ◌++◌}
 use Rattle.std.specs.declared.vec.Vec.{Vec}
 use mathlib.Core.Path.{refl}
 use native.Mathlib.Nat.{zero-lt-suc}
 use Rattle.atomic_table.specs.Seated.{TableId}
-use Rattle.atomic_table.specs.Table.{State, Me}
-use Rattle.bb_memory_base.specs.Chunk.{IsRegion, region_at}
-use Rattle.bb_memory_base.specs.PoolObject.{pool_geometry}
+use Rattle.atomic_table.specs.Table.{State, Me, Step}
+use Rattle.bb_memory_traits.specs.Chunk.{IsRegion, region_at}
+use Rattle.bb_memory_traits.specs.PoolObject.{pool_geometry}
 use Rattle.bb_memory_base.specs.PoolMachine.{PoolScene}
-use Rattle.bb_memory_base.specs.PoolLogs.{PoolEntry, PoolLog, Interleaving, IsHeldAfter, IsDetachedAfter, LogsAgree, next_bucket}
-use Rattle.bb_memory_base.specs.PoolLogs.{pass_in}
-use Rattle.bb_memory_base.specs.declared.layout.Layout.{Layout}
-use Rattle.bb_memory.specs.SharedPool.{PoolParty, IsSharedScene, SharedPool, scene_at}
-use Rattle.bb_memory.specs.SharedPoolNextFit.{hint_in}
-use Rattle.bb_memory_core.specs.Seats.{AreSeated, HasRoomFor, IsAt, Numbered, Seat, alone, carrying, fresh_from, number_of}
-use Rattle.bb_memory_core.specs.Seats.{numbered, standing_for, times_detached, view_log}
+use Rattle.bb_memory_base.specs.PoolLogs.{PoolEntry, PoolLog, Interleaving, IsHeldAfter, IsDetachedAfter, LogsAgree}
+use Rattle.bb_memory_base.specs.PoolLogs.{next_bucket, pass_in, entry_of, CommonInterleaving, loss_at}
+use Rattle.bb_memory_traits.specs.declared.layout.Layout.{Layout}
+use Rattle.bb_memory.specs.SharedPool.{PoolParty, IsSharedScene, SharedPool, scene_at, AreAllHeldAfter, detach_entry}
+use Rattle.bb_memory.specs.SharedPool.{refused_pass, return_entry, attach_entry, taking_pass}
+use Rattle.bb_memory.specs.SharedPoolNextFit.{hint_in, probed, miss_at, misses, refused_search, taking_at, taking_search}
+use Rattle.bb_memory_bump.specs.Seats.{AreSeated, HasRoomFor, IsAt, Numbered, Seat, alone, carrying, fresh_from, number_of}
+use Rattle.bb_memory_bump.specs.Seats.{numbered, standing_for, times_detached, view_log, HaveLogs, alone_with, times_in}
+use Rattle.bb_memory_base.specs.declared.steps.pool.PoolStep.TheVariants.{Try}
+use Rattle.bb_memory_base.specs.declared.steps.pool.PoolOutcome.TheVariants.{Takes}
 
 -- Where the flags of a shared pool's buckets stand among the words of its table.
 
--- The word of a bucket's flag. The first 8 words are no flag. Behind them each 64 buckets have 64 words, in which a bucket stands
--- 9 words behind the bucket before it, round and round: with 8 words on a cache line, no two of 7 in a row are on one.
+-- The word of a bucket's flag. The first 8 words are no flag, and behind them the flags stand in the order of the buckets.
 abbrev pub word_of : ℕ → ℕ
-word_of bucket = 8 + (64 * (bucket / 64) + (9 * bucket) % 64)
+word_of bucket = 8 + bucket
 
--- The bucket of a word: 57 steps of 9 words are one word, for 57 times 9 is 8 times 64 and 1.
+-- the bucket of a word
 abbrev pub bucket_of : ℕ → ℕ
-bucket_of word = 64 * ((word - 8) / 64) + (57 * (word - 8)) % 64
+bucket_of word = word - 8
 
 -- how many words the flags of so many buckets take
 abbrev pub words_for : ℕ → ℕ
-words_for buckets = 8 + 64 * ((buckets + 63) / 64)
+words_for buckets = 8 + buckets
 
 -- how a flag stands in its word
 abbrev pub as_word : Bool → ℕ
@@ -207,3 +210,169 @@ no_bytes = record {
 -- a view of no party
 abbrev pub nobody : SeatView
 nobody = standing_for (scene_at (pool_geometry (region_at 0 0) no_bytes 0) 0) []
+
+-- WHAT A STEP TELLS
+
+-- an exchange took this bucket, which wasn't held after the party's log. The log then has the step
+pub record TellsTaking (scene : PoolScene) (number : ℕ) (log : PoolLog) (bucket : ℕ)
+    (new : Me ℕ SeatView) : Type 0 where
+  pub seat : IsSeatOf scene number (log ++ entry_of (Try number) (Takes bucket) ∷ []) new
+  pub free : ¬ IsHeldAfter log bucket
+
+-- an exchange lost at this bucket, which is held after the log of a party that is the only one. The log then has the step
+pub record TellsLoss (scene : PoolScene) (number : ℕ) (log : PoolLog) (bucket : ℕ)
+    (new : Me ℕ SeatView) : Type 0 where
+  pub seat : let loss = loss_at scene.geometry.buckets bucket in
+      IsSeatOf scene number (log ++ entry_of (Try number) loss ∷ []) new
+  pub held : scene.parties ≡ 1 → IsHeldAfter log bucket
+
+-- an exchange from free to taken, which finds the flag free or not
+abbrev pub TellsTry : PoolScene → ℕ → PoolLog → ℕ → ℕ → Me ℕ SeatView → Type 0
+TellsTry scene number log bucket found new =
+    (found ≡ 0 → TellsTaking scene number log bucket new) × (found ≢ 0 → TellsLoss scene number log bucket new)
+
+-- Calls that have ended: the party is idle, and has added this.
+abbrev pub HasEnded : PoolScene → ℕ → PoolLog → PoolLog → Me ℕ SeatView → Type 0
+HasEnded scene number log added new = IsSeatOfIdle scene number (log ++ added) new
+
+-- an idle party's exchange took this bucket, which wasn't held after the party's log
+pub record HasTakenAt (scene : PoolScene) (number : ℕ) (log : PoolLog) (bucket : ℕ)
+    (new : Me ℕ SeatView) : Type 0 where
+  pub ended : HasEnded scene number log (taking_at number bucket) new
+  pub free : ¬ IsHeldAfter log bucket
+
+-- an idle party missed the bucket, which is held after the log of a party that is the only one
+pub record HasMissedAt (scene : PoolScene) (number : ℕ) (log : PoolLog) (bucket : ℕ)
+    (new : Me ℕ SeatView) : Type 0 where
+  pub ended : HasEnded scene number log (miss_at number bucket) new
+  pub held : scene.parties ≡ 1 → IsHeldAfter log bucket
+
+-- an idle party's exchange from free to taken, which finds the flag free or not
+abbrev pub TellsTryAt : PoolScene → ℕ → PoolLog → ℕ → ℕ → Me ℕ SeatView → Type 0
+TellsTryAt scene number log bucket found new =
+    (found ≡ 0 → HasTakenAt scene number log bucket new) × (found ≢ 0 → HasMissedAt scene number log bucket new)
+
+-- An idle party's load of a flag. A taken one is a miss. A free one is no step of the log, and the party is as it was.
+abbrev pub TellsLookAt : PoolScene → ℕ → PoolLog → ℕ → ℕ → Me ℕ SeatView → Type 0
+TellsLookAt scene number log bucket found new =
+    (found ≡ 0 → IsSeatOfIdle scene number log new) × (found ≢ 0 → HasMissedAt scene number log bucket new)
+
+-- a store of free
+abbrev pub TellsReturn : PoolScene → ℕ → PoolLog → ℕ → Me ℕ SeatView → Type 0
+TellsReturn scene number log bucket new =
+    IsSeatOf scene number (log ++ return_entry number bucket) new
+
+-- A party detached this bucket: its log then has the step, and the bucket is detached at its seat.
+pub record TellsDetach (scene : PoolScene) (number : ℕ) (log : PoolLog) (bucket : ℕ)
+    (new : Me ℕ SeatView) : Type 0 where
+  pub is : let longer : PoolLog = log ++ detach_entry number bucket in
+      new ≡ (alone_with scene number longer bucket, [])
+  pub interleaved : Interleaving scene number (log ++ detach_entry number bucket)
+
+-- a party detached this bucket, which has gone to a seat of its own
+abbrev pub HasDetachedAt : PoolScene → ℕ → PoolLog → ℕ → Me ℕ SeatView → Type 0
+HasDetachedAt scene number log bucket new =
+    IsSeatOf scene number (log ++ detach_entry number bucket) new
+
+-- An idle party attached this bucket, which wasn't held after its log. The log then has the step.
+pub record HasAttachedAt (scene : PoolScene) (number : ℕ) (log : PoolLog) (bucket : ℕ)
+    (new : Me ℕ SeatView) : Type 0 where
+  pub ended : HasEnded scene number log (attach_entry number bucket) new
+  pub not_held : ¬ IsHeldAfter log bucket
+
+-- A load by a seat that stands for these parties: there are flags, and a log for each of the pool's parties, which agree, and
+-- theirs are among them; no two are one.
+pub record TellsMeeting (scene : PoolScene) (parties : List NumberedLog) : Type 0 where
+  pub flags : List Bool
+  pub logs : List PoolLog
+  pub agree : LogsAgree scene flags logs
+  pub one_a_party : length logs ≡ scene.parties
+  pub theirs : HaveLogs scene.parties logs parties
+  pub once : (number : ℕ) → number < scene.parties → times_in number parties ≤ 1
+
+-- what a meeting of two found: they are different ones, no bucket is held after both logs, and one interleaving has both
+pub record TellsTwo (scene : PoolScene) (number : ℕ) (log : PoolLog) (other : ℕ)
+    (other_log : PoolLog) : Type 0 where
+  pub differ : number ≢ other
+  pub apart : (bucket : ℕ) → IsHeldAfter log bucket → ¬ IsHeldAfter other_log bucket
+  pub interleaved : CommonInterleaving scene number log other other_log
+
+-- THE STEPS AS THE TABLE KNOWS THEM
+
+-- each is of the bucket whose flag is the word
+
+abbrev pub tries : Step ℕ → Me ℕ SeatView → ℕ → Me ℕ SeatView → Type 0
+tries step old found new =
+    TellsTry old.0.scene (number_of old.0) (view_log old.0) (bucket_of step.word) found new
+
+abbrev pub tries_at : Step ℕ → Me ℕ SeatView → ℕ → Me ℕ SeatView → Type 0
+tries_at step old found new =
+    TellsTryAt old.0.scene (number_of old.0) (view_log old.0) (bucket_of step.word) found new
+
+abbrev pub looks_at : Step ℕ → Me ℕ SeatView → ℕ → Me ℕ SeatView → Type 0
+looks_at step old found new =
+    TellsLookAt old.0.scene (number_of old.0) (view_log old.0) (bucket_of step.word) found new
+
+abbrev pub returns : Step ℕ → Me ℕ SeatView → ℕ → Me ℕ SeatView → Type 0
+returns step old found new =
+    TellsReturn old.0.scene (number_of old.0) (view_log old.0) (bucket_of step.word) new
+
+-- a load that changes nothing, by a seat that stands for any number of parties
+abbrev pub meets : Step ℕ → Me ℕ SeatView → ℕ → Me ℕ SeatView → Type 0
+meets step old found new = (new ≡ old) × TellsMeeting old.0.scene old.0.parties
+
+-- a load of its word by the party that detaches a bucket
+abbrev pub detaches : Step ℕ → Me ℕ SeatView → ℕ → Me ℕ SeatView → Type 0
+detaches step old found new =
+    TellsDetach old.0.scene (number_of old.0) (view_log old.0) (bucket_of step.word) new
+
+-- a load of its word by an idle party at whose seat the bucket is detached, and which attaches it
+abbrev pub attaches : Step ℕ → Me ℕ SeatView → ℕ → Me ℕ SeatView → Type 0
+attaches step old found new =
+    HasAttachedAt old.0.scene (number_of old.0) (view_log old.0) (bucket_of step.word) new
+
+-- A load by a seat, where these parties have met. The seat stays as it is.
+pub record HasFound (scene : PoolScene) (parties : List NumberedLog) (was : TableId) (old : Me ℕ SeatView)
+    (is : TableId) (new : Me ℕ SeatView) : Type 0 where
+  pub table : is ≡ was
+  pub seat : new ≡ old
+  pub told : TellsMeeting scene parties
+
+-- PASSES
+
+-- a pass took this bucket, which wasn't held after the log before
+pub record HasTaken (scene : PoolScene) (number : ℕ) (log : PoolLog) (new : Me ℕ SeatView)
+    (bucket : ℕ) : Type 0 where
+  pub ended : HasEnded scene number log (taking_pass scene.geometry.buckets number bucket) new
+  pub below : bucket < scene.geometry.buckets
+  pub free : ¬ IsHeldAfter log bucket
+
+-- a refused request: where the party is the only one, all buckets were held after its log
+pub record HasRefused (scene : PoolScene) (number : ℕ) (log : PoolLog) (new : Me ℕ SeatView)
+    : Type 0 where
+  pub ended : HasEnded scene number log (refused_pass scene.geometry.buckets number) new
+  pub held : scene.parties ≡ 1 → AreAllHeldAfter log scene.geometry.buckets
+
+-- SEARCHES
+
+-- a search under way: since it began, the seat's party has missed the buckets of the probes before this one
+pub record IsInSearch (scene : PoolScene) (number : ℕ) (log : PoolLog) (first probe : ℕ)
+    (me : Me ℕ SeatView) : Type 0 where
+  pub ended : HasEnded scene number log (misses scene.geometry.buckets number first probe) me
+  pub held : scene.parties ≡ 1 → (earlier : ℕ) → earlier < probe → IsHeldAfter log (probed scene.geometry.buckets first earlier)
+
+-- a search took this bucket at a probe, and it wasn't held after the log before
+pub record HasTakenFrom (scene : PoolScene) (number : ℕ) (log : PoolLog) (first : ℕ)
+    (new : Me ℕ SeatView) (bucket : ℕ) : Type 0 where
+  pub probe : ℕ
+  pub before_end : probe < scene.geometry.buckets
+  pub there : probed scene.geometry.buckets first probe ≡ bucket
+  pub ended : HasEnded scene number log (taking_search scene.geometry.buckets number first probe) new
+  pub below : bucket < scene.geometry.buckets
+  pub free : ¬ IsHeldAfter log bucket
+
+-- a refused request: where the party is the only one, all buckets were held after its log
+pub record HasRefusedFrom (scene : PoolScene) (number : ℕ) (log : PoolLog) (first : ℕ)
+    (new : Me ℕ SeatView) : Type 0 where
+  pub ended : HasEnded scene number log (refused_search scene.geometry.buckets number first) new
+  pub held : scene.parties ≡ 1 → AreAllHeldAfter log scene.geometry.buckets

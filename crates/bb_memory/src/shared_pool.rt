@@ -1,9 +1,9 @@
 //! Pools that threads share: each call takes its pool by `&`, and steps on one atomic flag for each bucket.
 ghost use Rattle.std.specs.Prelude.{◌≡◌, ◌≢◌, ◌<◌, ◌≤◌, ℕ, List, IfOk, IfErr, ◌++◌, ◌⊎◌};
-ghost use Rattle.bb_memory_base.specs.Chunk.{region_at, AreApart, Chunk, IsSound, first_place};
-ghost use Rattle.bb_memory_base.specs.PoolObject.{IsCut, IsHeld};
+ghost use Rattle.bb_memory_traits.specs.Chunk.{region_at, AreApart, Chunk, IsSound, first_place};
+ghost use Rattle.bb_memory_traits.specs.PoolObject.{IsCut, IsHeld};
 ghost use Rattle.bb_memory_base.specs.PoolLogs.{AreAsked, IsPoolRun, PoolLog, IsHeldAfter};
-ghost use Rattle.bb_memory_base.specs.declared.layout.Layout.{Layout};
+ghost use Rattle.bb_memory_traits.specs.declared.layout.Layout.{Layout};
 ghost use Rattle.bb_memory_core.specs.Pool.{IsCutAtMost, AreAStrideApart, MayBeCut};
 ghost use Rattle.bb_memory.specs.SharedPool.{AreFresh, AreInterleaved, HasFoundAllHeld, IsHistoryRun};
 ghost use Rattle.bb_memory.specs.SharedPool.{IsParty, PoolParty, TakenBucket, chunk_of, refused_pass};
@@ -13,6 +13,7 @@ mod all_parties;
 mod bucket;
 mod buckets;
 pub mod by_number;
+mod caching;
 mod detached;
 mod fixed_size;
 mod flags;
@@ -27,6 +28,7 @@ use crate::pool_allocator::geometry::Geometry;
 pub use all_parties::shared_pool_meeting_law;
 pub use bucket::Bucket;
 use buckets::SharedBucketPool;
+pub use caching::CachingParty;
 pub use detached::DetachedBucket;
 pub use fixed_size::SharedFixedSizePoolAllocator;
 pub use party::PoolParty;

@@ -4,12 +4,12 @@ use Rattle.std.proofs.Common.{Some, None}
 use Rattle.std.specs.Prelude.{slice_get, if◌then◌else◌, is_some}
 use Rattle.std.proofs.lemmas.List.{length-replicate}
 use Rattle.std.proofs.lemmas.List.Elements.{All-head, All-nil, All-tail}
-use Rattle.bb_memory_base.specs.Chunk.{Region}
+use Rattle.bb_memory_traits.specs.Chunk.{Region}
 use Rattle.bb_memory_base.specs.BumpMachine.{OngoingCall, BumpState, BumpMove, BumpScene, opening_state, bump_step, BumpStep}
 use Rattle.bb_memory_base.specs.BumpMachine.{Read, Exchange, Load, Clear}
 use Rattle.bb_memory_base.specs.BumpLogs.{BumpEntry, BumpLog, entry_at, bump_history, history_of, is_by, entries_by, log_of}
 use Rattle.bb_memory_base.specs.BumpLogs.{HasNoClear, IsAllowed, AllAllowed}
-use Rattle.bb_memory_base.proofs.SliceGets.{length-set_at, slice_get-some}
+use Rattle.bb_memory_traits.proofs.SliceGets.{length-set_at, slice_get-some}
 use Rattle.bb_memory_base.proofs.BumpSteps.{same_from_test, test_same, StepView, step_view, sees, refuses_read, wins, loses}
 use Rattle.bb_memory_base.proofs.BumpSteps.{refuses_loss, loads, clears, passes}
 

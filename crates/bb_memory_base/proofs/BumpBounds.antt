@@ -2,11 +2,11 @@
 use Rattle.std.proofs.Common.{◌≡◌, ℕ, ◌≤◌, List, [], ◌∷◌, ◌++◌, refl, sym, ap, ◌∙◌, arith, Option}
 use Rattle.std.proofs.lemmas.Bool.{leb-true}
 use Rattle.std.proofs.lemmas.List.{append_assoc}
-use Rattle.bb_memory_base.specs.Chunk.{Region, region_end, Chunk, chunk_end}
+use Rattle.bb_memory_traits.specs.Chunk.{Region, region_end, Chunk, chunk_end}
 use Rattle.bb_memory_base.specs.BumpMachine.{BumpStep, BumpScene, OngoingCall, IsInCall, chunk_at, left_by}
 use Rattle.bb_memory_base.specs.BumpLogs.{BumpLog, won_at, chunks_won, call_after, call_through, greatest_in, greater_of}
 use Rattle.bb_memory_base.specs.BumpLogs.{position_in}
-use Rattle.bb_memory_base.proofs.LiveLists.{StandsFor-within}
+use Rattle.bb_memory_traits.proofs.LiveLists.{StandsFor-within}
 use Rattle.bb_memory_base.proofs.BumpRuns.{chunk_at-above}
 use Rattle.bb_memory_base.proofs.BumpStretches.{healthy_after}
 

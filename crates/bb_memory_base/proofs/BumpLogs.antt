@@ -5,7 +5,8 @@ use Rattle.std.specs.Prelude.{slice_get, ◌==◌, if◌then◌else◌, option_m
 use Rattle.std.specs.List.{All}
 use Rattle.std.proofs.lemmas.List.Elements.{All-push}
 use Rattle.std.proofs.lemmas.Option.{same_Some, slice_get_within, get_or_from_slice_get}
-use Rattle.bb_memory_base.specs.Chunk.{Region, Chunk, Layout}
+use Rattle.bb_memory_traits.specs.Chunk.{Region, Chunk}
+use Rattle.bb_memory_traits.specs.declared.layout.Layout.{Layout}
 use Rattle.bb_memory_base.specs.BumpMachine.{OngoingCall, BumpState, BumpMove, BumpScene, opening_state, chunk_at, fits}
 use Rattle.bb_memory_base.specs.BumpMachine.{position_behind, read_move, exchange_move, ending, seeing, passed, moved, read}
 use Rattle.bb_memory_base.specs.BumpMachine.{exchange, load, bump_step, bump_after, left_by, BumpStep, Read, Exchange, Load, Sees}
@@ -13,7 +14,7 @@ use Rattle.bb_memory_base.specs.BumpMachine.{RefusedAtRead, Wins, Loses, Refused
 use Rattle.bb_memory_base.specs.BumpLogs.{BumpEntry, BumpLog, entry_of, entry_at, bump_history, history_of, is_by, entries_by}
 use Rattle.bb_memory_base.specs.BumpLogs.{log_of, seen_at, call_after, call_through, call_in, IsAllowed, AllAllowed, HasLog}
 use Rattle.bb_memory_base.specs.BumpLogs.{LogsAgree, with_entry}
-use Rattle.bb_memory_base.proofs.SliceGets.{slice_get-replicate}
+use Rattle.bb_memory_traits.proofs.SliceGets.{slice_get-replicate}
 use Rattle.bb_memory_base.proofs.Logs.{logs-push}
 use Rattle.bb_memory_base.proofs.BumpAllowed.{none_allowed}
 use Rattle.bb_memory_base.proofs.BumpSteps.{same_from_test, test_same, test_apart, StepView, step_view, sees, refuses_read, wins}

@@ -4,12 +4,12 @@ use Rattle.std.proofs.Common.{false, Some, None}
 use Rattle.std.specs.Prelude.{if◌then◌else◌, count_by}
 use Rattle.std.proofs.lemmas.List.Sums.{sum_by-cons}
 use Rattle.std.proofs.lemmas.Option.{same_Some}
-use Rattle.bb_memory_base.specs.Chunk.{Region}
+use Rattle.bb_memory_traits.specs.Chunk.{Region}
 use Rattle.bb_memory_base.specs.BumpMachine.{OngoingCall, BumpState, BumpMove, BumpScene, IsIdle, IsInCall, opening_state}
 use Rattle.bb_memory_base.specs.BumpMachine.{bump_step, bump_after, left_by, BumpStep, Exchange}
 use Rattle.bb_memory_base.specs.BumpLogs.{BumpEntry, BumpLog, entry_at, bump_history, stretch_after, outcome_after, entries_by}
 use Rattle.bb_memory_base.specs.BumpLogs.{is_by, HasNoClear, is_loss, is_beginning, IsLossAt, losses_in, calls_begun_in}
-use Rattle.bb_memory_base.proofs.LiveLists.{StandsFor-within}
+use Rattle.bb_memory_traits.proofs.LiveLists.{StandsFor-within}
 use Rattle.bb_memory_base.proofs.BumpSteps.{test_same, StepView, step_view, sees, refuses_read, wins, loses, refuses_loss, loads}
 use Rattle.bb_memory_base.proofs.BumpSteps.{clears, passes, others_stay, written, each_call-set, idle_or_in_call, in_call_or_idle}
 use Rattle.bb_memory_base.proofs.BumpSteps.{one_call}

@@ -3,12 +3,12 @@ use Rattle.std.proofs.Common.{◌≡◌, ◌≢◌, ℕ, ◌≤◌, List, [], �
 use Rattle.std.specs.Prelude.{if◌then◌else◌}
 use Rattle.std.specs.List.{All, AllByRecursion}
 use Rattle.std.proofs.lemmas.List.Elements.{All-from_recursion}
-use Rattle.bb_memory_base.specs.Chunk.{Chunk, chunk_end, AreApart}
-use Rattle.bb_memory_base.specs.BumpObject.{end_of_last, IsInOrder}
+use Rattle.bb_memory_traits.specs.Chunk.{Chunk, chunk_end, AreApart}
+use Rattle.bb_memory_traits.specs.BumpObject.{end_of_last, IsInOrder}
 use Rattle.bb_memory_base.specs.BumpMachine.{BumpScene, opening_state}
 use Rattle.bb_memory_base.specs.BumpLogs.{BumpEntry, BumpLog, history_of, is_by, entries_by, won_at, chunks_won, HasLog}
 use Rattle.bb_memory_base.specs.BumpLogs.{LogsAgree, CommonInterleaving}
-use Rattle.bb_memory_base.proofs.LiveLists.{all_above, end_of_last-above, in_order-front, in_order-rest, stands_for_some}
+use Rattle.bb_memory_traits.proofs.LiveLists.{all_above, end_of_last-above, in_order-front, in_order-rest, stands_for_some}
 use Rattle.bb_memory_base.proofs.BumpRuns.{fitting_at_opening}
 use Rattle.bb_memory_base.proofs.BumpStretches.{stretch_stands}
 use Rattle.bb_memory_base.proofs.BumpAllowed.{no_clear_when_allowed, one_party}

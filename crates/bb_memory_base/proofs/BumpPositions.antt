@@ -5,15 +5,15 @@ use Rattle.std.specs.Prelude.{if◌then◌else◌, IfSome}
 use Rattle.std.specs.List.{All, AllByRecursion}
 use Rattle.std.proofs.lemmas.List.{length-replicate}
 use Rattle.std.proofs.lemmas.List.Elements.{All-from_recursion}
-use Rattle.bb_memory_base.specs.Chunk.{Region, Chunk}
-use Rattle.bb_memory_base.specs.BumpObject.{StandsFor}
+use Rattle.bb_memory_traits.specs.Chunk.{Region, Chunk}
+use Rattle.bb_memory_traits.specs.BumpObject.{StandsFor}
 use Rattle.bb_memory_base.specs.BumpMachine.{OngoingCall, BumpState, BumpMove, BumpScene, IsInCall, IsFitting, opening_state}
 use Rattle.bb_memory_base.specs.BumpMachine.{bump_step, bump_after, left_by, BumpStep}
 use Rattle.bb_memory_base.specs.BumpLogs.{BumpEntry, BumpLog, entry_at, bump_history, history_of, is_by, entries_by, OpensWith}
 use Rattle.bb_memory_base.specs.BumpLogs.{live_after, IsAllowed, AllAllowed, HasLog, LogsAgree, Interleaving, CommonInterleaving}
 use Rattle.bb_memory_base.specs.BumpLogs.{HasPositionUpTo, position_in, greater_of, greatest_in, seen_in, call_in}
-use Rattle.bb_memory_base.proofs.LiveLists.{StandsFor-within}
-use Rattle.bb_memory_base.proofs.SliceGets.{slice_get-replicated}
+use Rattle.bb_memory_traits.proofs.LiveLists.{StandsFor-within}
+use Rattle.bb_memory_traits.proofs.SliceGets.{slice_get-replicated}
 use Rattle.bb_memory_base.proofs.BumpSteps.{StepView, step_view, wins, clears, passes}
 use Rattle.bb_memory_base.proofs.BumpRuns.{chunk_at-above, calls_stand, fitting_after, fitting_at_opening}
 use Rattle.bb_memory_base.proofs.BumpStretches.{healthy_after, stretch_rises}

@@ -2,17 +2,19 @@
 use Rattle.std.proofs.Common.{◌≡◌, ℕ, ◌+◌, ◌<◌, ◌≤◌, List, [], ◌∷◌, ◌++◌, append_assoc, refl, sym, ap, ◌∙◌, subst, arith, true}
 use Rattle.std.proofs.Common.{false, Option, Some, None, Ok, Err}
 use Rattle.std.proofs.lemmas.Bool.{leb-true, leb-false}
-use Rattle.bb_memory_base.specs.Chunk.{Region, region_end, Chunk, chunk_end, Layout, OutOfMemory}
-use Rattle.bb_memory_base.specs.Object.{appended}
-use Rattle.bb_memory_base.specs.BumpObject.{StandsFor, chunk_at_or_after, next_chunk, used_space}
+use Rattle.bb_memory_traits.specs.Chunk.{Region, region_end, Chunk, chunk_end}
+use Rattle.bb_memory_traits.specs.declared.layout.Layout.{Layout}
+use Rattle.bb_memory_traits.specs.declared.allocator.AllocationError.TheVariants.{OutOfMemory}
+use Rattle.bb_memory_traits.specs.Object.{appended}
+use Rattle.bb_memory_traits.specs.BumpObject.{StandsFor, chunk_at_or_after, next_chunk, used_space}
 use Rattle.bb_memory_base.specs.BumpMachine.{OngoingCall, BumpState, BumpMove, BumpScene, AllFitting, chunk_at, fits}
 use Rattle.bb_memory_base.specs.BumpMachine.{position_behind, opening_state, bump_step, bump_after, left_by, BumpStep, Wins}
 use Rattle.bb_memory_base.specs.BumpMachine.{RefusedAtLoss}
 use Rattle.bb_memory_base.specs.BumpLogs.{BumpCall, Allocate, ClearAll, IsCallRun, left_by_calls, layout_in, asked_by, decided}
 use Rattle.bb_memory_base.specs.BumpLogs.{bump_calls, calls_of, calls_after, OpensWith, live_after}
-use Rattle.bb_memory_base.proofs.LeastPlaces.{least_place-is}
-use Rattle.bb_memory_base.proofs.LiveLists.{StandsFor-end, StandsFor-push, StandsFor-empty}
-use Rattle.bb_memory_base.proofs.SliceGets.{slice_get-replicated}
+use Rattle.bb_memory_traits.proofs.LeastPlaces.{least_place-is}
+use Rattle.bb_memory_traits.proofs.LiveLists.{StandsFor-end, StandsFor-push, StandsFor-empty}
+use Rattle.bb_memory_traits.proofs.SliceGets.{slice_get-replicated}
 use Rattle.bb_memory_base.proofs.BumpSteps.{StepView, step_view, sees, refuses_read, wins, loses, refuses_loss, loads, clears}
 use Rattle.bb_memory_base.proofs.BumpSteps.{passes, all_fitting-step}
 

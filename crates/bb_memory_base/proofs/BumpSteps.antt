@@ -4,13 +4,14 @@ use Rattle.std.proofs.Common.{inl, inr}
 use Rattle.std.specs.Prelude.{slice_get, slice_set, ◌==◌, if◌then◌else◌, IfSome}
 use Rattle.std.proofs.lemmas.Bool.Decides.{nat_tests}
 use Rattle.std.proofs.lemmas.Option.{same_Some}
-use Rattle.bb_memory_base.specs.Chunk.{Region, Layout}
+use Rattle.bb_memory_traits.specs.Chunk.{Region}
+use Rattle.bb_memory_traits.specs.declared.layout.Layout.{Layout}
 use Rattle.bb_memory_base.specs.BumpMachine.{OngoingCall, BumpState, BumpMove, IsIdle, IsInCall, IsFitting, AllFitting, chunk_at}
 use Rattle.bb_memory_base.specs.BumpMachine.{fits, position_behind, ending, seeing, passed, moved, read, exchange, load}
 use Rattle.bb_memory_base.specs.BumpMachine.{bump_step, BumpStep, Read, Exchange, Load, Clear, Sees, RefusedAtRead, Wins, Loses}
 use Rattle.bb_memory_base.specs.BumpMachine.{RefusedAtLoss, Loaded, Cleared}
 use Rattle.bb_memory_base.specs.BumpLogs.{is_by}
-use Rattle.bb_memory_base.proofs.SliceGets.{slice_get-set, slice_get-set_other, slice_get-set_same}
+use Rattle.bb_memory_traits.proofs.SliceGets.{slice_get-set, slice_get-set_other, slice_get-set_same}
 
 -- TESTS OF NUMBERS
 

@@ -1,13 +1,13 @@
 -- Stretches of steps with no clear: the position rises, and the chunks won are a sound list.
 use Rattle.std.proofs.Common.{◌≡◌, ◌≤◌, List, [], ◌∷◌, ◌++◌, append_assoc, append-nil, sym, ap, ◌∙◌, subst, arith}
-use Rattle.bb_memory_base.specs.Chunk.{Region, Chunk, IsSound}
-use Rattle.bb_memory_base.specs.BumpObject.{end_of_last, StandsFor}
+use Rattle.bb_memory_traits.specs.Chunk.{Region, Chunk, IsSound}
+use Rattle.bb_memory_traits.specs.BumpObject.{end_of_last, StandsFor}
 use Rattle.bb_memory_base.specs.BumpMachine.{BumpState, BumpMove, BumpScene, AllFitting, chunk_at, opening_state, bump_step}
 use Rattle.bb_memory_base.specs.BumpMachine.{bump_after, left_by, BumpStep, Read, Exchange, Load, Clear, Wins, RefusedAtLoss}
 use Rattle.bb_memory_base.specs.BumpLogs.{bump_history, HasNoClear, won_at, chunks_won, asked_by, bump_calls, decided, layout_in}
 use Rattle.bb_memory_base.specs.BumpLogs.{left_by_calls}
-use Rattle.bb_memory_base.proofs.LiveLists.{end_of_last-above, end_of_last-append, in_order-rest, sound_from_order}
-use Rattle.bb_memory_base.proofs.LiveLists.{stands_for_some, StandsFor-end, StandsFor-within}
+use Rattle.bb_memory_traits.proofs.LiveLists.{end_of_last-above, end_of_last-append, in_order-rest, sound_from_order}
+use Rattle.bb_memory_traits.proofs.LiveLists.{stands_for_some, StandsFor-end, StandsFor-within}
 use Rattle.bb_memory_base.proofs.BumpSteps.{StepView, step_view, wins, refuses_loss, clears}
 use Rattle.bb_memory_base.proofs.BumpRuns.{chunk_at-above, calls_stand, steps_make, fitting_after, fitting_at_opening}
 use Rattle.bb_memory_base.proofs.BumpRuns.{left_by_calls-append}

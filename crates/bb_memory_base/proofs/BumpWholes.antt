@@ -5,7 +5,7 @@ use Rattle.std.specs.Prelude.{if◌then◌else◌, IfSome}
 use Rattle.std.specs.List.{All, AllByRecursion}
 use Rattle.std.proofs.lemmas.List.{length-replicate}
 use Rattle.std.proofs.lemmas.List.Elements.{All-from_recursion}
-use Rattle.bb_memory_base.specs.Chunk.{Region, Chunk, chunk_end}
+use Rattle.bb_memory_traits.specs.Chunk.{Region, Chunk, chunk_end}
 use Rattle.bb_memory_base.specs.BumpMachine.{BumpState, BumpScene, opening_state, bump_step, bump_after, BumpStep, BumpOutcome}
 use Rattle.bb_memory_base.specs.BumpMachine.{Wins}
 use Rattle.bb_memory_base.specs.BumpLogs.{BumpEntry, BumpLog, entry_at, bump_history, is_by, entries_by, won_at, chunks_won}

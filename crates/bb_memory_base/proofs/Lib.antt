@@ -1,26 +1,17 @@
-pub mod ApartBytes
 pub mod BumpAllowed
 pub mod BumpBounds
 pub mod BumpLogs
 pub mod BumpLosses
 pub mod BumpMeetings
-pub mod BumpObjects
 pub mod BumpPositions
 pub mod BumpRuns
 pub mod BumpSteps
 pub mod BumpStretches
 pub mod BumpWholes
-pub mod GroupSums
-pub mod Layouts
-pub mod LeastPlaces
-pub mod LiveBytes
-pub mod LiveLists
 pub mod Logs
 pub mod OwnChunks
 pub mod PoolFlags
-pub mod PoolGeometries
 pub mod PoolHolders
-pub mod PoolLists
 pub mod PoolLogEntries
 pub mod PoolLogFacts
 pub mod PoolLogSteps
@@ -28,9 +19,4 @@ pub mod PoolPasses
 pub mod PoolRuns
 pub mod PoolSteps
 pub mod PoolDetached
-pub mod Positions
-pub mod PowersOfTwo
-pub mod Runs
-pub mod SliceGets
 pub mod SliceSets
-mod Written

@@ -3,13 +3,13 @@ use Rattle.std.proofs.Common.{◌≡◌, ℕ, ◌≤◌, List, [], ◌∷◌, �
 use Rattle.std.specs.Prelude.{if◌then◌else◌}
 use Rattle.std.specs.List.{All, AllByRecursion}
 use Rattle.std.proofs.lemmas.List.Elements.{All-from_recursion, recursion_from_All}
-use Rattle.bb_memory_base.specs.Chunk.{Chunk, IsInside, AreApart, IsSound}
-use Rattle.bb_memory_base.specs.BumpObject.{end_of_last, IsInOrder, StandsFor}
+use Rattle.bb_memory_traits.specs.Chunk.{Chunk, IsInside, AreApart, IsSound}
+use Rattle.bb_memory_traits.specs.BumpObject.{end_of_last, IsInOrder, StandsFor}
 use Rattle.bb_memory_base.specs.BumpMachine.{BumpScene, left_by, opening_state, BumpStep}
 use Rattle.bb_memory_base.specs.BumpLogs.{OpensWith, live_after, BumpEntry, BumpLog, history_of, is_by, entries_by, won_at}
 use Rattle.bb_memory_base.specs.BumpLogs.{chunks_won, AllAllowed, Interleaving, LogsAgree}
-use Rattle.bb_memory_base.proofs.LiveLists.{all_above, apart_from_order, end_of_last-above, in_order-append, in_order-front}
-use Rattle.bb_memory_base.proofs.LiveLists.{in_order-rest, stands_for_some}
+use Rattle.bb_memory_traits.proofs.LiveLists.{all_above, apart_from_order, end_of_last-above, in_order-append, in_order-front}
+use Rattle.bb_memory_traits.proofs.LiveLists.{in_order-rest, stands_for_some}
 use Rattle.bb_memory_base.proofs.BumpMeetings.{all_in_log, all_map, all_rest, apart_behind, in_order-below}
 use Rattle.bb_memory_base.proofs.BumpRuns.{fitting_at_opening}
 use Rattle.bb_memory_base.proofs.BumpStretches.{stretch_grows, stretch_stands}

@@ -5,7 +5,7 @@ use Rattle.std.specs.Prelude.{slice_get, slice_set, take, unwrap_or}
 use Rattle.std.proofs.lemmas.Bool.{cases_eq}
 use Rattle.std.proofs.lemmas.Option.{same_Some}
 use Rattle.std.proofs.lemmas.List.{length-replicate}
-use Rattle.bb_memory_base.specs.PoolObject.{IsPoolGeometry}
+use Rattle.bb_memory_traits.specs.PoolObject.{IsPoolGeometry}
 use Rattle.bb_memory_base.specs.PoolMachine.{PoolScene, PoolState, PoolMove, IsTaken, IsInCall, left_by, pool_step, pool_after}
 use Rattle.bb_memory_base.specs.PoolMachine.{opening_state, Flag, Free, PoolStep, Try, TryAt, PoolOutcome, Misses, RefusedAtLoss}
 use Rattle.bb_memory_base.specs.PoolLogs.{entry_of, PoolEntry, pool_history, history_of, IsLossAt, LosesAt, IsRefusedAt}

@@ -7,19 +7,20 @@ use Rattle.std.proofs.lemmas.Bool.{cases_eq}
 use Rattle.std.proofs.lemmas.Option.{slice_get_within}
 use Rattle.std.proofs.lemmas.List.{length-set, length-replicate}
 use Rattle.std.proofs.lemmas.List.Elements.{recursion_from_All}
-use Rattle.bb_memory_base.specs.Chunk.{Chunk, Layout, IsSound}
-use Rattle.bb_memory_base.specs.Object.{IsRun}
-use Rattle.bb_memory_base.specs.PoolObject.{PoolGeometry, bucket_place, IsPoolGeometry, IsAt, IsHeld, IsWithin, MayGive, chunk_in}
+use Rattle.bb_memory_traits.specs.Chunk.{Chunk, IsSound}
+use Rattle.bb_memory_traits.specs.declared.layout.Layout.{Layout}
+use Rattle.bb_memory_traits.specs.Object.{IsRun}
+use Rattle.bb_memory_traits.specs.PoolObject.{PoolGeometry, bucket_place, IsPoolGeometry, IsAt, IsHeld, IsWithin, MayGive, chunk_in}
 use Rattle.bb_memory_base.specs.PoolMachine.{PoolScene, PoolState, PoolMove, IsFlag, IsHolder, IsTaken, pool_step, pool_after}
 use Rattle.bb_memory_base.specs.PoolMachine.{opening_state, left_by, Flag, Free, HeldBy, Detached, PoolStep, PoolOutcome}
 use Rattle.bb_memory_base.specs.PoolLogs.{PoolLog, history_of, pool_history, outcomes_of, is_taken, IsCallRun, PoolCall, AreAsked}
 use Rattle.bb_memory_base.specs.PoolLogs.{IsPoolRun}
 use Rattle.bb_memory_base.proofs.SliceSets.{slice_get-same, slice_get-set_other, slice_get-set_same}
 use Rattle.bb_memory_base.proofs.PoolFlags.{taken_within}
-use Rattle.bb_memory_base.proofs.PoolGeometries.{bucket_place-apart}
-use Rattle.bb_memory_base.proofs.PoolLists.{AreInBuckets, AreInBuckets-empty, AreInBuckets-push, AreInBuckets-remove}
-use Rattle.bb_memory_base.proofs.PoolLists.{sound_from_buckets, count_at, count_at-push_same, count_at-push_other}
-use Rattle.bb_memory_base.proofs.PoolLists.{count_at-remove_same, count_at-remove_other, at_from_count, count_from_at}
+use Rattle.bb_memory_traits.proofs.PoolGeometries.{bucket_place-apart}
+use Rattle.bb_memory_traits.proofs.PoolLists.{AreInBuckets, AreInBuckets-empty, AreInBuckets-push, AreInBuckets-remove}
+use Rattle.bb_memory_traits.proofs.PoolLists.{sound_from_buckets, count_at, count_at-push_same, count_at-push_other}
+use Rattle.bb_memory_traits.proofs.PoolLists.{count_at-remove_same, count_at-remove_other, at_from_count, count_from_at}
 use Rattle.bb_memory_base.proofs.PoolSteps.{StepKind, takes, takes_at, gives, kind_of, detaches, attaches}
 
 -- STATES AND LISTS

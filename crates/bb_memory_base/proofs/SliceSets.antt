@@ -1,7 +1,7 @@
 -- What a list has after one of its elements was set, by indices that are equal or not as an equation says.
 use Rattle.std.proofs.Common.{◌≡◌, ◌≢◌, ℕ, List, sym, ap, ◌∙◌, Option, Some}
 use Rattle.std.specs.Prelude.{slice_get, slice_set}
-use Rattle.bb_memory_base.proofs.SliceGets as gets
+use Rattle.bb_memory_traits.proofs.SliceGets as gets
 
 -- what is read at one index is read at the same
 pub slice_get-same : {X : Type 0} (xs : List X) (i j : ℕ) (found : Option X) → i ≡ j →

@@ -2,8 +2,9 @@
 -- from 0.
 use Rattle.std.specs.Prelude.{ℕ, ◌≡◌, ◌+◌, ◌-◌, ◌<◌, ◌==◌, nat_le, Bool, true, List, [], ◌∷◌}
 use Rattle.std.specs.Prelude.{Option, Some, None, if◌then◌else◌, slice_get, slice_set, replicate}
-use Rattle.bb_memory_base.specs.Chunk.{Region, region_end, Chunk, chunk_end, Layout}
-use Rattle.bb_memory_base.specs.BumpObject.{chunk_at_or_after}
+use Rattle.bb_memory_traits.specs.Chunk.{Region, region_end, Chunk, chunk_end}
+use Rattle.bb_memory_traits.specs.declared.layout.Layout.{Layout}
+use Rattle.bb_memory_traits.specs.BumpObject.{chunk_at_or_after}
 pub use Rattle.bb_memory_base.specs.declared.steps.bump.BumpOutcome.{BumpOutcome}
 pub use Rattle.bb_memory_base.specs.declared.steps.bump.BumpOutcome.TheVariants.{Cleared, Loaded, Loses, Passed, RefusedAtLoss}
 pub use Rattle.bb_memory_base.specs.declared.steps.bump.BumpOutcome.TheVariants.{RefusedAtRead, Sees, Wins}
@@ -81,24 +82,18 @@ seeing outcome position layout =
 -- a read that finds this position
 abbrev pub read_move : Region → ℕ → Layout → PartyMove
 read_move region position layout =
-    if fits region position layout
-    then seeing (Sees position) position layout
-    else ending (RefusedAtRead position) position
+    if fits region position layout then seeing (Sees position) position layout else ending (RefusedAtRead position) position
 
 -- an exchange that is lost at this position
 abbrev pub loss_move : Region → ℕ → Layout → PartyMove
 loss_move region position layout =
-    if fits region position layout
-    then seeing (Loses position) position layout
-    else ending (RefusedAtLoss position) position
+    if fits region position layout then seeing (Loses position) position layout else ending (RefusedAtLoss position) position
 
 -- an exchange that finds this position, by a party in this call
 abbrev pub exchange_move : Region → ℕ → OngoingCall → PartyMove
 exchange_move region position call =
     let chunk = chunk_at region position call.layout in
-    if position == call.seen
-    then ending (Wins chunk) (position_behind region chunk)
-    else loss_move region position call.layout
+    if position == call.seen then ending (Wins chunk) (position_behind region chunk) else loss_move region position call.layout
 
 -- the answer to a step, and the state after it
 pub record BumpMove : Type 0 where

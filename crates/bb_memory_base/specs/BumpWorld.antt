@@ -1,7 +1,7 @@
 -- A bump world: the bump machine over a region.
 use Rattle.std.specs.Prelude.{◌≡◌, ℕ, ◌≤◌, List, Option, Result, IfOk, IfSome, OnErr, OnOk}
 use Rattle.std.specs.declared.vec.Vec.{Vec}
-use Rattle.bb_memory_base.specs.Chunk.{Region, IsRegion}
+use Rattle.bb_memory_traits.specs.Chunk.{Region, IsRegion}
 use Rattle.bb_memory_base.specs.BumpMachine.{OngoingCall, BumpState, BumpScene, PartyMove, AllFitting, IsFitting, opening_state}
 use Rattle.bb_memory_base.specs.BumpMachine.{bump_step, bump_after, BumpStep, BumpOutcome}
 use Rattle.bb_memory_base.specs.BumpLogs as histories

@@ -1,17 +1,6 @@
 pub mod BumpLogs
 pub mod BumpMachine
-pub mod BumpObject
 pub mod BumpWorld
-pub mod Chunk
-pub mod HeldBytes
-pub mod Hints
-pub mod LeastPlace
-pub mod Lending
-pub mod Object
-pub mod OneChunkObject
 pub mod PoolLogs
 pub mod PoolMachine
-pub mod PoolObject
 pub mod PoolWorld
-pub mod Request
-pub mod UsualLayout

@@ -4,9 +4,10 @@ use Rattle.std.specs.Prelude.{Option, Some, None, All, Any, fold, slice_get, sli
 use Rattle.bb_memory_base.specs.PoolMachine.{PoolScene, PoolState, opening_state, pool_step, PoolStep, Try, GiveBack, TryAt}
 use Rattle.bb_memory_base.specs.PoolMachine.{Detach, Attach, PoolOutcome, left_by, Flag, Free, Takes, Loses, RefusedAtLoss, Gives}
 use Rattle.bb_memory_base.specs.PoolMachine.{Passed, Detaches, Attaches, IsInCall, Misses}
-use Rattle.bb_memory_base.specs.Chunk.{Chunk, Layout}
-use Rattle.bb_memory_base.specs.Object.{Allocates, Releases, IsRun}
-use Rattle.bb_memory_base.specs.PoolObject.{PoolGeometry, bucket_place, IsAt, IsHeld, IsWithin, chunk_in, pool_object}
+use Rattle.bb_memory_traits.specs.Chunk.{Chunk}
+use Rattle.bb_memory_traits.specs.declared.layout.Layout.{Layout}
+use Rattle.bb_memory_traits.specs.Object.{Allocates, Releases, IsRun}
+use Rattle.bb_memory_traits.specs.PoolObject.{PoolGeometry, bucket_place, IsAt, IsHeld, IsWithin, chunk_in, pool_object}
 
 -- HISTORIES
 
@@ -194,8 +195,7 @@ IsOnePass scene steps party k last =
 -- after these steps the bucket is held in the run, whichever layouts were asked for
 abbrev pub IsHeldInRun : PoolScene → List PoolStep → ℕ → Type 0
 IsHeldInRun scene steps bucket =
-    (layouts : List Layout) (live : List Chunk) → IsPoolRun scene steps layouts live →
-    IsHeld scene.geometry live bucket
+    (layouts : List Layout) (live : List Chunk) → IsPoolRun scene steps layouts live → IsHeld scene.geometry live bucket
 
 -- The pass that is refused at step `last` found this bucket held: at some step of the pass the party lost the bucket, which was
 -- held then in the run.

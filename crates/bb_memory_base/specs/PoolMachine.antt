@@ -2,7 +2,7 @@
 -- their numbers, from 0.
 use Rattle.std.specs.Prelude.{ℕ, ◌+◌, ◌≡◌, ◌==◌, nat_lt, List, [], ◌∷◌, length, Option, Some, None, if◌then◌else◌, slice_get}
 use Rattle.std.specs.Prelude.{slice_set, replicate, unwrap_or, ◌⊎◌}
-use Rattle.bb_memory_base.specs.PoolObject.{PoolGeometry}
+use Rattle.bb_memory_traits.specs.PoolObject.{PoolGeometry}
 pub use Rattle.bb_memory_base.specs.declared.steps.pool.Flag.{Flag}
 pub use Rattle.bb_memory_base.specs.declared.steps.pool.Flag.TheVariants.{Detached, Free, HeldBy}
 pub use Rattle.bb_memory_base.specs.declared.steps.pool.PoolOutcome.{PoolOutcome}
@@ -83,8 +83,7 @@ taking state party bucket = move_of (Takes bucket) (with_pass (with_flag state b
 -- the party finds a flag taken: its pass moves to the next bucket, or is refused and ends where there is none
 abbrev pub loss : PoolState → ℕ → ℕ → PoolMove
 loss state party bucket =
-    if nat_lt (bucket + 1) (length state.flags)
-    then move_of (Loses bucket) (with_pass state party (Some (bucket + 1)))
+    if nat_lt (bucket + 1) (length state.flags) then move_of (Loses bucket) (with_pass state party (Some (bucket + 1)))
     else move_of (RefusedAtLoss bucket) (with_pass state party None)
 
 -- the holder gives the bucket back, and its flag is free
@@ -113,7 +112,7 @@ abbrev pub give_flag : PoolState → ℕ → ℕ → Option Flag → PoolMove
 give_flag state party bucket (Some (HeldBy holder)) = if holder == party then return_of state bucket else passed state
 give_flag state party bucket _ = passed state
 
--- a party's exchange on the flag of one bucket, of which this is found: it misses a taken one, and nothing changes
+-- a party tries one bucket, of whose flag this is found: it misses a taken one, and nothing changes
 abbrev pub try_one : PoolState → ℕ → ℕ → Option Flag → PoolMove
 try_one state party bucket (Some Free) = taking state party bucket
 try_one state party bucket (Some _) = move_of (Misses bucket) state

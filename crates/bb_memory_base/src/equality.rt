@@ -1,11 +1,13 @@
 //! The law of `==` of the types of this crate.
 ghost use Rattle.std.specs.Prelude.{◌≡◌, ◌↔◌, IsTrue};
-ghost use Rattle.bb_memory_base.specs.Chunk.{Chunk, Layout, AllocationError};
-ghost use Rattle.bb_memory_base.specs.declared.layout.LayoutError.{LayoutError};
-ghost use Rattle.bb_memory_base.specs.declared.allocator.AllocationGrowError.{AllocationGrowError};
-ghost use Rattle.bb_memory_base.specs.declared.allocator.AllocationShrinkError.{AllocationShrinkError};
-ghost use Rattle.bb_memory_base.specs.declared.allocator.Command.{Command};
-ghost use Rattle.bb_memory_base.specs.declared.allocator.Reply.{Reply};
+ghost use Rattle.bb_memory_traits.specs.Chunk.{Chunk};
+ghost use Rattle.bb_memory_traits.specs.declared.layout.Layout.{Layout};
+ghost use Rattle.bb_memory_traits.specs.declared.allocator.AllocationError.{AllocationError};
+ghost use Rattle.bb_memory_traits.specs.declared.layout.LayoutError.{LayoutError};
+ghost use Rattle.bb_memory_traits.specs.declared.allocator.AllocationGrowError.{AllocationGrowError};
+ghost use Rattle.bb_memory_traits.specs.declared.allocator.AllocationShrinkError.{AllocationShrinkError};
+ghost use Rattle.bb_memory_traits.specs.declared.allocator.Command.{Command};
+ghost use Rattle.bb_memory_traits.specs.declared.allocator.Reply.{Reply};
 ghost use Rattle.bb_memory_base.specs.BumpMachine.{BumpStep, BumpOutcome};
 ghost use Rattle.bb_memory_base.specs.PoolMachine.{PoolStep, PoolOutcome};
 

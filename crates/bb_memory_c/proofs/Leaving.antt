@@ -2,12 +2,12 @@
 -- and then it holds nothing.
 use Rattle.std.proofs.Common.{◌≡◌, ℕ, zero, suc, ◌+◌, ◌<◌, ◌≤◌, Bool, true, false, List, [], ◌++◌, length, refl, sym, ap, ◌∙◌}
 use Rattle.std.proofs.Common.{inl, inr, arith, append-nil, append_assoc}
-use Rattle.std.specs.Prelude.{◌==◌, Some, count_by, get_or, take, if◌then◌else◌, slice_get}
+use Rattle.std.specs.Prelude.{◌==◌, Some, count_by, get_or, take, if◌then◌else◌}
 use Rattle.std.proofs.lemmas.Bool.{cases_Bool, cases_eq, cases_lt, false≢true}
 use Rattle.std.proofs.lemmas.List.{take_all}
 use Rattle.std.proofs.lemmas.List.Sums.{count_by_more_no, count_by_more_yes}
 use Rattle.std.proofs.lemmas.Option.{same_Some, slice_get-get_or, slice_get_within}
-use Rattle.bb_memory_base.specs.PoolLogs.{PoolLog}
+use Rattle.bb_memory_base.specs.PoolLogs.{IsHeldAfter, PoolLog}
 use Rattle.bb_memory_base.proofs.PoolHolders.{held_through}
 use Rattle.bb_memory_base.proofs.PoolSteps.{test_same, test_apart}
 use Rattle.bb_memory.specs.SharedPool.{PoolParty, SharedPool, return_entry, with_entries}
@@ -118,24 +118,14 @@ among-returns party (suc number) bucket below = elim (cases_eq number bucket) [
 
 -- THE PARTY
 
--- a bucket whose flag isn't set isn't held
-pub unset-flag : (pool : SharedPool) (party : PoolParty) (flags : List Bool) (number : ℕ) → IsJoinedAt pool party flags →
-    number < party.allocator.scene.geometry.buckets → (flag : Bool) → flag ≡ get_or flags number flag → flag ≡ false →
-    holds_bucket party number ≡ false
-unset-flag pool party flags number is below flag reads unset =
-    let as_many : length flags ≡ party.allocator.scene.geometry.buckets =
-    is.as_many ∙ ap (λ (p : SharedPool). p.scene.geometry.buckets) (sym is.theirs) in
-    let there : slice_get flags number ≡ Some false =
-    slice_get-get_or flags number flag (omega arith) ∙ ap Some (sym reads ∙ unset) in
-    elim (cases_Bool (holds_bucket party number)) [
-      | inl held ↦ absurd (false≢true (same_Some _ _ (sym there ∙ (is.exact number).1 held)))
-      | inr free ↦ free
-    ]
-
 -- a bucket that isn't held adds nothing
-pub none-returned : (party : PoolParty) (number : ℕ) → holds_bucket party number ≡ false →
+pub none-returned : (party : PoolParty) (number : ℕ) → ¬ IsHeldAfter party.log number →
     party ≡ with_entries party (return_of party number)
-none-returned party number free =
+none-returned party number not_held =
+    let free : holds_bucket party number ≡ false = elim (cases_Bool (holds_bucket party number)) [
+      | inl held ↦ absurd (not_held held)
+      | inr free ↦ free
+    ] in
     ap (λ (log : PoolLog). record { allocator = party.allocator; number = party.number; log = log }) (
     sym (append-nil party.log)
     ∙ ap (λ (b : Bool). party.log ++ (if b then return_entry party.number number else [])) (sym free))
@@ -147,8 +137,7 @@ next-held party number =
     held-append number false party.log (returns_of party number)
     ∙ past-returns party number number (holds_bucket party number) (omega arith)
 
-pub next-returned : (party : PoolParty) (number : ℕ) →
-    with_entries (with_entries party (returns_of party number))
+pub next-returned : (party : PoolParty) (number : ℕ) → with_entries (with_entries party (returns_of party number))
     (return_of (with_entries party (returns_of party number)) number)
     ≡ with_entries party (returns_of party (number + 1))
 next-returned party number =

@@ -9,3 +9,6 @@ pub mod Layouts
 pub mod Made
 pub mod Makers
 pub mod Joining
+pub mod Flags
+pub mod Unjoined
+pub mod Detaching

@@ -140,7 +140,8 @@ module _ {R X : RattleType} (I : Owner R X) (one : One X.mir) where
         let v : Val = word (block_ptr b o) true in
         qed 𝓛 (‵ (part_at R full_share w b o) ∷ ‵ (Rest b o) ∷ []) ∵ move ! (1 ∷ []) $ fsplit ! $ move ! (2 ∷ 0 ∷ []) $ fjoin ! $
         held_in R ! (held_at b o w) $ rewrite ! 0 ‵ (sym (I.owned (held_at b o w) (v ∷ []))) refl $ move ! (1 ∷ 0 ∷ []) $
-        fjoin ! $ fpack ! (List Val) (λ us. fsep (cell_at full_share X.mir us rb ro) (X.own_val (ending b o w) us)) (v ∷ []) $ done !
+        fjoin ! $ fpack ! (List Val) (λ us. fsep (cell_at full_share X.mir us rb ro) (X.own_val (ending b o w) us)) (v ∷ [])
+        $ done !
 
     left_none : (last : X.Denot) → made last ≡ made d → made d ≡ None
         → ent 𝓤 (sep 𝓤 (A.obs γ (X.coded.code last)) (A.lft κ q)) (Post (live 0 (of_list [])))

@@ -1,7 +1,7 @@
 -- What is behind a handle, and what is told of it.
-use Rattle.std.proofs.Common.{◌≡◌, Option, Some, None, IfSome, sym, subst}
+use Rattle.std.proofs.Common.{◌≡◌, ◌⊎◌, Option, Some, None, IfSome, inl, inr, sym, subst}
 use Rattle.std.specs.Option.{OnSome}
-use Rattle.bb_memory_base.specs.declared.layout.Layout.{Layout}
+use Rattle.bb_memory_traits.specs.declared.layout.Layout.{Layout}
 use Rattle.bb_memory_c.specs.declared.answer.Answer.{Answer}
 use Rattle.bb_memory_c.specs.Answers.{TellsOfLayouts, invalid_layout, refused}
 use Rattle.bb_memory_c.specs.Calls.{Answers}
@@ -35,6 +35,12 @@ of_made P old made is holds = subst (λ o. IfSome o P) is holds
 -- it isn't there and not there
 pub not_both : {X : Type 0} (old : Option X) (made : X) → old ≡ Some made → old ≡ None → ⊥
 not_both old made is none = of_made (λ _. ⊥) old made is (at_none (λ _. ⊥) old none)
+
+-- where there are both, none of them is missing
+pub both_there : {X Y : Type 0} {Z : Type 0} (old : Option X) (other : Option Y) (x : X) (y : Y) → old ≡ Some x → other ≡ Some y →
+    (old ≡ None) ⊎ (other ≡ None) → Z
+both_there old other x y is other_is (inl none) = absurd (not_both old x is none)
+both_there old other x y is other_is (inr none) = absurd (not_both other y other_is none)
 
 -- what is answered where something is behind the handle
 pub answers : {X : Type 0} {old new : Option X} {refused : Type 0} {tells : X → X → Type 0} (made : X) → old ≡ Some made

@@ -1,13 +1,13 @@
--- What is told of the making of a pool, from the two numbers of its buckets' layout to the pool behind the handle.
+-- What is told of the making of a value; and of a pool, from the numbers of its buckets' layout to the pool behind the handle.
 use Rattle.std.proofs.Common.{◌≡◌, ◌≢◌, ◌↔◌, ◌∙◌, ℕ, Bool, false, Option, Some, None, Err, IsTrue, Result, ap, refl, subst, sym}
 use Rattle.std.proofs.lemmas.Bool.{false≢true}
 use Rattle.std.proofs.lemmas.Option.{none-some}
 use Rattle.std.specs.Align.{IsLayout}
-use Rattle.bb_memory_base.specs.Chunk.{Region}
-use Rattle.bb_memory_base.specs.declared.layout.Layout.{Layout}
+use Rattle.bb_memory_traits.specs.Chunk.{Region}
+use Rattle.bb_memory_traits.specs.declared.layout.Layout.{Layout}
 use Rattle.bb_memory.specs.Pool.{MayBeCut}
-use Rattle.bb_memory_c.specs.Answers.{invalid_argument, invalid_layout, malloc_refused, no_bucket, ok}
-use Rattle.bb_memory_c.specs.Calls.{AnswersPoolMake, FailsOf, IsOf}
+use Rattle.bb_memory_c.specs.Answers.{already_initialized, invalid_argument, invalid_layout, malloc_refused, no_bucket, ok}
+use Rattle.bb_memory_c.specs.Calls.{AnswersMake, AnswersPoolMake, FailsOf, IsOf}
 use Rattle.bb_memory_c.proofs.Layouts.{cut-or-not, is_layout, same_of}
 
 -- behind a handle of which it isn't told that it is made is nothing
@@ -19,6 +19,53 @@ is_empty (Some x) told made is = absurd (false≢true (sym is ∙ made.1 (λ wro
 pub neither : {X : Type 0} {one two : ℕ} (code third : ℕ) → (code ≢ one → code ≡ two) → third ≢ one → third ≢ two →
     code ≡ third → X
 neither code third either not_one not_two is = absurd (not_two (sym is ∙ either (λ one. not_one (sym is ∙ one))))
+
+-- A VALUE OF ITS NUMBERS
+
+module _ {X : Type 0} {old new : Option X} {may : Type 0} {fresh : Option X → Type 0} where
+  pub held-already : old ≢ None → new ≡ old → AnswersMake old new already_initialized may fresh
+  held-already some still = record {
+    made = λ wrong. absurd (cc);
+    held_one = (λ _. some, λ _. refl);
+    cannot = (λ wrong. absurd (cc), λ no. absurd (some no.0));
+    else_memory = λ _ held _. absurd (held refl);
+    unchanged = λ _. still;
+  }
+
+  pub not-made-of : old ≡ None → ¬ may → new ≡ old → AnswersMake old new invalid_argument may fresh
+  not-made-of none not still = record {
+    made = λ wrong. absurd (cc);
+    held_one = (λ wrong. absurd (cc), λ some. absurd (some none));
+    cannot = (λ _. (none, not), λ _. refl);
+    else_memory = λ _ _ no. absurd (no refl);
+    unchanged = λ _. still;
+  }
+
+  pub made-or-refused : old ≡ None → may → (code : ℕ) → (code ≡ ok → fresh new) → (code ≢ ok → code ≡ malloc_refused)
+      → (code ≢ ok → new ≡ old) → AnswersMake old new code may fresh
+  made-or-refused none may_be code made either still = record {
+    made = λ is. (may_be, made is);
+    held_one = (neither code _ either (λ wrong. cc) (λ wrong. cc), λ some. absurd (some none));
+    cannot = (neither code _ either (λ wrong. cc) (λ wrong. cc), λ no. absurd (no.1 may_be));
+    else_memory = λ not _ _. either not;
+    unchanged = still;
+  }
+
+-- A POOL
+
+-- something is behind the handle already
+pub made-already : {X : Type 0} {old new : Option X} {size align : ℕ} {may room : Layout → Type 0}
+    {fresh : Layout → Option X → Type 0} → old ≢ None → new ≡ old →
+    AnswersPoolMake old new size align already_initialized may room fresh
+made-already some still = record {
+  made = λ wrong. absurd (cc);
+  held_one = (λ _. some, λ _. refl);
+  no_layout = (λ wrong. absurd (cc), λ no. absurd (some no.0));
+  cannot = (λ wrong. absurd (cc), λ no. absurd (some no.0));
+  no_room = (λ wrong. absurd (cc), λ no. absurd (some no.0));
+  else_memory = λ _ held _ _ _. absurd (held refl);
+  unchanged = λ _. still;
+}
 
 module _ {X : Type 0} {old new : Option X} {size align : ℕ} {may room : Layout → Type 0} {fresh : Layout → Option X → Type 0}
     (none : old ≡ None) where

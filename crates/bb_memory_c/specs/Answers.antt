@@ -1,13 +1,13 @@
 -- What C sees of an answer.
 use Rattle.std.specs.Prelude.{◌≡◌, ℕ, Option, Some, None, Result, Ok, Err}
-use Rattle.bb_memory_base.specs.Chunk.{Chunk}
-use Rattle.bb_memory_base.specs.declared.layout.Layout.{Layout}
-use Rattle.bb_memory_base.specs.declared.allocator.AllocationError.{AllocationError}
-use Rattle.bb_memory_base.specs.declared.allocator.AllocationError.TheVariants as request
-use Rattle.bb_memory_base.specs.declared.allocator.AllocationGrowError.{AllocationGrowError}
-use Rattle.bb_memory_base.specs.declared.allocator.AllocationGrowError.TheVariants as grow
-use Rattle.bb_memory_base.specs.declared.allocator.AllocationShrinkError.{AllocationShrinkError}
-use Rattle.bb_memory_base.specs.declared.allocator.AllocationShrinkError.TheVariants as shrink
+use Rattle.bb_memory_traits.specs.Chunk.{Chunk}
+use Rattle.bb_memory_traits.specs.declared.layout.Layout.{Layout}
+use Rattle.bb_memory_traits.specs.declared.allocator.AllocationError.{AllocationError}
+use Rattle.bb_memory_traits.specs.declared.allocator.AllocationError.TheVariants as request
+use Rattle.bb_memory_traits.specs.declared.allocator.AllocationGrowError.{AllocationGrowError}
+use Rattle.bb_memory_traits.specs.declared.allocator.AllocationGrowError.TheVariants as grow
+use Rattle.bb_memory_traits.specs.declared.allocator.AllocationShrinkError.{AllocationShrinkError}
+use Rattle.bb_memory_traits.specs.declared.allocator.AllocationShrinkError.TheVariants as shrink
 use Rattle.bb_memory_c.specs.declared.answer.Answer.{Answer}
 use Rattle.bb_memory_c.specs.declared.answer.Figure.{Figure}
 
@@ -78,20 +78,28 @@ detached_empty = 21
 abbrev pub not_a_bucket : ℕ
 not_a_bucket = 22
 
+abbrev pub other_pool : ℕ
+other_pool = 23
+
+abbrev pub readers_left : ℕ
+readers_left = 24
+
+abbrev pub no_reader : ℕ
+no_reader = 25
+
 -- nothing was given, by this code
 abbrev pub refused : ℕ → Answer
-refused code = record { code = code; place = 0; len = 0 }
+refused code = record { code = code; place = 0 }
 
--- the code of an error
 abbrev pub code_of : AllocationError → ℕ
 code_of request.SizeIsZero = size_is_zero
 code_of request.SizeTooLarge = size_too_large
 code_of request.AlignmentFailure = alignment_failure
 code_of request.OutOfMemory = out_of_memory
 
--- the chunk, or the code of the error
+-- the place of the chunk, or the code of the error
 abbrev pub answer_by : {E : Type 0} → (E → ℕ) → Result Chunk E → Answer
-answer_by code (Ok chunk) = record { code = ok; place = chunk.place; len = chunk.len }
+answer_by code (Ok chunk) = record { code = ok; place = chunk.place }
 answer_by code (Err error) = refused (code error)
 
 abbrev pub answer_of : Result Chunk AllocationError → Answer

@@ -3,14 +3,14 @@
 use Rattle.std.specs.Prelude.{◌≡◌, ◌≢◌, ◌↔◌, ◌⊎◌, ◌<◌, ◌≤◌, ◌∷◌, ◌++◌, [], ℕ, List, Option, Some, None, Result, Err, length}
 use Rattle.std.specs.Prelude.{IfSome, IfOk, IfErr, OnErr}
 use Rattle.std.specs.Align.{IsLayout}
-use Rattle.bb_memory_base.specs.Chunk.{Chunk, Region}
-use Rattle.bb_memory_base.specs.PoolObject.{HasBucket, PoolGeometry, bucket_place}
-use Rattle.bb_memory_base.specs.declared.layout.Layout.{Layout}
-use Rattle.bb_memory_base.specs.declared.allocator.AllocationError.{AllocationError}
-use Rattle.bb_memory.specs.Buckets.{IsPlaceOfBucket}
-use Rattle.bb_memory.specs.Pool.{MayBeCut}
+use Rattle.bb_memory_traits.specs.Chunk.{Chunk, Region}
+use Rattle.bb_memory_traits.specs.PoolObject.{HasBucket, PoolGeometry, bucket_place}
+use Rattle.bb_memory_traits.specs.declared.layout.Layout.{Layout}
+use Rattle.bb_memory_traits.specs.declared.allocator.AllocationError.{AllocationError}
+use Rattle.bb_memory.specs.Pool.{IsPlaceOfBucket, MayBeCut}
 use Rattle.bb_memory_c.specs.Answers.{answer_of, figure_of, no_figure, refused, already_initialized, invalid_argument, ok}
 use Rattle.bb_memory_c.specs.Answers.{malloc_refused, invalid_layout, not_a_bucket, not_held, uninitialized, no_bucket, no_party}
+use Rattle.bb_memory_c.specs.Answers.{other_pool}
 use Rattle.bb_memory_c.specs.declared.answer.Answer.{Answer}
 use Rattle.bb_memory_c.specs.declared.answer.Figure.{Figure}
 
@@ -33,10 +33,6 @@ FailsOf size align may = (bucket : Layout) × IsOf size align bucket × (¬ may 
 abbrev pub HasRoom : Region → Layout → Type 0
 HasRoom region bucket = HasBucket region bucket 0
 
--- there is a layout of these numbers that may be so, and there is no room for it
-abbrev pub LacksRoomOf : ℕ → ℕ → (Layout → Type 0) → (Layout → Type 0) → Type 0
-LacksRoomOf size align may room = (bucket : Layout) × IsOf size align bucket × may bucket × (¬ room bucket)
-
 -- there is at least one party, and the region may be cut so
 abbrev pub MayBeShared : Region → ℕ → Layout → Type 0
 MayBeShared region parties bucket = (1 ≤ parties) × MayBeCut region bucket
@@ -58,6 +54,10 @@ with_party all party = record { shared = all.shared; parties = all.parties ++ pa
 pub record IsOneOf {S P : Type 0} (all : Parties S P) (its : S) (count : ℕ) : Type 0 where
   pub theirs : its ≡ all.shared
   pub out : left_at all < count
+
+-- two that begin at one place are one
+abbrev pub AreKnown : {S : Type 0} → (S → ℕ) → S → S → Type 0
+AreKnown start one other = start one ≡ start other → one ≡ other
 
 -- HANDLES
 
@@ -134,8 +134,7 @@ pub record TellsResize (old_size old_align new_size new_align : ℕ) (told : Ans
   pub no_layout : ¬ (IsLayout old_size old_align × IsLayout new_size new_align) → told ≡ refused invalid_layout
 
 abbrev pub AnswersResize : {X : Type 0} → Option X → Option X → ℕ → ℕ → ℕ → ℕ → Answer → (X → Layout → Layout → Type 0) → Type 0
-AnswersResize old new old_size old_align new_size new_align told tells =
-    Answers old new (told ≡ refused uninitialized)
+AnswersResize old new old_size old_align new_size new_align told tells = Answers old new (told ≡ refused uninitialized)
     (λ made after. TellsResize old_size old_align new_size new_align told (tells made) × (after ≡ made))
 
 -- MAKING AND FREEING
@@ -159,7 +158,7 @@ pub record AnswersPoolMake {X : Type 0} (old new : Option X) (size align : ℕ) 
   pub held_one : (code ≡ already_initialized) ↔ (old ≢ None)
   pub no_layout : (code ≡ invalid_layout) ↔ ((old ≡ None) × (¬ IsLayout size align))
   pub cannot : (code ≡ invalid_argument) ↔ ((old ≡ None) × FailsOf size align may)
-  pub no_room : (code ≡ no_bucket) ↔ ((old ≡ None) × LacksRoomOf size align may room)
+  pub no_room : (code ≡ no_bucket) ↔ ((old ≡ None) × ((bucket : Layout) × IsOf size align bucket × may bucket × (¬ room bucket)))
   pub else_memory : code ≢ ok → code ≢ already_initialized → code ≢ invalid_layout → code ≢ invalid_argument → code ≢ no_bucket
       → code ≡ malloc_refused
   pub unchanged : code ≢ ok → new ≡ old
@@ -207,11 +206,12 @@ pub record AnswersOfBoth {X Y : Type 0} (old new : Option X) (old_other new_othe
       × (new ≡ Some after) × (new_other ≡ Some other_after) × tells made other after other_after)
   pub empty : (old ≡ None) ⊎ (old_other ≡ None) → refused_so × (new ≡ old) × (new_other ≡ old_other)
 
--- A party leaves, as what it is then, and its handle is empty. It is the last one of those that haven't joined.
--- Where one of the handles is empty, it is refused, and then all stays.
-pub record AnswersLeave {X Y : Type 0} (old new : Option X) (old_party new_party : Option Y) (code : ℕ) (leaves : Y → Y → Type 0)
-    (with_party : X → Y → X) : Type 0 where
-  pub returned : IfBoth old old_party (λ made party. (after : Y) × leaves party after
+-- A party that has joined leaves, as what it is then, and its handle is empty. It is the last one of those that haven't joined.
+-- Where one of the handles is empty, or it is another's party, it is refused, and then all stays.
+pub record AnswersLeave {X Y : Type 0} (old new : Option X) (old_party new_party : Option Y) (code : ℕ) (at : X → Y → Type 0)
+    (leaves : Y → Y → Type 0) (with_party : X → Y → X) : Type 0 where
+  pub returned : IfBoth old old_party (λ made party. at made party → (after : Y) × leaves party after
       × (code ≡ ok) × (new ≡ Some (with_party made after)) × (new_party ≡ None))
+  pub others : IfBoth old old_party (λ made party. ¬ at made party → code ≡ other_pool)
   pub empty : (old ≡ None) ⊎ (old_party ≡ None) → code ≡ uninitialized
   pub unchanged : code ≢ ok → (new ≡ old) × (new_party ≡ old_party)

@@ -1,26 +1,27 @@
 -- The allocators with one owner behind handles: what their requests are answered, and the figures that are shown of them.
 use Rattle.std.specs.Prelude.{◌≡◌, ◌-◌, ◌↔◌, ◌++◌, ◌∷◌, [], ℕ, IsTrue, List, Option, None, Some, Result, IfOk}
-use Rattle.bb_memory_base.specs.Chunk.{Chunk, Region, first_place}
-use Rattle.bb_memory_base.specs.BumpObject.{MayAllocate, StandsFor}
-use Rattle.bb_memory_base.specs.PoolObject.{PoolGeometry, IsCut}
-use Rattle.bb_memory_base.specs.declared.layout.Layout.{Layout}
-use Rattle.bb_memory_base.specs.declared.allocator.AllocationError.{AllocationError}
+use Rattle.bb_memory_traits.specs.Chunk.{Chunk, Region, first_place}
+use Rattle.bb_memory_traits.specs.BumpObject.{MayAllocate, StandsFor}
+use Rattle.bb_memory_traits.specs.OneChunkObject.{reserved_at}
+use Rattle.bb_memory_traits.specs.PoolObject.{PoolGeometry, IsCut}
+use Rattle.bb_memory_traits.specs.declared.layout.Layout.{Layout}
+use Rattle.bb_memory_traits.specs.declared.allocator.AllocationError.{AllocationError}
 use Rattle.bb_memory.specs.Bump.{Bump, Takes as TakesOfBump}
 use Rattle.bb_memory.specs.OneChunk.{OneChunk, Takes as TakesChunk}
 use Rattle.bb_memory.specs.Pool.{CountedPool, counted, fresh_pool}
+use Rattle.bb_memory_c.specs.Answers.{figure_of, no_figure, not_held}
 use Rattle.bb_memory_c.specs.declared.answer.BumpInfo.{BumpInfo}
+use Rattle.bb_memory_c.specs.declared.answer.Figure.{Figure}
 use Rattle.bb_memory_c.specs.declared.answer.OneChunkInfo.{OneChunkInfo}
 use Rattle.bb_memory_c.specs.declared.answer.PoolInfo.{PoolInfo}
 
 -- What the bump answers to a request, and what it is then.
-pub record BumpAllocates (bump : Bump) (layout : Layout)
-    (answer : Result Chunk AllocationError) (after : Bump) : Type 0 where
+pub record BumpAllocates (bump : Bump) (layout : Layout) (answer : Result Chunk AllocationError) (after : Bump) : Type 0 where
   -- the bump by its value
   pub value : TakesOfBump bump layout answer after
   pub region : after.region ≡ bump.region
   -- the bump by its object, on each list of chunks that are out
-  pub object : (live : List Chunk) → StandsFor bump.region bump.used live
-      → MayAllocate bump.region live layout answer
+  pub object : (live : List Chunk) → StandsFor bump.region bump.used live → MayAllocate bump.region live layout answer
   pub appended : IfOk answer (λ chunk. (live : List Chunk) → StandsFor bump.region bump.used live
       → StandsFor after.region after.used (live ++ chunk ∷ []))
 
@@ -52,6 +53,11 @@ pub record ShowsOneChunk (one : OneChunk) (info : OneChunkInfo) (after : OneChun
   pub size : info.size ≡ one.region.size
   pub available : IsTrue info.has_chunk_available ↔ (one.kept ≡ None)
   pub unchanged : after ≡ one
+
+-- C is told how many bytes are reserved for the chunk at this place, where it is out
+pub record TellsReserved (one : OneChunk) (place : ℕ) (told : Figure) : Type 0 where
+  pub held : one.kept ≡ Some place → told ≡ figure_of (reserved_at one.region place)
+  pub nothing : ¬ (one.kept ≡ Some place) → told ≡ no_figure not_held
 
 -- figures of a pool of this geometry, of which so many buckets are held
 abbrev pub pool_info : PoolGeometry → ℕ → PoolInfo

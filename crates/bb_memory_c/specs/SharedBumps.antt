@@ -1,9 +1,9 @@
 -- A shared bump and its parties behind handles, and what C is told.
 use Rattle.std.specs.Prelude.{◌≡◌, ◌≢◌, ◌<◌, ◌≤◌, ◌↔◌, ℕ, All, List, length}
-use Rattle.bb_memory_base.specs.Chunk.{Region, IsRegion}
+use Rattle.bb_memory_traits.specs.Chunk.{Region, IsRegion}
 use Rattle.bb_memory.specs.SharedBump.{AreFresh, BumpParty, HasLoaded, SharedBump, scene_at}
 use Rattle.bb_memory_c.specs.Answers.{ok, malloc_refused, parties_joined}
-use Rattle.bb_memory_c.specs.Calls.{IsOneOf, Parties, left_at}
+use Rattle.bb_memory_c.specs.Calls.{AreKnown, IsOneOf, Parties, left_at}
 use Rattle.bb_memory_c.specs.OneOwner.{bump_info}
 use Rattle.bb_memory_c.specs.declared.answer.BumpInfo.{BumpInfo}
 
@@ -13,6 +13,10 @@ BumpParties = Parties SharedBump BumpParty
 -- the party is this bump's, and one of its parties has joined
 abbrev pub IsAt : BumpParties → BumpParty → Type 0
 IsAt all party = IsOneOf all party.allocator all.shared.scene.parties
+
+-- a party of a bump that begins where this one does is this one's
+abbrev pub Knows : BumpParties → BumpParty → Type 0
+Knows all party = AreKnown (λ bump. bump.scene.region.start) party.allocator all.shared
 
 -- parties of this bump, which has so many, with room for all of them
 pub record AreUnjoined (bump : SharedBump) (count capacity : ℕ) (parties : List BumpParty) : Type 0 where

@@ -1,19 +1,21 @@
 -- A shared pool, its parties, and detached buckets that go from party to party, behind handles: what their calls are answered.
-use Rattle.std.specs.Prelude.{◌≡◌, ◌≢◌, ◌+◌, ◌<◌, ◌≤◌, ◌↔◌, ◌++◌, [], ℕ, zero, suc, All, Bool, false, List, Result, Ok, Option}
-use Rattle.std.specs.Prelude.{None, IfSome, MatchOption, fold, length, if◌then◌else◌}
+use Rattle.std.specs.Prelude.{◌≡◌, ◌≢◌, ◌+◌, ◌-◌, ◌<◌, ◌≤◌, ◌↔◌, ◌++◌, [], ℕ, zero, suc, All, Bool, false, List, Result, Ok}
+use Rattle.std.specs.Prelude.{Option, Some, None, IfSome, MatchOption, fold, length, if◌then◌else◌}
 use Rattle.std.specs.Result.{result_map_both}
-use Rattle.bb_memory_base.specs.Chunk.{Region, Chunk, IsInside}
-use Rattle.bb_memory_base.specs.PoolObject.{IsCut, bucket_place}
+use Rattle.bb_memory_traits.specs.Chunk.{Region, Chunk, IsInside, first_place}
+use Rattle.bb_memory_traits.specs.PoolObject.{IsCut, bucket_place}
 use Rattle.bb_memory_base.specs.PoolLogs.{PoolLog, IsHeldAfter, held_after}
-use Rattle.bb_memory_base.specs.declared.layout.Layout.{Layout}
-use Rattle.bb_memory_base.specs.declared.allocator.AllocationError.{AllocationError}
+use Rattle.bb_memory_traits.specs.declared.layout.Layout.{Layout}
+use Rattle.bb_memory_traits.specs.declared.allocator.AllocationError.{AllocationError}
 use Rattle.bb_memory.specs.IndexSets.{Has}
 use Rattle.bb_memory.specs.SharedPool.{AreFresh, PoolParty, SharedPool, TakenBucket, attach_entry, chunk_of, detach_entry}
 use Rattle.bb_memory.specs.SharedPool.{return_entry, taken_bucket, with_entries}
 use Rattle.bb_memory.specs.SharedPoolNextFit.{MayTakeFrom, hint_of}
-use Rattle.bb_memory_c.specs.Answers.{answer_of, refused, detached_empty, detached_full, ok, not_held, one_party, size_too_large}
-use Rattle.bb_memory_c.specs.Calls.{IsOneOf, Parties}
+use Rattle.bb_memory_c.specs.Answers.{answer_of, refused, detached_empty, detached_full, ok, not_held, one_party, other_pool}
+use Rattle.bb_memory_c.specs.Answers.{figure_of, invalid_argument, no_figure, no_reader, readers_left, size_too_large}
+use Rattle.bb_memory_c.specs.Calls.{AreKnown, IsOneOf, Parties}
 use Rattle.bb_memory_c.specs.declared.answer.Answer.{Answer}
+use Rattle.bb_memory_c.specs.declared.answer.Figure.{Figure}
 
 abbrev pub PoolParties : Type 0
 PoolParties = Parties SharedPool PoolParty
@@ -22,7 +24,14 @@ PoolParties = Parties SharedPool PoolParty
 abbrev pub IsAt : PoolParties → PoolParty → Type 0
 IsAt all party = IsOneOf all party.allocator all.shared.scene.parties
 
--- the party holds some bucket
+-- the place of a pool's first bucket
+abbrev pub start_of : SharedPool → ℕ
+start_of pool = first_place pool.scene.geometry.region pool.scene.geometry.bucket
+
+-- a party of a pool that begins where this one does is this one's
+abbrev pub Knows : PoolParties → PoolParty → Type 0
+Knows all party = AreKnown start_of party.allocator all.shared
+
 abbrev pub HoldsSome : PoolParty → Type 0
 HoldsSome party = (bucket : ℕ) × IsHeldAfter party.log bucket
 
@@ -66,12 +75,10 @@ GivesChunk party layout answer after =
 -- the bucket at the place was given back, by one step
 abbrev pub GivesBack : PoolParty → ℕ → PoolParty → Type 0
 GivesBack party place after =
-    (number : ℕ) × HoldsAt party place number
-    × (after ≡ with_entries party (return_entry party.number number))
+    (number : ℕ) × HoldsAt party place number × (after ≡ with_entries party (return_entry party.number number))
 
 -- ALL THAT A PARTY HOLDS
 
--- whether the party holds the bucket
 abbrev pub holds_bucket : PoolParty → ℕ → Bool
 holds_bucket party bucket = fold (λ held entry. held_after bucket held entry.outcome) false party.log
 
@@ -100,9 +107,36 @@ pub record GivesAllBack (party after : PoolParty) : Type 0 where
 
 -- DETACHED BUCKETS
 
--- what is behind the handle: a detached bucket, or none
-abbrev pub Detached : Type 0
-Detached = Option TakenBucket
+-- what is behind the handle: a detached bucket, or none, and for how many readers it waits
+pub record Detached : Type 0 where
+  pub inside : Option TakenBucket
+  pub readers : ℕ
+
+-- a bucket that waits for no reader, and none
+abbrev pub holding : TakenBucket → Detached
+holding token = record { inside = Some token; readers = 0 }
+
+abbrev pub nothing : Detached
+nothing = record { inside = None; readers = 0 }
+
+-- C is told the length of the chunk in the bucket, or that there is none
+abbrev pub TellsLen : Detached → Figure → Type 0
+TellsLen detached told = MatchOption detached.inside (told ≡ no_figure detached_empty) (λ token. told ≡ figure_of token.len)
+
+-- What is answered where the bucket is to wait for so many readers: each cause of a refusal where none before it is one.
+pub record TellsShare (before : Detached) (readers code : ℕ) (after : Detached) : Type 0 where
+  pub empty : before.inside ≡ None → code ≡ detached_empty
+  pub nobody : before.inside ≢ None → readers ≡ 0 → code ≡ invalid_argument
+  pub left : before.inside ≢ None → 0 < readers → 0 < before.readers → code ≡ readers_left
+  pub shared : before.inside ≢ None → 0 < readers → before.readers ≡ 0 →
+      (code ≡ ok) × (after ≡ record before { readers = readers })
+  pub unchanged : code ≢ ok → after ≡ before
+
+-- A reader is done, and C is told for how many more the bucket waits.
+pub record TellsRelease (before : Detached) (told : Figure) (after : Detached) : Type 0 where
+  pub released : 0 < before.readers →
+      (told ≡ figure_of (before.readers - 1)) × (after ≡ record before { readers = before.readers - 1 })
+  pub nobody : before.readers ≡ 0 → (told ≡ no_figure no_reader) × (after ≡ before)
 
 -- DETACHING
 
@@ -131,30 +165,35 @@ pub record HasDetached (party : PoolParty) (number len : ℕ) (after : PoolParty
 
 -- What is answered where a party is to detach the bucket at a place, with a chunk of so many bytes: each cause of a refusal where
 -- none before it is one, and then all stays.
-pub record TellsDetach (party : PoolParty) (inside : Detached) (place len code : ℕ) (after : PoolParty) (filled : Detached)
+pub record TellsDetach (party : PoolParty) (before : Detached) (place len code : ℕ) (after : PoolParty) (filled : Detached)
     : Type 0 where
   pub one_party : ¬ HasOthers party → code ≡ one_party
   pub not_held : HasOthers party → ¬ HoldsPlace party place → code ≡ not_held
   pub too_large : MayDetachAt party place → party.allocator.scene.geometry.bucket.size < len → code ≡ size_too_large
-  pub full : MayDetachChunk party place len → inside ≢ None → code ≡ detached_full
-  pub detached : MayDetachChunk party place len → inside ≡ None →
-      (code ≡ ok) × ((number : ℕ) × HoldsAt party place number × MatchOption filled ⊥ (HasDetached party number len after))
-  pub unchanged : code ≢ ok → (after ≡ party) × (filled ≡ inside)
+  pub full : MayDetachChunk party place len → before.inside ≢ None → code ≡ detached_full
+  pub detached : MayDetachChunk party place len → before.inside ≡ None →
+      (code ≡ ok) × ((number : ℕ) × (token : TakenBucket) × HoldsAt party place number × (filled ≡ holding token)
+      × HasDetached party number len after token)
+  pub unchanged : code ≢ ok → (after ≡ party) × (filled ≡ before)
 
 -- ATTACHING
 
--- the detached bucket, where there is one, is of the party's pool
-abbrev pub IsForPool : PoolParty → Detached → Type 0
-IsForPool party inside = IfSome inside (λ token. token.allocator ≡ party.allocator)
+-- a detached bucket, where there is one, of a pool that begins where the party's does is of that one
+abbrev pub KnowsInside : PoolParty → Detached → Type 0
+KnowsInside party detached = IfSome detached.inside (λ token. AreKnown start_of token.allocator party.allocator)
 
 -- the party attached the detached bucket, by one step; the chunk in it lies in the region
 pub record HasAttached (party : PoolParty) (token : TakenBucket) (after : PoolParty) : Type 0 where
   pub attached : after ≡ with_entries party (attach_entry party.number token.number)
   pub inside : IsInside party.allocator.scene.geometry.region (chunk_of token)
 
--- What is answered where a party is to attach the detached bucket: the chunk in that bucket. None is behind the handle then.
-pub record TellsAttach (party : PoolParty) (inside : Detached) (told : Answer) (after : PoolParty) (emptied : Detached)
+-- What is answered where a party is to attach the detached bucket: the chunk in that bucket, and none is behind the handle then.
+-- Refused, where the bucket is of another pool or waits for a reader, all stays.
+pub record TellsAttach (party : PoolParty) (before : Detached) (told : Answer) (after : PoolParty) (emptied : Detached)
     : Type 0 where
-  pub attached : IfSome inside (λ token. (told ≡ answer_of (Ok (chunk_of token))) × HasAttached party token after)
-  pub nothing : inside ≡ None → (told ≡ refused detached_empty) × (after ≡ party)
-  pub empty : emptied ≡ None
+  pub empty : before.inside ≡ None → told ≡ refused detached_empty
+  pub others : IfSome before.inside (λ token. token.allocator ≢ party.allocator → told ≡ refused other_pool)
+  pub read : 0 < before.readers → IfSome before.inside (λ token. token.allocator ≡ party.allocator → told ≡ refused readers_left)
+  pub attached : before.readers ≡ 0 → IfSome before.inside (λ token. token.allocator ≡ party.allocator →
+      (told ≡ answer_of (Ok (chunk_of token))) × HasAttached party token after × (emptied ≡ nothing))
+  pub unchanged : told.code ≢ ok → (after ≡ party) × (emptied ≡ before)

@@ -6,13 +6,12 @@ use crate::code;
 use bb_memory::allocator::{AllocationError, AllocationGrowError, AllocationShrinkError};
 use bb_memory::layout::Chunk;
 
-/// A code, and with code 0 the chunk that was given: its place, and how many bytes it has. With any other code both are 0.
+/// A code, and with code 0 the place of the chunk that was given. With any other code it is 0. Both fields fit into registers.
 #[repr(C)]
 #[derive(Clone, Copy)]
 pub struct Answer {
     pub code: u32,
     pub place: usize,
-    pub len: usize,
 }
 
 /// A code, and with code 0 the number that was asked for. With any other code it is 0.
@@ -59,11 +58,7 @@ impl Answer {
     pub(crate) fn refusal(code: u32) -> Answer
         ensures { result ≡ refused code }
     {
-        Answer {
-            code,
-            place: 0,
-            len: 0,
-        }
+        Answer { code, place: 0 }
     }
 
     /// Turns the answer to a request into C's.
@@ -74,7 +69,6 @@ impl Answer {
             Ok(chunk) => Answer {
                 code: code::OK,
                 place: chunk.place(),
-                len: chunk.len(),
             },
             Err(AllocationError::SizeIsZero) => Answer::refusal(code::SIZE_IS_ZERO),
             Err(AllocationError::SizeTooLarge) => Answer::refusal(code::SIZE_TOO_LARGE),
@@ -91,7 +85,6 @@ impl Answer {
             Ok(chunk) => Answer {
                 code: code::OK,
                 place: chunk.place(),
-                len: chunk.len(),
             },
             Err(AllocationGrowError::GrowWouldShrink) => Answer::refusal(code::GROW_WOULD_SHRINK),
             Err(AllocationGrowError::AlignmentFailure) => {
@@ -109,7 +102,6 @@ impl Answer {
             Ok(chunk) => Answer {
                 code: code::OK,
                 place: chunk.place(),
-                len: chunk.len(),
             },
             Err(AllocationShrinkError::ShrinkWouldGrow) => Answer::refusal(code::SHRINK_WOULD_GROW),
             Err(AllocationShrinkError::AlignmentFailure) => {

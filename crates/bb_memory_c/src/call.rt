@@ -182,16 +182,20 @@ where
 pub(crate) fn leave<H: Handle, S: Handle>(handle: &mut H, alloc: Global, joined: &mut S) -> u32
 where
     H::Made: Shares<S::Made>,
-    requires { IfBoth (H.made handle.old) (S.made joined.old) H.Made.is_at }
+    requires { IfBoth (H.made handle.old) (S.made joined.old) H.Made.knows }
     ensures { AnswersLeave (H.made handle.old) (H.made handle.new) (S.made joined.old)
-        (S.made joined.new) result H.Made.leaves H.Made.with_party }
+        (S.made joined.new) result H.Made.is_at H.Made.leaves H.Made.with_party }
 {
     let Some(shared) = handle.made_mut() else {
         return code::UNINITIALIZED;
     };
-    let Some(leaving) = joined.take(alloc) else {
+    let Some(party) = joined.take(alloc) else {
         return code::UNINITIALIZED;
     };
-    shared.take_back(Box::into_inner(leaving));
+    if !shared.has_joined(&party) {
+        joined.put(party);
+        return code::OTHER_POOL;
+    }
+    shared.take_back(Box::into_inner(party));
     code::OK
 }

@@ -42,3 +42,9 @@ pub(crate) const DETACHED_FULL: u32 = 20;
 pub(crate) const DETACHED_EMPTY: u32 = 21;
 /// No bucket has the number, or begins at the place.
 pub(crate) const NOT_A_BUCKET: u32 = 22;
+/// The party, or the detached bucket, is another's.
+pub(crate) const OTHER_POOL: u32 = 23;
+/// A reader of the detached bucket hasn't released it.
+pub(crate) const READERS_LEFT: u32 = 24;
+/// The detached bucket waits for no reader.
+pub(crate) const NO_READER: u32 = 25;

@@ -1,11 +1,12 @@
 //! Detached buckets, which go from party to party of a shared pool: what a handle owns, what a party does with it, and the
 //! exported functions.
-ghost use Rattle.std.specs.Prelude.{◌≡◌, ◌↔◌, ◌≢◌, IfErr, IfOk, IsTrue, None, Some};
+ghost use Rattle.std.specs.Prelude.{◌≡◌, ◌≢◌, ◌<◌, Err, IfErr, IfOk, IfSome, None, Ok, OnErr, Some};
+ghost use Rattle.std.specs.Option.{option_map};
 ghost use Rattle.bb_memory.specs.SharedPool.{chunk_of};
-ghost use Rattle.bb_memory_c.specs.Answers.{ok, refused, uninitialized};
-ghost use Rattle.bb_memory_c.specs.Calls.{AnswersFree, AnswersMake, AnswersOfBoth, AnswersWhether, IfBoth};
-ghost use Rattle.bb_memory_c.specs.SharedPools.{HasAttached, HasDetached, HoldsAt, IsForPool, MayDetachBucket, TellsAttach};
-ghost use Rattle.bb_memory_c.specs.SharedPools.{TellsDetach};
+ghost use Rattle.bb_memory_c.specs.Answers.{detached_empty, no_figure, ok, other_pool, readers_left, refused, uninitialized};
+ghost use Rattle.bb_memory_c.specs.Calls.{Answers, AnswersFree, AnswersMake, AnswersOfBoth, IfBoth};
+ghost use Rattle.bb_memory_c.specs.SharedPools.{HasAttached, HasDetached, HoldsAt, KnowsInside, MayDetachBucket, TellsAttach};
+ghost use Rattle.bb_memory_c.specs.SharedPools.{TellsDetach, TellsLen, TellsRelease, TellsShare, holding, nothing, start_of};
 
 use crate::answer::{Answer, Figure};
 use crate::call::{free, is_made, keep};
@@ -17,33 +18,111 @@ use bb_memory::shared_pool::{DetachedBucket, by_number};
 use std::alloc::Global;
 use std::marker::Model;
 
-/// A detached bucket, or none. It is made once, and any number of buckets go in it, one after another.
+/// A detached bucket with the place at which its pool begins, or none, and for how many readers it waits. It is made once, and
+/// any number of buckets go in it, one after another.
 #[derive(Drop)]
 pub struct Detached {
     inside: Option<DetachedBucket>,
+    start: usize,
+    readers: u32,
 }
 
 impl Model for Detached {
-    ghost use Rattle.bb_memory_c.specs.SharedPools.{Detached};
+    ghost use Rattle.std.specs.Prelude.{◌≡◌, MatchOption};
+    ghost use Rattle.bb_memory_c.specs.SharedPools.{Detached, start_of};
 
     ghost Value = { Detached };
 
-    ghost view = { λ d. d.inside };
+    ghost view = { λ d. record { inside = d.inside; readers = d.readers } };
+
+    ghost invariant = { λ d. MatchOption d.inside (d.readers ≡ 0)
+        (λ token. d.start ≡ start_of token.allocator) };
 }
 
 impl Detached {
     /// No detached bucket yet.
     pub(crate) fn new() -> Detached
-        ensures { result ≡ None }
+        ensures { result ≡ nothing }
     {
-        Detached { inside: None }
+        Detached {
+            inside: None,
+            start: 0,
+            readers: 0,
+        }
     }
 
-    /// Tests that a bucket is in it.
-    pub(crate) fn is_full(&self) -> bool
-        ensures { IsTrue result ↔ (self.now ≢ None) }
+    /// The length of the chunk in the bucket that is in it, if there is one.
+    fn len(&self) -> Option<usize>
+        ensures { result ≡ option_map (λ token. token.len) self.now.inside }
     {
-        self.inside.is_some()
+        match &self.inside {
+            Some(token) => Some(token.len()),
+            None => None,
+        }
+    }
+
+    /// Puts a bucket in, whose pool begins at `start`. None may be in it before.
+    fn put(&mut self, token: DetachedBucket, start: usize)
+        requires empty { self.old.inside ≡ None }
+        requires start { start ≡ start_of token.allocator }
+        ensures { self.new ≡ holding token }
+    {
+        self.inside = Some(token);
+        self.start = start;
+    }
+
+    /// Takes out the bucket that is in it, where its pool begins at `start` and it waits for no reader; else the answer is the
+    /// code for why not.
+    fn take(&mut self, start: usize) -> Result<DetachedBucket, u32>
+        ensures taken { IfOk result (λ token. (self.old ≡ holding token)
+            × (start_of token.allocator ≡ start) × (self.new ≡ nothing)) }
+        ensures empty { self.old.inside ≡ None → result ≡ Err detached_empty }
+        ensures other { IfSome self.old.inside (λ token. start_of token.allocator ≢ start
+            → result ≡ Err other_pool) }
+        ensures read { IfSome self.old.inside (λ token. start_of token.allocator ≡ start
+            → 0 < self.old.readers → result ≡ Err readers_left) }
+        ensures free { IfSome self.old.inside (λ token. start_of token.allocator ≡ start
+            → self.old.readers ≡ 0 → result ≡ Ok token) }
+        ensures unchanged { OnErr result (self.new ≡ self.old) }
+    {
+        if self.inside.is_none() {
+            return Err(code::DETACHED_EMPTY);
+        }
+        if self.start != start {
+            return Err(code::OTHER_POOL);
+        }
+        if self.readers > 0 {
+            return Err(code::READERS_LEFT);
+        }
+        self.inside.take().ok_or(code::DETACHED_EMPTY)
+    }
+
+    /// Has the bucket wait for so many readers.
+    fn share(&mut self, readers: u32) -> u32
+        ensures { TellsShare self.old readers result self.new }
+    {
+        if self.inside.is_none() {
+            return code::DETACHED_EMPTY;
+        }
+        if readers == 0 {
+            return code::INVALID_ARGUMENT;
+        }
+        if self.readers > 0 {
+            return code::READERS_LEFT;
+        }
+        self.readers = readers;
+        code::OK
+    }
+
+    /// Counts a reader that is done.
+    fn release(&mut self) -> Figure
+        ensures { TellsRelease self.old result self.new }
+    {
+        if self.readers == 0 {
+            return Figure::refusal(code::NO_READER);
+        }
+        self.readers -= 1;
+        Figure::of(self.readers as usize)
     }
 }
 
@@ -53,8 +132,9 @@ impl JoinedPool {
         requires { MayDetachBucket self.old number len }
         ensures { HasDetached self.old number len self.new result }
     {
-        let bucket = by_number::bucket(&*self.pool, &self.party, number, len);
-        let token = self.pool.detach(&mut self.party, bucket);
+        let pool = &*self.pool;
+        let bucket = by_number::bucket(pool, &self.party, number, len);
+        let token = pool.detach(&mut self.party, bucket);
         self.held[number as usize] = false;
         token
     }
@@ -66,7 +146,8 @@ impl JoinedPool {
         ensures party { HasAttached self.old token self.new }
     {
         let bucket = self.pool.attach(&mut self.party, token);
-        let (number, chunk) = (bucket.number(), bucket.chunk());
+        let number = bucket.number();
+        let chunk = bucket.chunk();
         self.held[number as usize] = true;
         chunk
     }
@@ -76,20 +157,21 @@ impl JoinedPool {
     fn may_detach(&self, place: usize, len: usize, detached: &Detached) -> Result<u32, u32>
         ensures placed { IfOk result (HoldsAt self.now place) }
         ensures may { IfOk result (λ number. MayDetachBucket self.now number len) }
-        ensures empty { IfOk result (λ number. detached.now ≡ None) }
+        ensures empty { IfOk result (λ number. detached.now.inside ≡ None) }
         ensures refused { IfErr result (λ code. (code ≢ ok)
             × TellsDetach self.now detached.now place len code self.now detached.now) }
     {
-        if self.pool.number_of_parties() < 2 {
+        let pool = &*self.pool;
+        if pool.number_of_parties() < 2 {
             return Err(code::ONE_PARTY);
         }
         let Some(number) = self.held_at(place) else {
             return Err(code::NOT_HELD);
         };
-        if len > self.pool.bucket_size() {
+        if len > pool.bucket_size() {
             return Err(code::SIZE_TOO_LARGE);
         }
-        if detached.is_full() {
+        if detached.inside.is_some() {
             return Err(code::DETACHED_FULL);
         }
         Ok(number)
@@ -101,22 +183,23 @@ impl JoinedPool {
     {
         match self.may_detach(place, len, detached) {
             Ok(number) => {
-                detached.inside = Some(self.detach_bucket(number, len));
+                let token = self.detach_bucket(number, len);
+                detached.put(token, self.pool.start_address());
                 code::OK
             }
             Err(code) => code,
         }
     }
 
-    /// Attaches the bucket that is in `detached`, which has none then.
+    /// Attaches the bucket that is in `detached`, where it is of the party's pool. None is in it then.
     pub(crate) fn attach(&mut self, detached: &mut Detached) -> Answer
-        requires { IsForPool self.old detached.old }
+        requires { KnowsInside self.old detached.old }
         ensures { TellsAttach self.old detached.old result self.new detached.new }
     {
-        let Some(token) = detached.inside.take() else {
-            return Answer::refusal(code::DETACHED_EMPTY);
-        };
-        Answer::of(Ok(self.attach_bucket(token)))
+        match detached.take(self.pool.start_address()) {
+            Ok(token) => Answer::of(Ok(self.attach_bucket(token))),
+            Err(code) => Answer::refusal(code),
+        }
     }
 }
 
@@ -124,7 +207,7 @@ impl JoinedPool {
 #[unsafe(no_mangle)]
 pub extern "C" fn bb_detached_init(alloc: Global, detached: &mut DetachedHandle) -> u32
     ensures { AnswersMake detached.old.value detached.new.value result (Unit {0})
-        (λ new. new ≡ Some None) }
+        (λ new. new ≡ Some nothing) }
 {
     if is_made(detached) {
         return code::ALREADY_INITIALIZED;
@@ -141,14 +224,41 @@ pub extern "C" fn bb_detached_destroy(alloc: Global, detached: &mut DetachedHand
     free(detached, alloc)
 }
 
-/// Returns 1 where a bucket is in it, else 0.
+/// The length in bytes of the chunk with which the bucket in it was detached, or `BB_DETACHED_EMPTY` where none is in it.
 #[unsafe(no_mangle)]
-pub extern "C" fn bb_detached_is_full(detached: &mut DetachedHandle) -> Figure
-    ensures { AnswersWhether detached.old.value detached.new.value result
-        (λ inside. inside ≢ None) }
+pub extern "C" fn bb_detached_len(detached: &mut DetachedHandle) -> Figure
+    ensures { Answers detached.old.value detached.new.value (result ≡ no_figure uninitialized)
+        (λ inside after. TellsLen inside result × (after ≡ inside)) }
+{
+    let Some(inside) = detached.made_mut() else {
+        return Figure::refusal(code::UNINITIALIZED);
+    };
+    match inside.len() {
+        Some(len) => Figure::of(len),
+        None => Figure::refusal(code::DETACHED_EMPTY),
+    }
+}
+
+/// Has the bucket that is in it wait for so many readers, one at least, each of which releases it. No party attaches it before.
+#[unsafe(no_mangle)]
+pub extern "C" fn bb_detached_share(detached: &mut DetachedHandle, readers: u32) -> u32
+    ensures { Answers detached.old.value detached.new.value (result ≡ uninitialized)
+        (λ before after. TellsShare before readers result after) }
 {
     match detached.made_mut() {
-        Some(inside) => Figure::whether(inside.is_full()),
+        Some(inside) => inside.share(readers),
+        None => code::UNINITIALIZED,
+    }
+}
+
+/// Counts a reader that is done, and tells for how many more the bucket waits: the last one is told 0.
+#[unsafe(no_mangle)]
+pub extern "C" fn bb_detached_release(detached: &mut DetachedHandle) -> Figure
+    ensures { Answers detached.old.value detached.new.value (result ≡ no_figure uninitialized)
+        (λ before after. TellsRelease before result after) }
+{
+    match detached.made_mut() {
+        Some(inside) => inside.release(),
         None => Figure::refusal(code::UNINITIALIZED),
     }
 }
@@ -176,13 +286,14 @@ pub extern "C" fn bb_pool_party_detach(
 }
 
 /// Attaches the bucket that is in the `bb_detached`, which has none then: this party holds it, with the chunk that is
-/// returned. It takes no memory, and waits for nothing.
+/// returned. One of a pool that begins at another place is refused with `BB_OTHER_POOL`. It takes no memory, and waits for
+/// nothing.
 #[unsafe(no_mangle)]
 pub extern "C" fn bb_pool_party_attach(
     handle: &mut PoolPartyHandle,
     detached: &mut DetachedHandle,
 ) -> Answer
-    requires { IfBoth handle.old.value detached.old.value IsForPool }
+    requires { IfBoth handle.old.value detached.old.value KnowsInside }
     ensures { AnswersOfBoth handle.old.value handle.new.value
         detached.old.value detached.new.value (result ≡ refused uninitialized)
         (λ party inside. TellsAttach party inside result) }

@@ -12,7 +12,7 @@ ghost use Rattle.bb_memory.specs.SharedBump.{BumpParty};
 ghost use Rattle.bb_memory.specs.SharedPool.{PoolParty};
 ghost use Rattle.bb_memory_c.specs.Handles.{owns_if};
 ghost use Rattle.bb_memory_c.specs.SharedPools.{Detached as Inside, PoolParties as SharedPool};
-ghost use Rattle.bb_memory_core.specs.contracts.bump_allocator.BumpAllocator.{the_row as bump_row};
+ghost use Rattle.bb_memory_bump.specs.contracts.bump_allocator.BumpAllocator.{the_row as bump_row};
 ghost use Rattle.bb_memory_core.specs.contracts.one_chunk_allocator.OneChunkAllocator.{the_row as one_chunk_row};
 ghost use Rattle.bb_memory_c.specs.contracts.detached.Detached.{the_row as detached_row};
 ghost use Rattle.bb_memory_c.specs.contracts.pool.Pool.{the_row as pool_row};

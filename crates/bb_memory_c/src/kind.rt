@@ -1,10 +1,10 @@
 //! Traits of each kind that a call serves which is written once.
 ghost use Rattle.std.specs.Prelude.{◌≡◌, ◌↔◌, ℕ, IsFalse, IsTrue, Result};
-ghost use Rattle.bb_memory_base.specs.Chunk.{Chunk};
-ghost use Rattle.bb_memory_base.specs.PoolObject.{PoolGeometry};
-ghost use Rattle.bb_memory_base.specs.declared.layout.Layout.{Layout as Asked};
-ghost use Rattle.bb_memory_base.specs.declared.allocator.AllocationError.{AllocationError};
-ghost use Rattle.bb_memory.specs.Buckets.{TellsNumber, TellsPlace};
+ghost use Rattle.bb_memory_traits.specs.Chunk.{Chunk};
+ghost use Rattle.bb_memory_traits.specs.PoolObject.{PoolGeometry};
+ghost use Rattle.bb_memory_traits.specs.declared.layout.Layout.{Layout as Asked};
+ghost use Rattle.bb_memory_traits.specs.declared.allocator.AllocationError.{AllocationError};
+ghost use Rattle.bb_memory.specs.Pool.{TellsNumber, TellsPlace};
 ghost use Rattle.bb_memory_c.specs.Calls.{TakesParty};
 
 use bb_memory::allocator::AllocationError;
@@ -75,6 +75,9 @@ pub(crate) trait Shares<S: Drop>: Drop {
     /// The party is one of its own that has joined.
     ghost is_at: { Self → S → Type 0 };
 
+    /// Where the party is of what begins at the same place, it is of this.
+    ghost knows: { Self → S → Type 0 };
+
     /// A party before and after it has left.
     ghost leaves: { S → S → Type 0 };
 
@@ -82,6 +85,11 @@ pub(crate) trait Shares<S: Drop>: Drop {
     fn deal(&mut self, alloc: Global) -> Result<Box<S>, u32>
         ensures { TakesParty self.old self.new result left (λ shared joined. with_party shared joined.value)
             (λ shared joined. is_at shared joined.value) };
+
+    /// Returns whether a party is one of its own that has joined.
+    fn has_joined(&self, party: &S) -> bool
+        requires { knows self.now party.now }
+        ensures { IsTrue result ↔ is_at self.now party.now };
 
     /// Takes the party back, behind those that haven't joined.
     fn take_back(&mut self, joined: S)

@@ -1,8 +1,8 @@
 //! Layouts of two numbers that C hands in.
 ghost use Rattle.std.specs.Prelude.{◌≡◌, ◌≢◌, ◌↔◌, IfOk, IfErr, IfSome, IsTrue, None, Some, Err};
 ghost use Rattle.std.specs.Align.{IsLayout};
-ghost use Rattle.bb_memory_base.specs.declared.layout.Layout.{Layout as Asked};
-ghost use Rattle.bb_memory_base.specs.Chunk.{region_at};
+ghost use Rattle.bb_memory_traits.specs.declared.layout.Layout.{Layout as Asked};
+ghost use Rattle.bb_memory_traits.specs.Chunk.{region_at};
 ghost use Rattle.bb_memory_c.specs.Answers.{invalid_argument, invalid_layout};
 ghost use Rattle.bb_memory.specs.Pool.{MayBeCut};
 ghost use Rattle.bb_memory_c.specs.Calls.{FailsOf, HasRoom, IsCuttable, IsOf};

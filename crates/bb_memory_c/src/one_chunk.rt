@@ -1,12 +1,13 @@
 //! A one-chunk allocator behind a handle.
 ghost use Rattle.std.specs.Prelude.{◌≡◌, ◌≤◌, ◌%◌, None, Some};
-ghost use Rattle.bb_memory_base.specs.Chunk.{IsRegion, region_at};
+ghost use Rattle.bb_memory_traits.specs.Chunk.{IsRegion, region_at};
 ghost use Rattle.bb_memory.specs.OneChunk.{one_chunk_of};
-ghost use Rattle.bb_memory_base.specs.OneChunkObject.{MayGrow, MayShrink, reserved_at};
-ghost use Rattle.bb_memory_c.specs.Answers.{AnswersStill, TellsOfLayouts, TellsResized, grow_code, shrink_code};
-ghost use Rattle.bb_memory_c.specs.Calls.{AnswersFree, AnswersInfo, AnswersMake, AnswersRequest, AnswersResize, AnswersReturn};
-ghost use Rattle.bb_memory_c.specs.Calls.{AnswersWhether};
-ghost use Rattle.bb_memory_c.specs.OneOwner.{OneChunkAllocates, ShowsOneChunk};
+ghost use Rattle.bb_memory_traits.specs.OneChunkObject.{MayGrow, MayShrink, reserved_at};
+ghost use Rattle.bb_memory_c.specs.Answers.{AnswersStill, TellsOfLayouts, TellsResized, grow_code, no_figure, shrink_code};
+ghost use Rattle.bb_memory_c.specs.Answers.{uninitialized};
+ghost use Rattle.bb_memory_c.specs.Calls.{Answers, AnswersFree, AnswersInfo, AnswersMake, AnswersRequest, AnswersResize};
+ghost use Rattle.bb_memory_c.specs.Calls.{AnswersReturn, AnswersWhether};
+ghost use Rattle.bb_memory_c.specs.OneOwner.{OneChunkAllocates, ShowsOneChunk, TellsReserved};
 
 use crate::answer::{Answer, Figure, OneChunkInfo};
 use crate::call::{free, give_back, holds, info, is_made, keep, request};
@@ -77,6 +78,21 @@ pub extern "C" fn bb_one_chunk_holds(handle: &mut OneChunkHandle, place: usize) 
         (λ one. one.kept ≡ Some place) }
 {
     holds(handle, place)
+}
+
+/// How many bytes are reserved for the chunk at this place: all of the region from there on. Another place is refused.
+#[unsafe(no_mangle)]
+pub extern "C" fn bb_one_chunk_reserved(handle: &mut OneChunkHandle, place: usize) -> Figure
+    ensures { Answers handle.old.value handle.new.value (result ≡ no_figure uninitialized)
+        (λ one after. TellsReserved one place result × (after ≡ one)) }
+{
+    let Some(one) = handle.made_mut() else {
+        return Figure::refusal(code::UNINITIALIZED);
+    };
+    if !one.holds(place) {
+        return Figure::refusal(code::NOT_HELD);
+    }
+    Figure::of(one.reserved(place))
 }
 
 /// Fills the struct with the allocator's figures.

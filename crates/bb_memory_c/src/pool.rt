@@ -1,6 +1,6 @@
 //! A pool behind a handle.
 ghost use Rattle.std.specs.Prelude.{◌≡◌};
-ghost use Rattle.bb_memory_base.specs.Chunk.{region_at};
+ghost use Rattle.bb_memory_traits.specs.Chunk.{region_at};
 ghost use Rattle.bb_memory.specs.Pool.{held_count, Frees, HoldsPlace, MayBeCut, Takes};
 ghost use Rattle.bb_memory_c.specs.Calls.{AnswersFree, AnswersInfo, AnswersNumber, AnswersPlace, AnswersPoolMake};
 ghost use Rattle.bb_memory_c.specs.Calls.{AnswersRequest, AnswersReturn, AnswersWhether, HasRoom};

@@ -1,11 +1,12 @@
 //! A shared bump behind handles: one for the bump and the parties that haven't joined, and one for each party that has.
-ghost use Rattle.std.specs.Prelude.{◌≡◌, ◌<◌, ◌↔◌, IfSome, IsTrue, Some};
-ghost use Rattle.bb_memory_base.specs.Chunk.{region_at};
+ghost use Rattle.std.specs.Prelude.{◌≡◌, ◌<◌, ◌↔◌, IfErr, IfOk, IfSome, IsTrue, Some};
+ghost use Rattle.std.specs.Arc.{arc_value};
+ghost use Rattle.bb_memory_traits.specs.Chunk.{region_at};
 ghost use Rattle.bb_memory.specs.SharedBump.{MayTake};
 ghost use Rattle.bb_memory_c.specs.Answers.{uninitialized};
 ghost use Rattle.bb_memory_c.specs.Calls.{Answers, AnswersFree, AnswersInfo, AnswersJoin, AnswersLeave, AnswersMake};
 ghost use Rattle.bb_memory_c.specs.Calls.{AnswersRequest, IfBoth, IsThere, left_at, with_party};
-ghost use Rattle.bb_memory_c.specs.SharedBumps.{AreFreshOver, IsAt, IsShareable, ShowsLoad, TellsReset};
+ghost use Rattle.bb_memory_c.specs.SharedBumps.{AreFreshOver, IsAt, IsShareable, Knows, ShowsLoad, TellsReset};
 
 use crate::answer::{Answer, BumpInfo};
 use crate::call::{free, info, is_made, join, keep, leave, request};
@@ -38,14 +39,39 @@ impl Model for JoinedBump {
     ghost invariant = { λ s. s.party.allocator ≡ arc_value s.bump };
 }
 
+impl JoinedBump {
+    /// Boxes the party as one that has joined. The error is the party, where a request for memory was refused.
+    fn new(
+        alloc: Global,
+        bump: &Arc<SharedBumpAllocator, Global>,
+        party: BumpParty,
+    ) -> Result<Box<JoinedBump>, BumpParty>
+        requires { party.allocator ≡ arc_value bump.now }
+        ensures joined { IfOk result (λ joined. joined.value ≡ party) }
+        ensures refused { IfErr result (λ back. back ≡ party) }
+    {
+        let Ok(bump) = Arc::try_clone(bump) else {
+            return Err(party);
+        };
+        match Box::new(alloc, JoinedBump { bump, party }) {
+            Ok(joined) => Ok(joined),
+            Err(refused) => {
+                let JoinedBump { bump: _bump, party } = refused.value;
+                Err(party)
+            }
+        }
+    }
+}
+
 impl Shows<BumpInfo> for JoinedBump {
     ghost may_show = { ShowsLoad };
 
     fn show(&mut self) -> BumpInfo {
-        let used_space = self.bump.used_space(&mut self.party);
-        let total_space = self.bump.total_space();
+        let bump = &*self.bump;
+        let used_space = bump.used_space(&mut self.party);
+        let total_space = bump.total_space();
         BumpInfo {
-            start_address: self.bump.start_address(),
+            start_address: bump.start_address(),
             used_space,
             free_space: total_space.saturating_sub(used_space),
             total_space,
@@ -89,10 +115,9 @@ impl BumpParties {
         requires { IsShareable (region_at start size) count }
         ensures { IfSome result (AreFreshOver (region_at start size) count) }
     {
-        let Ok((bump, mut parties)) = BumpAllocator::new(start, size).share(alloc, count) else {
+        let Ok((bump, parties)) = BumpAllocator::new(start, size).share(alloc, count) else {
             return None;
         };
-        parties.reserve(0).ok()?;
         let Ok(bump) = Arc::new(alloc, bump) else {
             return None;
         };
@@ -131,26 +156,26 @@ impl Shares<JoinedBump> for BumpParties {
 
     ghost is_at = { IsAt };
 
+    ghost knows = { Knows };
+
     ghost leaves = { λ party after. after ≡ party };
 
     fn deal(&mut self, alloc: Global) -> Result<Box<JoinedBump>, u32> {
-        if self.parties.is_empty() {
-            return Err(code::NO_PARTY);
-        }
-        let Ok(bump) = Arc::try_clone(&self.bump) else {
-            return Err(code::MALLOC_REFUSED);
-        };
         let Some(party) = self.parties.pop() else {
             return Err(code::NO_PARTY);
         };
-        match Box::new(alloc, JoinedBump { bump, party }) {
+        match JoinedBump::new(alloc, &self.bump, party) {
             Ok(joined) => Ok(joined),
-            Err(refused) => {
-                let JoinedBump { bump: _bump, party } = refused.value;
+            Err(party) => {
                 self.parties.push_reserved(party);
                 Err(code::MALLOC_REFUSED)
             }
         }
+    }
+
+    fn has_joined(&self, party: &JoinedBump) -> bool {
+        party.bump.start_address() == self.bump.start_address()
+            && self.parties.len() < self.count as usize
     }
 
     fn take_back(&mut self, joined: JoinedBump) {
@@ -220,16 +245,17 @@ pub extern "C" fn bb_shared_bump_join(
     join(handle, alloc, party)
 }
 
-/// Ends a party of this bump, whose handle is empty then. It may join again.
+/// Ends a party of this bump, whose handle is empty then. It may join again. The party of a bump that begins at another place is
+/// refused with `BB_OTHER_POOL`.
 #[unsafe(no_mangle)]
 pub extern "C" fn bb_shared_bump_leave(
     alloc: Global,
     handle: &mut SharedBumpHandle,
     party: &mut BumpPartyHandle,
 ) -> u32
-    requires { IfBoth handle.old.value party.old.value IsAt }
+    requires { IfBoth handle.old.value party.old.value Knows }
     ensures { AnswersLeave handle.old.value handle.new.value party.old.value party.new.value result
-        (λ party after. after ≡ party) with_party }
+        IsAt (λ party after. after ≡ party) with_party }
 {
     leave(handle, alloc, party)
 }

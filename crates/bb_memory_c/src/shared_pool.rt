@@ -1,7 +1,8 @@
 //! A shared pool behind handles: one for the pool and the parties that haven't joined, and one for each party that has, with the
 //! buckets that it holds.
-ghost use Rattle.std.specs.Prelude.{◌≡◌, ◌<◌, IfSome, IfNone, count_by};
-ghost use Rattle.bb_memory_base.specs.Chunk.{region_at};
+ghost use Rattle.std.specs.Prelude.{◌≡◌, ◌<◌, IfErr, IfNone, IfOk, IfSome, count_by};
+ghost use Rattle.std.specs.Arc.{arc_value};
+ghost use Rattle.bb_memory_traits.specs.Chunk.{region_at};
 ghost use Rattle.bb_memory_base.specs.PoolLogs.{IsHeldAfter};
 ghost use Rattle.bb_memory.specs.SharedPool.{return_entry, with_entries};
 ghost use Rattle.bb_memory_c.specs.Calls.{AnswersFree, AnswersInfo, AnswersJoin, AnswersLeave, AnswersNumber, AnswersPlace};
@@ -9,7 +10,7 @@ ghost use Rattle.bb_memory_c.specs.Calls.{AnswersPoolMake, AnswersRequest, Answe
 ghost use Rattle.bb_memory_c.specs.Calls.{IsThere, MayBeShared, left_at, with_party};
 ghost use Rattle.bb_memory_c.specs.OneOwner.{pool_info};
 ghost use Rattle.bb_memory_c.specs.SharedPools.{AreFreshOver, GivesAllBack, GivesBack, GivesChunk, HoldsAt, HoldsPlace, IsAt};
-ghost use Rattle.bb_memory_c.specs.SharedPools.{held_by, return_of};
+ghost use Rattle.bb_memory_c.specs.SharedPools.{IsIdleAt, Knows, held_by, return_of};
 
 use crate::answer::{Answer, Figure, PoolInfo};
 use crate::call::{
@@ -54,12 +55,43 @@ fn count_set(flags: &[bool]) -> usize
 }
 
 impl JoinedPool {
+    /// Boxes the party as one that has joined. The error is the party, where a request for memory was refused.
+    fn new(
+        alloc: Global,
+        pool: &Arc<SharedPoolAllocator, Global>,
+        party: PoolParty,
+    ) -> Result<Box<JoinedPool>, PoolParty>
+        requires { IsIdleAt (arc_value pool.now) party }
+        ensures joined { IfOk result (λ joined. joined.value ≡ party) }
+        ensures refused { IfErr result (λ back. back ≡ party) }
+    {
+        let Ok(pool) = Arc::try_clone(pool) else {
+            return Err(party);
+        };
+        let Ok(held) = Vec::from_elem(alloc, false, pool.number_of_buckets() as usize) else {
+            return Err(party);
+        };
+        match Box::new(alloc, JoinedPool { pool, party, held }) {
+            Ok(joined) => Ok(joined),
+            Err(refused) => {
+                let JoinedPool {
+                    pool: _pool,
+                    party,
+                    held: _held,
+                } = refused.value;
+                Err(party)
+            }
+        }
+    }
+
     /// The number of the bucket at this place, if the party holds it.
     pub(crate) fn held_at(&self, place: usize) -> Option<u32>
         ensures held { IfSome result (HoldsAt self.now place) }
         ensures none { IfNone result (¬ HoldsPlace self.now place) }
     {
-        let number = self.pool.number_at(place)?;
+        let Some(number) = self.pool.number_at(place) else {
+            return None;
+        };
         if self.held[number as usize] {
             Some(number)
         } else {
@@ -79,8 +111,9 @@ impl JoinedPool {
         requires { IsHeldAfter self.old.log number }
         ensures { self.new ≡ with_entries self.old (return_entry self.old.number number) }
     {
-        let bucket = by_number::bucket(&*self.pool, &self.party, number, 0);
-        self.pool.deallocate_bucket(&mut self.party, bucket);
+        let pool = &*self.pool;
+        let bucket = by_number::bucket(pool, &self.party, number, 0);
+        pool.deallocate_bucket(&mut self.party, bucket);
         self.held[number as usize] = false;
     }
 
@@ -110,12 +143,13 @@ impl Shows<PoolInfo> for JoinedPool {
         (info ≡ pool_info party.allocator.scene.geometry (held_by party)) × (after ≡ party) };
 
     fn show(&mut self) -> PoolInfo {
+        let pool = &*self.pool;
         PoolInfo {
-            start_address: self.pool.start_address(),
-            size: self.pool.size(),
-            bucket_size: self.pool.bucket_size(),
-            max_alignment: self.pool.max_alignment(),
-            number_of_buckets: self.pool.number_of_buckets() as usize,
+            start_address: pool.start_address(),
+            size: pool.size(),
+            bucket_size: pool.bucket_size(),
+            max_alignment: pool.max_alignment(),
+            number_of_buckets: pool.number_of_buckets() as usize,
             held_buckets: self.held_buckets(),
         }
     }
@@ -125,10 +159,15 @@ impl Gives for JoinedPool {
     ghost may_give = { GivesChunk };
 
     fn give(&mut self, layout: Layout) -> Result<Chunk, AllocationError> {
-        let bucket = self.pool.allocate_next_fit(&mut self.party, layout)?;
-        let (number, chunk) = (bucket.number(), bucket.chunk());
-        self.held[number as usize] = true;
-        Ok(chunk)
+        match self.pool.allocate_next_fit(&mut self.party, layout) {
+            Ok(bucket) => {
+                let number = bucket.number();
+                let chunk = bucket.chunk();
+                self.held[number as usize] = true;
+                Ok(chunk)
+            }
+            Err(error) => Err(error),
+        }
     }
 }
 
@@ -194,11 +233,9 @@ impl PoolParties {
         requires { MayBeShared (region_at start size) count bucket }
         ensures { IfSome result (AreFreshOver (region_at start size) bucket count) }
     {
-        let Ok((pool, mut parties)) = SharedPoolAllocator::new(alloc, bucket, start, size, count)
-        else {
+        let Ok((pool, parties)) = SharedPoolAllocator::new(alloc, bucket, start, size, count) else {
             return None;
         };
-        parties.reserve(0).ok()?;
         let Ok(pool) = Arc::new(alloc, pool) else {
             return None;
         };
@@ -213,33 +250,27 @@ impl Shares<JoinedPool> for PoolParties {
 
     ghost is_at = { IsAt };
 
+    ghost knows = { Knows };
+
     ghost leaves = { GivesAllBack };
 
     fn deal(&mut self, alloc: Global) -> Result<Box<JoinedPool>, u32> {
-        if self.parties.is_empty() {
-            return Err(code::NO_PARTY);
-        }
-        let Ok(pool) = Arc::try_clone(&self.pool) else {
-            return Err(code::MALLOC_REFUSED);
-        };
-        let Ok(held) = Vec::from_elem(alloc, false, pool.number_of_buckets() as usize) else {
-            return Err(code::MALLOC_REFUSED);
-        };
         let Some(party) = self.parties.pop() else {
             return Err(code::NO_PARTY);
         };
-        match Box::new(alloc, JoinedPool { pool, party, held }) {
+        match JoinedPool::new(alloc, &self.pool, party) {
             Ok(joined) => Ok(joined),
-            Err(refused) => {
-                let JoinedPool {
-                    pool: _pool,
-                    party,
-                    held: _held,
-                } = refused.value;
+            Err(party) => {
                 self.parties.push_reserved(party);
                 Err(code::MALLOC_REFUSED)
             }
         }
+    }
+
+    fn has_joined(&self, party: &JoinedPool) -> bool {
+        let pool = &*self.pool;
+        party.pool.start_address() == pool.start_address()
+            && self.parties.len() < pool.number_of_parties() as usize
     }
 
     fn take_back(&mut self, mut joined: JoinedPool) {
@@ -310,16 +341,17 @@ pub extern "C" fn bb_shared_pool_join(
     join(handle, alloc, party)
 }
 
-/// Ends a party of this pool, whose handle is empty then: each bucket that it holds is given back. It may join again.
+/// Ends a party of this pool, whose handle is empty then: each bucket that it holds is given back. It may join again. The party
+/// of a pool that begins at another place is refused with `BB_OTHER_POOL`.
 #[unsafe(no_mangle)]
 pub extern "C" fn bb_shared_pool_leave(
     alloc: Global,
     handle: &mut SharedPoolHandle,
     party: &mut PoolPartyHandle,
 ) -> u32
-    requires { IfBoth handle.old.value party.old.value IsAt }
+    requires { IfBoth handle.old.value party.old.value Knows }
     ensures { AnswersLeave handle.old.value handle.new.value party.old.value party.new.value result
-        GivesAllBack with_party }
+        IsAt GivesAllBack with_party }
 {
     leave(handle, alloc, party)
 }

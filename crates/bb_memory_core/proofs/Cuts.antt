@@ -1,21 +1,21 @@
 -- Regions that are cut into buckets: how many there are, and where each one is.
-use Rattle.std.proofs.Common.{◌≡◌, ℕ, ◌+◌, ◌-◌, ◌*◌, ◌/◌, ◌<◌, ◌≤◌, ◌^◌, IsTrue, w64, pow_pos, Option, Some, None, IsSome, refl}
-use Rattle.std.proofs.Common.{arith, ap, sym, subst, ◌∙◌, inl, inr}
+use Rattle.std.proofs.Common.{◌≡◌, ℕ, ◌+◌, ◌-◌, ◌*◌, ◌/◌, ◌%◌, ◌<◌, ◌≤◌, ◌^◌, IsTrue, w64, pow_pos, Option, Some, None, IsSome}
+use Rattle.std.proofs.Common.{refl, arith, ap, sym, subst, ◌∙◌, inl, inr}
 use Rattle.std.specs.Int.{is_power_of_two, trailing_zeros}
 use Rattle.std.specs.Option.{SomeIff}
-use Rattle.std.proofs.Math.Nat.{mul-div_cancel, mul-le-mul_left}
+use Rattle.std.proofs.Math.Nat.{mul-div_cancel, mul-le-mul_left, mul-mod_left}
 use Rattle.std.proofs.lemmas.Bool.{cases_eq, cases_lt}
 use Rattle.std.proofs.lemmas.Nat.{le-div}
 use Rattle.std.proofs.lemmas.Nat.Bits.{bit_at-trailing_zeros, bit_at-pow_other}
-use Rattle.bb_memory_base.specs.Chunk.{Region, IsRegion, region_end, first_place}
-use Rattle.bb_memory_base.specs.PoolObject.{PoolGeometry, pool_geometry, bucket_place, stride, FillsRegion, IsCut}
-use Rattle.bb_memory_base.specs.declared.layout.Layout.{Layout}
-use Rattle.bb_memory_base.specs.LeastPlace.{least_place}
-use Rattle.bb_memory_base.proofs.PowersOfTwo.{power_of_two-from_test}
-use Rattle.bb_memory_base.proofs.PoolGeometries.{stride-above, first_place-above, room-quotient}
+use Rattle.bb_memory_traits.specs.Chunk.{Region, IsRegion, region_end, first_place}
+use Rattle.bb_memory_traits.specs.PoolObject.{PoolGeometry, pool_geometry, bucket_place, stride, FillsRegion, IsCut}
+use Rattle.bb_memory_traits.specs.declared.layout.Layout.{Layout}
+use Rattle.bb_memory_traits.specs.LeastPlace.{least_place}
+use Rattle.bb_memory_traits.proofs.PowersOfTwo.{power_of_two-from_test}
+use Rattle.bb_memory_traits.proofs.PoolGeometries.{stride-above, first_place-above, room-quotient}
 use Rattle.bb_memory_core.specs.IndexSets.{words_with_list}
 use Rattle.bb_memory_core.specs.Pool.{MayBeCut}
-use Rattle.bb_memory_core.specs.Buckets.{Shifts}
+use Rattle.bb_memory_core.specs.Pool.{Shifts}
 
 -- STRIDES
 
@@ -126,6 +126,13 @@ pub number-at : (geometry : PoolGeometry) (i place : ℕ) → 0 < stride geometr
 number-at geometry i place some at =
     let past : place - first_place geometry.region geometry.bucket ≡ i * stride geometry.bucket = omega (arith, at) in
     ap (λ n. n / stride geometry.bucket) past ∙ mul-div_cancel i some
+
+-- the distance of a place from the first bucket is a multiple of the stride where a bucket is there
+pub whole-at : (geometry : PoolGeometry) (i place : ℕ) → place ≡ bucket_place geometry i →
+    (place - first_place geometry.region geometry.bucket) % stride geometry.bucket ≡ 0
+whole-at geometry i place at =
+    let past : place - first_place geometry.region geometry.bucket ≡ i * stride geometry.bucket = omega (arith, at) in
+    ap (λ n. n % stride geometry.bucket) past ∙ mul-mod_left i (stride geometry.bucket)
 
 -- TESTS THAT ANSWER A VALUE
 

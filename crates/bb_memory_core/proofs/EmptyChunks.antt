@@ -4,10 +4,10 @@ use Rattle.std.proofs.Common.{Some}
 use Rattle.std.specs.Prelude.{slice_get, All}
 use Rattle.std.proofs.lemmas.Option.{same_Some}
 use Rattle.std.proofs.lemmas.List.Kept.{AllPairs-cons}
-use Rattle.bb_memory_base.specs.Chunk.{Chunk}
-use Rattle.bb_memory_base.specs.Object.{PlacesDiffer}
-use Rattle.bb_memory_base.specs.PoolObject.{PoolGeometry, bucket_place, IsPoolGeometry, IsHeld}
-use Rattle.bb_memory_base.proofs.Positions.{All-from_positions}
+use Rattle.bb_memory_traits.specs.Chunk.{Chunk}
+use Rattle.bb_memory_traits.specs.Object.{PlacesDiffer}
+use Rattle.bb_memory_traits.specs.PoolObject.{PoolGeometry, bucket_place, IsPoolGeometry, IsHeld}
+use Rattle.bb_memory_traits.proofs.Positions.{All-from_positions}
 use Rattle.bb_memory_core.specs.IndexSets.{Has}
 use Rattle.bb_memory_core.specs.Pool.{Pool, IsPool, Fills, StandsFor}
 use Rattle.bb_memory_core.proofs.Pools.{one_bucket, stands_from}

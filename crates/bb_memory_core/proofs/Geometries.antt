@@ -1,8 +1,8 @@
 -- Cuts of a region: there is one, and a pool can be over it or a part of it.
 use Rattle.std.proofs.Common.{◌≡◌, ℕ, ◌<◌, sym, ◌∙◌, ap, subst, arith}
-use Rattle.bb_memory_base.specs.Chunk.{Region}
-use Rattle.bb_memory_base.specs.PoolObject.{PoolGeometry, pool_geometry, IsCut, IsPoolGeometry, at_most}
-use Rattle.bb_memory_base.specs.declared.layout.Layout.{Layout}
+use Rattle.bb_memory_traits.specs.Chunk.{Region}
+use Rattle.bb_memory_traits.specs.PoolObject.{PoolGeometry, pool_geometry, IsCut, IsPoolGeometry, at_most}
+use Rattle.bb_memory_traits.specs.declared.layout.Layout.{Layout}
 use Rattle.bb_memory_core.proofs.Cuts.{fills-once, cut-fills, room-cut, room_for}
 
 -- each region can be cut into buckets of at least one byte

@@ -1,6 +1,7 @@
-pub mod Contained
+mod AsideNumbers
 pub mod Cuts
 mod EmptyChunks
+mod FreshPools
 mod Geometries
 mod HeldBuckets
 mod Listings
@@ -11,22 +12,7 @@ mod NumberSets
 mod NumberWords
 mod OpenWords
 mod OneChunks
-pub mod PartyNumbers
 mod PoolAnswers
 pub mod PoolCalls
 mod PoolRuns
 pub mod Pools
-pub mod Seatings
-mod SharedBumpAnswers
-mod SharedBumpClosings
-mod SharedBumpFloors
-mod SharedBumpGatherings
-mod SharedBumpHistories
-mod SharedBumpKeeps
-mod SharedBumpMeetings
-mod SharedBumpParties
-mod SharedBumpRequests
-mod SharedBumpSeats
-mod SharedBumpTries
-mod SharedBumpWholes
-mod SharedLogs

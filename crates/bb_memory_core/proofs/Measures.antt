@@ -1,9 +1,9 @@
 -- The buckets of a region, as it is measured.
 use Rattle.std.proofs.Common.{◌≡◌, ℕ, ◌+◌, ◌*◌, ◌<◌, ◌≤◌, Option, arith, sym, subst}
-use Rattle.bb_memory_base.specs.Chunk.{Chunk, IsChunk, IsInside}
-use Rattle.bb_memory_base.specs.PoolObject.{PoolGeometry, IsPoolGeometry, bucket_place}
-use Rattle.bb_memory_base.proofs.PoolGeometries.{stride-above, first_place-above}
-use Rattle.bb_memory_core.specs.Buckets.{IsMeasured, IsPlaceOfBucket}
+use Rattle.bb_memory_traits.specs.Chunk.{Chunk, IsChunk, IsInside}
+use Rattle.bb_memory_traits.specs.PoolObject.{PoolGeometry, IsPoolGeometry, bucket_place}
+use Rattle.bb_memory_traits.proofs.PoolGeometries.{stride-above, first_place-above}
+use Rattle.bb_memory_core.specs.Pool.{IsMeasured, IsPlaceOfBucket}
 
 -- the first bytes of a bucket
 abbrev pub chunk_at : PoolGeometry → ℕ → ℕ → Chunk

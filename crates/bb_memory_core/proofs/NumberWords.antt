@@ -28,12 +28,6 @@ slice_get-numbers_of bound words n below =
     slice_get-get_or (numbers_of bound words) n false (omega (arith, length-numbers_of bound words))
     ∙ ap Some (get_or-numbers_of bound words n below)
 
--- there are as many words as numbers need
-pub word_count : (bound : ℕ) (words : List ℕ) (numbers : List Bool) → AreIndexWords bound words →
-    numbers_of bound words ≡ numbers →
-    length words ≡ index_words (length numbers)
-word_count bound words numbers are is = omega (arith, are.count, length-numbers_of bound words, ap length is)
-
 -- a bit of a word becomes a flag, and its other bits stay
 abbrev pub Changes : ℕ → ℕ → ℕ → Bool → Type 0
 Changes old new bit flag = (eqb (bit_at new bit) 1 ≡ flag) × ((i : ℕ) → i < 64 → i ≢ bit → bit_at new i ≡ bit_at old i)
@@ -95,28 +89,17 @@ module _ (bound : ℕ) (words new : List ℕ) (number : ℕ) (flag : Bool) (belo
     past = λ n past h. sets.others n (omega arith) ∙ are.past n past (omega (arith, sets.len));
   }
 
--- every word from one up to another is all ones
-abbrev pub AreFull : List ℕ → ℕ → ℕ → Type 0
-AreFull words from to = (at : ℕ) → from ≤ at → at < to → slice_index words at ≡ 2 ^ 64 - 1
-
 -- with every word full, every number is in the set
-pub full_words : (bound : ℕ) (words : List ℕ) → AreIndexWords bound words → AreFull words 0 (length words) →
-    IsFull (numbers_of bound words)
+pub full_words : (bound : ℕ) (words : List ℕ) → AreIndexWords bound words →
+    ((at : ℕ) → at < length words → slice_index words at ≡ 2 ^ 64 - 1) → IsFull (numbers_of bound words)
 full_words bound words are full n below =
     let n_in : n < bound = omega (arith, below, length-numbers_of bound words) in
     let at : n / 64 < length words = omega (arith, are.count) in
     let is : has_bit words n ≡ true =
-    ap (λ x. eqb (bit_at x (n % 64)) 1) (full (n / 64) (omega arith) at) ∙ eq-eqb _ 1 (bit_at_ones 64 (n % 64) (omega arith)) in
+    ap (λ x. eqb (bit_at x (n % 64)) 1) (full (n / 64) at) ∙ eq-eqb _ 1 (bit_at_ones 64 (n % 64) (omega arith)) in
     slice_get-numbers_of bound words n n_in ∙ ap Some is
 
--- a number below the bound has a word
-pub has_bound : (bound : ℕ) (words : List ℕ) (number : ℕ) (numbers : List Bool) → AreIndexWords bound words →
-    numbers_of bound words ≡ numbers → number < length numbers → (number < bound) × (number / 64 < length words)
-has_bound bound words number numbers are same within =
-    let below : number < bound = omega (arith, within, ap (λ (l : List Bool). length l) same, length-numbers_of bound words) in
-    (below, omega (arith, are.count))
-
--- its bit says whether it is in the set
+-- the bit of a number below the bound says whether it is in the set
 pub bit_tells : (bound : ℕ) (words : List ℕ) (number : ℕ) → number < bound →
     IsTrue (has_bit words number) ↔ Has (numbers_of bound words) number
 bit_tells bound words number below =

@@ -1,9 +1,14 @@
 -- The words that aren't full, the one in hand and the listed ones: after a taking and after a release.
 use Rattle.std.proofs.Common.{◌≡◌, ◌≢◌, ℕ, ◌+◌, ◌-◌, ◌^◌, ◌<◌, ◌≤◌, List, length, get_or, set, sym, ◌∙◌, ap, if◌then◌else◌, inl}
-use Rattle.std.proofs.Common.{inr, arith, eq-eqb, get_or-set_same, get_or-set_other, length-set}
-use Rattle.std.proofs.lemmas.Bool.{cases_eq, cases_lt, ne_eqb}
+use Rattle.std.proofs.Common.{inr, arith, eq-eqb, get_or-set_same, get_or-set_other, length-set, w64, ◌*◌, true}
+use Rattle.std.proofs.lemmas.Bool.{cases_eq, ne_eqb}
+use Rattle.std.specs.Int.{trailing_ones}
+use Rattle.std.specs.Prelude.{bit_or}
 use Rattle.bb_memory_core.specs.IndexSets.{IsListing, IsWordSet, PutsAt, AreIndexWords, open_word, index_words}
-use Rattle.bb_memory_core.proofs.NumberWords.{AreFull}
+use Rattle.bb_memory_core.specs.IndexSets.{Lacks, IsFull, numbers_of}
+use Rattle.bb_memory_core.proofs.LowestBits.{taken}
+use Rattle.bb_memory_core.proofs.AsideNumbers.{given, word_count}
+use Rattle.bb_memory_core.proofs.NumberWords.{full_words, has_word}
 use Rattle.bb_memory_core.proofs.Listings.{filled, opened, still}
 
 -- THE WORD IN HAND ON TOP OF THE LIST
@@ -16,18 +21,38 @@ top_word listed hand top k is = ap (λ b. if b then hand else get_or listed k 0)
 under_word : (listed : List ℕ) (hand top k : ℕ) → k + 1 ≢ top → open_word listed hand top k ≡ get_or listed k 0
 under_word listed hand top k other = ap (λ b. if b then hand else get_or listed k 0) (ne_eqb (k + 1) top other)
 
--- the word in hand is full only where every word is
-pub hand_full : (words listed : List ℕ) (hand top : ℕ) → IsListing words (open_word listed hand top) top →
-    get_or words hand 0 ≡ 2 ^ 64 - 1 → AreFull words 0 (length words)
-hand_full words listed hand top is full = elim (cases_lt 0 top) [
-  | inl some ↦
-      let last : top - 1 + 1 ≡ top = omega arith in
-      absurd (is.each (top - 1) (omega arith) (ap (λ x. get_or words x 0) (top_word listed hand top (top - 1) last) ∙ full))
-  | inr none ↦ λ at from within. elim (cases_eq (get_or words at 0) (2 ^ 64 - 1)) [
-    | inl is_full ↦ is_full
-    | inr not ↦ let there = is.all at within not in absurd (omega (arith, there.1, none))
-  ]
-]
+-- where none is open, every number is in the set
+pub none_open : (bound : ℕ) (words listed : List ℕ) (hand top : ℕ) → IsWordSet bound words listed hand top → top ≡ 0 →
+    IsFull (numbers_of bound words)
+none_open bound words listed hand top is none =
+    full_words bound words is.are (λ at within. elim (cases_eq (get_or words at 0) (2 ^ 64 - 1)) [
+      | inl full ↦ full
+      | inr not ↦ let there = is.listing.all at within not in absurd (omega (arith, there.1, none))
+    ])
+
+-- else the word in hand is open
+pub hand_open : (words listed : List ℕ) (hand top : ℕ) → IsListing words (open_word listed hand top) top → 0 < top →
+    (hand < length words) × (get_or words hand 0 ≢ 2 ^ 64 - 1)
+hand_open words listed hand top is some =
+    let last = top_word listed hand top (top - 1) (omega (arith, some)) in (
+      omega (arith, is.below (top - 1) (omega (arith, some)), last),
+      λ full. is.each (top - 1) (omega (arith, some)) (ap (λ x. get_or words x 0) last ∙ full),
+    )
+
+-- then a number of that word isn't in the set, and is taken by its bit
+pub hand_taken : (bound : ℕ) (words listed : List ℕ) (hand top word : ℕ) → IsWordSet bound words listed hand top → 0 < top →
+    word ≡ get_or words hand 0 → word < 2 ^ 64 →
+    let number = hand * 64 + trailing_ones w64 word in
+    let new = set words hand (bit_or word (word + 1)) in
+    Lacks (numbers_of bound words) number × AreIndexWords bound new
+    × (numbers_of bound new ≡ set (numbers_of bound words) number true)
+hand_taken bound words listed hand top word is some read low =
+    let it = hand_open words listed hand top is.listing some in
+    let not_full : word ≢ 2 ^ 64 - 1 = λ full. it.1 (sym read ∙ full) in
+    taken bound words hand word is.are it.0 read (omega (arith, low, not_full))
+
+-- what the search for the proof of a taking uses
+pub ruleset of_a_taking = (given, word_count, has_word, hand_open)
 
 -- another word in place of one
 put_word : (words : List ℕ) (at word : ℕ) → PutsAt words at (set words at word)
@@ -36,40 +61,30 @@ put_word words at word =
 
 -- a taking from the word in hand, which isn't full yet
 pub set_left : (bound : ℕ) (words listed : List ℕ) (hand top left : ℕ) → IsWordSet bound words listed hand top →
-    AreIndexWords bound (set words hand left) → hand < length words → get_or words hand 0 ≢ 2 ^ 64 - 1 →
-    left ≢ 2 ^ 64 - 1 → IsWordSet bound (set words hand left) listed hand top
-set_left bound words listed hand top left is are within was_open not =
+    AreIndexWords bound (set words hand left) → 0 < top → left ≢ 2 ^ 64 - 1 →
+    IsWordSet bound (set words hand left) listed hand top
+set_left bound words listed hand top left is are some not =
+    let it = hand_open words listed hand top is.listing some in
     let named = open_word listed hand top in
     let puts = put_word words hand left in
     record {
       are = are;
       room = omega (arith, is.room, puts.len);
-      in_hand = λ any. omega (arith, within, puts.len);
-      listing = still words (set words hand left) named named top hand is.listing puts within was_open
-          (λ full. not (sym (get_or-set_same words hand left 0 within) ∙ full));
+      listing = still words (set words hand left) named named top hand is.listing puts it.0 it.1
+          (λ full. not (sym (get_or-set_same words hand left 0 it.0) ∙ full));
     }
 
 -- the same, and it is full then: the word that is listed last is in hand, if one is listed
 pub set_filled : (bound : ℕ) (words listed : List ℕ) (hand top left next : ℕ) → IsWordSet bound words listed hand top →
-    AreIndexWords bound (set words hand left) → hand < length words → get_or words hand 0 ≢ 2 ^ 64 - 1 →
-    left ≡ 2 ^ 64 - 1 → (0 < top - 1 → next ≡ get_or listed (top - 1 - 1) 0) →
-    (top - 1 ≡ 0 → next ≡ hand) → IsWordSet bound (set words hand left) listed next (top - 1)
-set_filled bound words listed hand top left next is are within was_open full last_listed none_listed =
+    AreIndexWords bound (set words hand left) → 0 < top → left ≡ 2 ^ 64 - 1 → (0 < top - 1 → next ≡ get_or listed (top - 1 - 1) 0) → IsWordSet bound (set words hand left) listed next (top - 1)
+set_filled bound words listed hand top left next is are some full last_listed =
     let listing = is.listing in
     let named = open_word listed hand top in
     let puts = put_word words hand left in
-    let there = listing.all hand within was_open in
-    let some : 0 < top = omega (arith, there.1) in
+    let within = (hand_open words listed hand top listing some).0 in
     record {
       are = are;
       room = omega (arith, is.room, puts.len);
-      in_hand = λ any. elim (cases_lt 0 (top - 1)) [
-        | inl more ↦
-            let below = listing.below (top - 1 - 1) (omega (arith, more)) in
-            let under = under_word listed hand top (top - 1 - 1) (omega (arith, more)) in
-            omega (arith, below, under, last_listed more, puts.len)
-        | inr none ↦ omega (arith, none_listed (omega (arith, none)), within, puts.len)
-      ];
       listing = filled words (set words hand left) named (open_word listed next (top - 1)) top hand listing puts some
           (top_word listed hand top (top - 1) (omega (arith, some))) (get_or-set_same words hand left 0 within ∙ full)
           (λ k h.
@@ -91,7 +106,6 @@ pub set_opened : (bound : ℕ) (words listed new named : List ℕ) (hand top at 
 set_opened bound words listed new named hand top at is are puts within full not_full len name = record {
   are = are;
   room = omega (arith, len, is.room, puts.len);
-  in_hand = λ some. omega (arith, within, puts.len);
   listing = opened words new (open_word listed hand top) (open_word named at (top + 1)) top at is.listing puts within full
       not_full (top_word named at (top + 1) top (omega arith))
       (λ k h. under_word named at (top + 1) k (omega (arith, h)) ∙ name k h);
@@ -118,7 +132,6 @@ set_still bound words listed new left hand top at is are puts within was_open no
     record {
       are = are;
       room = ap length same ∙ omega (arith, is.room, puts.len);
-      in_hand = λ some. omega (arith, is.in_hand (omega (arith, within)), puts.len);
       listing = rw same (still words new named named top at is.listing puts within was_open not_full);
     }
 
@@ -136,7 +149,6 @@ fresh_set bound count words zero listed same is are none room named =
     rw same (record {
       are = are;
       room = omega (arith, room, len);
-      in_hand = λ some. some;
       listing = record {
         fits = omega (arith, len);
         below = λ k h. omega (arith, at k h, len, h);

@@ -7,18 +7,18 @@ use Rattle.std.specs.Prelude.{slice_get, slice_set, remove, IfOk}
 use Rattle.std.specs.Int.{IsPowerOfTwo}
 use Rattle.std.proofs.Math.Nat.{mul_assoc}
 use Rattle.std.proofs.lemmas.Nat.{mod-mul-add}
-use Rattle.bb_memory_base.specs.Chunk.{Chunk, IsInside, first_place}
-use Rattle.bb_memory_base.specs.PoolObject.{PoolGeometry, bucket_place, stride, IsWithin, chunk_in, MayAllocate, MayGrow}
-use Rattle.bb_memory_base.specs.PoolObject.{MayShrink}
-use Rattle.bb_memory_base.specs.declared.layout.Layout.{Layout}
-use Rattle.bb_memory_base.specs.declared.allocator.AllocationError.{AllocationError}
-use Rattle.bb_memory_base.specs.declared.allocator.AllocationError.TheVariants.{SizeIsZero, SizeTooLarge, AlignmentFailure}
-use Rattle.bb_memory_base.specs.declared.allocator.AllocationError.TheVariants.{OutOfMemory}
-use Rattle.bb_memory_base.specs.declared.allocator.AllocationGrowError.{AllocationGrowError}
-use Rattle.bb_memory_base.specs.declared.allocator.AllocationShrinkError.{AllocationShrinkError}
-use Rattle.bb_memory_base.proofs.Layouts.{layout-plain}
-use Rattle.bb_memory_base.proofs.PoolGeometries.{bucket_place-aligned, bucket_place-after}
-use Rattle.bb_memory_base.proofs.SliceGets.{slice_get-set_other, slice_get-set_same}
+use Rattle.bb_memory_traits.specs.Chunk.{Chunk, IsInside, first_place}
+use Rattle.bb_memory_traits.specs.PoolObject.{PoolGeometry, bucket_place, stride, IsWithin, chunk_in, MayAllocate, MayGrow}
+use Rattle.bb_memory_traits.specs.PoolObject.{MayShrink}
+use Rattle.bb_memory_traits.specs.declared.layout.Layout.{Layout}
+use Rattle.bb_memory_traits.specs.declared.allocator.AllocationError.{AllocationError}
+use Rattle.bb_memory_traits.specs.declared.allocator.AllocationError.TheVariants.{SizeIsZero, SizeTooLarge, AlignmentFailure}
+use Rattle.bb_memory_traits.specs.declared.allocator.AllocationError.TheVariants.{OutOfMemory}
+use Rattle.bb_memory_traits.specs.declared.allocator.AllocationGrowError.{AllocationGrowError}
+use Rattle.bb_memory_traits.specs.declared.allocator.AllocationShrinkError.{AllocationShrinkError}
+use Rattle.bb_memory_traits.proofs.Layouts.{layout-plain}
+use Rattle.bb_memory_traits.proofs.PoolGeometries.{bucket_place-aligned, bucket_place-after}
+use Rattle.bb_memory_traits.proofs.SliceGets.{slice_get-set_other, slice_get-set_same}
 use Rattle.bb_memory_core.specs.IndexSets.{Has, Lacks}
 use Rattle.bb_memory_core.specs.Pool.{Pool, IsPool, StandsFor, HoldsPlace, Takes, with_flag, CountedPool, TakesBucket}
 use Rattle.bb_memory_core.specs.Pool.{FreesBucket, counted, reads_of, bucket_held_at, held_at_bucket}

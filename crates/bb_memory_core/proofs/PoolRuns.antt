@@ -4,25 +4,25 @@ use Rattle.std.proofs.Common.{Some, length, get_or, refl, sym, ◌∙◌, ap, su
 use Rattle.std.specs.Prelude.{slice_get, slice_set, remove, All, AllPairs, IsOk}
 use Rattle.std.proofs.lemmas.Bool.{cases_lt}
 use Rattle.std.proofs.lemmas.Option.{slice_get-get_or}
-use Rattle.bb_memory_base.specs.Chunk.{Chunk}
-use Rattle.bb_memory_base.specs.Object.{IsRun, Step, ResizableStep}
-use Rattle.bb_memory_base.specs.PoolObject.{PoolGeometry, bucket_place, IsWithin, MayGive, MayAllocate, chunk_in, pool_object}
-use Rattle.bb_memory_base.specs.declared.layout.Layout.{Layout}
-use Rattle.bb_memory_base.specs.declared.allocator.AllocationError.{AllocationError}
-use Rattle.bb_memory_base.specs.declared.allocator.AllocationError.TheVariants.{SizeIsZero, SizeTooLarge, AlignmentFailure}
-use Rattle.bb_memory_base.specs.declared.allocator.AllocationError.TheVariants.{OutOfMemory}
-use Rattle.bb_memory_base.specs.declared.allocator.Command.{Command}
-use Rattle.bb_memory_base.specs.declared.allocator.Command.TheVariants.{Allocate, Release, Grow, Shrink}
-use Rattle.bb_memory_base.specs.declared.allocator.Reply.{Reply}
-use Rattle.bb_memory_base.specs.declared.allocator.Reply.TheVariants as reply
-use Rattle.bb_memory_base.proofs.PoolGeometries.{bucket_place-aligned, bucket_place-after}
-use Rattle.bb_memory_base.proofs.Runs.{IsRun-keeps}
-use Rattle.bb_memory_base.proofs.SliceGets.{slice_get-set_same}
+use Rattle.bb_memory_traits.specs.Chunk.{Chunk}
+use Rattle.bb_memory_traits.specs.Object.{IsRun, Step, ResizableStep}
+use Rattle.bb_memory_traits.specs.PoolObject.{PoolGeometry, bucket_place, IsWithin, MayGive, MayAllocate, chunk_in, pool_object}
+use Rattle.bb_memory_traits.specs.declared.layout.Layout.{Layout}
+use Rattle.bb_memory_traits.specs.declared.allocator.AllocationError.{AllocationError}
+use Rattle.bb_memory_traits.specs.declared.allocator.AllocationError.TheVariants.{SizeIsZero, SizeTooLarge, AlignmentFailure}
+use Rattle.bb_memory_traits.specs.declared.allocator.AllocationError.TheVariants.{OutOfMemory}
+use Rattle.bb_memory_traits.specs.declared.allocator.Command.{Command}
+use Rattle.bb_memory_traits.specs.declared.allocator.Command.TheVariants.{Allocate, Release, Grow, Shrink}
+use Rattle.bb_memory_traits.specs.declared.allocator.Reply.{Reply}
+use Rattle.bb_memory_traits.specs.declared.allocator.Reply.TheVariants as reply
+use Rattle.bb_memory_traits.proofs.PoolGeometries.{bucket_place-aligned, bucket_place-after}
+use Rattle.bb_memory_traits.proofs.Runs.{IsRun-keeps}
+use Rattle.bb_memory_traits.proofs.SliceGets.{slice_get-set_same}
 use Rattle.bb_memory_core.specs.IndexSets.{Has, Lacks}
 use Rattle.bb_memory_core.specs.Pool.{Pool, IsPool, StandsFor, AreAStrideApart, pool_of, with_flag}
 use Rattle.bb_memory_core.proofs.Pools.{IsPool-with_flag, bucket-below, filled-at, lacked-free, stands-given, stands-freed}
 use Rattle.bb_memory_core.proofs.Pools.{stands-resized}
-use Rattle.bb_memory_base.proofs.Positions.{All-from_positions, AllPairs-at, AllPairs-from_positions}
+use Rattle.bb_memory_traits.proofs.Positions.{All-from_positions, AllPairs-at, AllPairs-from_positions}
 
 -- PLACES
 

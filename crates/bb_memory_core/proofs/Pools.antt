@@ -6,18 +6,18 @@ use Rattle.std.proofs.lemmas.Bool.{cases_eq, cases_lt}
 use Rattle.std.proofs.lemmas.Option.{slice_get_within, slice_get-get_or, same_Some}
 use Rattle.std.proofs.lemmas.List.Elements.{All-push}
 use Rattle.std.proofs.lemmas.List.Quantifiers.{all_pairs_push, all_pairs_remove}
-use Rattle.bb_memory_base.specs.Chunk.{Chunk, IsInside}
-use Rattle.bb_memory_base.specs.Object.{PlacesDiffer}
-use Rattle.bb_memory_base.specs.PoolObject.{PoolGeometry, bucket_place, IsPoolGeometry, IsAt, IsHeld, IsWithin, chunk_in}
-use Rattle.bb_memory_base.specs.declared.layout.Layout.{Layout}
-use Rattle.bb_memory_base.proofs.PoolGeometries.{bucket_place-apart}
-use Rattle.bb_memory_base.proofs.PoolLists.{IsInBucket, AreInBuckets-from_places, inside_from_bucket, sound_from_buckets}
-use Rattle.bb_memory_base.proofs.SliceGets.{slice_get-set, slice_get-set_other, slice_get-set_same, slice_get-replicated}
-use Rattle.bb_memory_base.proofs.SliceGets.{length-set_at, slice_get-last, slice_get-push}
+use Rattle.bb_memory_traits.specs.Chunk.{Chunk, IsInside}
+use Rattle.bb_memory_traits.specs.Object.{PlacesDiffer}
+use Rattle.bb_memory_traits.specs.PoolObject.{PoolGeometry, bucket_place, IsPoolGeometry, IsAt, IsHeld, IsWithin, chunk_in}
+use Rattle.bb_memory_traits.specs.declared.layout.Layout.{Layout}
+use Rattle.bb_memory_traits.proofs.PoolGeometries.{bucket_place-apart}
+use Rattle.bb_memory_traits.proofs.PoolLists.{IsInBucket, AreInBuckets-from_places, inside_from_bucket, sound_from_buckets}
+use Rattle.bb_memory_traits.proofs.SliceGets.{slice_get-set, slice_get-set_other, slice_get-set_same, slice_get-replicated}
+use Rattle.bb_memory_traits.proofs.SliceGets.{length-set_at, slice_get-last, slice_get-push}
 use Rattle.bb_memory_core.specs.IndexSets.{Has, Lacks}
 use Rattle.bb_memory_core.specs.Pool.{Pool, IsPool, Fills, StandsFor, HoldsPlace, fresh_pool, with_flag, bucket_held_at}
-use Rattle.bb_memory_base.proofs.Positions.{All-at, All-from_positions, AllPairs-at, AllPairs-from_positions, slice_get-removed}
-use Rattle.bb_memory_base.proofs.Positions.{slice_get-unremoved}
+use Rattle.bb_memory_traits.proofs.Positions.{All-at, All-from_positions, AllPairs-at, AllPairs-from_positions, slice_get-removed}
+use Rattle.bb_memory_traits.proofs.Positions.{slice_get-unremoved}
 
 -- BUCKETS
 

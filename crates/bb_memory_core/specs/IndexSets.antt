@@ -1,6 +1,7 @@
 -- A set of numbers below a bound, as a flag for each number.
-use Rattle.std.specs.Prelude.{◌≡◌, ℕ, ◌<◌, Bool, true, false, List, Some, length, slice_get, ◌+◌, ◌-◌, ◌/◌, ◌≢◌, ◌*◌, ◌%◌, ◌^◌}
-use Rattle.std.specs.Prelude.{◌≤◌, ◌==◌, if◌then◌else◌, map, take, drop, slice_index, not, eqb}
+use Rattle.std.specs.Prelude.{◌≡◌, ℕ, ◌<◌, Bool, true, false, List, Some, length, slice_get, slice_set}
+use Rattle.std.specs.Prelude.{◌+◌, ◌-◌, ◌/◌, ◌≢◌, ◌*◌, ◌%◌, ◌^◌, ◌≤◌, ◌==◌, if◌then◌else◌, map, take, drop}
+use Rattle.std.specs.Prelude.{slice_index, not, eqb}
 use Rattle.std.specs.List.{range_with_len, list_any}
 use Rattle.std.specs.Int.{bit_at}
 
@@ -42,11 +43,18 @@ pub record SetsBit (words : List ℕ) (number : ℕ) (flag : Bool) (new : List �
 unfoldable pub numbers_of : ℕ → List ℕ → List Bool
 numbers_of bound words = map (has_bit words) (range_with_len 0 bound)
 
+-- the numbers without the one that is aside
+abbrev pub less_aside : List Bool → ℕ → List Bool
+less_aside numbers aside = slice_set numbers aside false
+
+-- a number that is aside has its bit set; where none is, 2 ^ 64 - 1 stands for it, which is above each bound
+abbrev pub IsAside : List Bool → ℕ → Type 0
+IsAside numbers aside = aside ≢ 2 ^ 64 - 1 → Has numbers aside
+
 -- there are just the words that the bound needs, and their bits from the bound on are set
 pub record AreIndexWords (bound : ℕ) (words : List ℕ) : Type 0 where
   pub count : length words ≡ index_words bound
-  pub past : (number : ℕ) → bound ≤ number → number < 64 * length words
-      → has_bit words number ≡ true
+  pub past : (number : ℕ) → bound ≤ number → number < 64 * length words → has_bit words number ≡ true
 
 -- words, and behind them a list of some of their numbers
 pub record Slots : Type 0 where
@@ -71,8 +79,7 @@ pub record IsListing (words : List ℕ) (named : ℕ → ℕ) (top : ℕ) : Type
   pub below : (k : ℕ) → k < top → named k < length words
   pub each : (k : ℕ) → k < top → slice_index words (named k) ≢ 2 ^ 64 - 1
   pub once : (i : ℕ) (k : ℕ) → i < k → k < top → named i ≢ named k
-  pub all : (at : ℕ) → at < length words → slice_index words at ≢ 2 ^ 64 - 1
-      → (k : ℕ) × (k < top) × (named k ≡ at)
+  pub all : (at : ℕ) → at < length words → slice_index words at ≢ 2 ^ 64 - 1 → (k : ℕ) × (k < top) × (named k ≡ at)
 
 -- the words hold a set, one of them is in hand, and those that aren't full are listed or in hand
 pub record IsWordSet
@@ -80,7 +87,6 @@ pub record IsWordSet
     : Type 0 where
   pub are : AreIndexWords bound words
   pub room : length listed ≡ length words - 1
-  pub in_hand : 0 < length words → hand < length words
   pub listing : IsListing words (open_word listed hand top) top
 
 -- A set of numbers below a bound, as flags, with a list of the numbers that aren't in it.

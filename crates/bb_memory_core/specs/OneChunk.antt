@@ -2,14 +2,14 @@
 use Rattle.std.specs.Prelude.{◌≡◌, ℕ, ◌≤◌, ◌<◌, ◌↔◌, ◌⊎◌, List, [], ◌∷◌, Option, Some, None, IsSome, Result, Err, IsOk, IfOk}
 use Rattle.std.specs.Prelude.{OnErr, zero, suc, length, slice_get}
 use Rattle.std.specs.Option.{ForSome}
-use Rattle.bb_memory_base.specs.Chunk.{Region, IsRegion, region_at, region_end, Chunk, chunk_end, first_place, IsSound}
-use Rattle.bb_memory_base.specs.OneChunkObject.{HasRoom, LacksRoom, reserved_at}
-use Rattle.bb_memory_base.specs.declared.layout.Layout.{Layout}
-use Rattle.bb_memory_base.specs.declared.allocator.AllocationError.{AllocationError}
-use Rattle.bb_memory_base.specs.declared.allocator.AllocationError.TheVariants.{OutOfMemory}
+use Rattle.bb_memory_traits.specs.Chunk.{Region, IsRegion, region_at, region_end, Chunk, chunk_end, first_place, IsSound}
+use Rattle.bb_memory_traits.specs.OneChunkObject.{HasRoom, LacksRoom, reserved_at}
+use Rattle.bb_memory_traits.specs.declared.layout.Layout.{Layout}
+use Rattle.bb_memory_traits.specs.declared.allocator.AllocationError.{AllocationError}
+use Rattle.bb_memory_traits.specs.declared.allocator.AllocationError.TheVariants.{OutOfMemory}
 use Rattle.std.proofs.Common.{arith, ap, refl, subst, ◌∙◌}
 use Rattle.std.proofs.lemmas.Option.{slice_get_within, get_or_from_slice_get}
-use Rattle.bb_memory_base.specs.Object.{PlacesDiffer}
+use Rattle.bb_memory_traits.specs.Object.{PlacesDiffer}
 
 -- the allocator's region, and the place of the chunk that is out
 pub record OneChunk : Type 0 where
@@ -60,8 +60,7 @@ Frees old new = new ≡ record old { kept = None }
 
 -- what stands at a position of it is all of it, and has the place that is kept
 pub only_chunk : (kept : Option ℕ) (live : List Chunk) (position : ℕ) (chunk : Chunk) →
-    IsKept kept live → slice_get live position ≡ Some chunk →
-    (live ≡ chunk ∷ []) × (position ≡ 0) × (kept ≡ Some chunk.place)
+    IsKept kept live → slice_get live position ≡ Some chunk → (live ≡ chunk ∷ []) × (position ≡ 0) × (kept ≡ Some chunk.place)
 only_chunk None live position chunk empty at =
     let none : slice_get live position ≡ None =
     ap (λ (l : List Chunk). slice_get l position) empty in
@@ -85,8 +84,7 @@ places_differ (Some place) live (one, is, same) = λ i j d before within.
 
 -- a live chunk is no longer than what is reserved for it
 pub covered : (one : OneChunk) (live : List Chunk) (position : ℕ) (chunk : Chunk) →
-    StandsFor one live → slice_get live position ≡ Some chunk →
-    chunk.len ≤ reserved_at one.region chunk.place
+    StandsFor one live → slice_get live position ≡ Some chunk → chunk.len ≤ reserved_at one.region chunk.place
 covered one live position chunk stands at =
     let inside = stands.sound.inside position chunk (slice_get_within live position chunk at) in
     let same = get_or_from_slice_get live position chunk chunk at in
@@ -96,8 +94,7 @@ covered one live position chunk stands at =
 
 -- the place that is kept is that of a chunk of it
 pub kept_is_live : (kept : Option ℕ) (live : List Chunk) (place : ℕ) →
-    IsKept kept live → kept ≡ Some place →
-    (position : ℕ) × (chunk : Chunk)
+    IsKept kept live → kept ≡ Some place → (position : ℕ) × (chunk : Chunk)
     × (slice_get live position ≡ Some chunk) × (chunk.place ≡ place)
 kept_is_live None live place empty out = cc
 kept_is_live (Some kept) live place (one, is, same) out =

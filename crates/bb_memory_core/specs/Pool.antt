@@ -1,17 +1,17 @@
 -- A pool, as its contracts see it.
-use Rattle.std.specs.Prelude.{◌≡◌, ◌≢◌, ℕ, ◌-◌, ◌+◌, ◌%◌, ◌≤◌, ◌<◌, ◌^◌, ◌⊎◌, ◌↔◌, Bool, true, false, ◌&&◌, if◌then◌else◌, get_or}
-use Rattle.std.specs.Prelude.{nat_eq, nat_le, List, All, length, min, replicate, slice_set, Result, Ok, Err, IsOk, IfOk, OnErr}
-use Rattle.std.specs.Prelude.{count_by, Some, slice_get}
+use Rattle.std.specs.Prelude.{◌≡◌, ◌≢◌, ℕ, ◌-◌, ◌+◌, ◌%◌, ◌≤◌, ◌<◌, ◌^◌, ◌⊎◌, ◌↔◌, Bool, true, false, ◌&&◌, if◌then◌else◌}
+use Rattle.std.specs.Prelude.{get_or, nat_eq, nat_le, List, All, length, min, replicate, slice_set, Result, Ok, Err, IsOk, IfOk}
+use Rattle.std.specs.Prelude.{OnErr, count_by, Some, slice_get, Option, IfSome, IfNone}
 use Rattle.std.specs.List.{list_any, range_with_len}
-use Rattle.bb_memory_base.specs.Chunk.{Region, IsRegion, Chunk, IsSound, first_place}
-use Rattle.bb_memory_base.specs.Object.{PlacesDiffer, note_after_run}
-use Rattle.bb_memory_base.specs.PoolObject.{PoolGeometry, stride, bucket_place, IsCut, IsPoolGeometry, IsHeld, IsWithin, chunk_in}
-use Rattle.bb_memory_base.specs.PoolObject.{at_most}
-use Rattle.bb_memory_base.specs.declared.layout.Layout.{Layout}
-use Rattle.bb_memory_base.specs.declared.allocator.Command.{Command}
-use Rattle.bb_memory_base.specs.declared.allocator.AllocationError.{AllocationError}
-use Rattle.bb_memory_base.specs.declared.allocator.AllocationError.TheVariants.{SizeIsZero, SizeTooLarge, AlignmentFailure}
-use Rattle.bb_memory_base.specs.declared.allocator.AllocationError.TheVariants.{OutOfMemory}
+use Rattle.bb_memory_traits.specs.Chunk.{Region, IsRegion, Chunk, IsSound, first_place}
+use Rattle.bb_memory_traits.specs.Object.{PlacesDiffer, note_after_run}
+use Rattle.bb_memory_traits.specs.PoolObject.{PoolGeometry, stride, bucket_place, IsCut, IsPoolGeometry, IsHeld, IsWithin}
+use Rattle.bb_memory_traits.specs.PoolObject.{chunk_in, at_most}
+use Rattle.bb_memory_traits.specs.declared.layout.Layout.{Layout}
+use Rattle.bb_memory_traits.specs.declared.allocator.Command.{Command}
+use Rattle.bb_memory_traits.specs.declared.allocator.AllocationError.{AllocationError}
+use Rattle.bb_memory_traits.specs.declared.allocator.AllocationError.TheVariants.{SizeIsZero, SizeTooLarge, AlignmentFailure}
+use Rattle.bb_memory_traits.specs.declared.allocator.AllocationError.TheVariants.{OutOfMemory}
 use Rattle.bb_memory_core.specs.IndexSets.{Has, Lacks, IsFull}
 use Rattle.std.specs.Cmp.Derive.{both_true}
 use Rattle.std.proofs.Common.{refl, sym, ◌∙◌, ap, arith, subst}
@@ -97,8 +97,7 @@ Takes pool layout (Ok chunk) new =
     × (chunk ≡ chunk_in pool.geometry i layout) × (new ≡ with_flag pool i true)
 Takes pool layout (Err SizeTooLarge) new = (pool.geometry.bucket.size < layout.size) × (new ≡ pool)
 Takes pool layout (Err AlignmentFailure) new =
-    (layout.size ≤ pool.geometry.bucket.size) × (pool.geometry.bucket.align < layout.align)
-    × (new ≡ pool)
+    (layout.size ≤ pool.geometry.bucket.size) × (pool.geometry.bucket.align < layout.align) × (new ≡ pool)
 Takes pool layout (Err OutOfMemory) new =
     IsWithin pool.geometry.bucket layout × IsFull pool.held × (new ≡ pool)
 -- a pool never refuses so
@@ -122,8 +121,7 @@ pub record TakesBucket (old : CountedPool) (layout : Layout) (answer : Result Ch
     (new : CountedPool) (words : ℕ) : Type 0 where
   -- the bucket that is held then, each refusal by its cause, and that there is no other
   pub taken : Takes old.pool layout answer new.pool
-  pub accepted : IsOk answer
-      ↔ (IsWithin old.pool.geometry.bucket layout × ((i : ℕ) × Lacks old.pool.held i))
+  pub accepted : IsOk answer ↔ (IsWithin old.pool.geometry.bucket layout × ((i : ℕ) × Lacks old.pool.held i))
   pub pool_unchanged : OnErr answer (new.pool ≡ old.pool)
   pub was_free : IfOk answer (λ chunk. ¬ HoldsPlace old.pool chunk.place)
   pub apart : IfOk answer (λ chunk. (place : ℕ) → HoldsPlace old.pool place
@@ -205,8 +203,7 @@ held_at_bucket pool place i has there =
 
 -- what stands at a position of it has the place of a held bucket
 pub held_place : (pool : Pool) (live : List Chunk) (position : ℕ) (chunk : Chunk) →
-    StandsFor pool live → slice_get live position ≡ Some chunk →
-    HoldsPlace pool chunk.place
+    StandsFor pool live → slice_get live position ≡ Some chunk → HoldsPlace pool chunk.place
 held_place pool live position chunk stands at =
     let filled = stands.filled position chunk (slice_get_within live position chunk at) in
     let same = get_or_from_slice_get live position chunk chunk at in
@@ -214,8 +211,7 @@ held_place pool live position chunk stands at =
 
 -- a live chunk is no longer than a bucket
 pub covered : (pool : Pool) (live : List Chunk) (position : ℕ) (chunk : Chunk) →
-    StandsFor pool live → slice_get live position ≡ Some chunk →
-    chunk.len ≤ pool.geometry.bucket.size
+    StandsFor pool live → slice_get live position ≡ Some chunk → chunk.len ≤ pool.geometry.bucket.size
 covered pool live position chunk stands at =
     let filled = stands.filled position chunk (slice_get_within live position chunk at) in
     let same = get_or_from_slice_get live position chunk chunk at in
@@ -223,10 +219,42 @@ covered pool live position chunk stands at =
 
 -- a held bucket's place is that of a chunk of it
 pub held_is_live : (pool : Pool) (live : List Chunk) (place : ℕ) →
-    StandsFor pool live → HoldsPlace pool place →
-    (position : ℕ) × (chunk : Chunk)
+    StandsFor pool live → HoldsPlace pool place → (position : ℕ) × (chunk : Chunk)
     × (slice_get live position ≡ Some chunk) × (chunk.place ≡ place)
 held_is_live pool live place stands holds =
     let at = bucket_held_at pool place holds in
     let held = stands.held at.0 at.1 in
     (held.0, held.1.chunk, held.1.there, held.1.placed ∙ sym at.2)
+
+-- WHERE BUCKETS ARE
+
+-- to divide by the number is to shift to the right by this, if there is a shift
+abbrev pub Shifts : ℕ → Option ℕ → Type 0
+Shifts divisor shift = IfSome shift (λ k. (k < 64) × (divisor ≡ 2 ^ k))
+
+-- the first bucket's place, the stride and its shift are these, and the buckets lie in a region
+pub record IsMeasured (geometry : PoolGeometry) (first step : ℕ) (shift : Option ℕ)
+    : Type 0 where
+  pub is_region : IsRegion geometry.region
+  pub is_geometry : IsPoolGeometry geometry
+  pub begins : first ≡ first_place geometry.region geometry.bucket
+  pub strides : step ≡ stride geometry.bucket
+  pub shifts : Shifts step shift
+
+-- the place is that of a bucket
+abbrev pub IsPlaceOfBucket : PoolGeometry → ℕ → Type 0
+IsPlaceOfBucket geometry place =
+    (i : ℕ) × (i < geometry.buckets) × (place ≡ bucket_place geometry i)
+
+-- the number of the bucket that begins at the place, or none where no bucket does
+pub record TellsNumber (geometry : PoolGeometry) (place : ℕ) (told : Option ℕ) : Type 0 where
+  pub below : IfSome told (λ number. number < geometry.buckets)
+  pub there : IfSome told (λ number. place ≡ bucket_place geometry number)
+  pub one : IfSome told (λ number. (other : ℕ) → place ≡ bucket_place geometry other → other ≡ number)
+  pub none : IfNone told (¬ IsPlaceOfBucket geometry place)
+
+-- the place at which the bucket of this number begins, or none where there is no such bucket
+pub record TellsPlace (geometry : PoolGeometry) (number : ℕ) (told : Option ℕ) : Type 0 where
+  pub below : IfSome told (λ place. number < geometry.buckets)
+  pub there : IfSome told (λ place. place ≡ bucket_place geometry number)
+  pub none : IfNone told (geometry.buckets ≤ number)

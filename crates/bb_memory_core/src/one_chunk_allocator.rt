@@ -1,15 +1,15 @@
 //! An allocator that gives one chunk at a time, which is all of its region from the chunk's place on.
 ghost use Rattle.std.specs.Prelude.{◌≡◌, [], List, ◌+◌, ◌-◌, ◌<◌, ◌≤◌, ◌%◌, ◌↔◌, ℕ, IsTrue, Some, Result};
-ghost use Rattle.bb_memory_base.specs.Chunk.{Region, IsRegion, region_at, region_end, Chunk, IsInside, chunk_end};
-ghost use Rattle.bb_memory_base.specs.Object.{AnswersAll, AnswersOnce, GivesOnly, AnswersRun, IsRun, Step, ResizableStep};
-ghost use Rattle.bb_memory_base.specs.declared.layout.Layout.{Layout};
-ghost use Rattle.bb_memory_base.specs.declared.allocator.AllocationError.{AllocationError};
-ghost use Rattle.bb_memory_base.specs.declared.allocator.AllocationGrowError.{AllocationGrowError};
-ghost use Rattle.bb_memory_base.specs.declared.allocator.AllocationShrinkError.{AllocationShrinkError};
-ghost use Rattle.bb_memory_base.specs.declared.allocator.Command.{Command};
-ghost use Rattle.bb_memory_base.specs.declared.allocator.Reply.{Reply};
+ghost use Rattle.bb_memory_traits.specs.Chunk.{Region, IsRegion, region_at, region_end, Chunk, IsInside, chunk_end};
+ghost use Rattle.bb_memory_traits.specs.Object.{AnswersAll, AnswersOnce, GivesOnly, AnswersRun, IsRun, Step, ResizableStep};
+ghost use Rattle.bb_memory_traits.specs.declared.layout.Layout.{Layout};
+ghost use Rattle.bb_memory_traits.specs.declared.allocator.AllocationError.{AllocationError};
+ghost use Rattle.bb_memory_traits.specs.declared.allocator.AllocationGrowError.{AllocationGrowError};
+ghost use Rattle.bb_memory_traits.specs.declared.allocator.AllocationShrinkError.{AllocationShrinkError};
+ghost use Rattle.bb_memory_traits.specs.declared.allocator.Command.{Command};
+ghost use Rattle.bb_memory_traits.specs.declared.allocator.Reply.{Reply};
 ghost use Rattle.bb_memory_core.specs.OneChunk.{OneChunk, IsOneChunk, one_chunk_of, StandsFor};
-ghost use Rattle.bb_memory_base.specs.OneChunkObject.{MayAllocate, MayGrow, MayShrink, reserved_at, one_chunk_object};
+ghost use Rattle.bb_memory_traits.specs.OneChunkObject.{MayAllocate, MayGrow, MayShrink, reserved_at, one_chunk_object};
 
 pub use crate::allocator::{
     AllocationError, AllocationGrowError, AllocationShrinkError, Allocator, BaseAllocator,
@@ -125,9 +125,9 @@ impl OneChunkAllocator {
 
 impl BaseAllocator for OneChunkAllocator {
     ghost use Rattle.std.specs.Prelude.{◌≡◌, Some, false};
-    ghost use Rattle.bb_memory_base.specs.Chunk.{Region};
+    ghost use Rattle.bb_memory_traits.specs.Chunk.{Region};
     ghost use Rattle.bb_memory_core.specs.OneChunk.{StandsFor, Takes, Frees, only_chunk};
-    ghost use Rattle.bb_memory_base.specs.OneChunkObject.{MayAllocate};
+    ghost use Rattle.bb_memory_traits.specs.OneChunkObject.{MayAllocate};
 
     const RELEASE_EMPTIES: bool = false;
 
@@ -198,9 +198,9 @@ impl BaseAllocator for OneChunkAllocator {
 
 impl Allocator for OneChunkAllocator {
     ghost use Rattle.std.specs.Prelude.{refl};
-    ghost use Rattle.bb_memory_base.specs.Chunk.{Region};
+    ghost use Rattle.bb_memory_traits.specs.Chunk.{Region};
     ghost use Rattle.bb_memory_core.specs.OneChunk.{places_differ, covered, kept_is_live};
-    ghost use Rattle.bb_memory_base.specs.OneChunkObject.{MayGrow, MayShrink, reserved_at};
+    ghost use Rattle.bb_memory_traits.specs.OneChunkObject.{MayGrow, MayShrink, reserved_at};
 
     ghost Figures = { Region };
 
@@ -362,5 +362,5 @@ fn chunk_between(place: usize, end: usize) -> Chunk
     requires end { place ≤ end }
     ensures { result ≡ record { place = place; len = end - place } }
 {
-    Chunk::new(place, end - place).unwrap()
+    Chunk::new_unchecked(place, end - place)
 }

@@ -1,9 +1,9 @@
 //! Allocators that cut a region into buckets of one layout, and give a bucket for each request.
 ghost use Rattle.std.specs.Prelude.{◌≡◌, ◌≢◌, [], List, ℕ, ◌*◌, ◌/◌, ◌<◌, ◌≤◌, ◌^◌, ◌↔◌, IfOk};
 ghost use Rattle.std.specs.Prelude.{IfErr, IsTrue, Some, false, replicate, slice_get, remove};
-ghost use Rattle.bb_memory_base.specs.Chunk.{region_at, Chunk, first_place};
-ghost use Rattle.bb_memory_base.specs.PoolObject.{PoolGeometry, IsCut};
-ghost use Rattle.bb_memory_base.specs.declared.allocator.AllocationError.{AllocationError};
+ghost use Rattle.bb_memory_traits.specs.Chunk.{region_at, Chunk, first_place};
+ghost use Rattle.bb_memory_traits.specs.PoolObject.{PoolGeometry, IsCut};
+ghost use Rattle.bb_memory_traits.specs.declared.allocator.AllocationError.{AllocationError};
 ghost use Rattle.bb_memory_core.specs.IndexSets.{index_words, words_with_list, Lacks};
 ghost use Rattle.bb_memory_core.specs.Pool.{Frees, HoldsPlace, MayBeCut, StandsFor, counted, fresh_pool};
 
@@ -36,7 +36,7 @@ pub struct UninitPoolAllocator {
 }
 
 impl Model for UninitPoolAllocator {
-    ghost use Rattle.bb_memory_base.specs.PoolObject.{PoolGeometry};
+    ghost use Rattle.bb_memory_traits.specs.PoolObject.{PoolGeometry};
     ghost use Rattle.bb_memory_core.specs.Pool.{IsUninit};
 
     ghost Value = { PoolGeometry };

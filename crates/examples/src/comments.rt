@@ -1,5 +1,5 @@
 //! The examples of the libraries' doc comments, as they stand there. Contracts alone decide each `prove!`.
-#![tactic(auto, unfolding(bb_memory_base::specs::LeastPlace::least_place))]
+#![tactic(auto, unfolding(bb_memory_traits::specs::LeastPlace::least_place))]
 
 ghost use Rattle.std.specs.Prelude.{◌≡◌, ◌≢◌, ◌<◌, []};
 ghost use Rattle.bb_memory.specs.OneChunk.{StandsFor};
@@ -15,7 +15,7 @@ use bb_memory::one_chunk_allocator::OneChunkAllocator;
 use bb_memory::pool_allocator::{FixedSizePoolAllocator, PoolAllocator, pool_count_law};
 use bb_memory::region::Region;
 use bb_memory::shared_pool::{
-    PoolParty, SharedFixedSizePoolAllocator, SharedPoolAllocator, by_number,
+    CachingParty, PoolParty, SharedFixedSizePoolAllocator, SharedPoolAllocator, by_number,
 };
 use bb_memory::steps::{BumpOutcome, BumpStep, BumpWorld, PoolOutcome, PoolStep, PoolWorld};
 use loan_book::{LoanBook, LoanError};
@@ -228,6 +228,29 @@ pub fn shared_pool_detached(
     let (its_number, its_len) = (received.number(), received.chunk().len());
     prove!(its_number == number && its_len == len && len == 48);
     pool.deallocate_bucket(receiver, received);
+    Ok(())
+}
+
+pub fn shared_pool_caching(
+    alloc: Global,
+    pool: SharedPoolAllocator,
+    party: PoolParty,
+) -> Result<(), AllocationError>
+    requires { party.allocator ≡ pool }
+{
+    let Ok(mut caching) = CachingParty::new(alloc, party, 4) else {
+        return Err(AllocationError::OutOfMemory);
+    };
+    let layout = Layout::from_size_align(48, 4).unwrap();
+    let taken = caching.allocate(&pool, layout)?;
+    let number = taken.number();
+    caching.deallocate(&pool, taken);
+    let again = caching.allocate(&pool, layout)?;
+    let its_number = again.number();
+    prove!(its_number == number);
+    caching.deallocate(&pool, again);
+    let party = caching.into_party(&pool);
+    let _ = party.number();
     Ok(())
 }
 

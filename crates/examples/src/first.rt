@@ -1,5 +1,5 @@
 //! Two chunks of a bump.
-#![tactic(auto, unfolding(bb_memory_base::specs::LeastPlace::least_place))]
+#![tactic(auto, unfolding(bb_memory_traits::specs::LeastPlace::least_place))]
 
 use bb_memory::bump_allocator::{AllocationError, BaseAllocator, BumpAllocator};
 use bb_memory::layout::Layout;

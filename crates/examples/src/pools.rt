@@ -1,5 +1,5 @@
 //! The pools with one owner.
-#![tactic(auto, unfolding(bb_memory_base::specs::LeastPlace::least_place))]
+#![tactic(auto, unfolding(bb_memory_traits::specs::LeastPlace::least_place))]
 
 ghost use Rattle.std.specs.Prelude.{◌≢◌, IfOk};
 ghost use Rattle.bb_memory.specs.Pool.{HoldsPlace};

@@ -1,5 +1,5 @@
 //! A pool that threads share, in one thread.
-#![tactic(auto, unfolding(bb_memory_base::specs::LeastPlace::least_place))]
+#![tactic(auto, unfolding(bb_memory_traits::specs::LeastPlace::least_place))]
 
 use super::bump::forty_eight;
 use bb_memory::allocator::AllocationError;

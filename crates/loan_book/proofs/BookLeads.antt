@@ -1,16 +1,14 @@
 -- The change that a call makes of a book, and what each change keeps.
 use Rattle.std.proofs.Common.{◌≡◌, ℕ, ◌-◌, ◌<◌, refl, sym, subst, arith, None}
-use Rattle.bb_memory_base.specs.Chunk.{Chunk}
+use Rattle.bb_memory_traits.specs.Chunk.{Chunk}
 use Rattle.loan_book.specs.declared.error.LoanError.TheVariants.{Size, IdsExhausted, Memory, Allocation}
 use Rattle.loan_book.specs.declared.error.LoanError.TheVariants.{UnknownSample, AlreadyPublished, NoReaders}
 use Rattle.loan_book.specs.declared.run.LoanCall.{LoanCall}
 use Rattle.loan_book.specs.declared.run.LoanCall.TheVariants as call
 use Rattle.loan_book.specs.declared.run.LoanReply.{LoanReply}
 use Rattle.loan_book.specs.declared.run.LoanReply.TheVariants as reply
-use Rattle.loan_book.specs.Sample.{Sample, returns_to_come}
-use Rattle.loan_book.specs.Book.{Book, IsBook, IsAt, IsOut}
-use Rattle.loan_book.specs.Calls.{Answers, with_sample, with_returns, without}
-use Rattle.loan_book.specs.Runs.{BookStep, id_of}
+use Rattle.loan_book.specs.Book.{Sample, returns_to_come, Book, IsBook, IsAt, IsOut}
+use Rattle.loan_book.specs.Calls.{Answers, with_sample, with_returns, without, BookStep, id_of}
 use Rattle.loan_book.proofs.Books.{IsBook-push, IsBook-set, IsBook-remove}
 use Rattle.std.proofs.lemmas.Option.{slice_get_within}
 
@@ -31,58 +29,41 @@ pub data Change (old : Book) : LoanCall → LoanReply → Book → Type 0 where
   last_one : (id i : ℕ) (sample : Sample) → IsAt old id i sample → returns_to_come sample.returns ≡ 1 →
       Change old (call.GiveBack id) reply.Returned (without old i)
 
-same_change : (old new next : Book) (call : LoanCall) (reply : LoanReply) → new ≡ next → Change old call reply next →
-    Change old call reply new
-same_change old new next call reply same change = subst (Change old call reply) (sym same) change
+module _ {old new : Book} {made : LoanCall} {told : LoanReply} where
+  changed : {next : Book} → new ≡ next → Change old made told next → Change old made told new
+  changed same change = subst (Change old made told) (sym same) change
 
-nothing : (old new : Book) (call : LoanCall) (reply : LoanReply) → id_of reply ≡ None → ¬ Returns old call → new ≡ old →
-    Change old call reply new
-nothing old new call reply none returns same = same_change old new old call reply same (no_change call reply none returns)
+  nothing : id_of told ≡ None → ¬ Returns old made → new ≡ old → Change old made told new
+  nothing none returns same = changed same (no_change made told none returns)
 
-pub change_of : (may_allocate : Answers) (old new : Book) (call : LoanCall) (reply : LoanReply) →
-    BookStep may_allocate old call reply new → Change old call reply new
-change_of may_allocate old new (call.Loan size) (reply.Loaned id chunk) (fits, may, numbered, same) =
-    same_change old new (with_sample old chunk) (call.Loan size) (reply.Loaned id chunk) same (one_loan size id chunk numbered)
-change_of may_allocate old new (call.Loan size) (reply.Refused Size) (large, same) =
-    nothing old new (call.Loan size) (reply.Refused Size) refl (λ no. no) same
-change_of may_allocate old new (call.Loan size) (reply.Refused IdsExhausted) (fits, used, same) =
-    nothing old new (call.Loan size) (reply.Refused IdsExhausted) refl (λ no. no) same
-change_of may_allocate old new (call.Loan size) (reply.Refused Memory) (fits, left, same) =
-    nothing old new (call.Loan size) (reply.Refused Memory) refl (λ no. no) same
-change_of may_allocate old new (call.Loan size) (reply.Refused (Allocation error)) (fits, may, same) =
-    nothing old new (call.Loan size) (reply.Refused (Allocation error)) refl (λ no. no) same
-change_of may_allocate old new (call.Publish id readers) reply.Published (i, sample, at, unpublished, some, same) =
-    same_change old new (with_returns old i sample readers) (call.Publish id readers) reply.Published same
-    (one_publish id readers i sample at unpublished some)
-change_of may_allocate old new (call.Publish id readers) (reply.Refused UnknownSample) (unknown, same) =
-    nothing old new (call.Publish id readers) (reply.Refused UnknownSample) refl (λ no. no) same
-change_of may_allocate old new (call.Publish id readers) (reply.Refused AlreadyPublished) (before, same) =
-    nothing old new (call.Publish id readers) (reply.Refused AlreadyPublished) refl (λ no. no) same
-change_of may_allocate old new (call.Publish id readers) (reply.Refused NoReaders) (unpublished, none, same) =
-    nothing old new (call.Publish id readers) (reply.Refused NoReaders) refl (λ no. no) same
-change_of may_allocate old new (call.GiveBack id) reply.Returned (i, sample, at, last, same) =
-    same_change old new (without old i) (call.GiveBack id) reply.Returned same (last_one id i sample at last)
-change_of may_allocate old new (call.GiveBack id) reply.Kept (i, sample, at, more, same) =
-    same_change old new (with_returns old i sample (returns_to_come sample.returns - 1)) (call.GiveBack id) reply.Kept same
-    (one_less id i sample at more)
-change_of may_allocate old new (call.GiveBack id) (reply.Refused UnknownSample) (unknown, same) =
-    nothing old new (call.GiveBack id) (reply.Refused UnknownSample) refl unknown same
-change_of may_allocate old new (call.IsOut id) (reply.Out answer) (tells, same) =
-    nothing old new (call.IsOut id) (reply.Out answer) refl (λ no. no) same
-change_of may_allocate old new call reply none = absurd none
+pub change_of : (may : Answers) (old new : Book) (made : LoanCall) (told : LoanReply) → BookStep may old made told new →
+    Change old made told new
+change_of may old new (call.Loan size) (reply.Loaned id chunk) (fits, given, numbered, same) =
+    changed same (one_loan size id chunk numbered)
+change_of may old new (call.Loan size) (reply.Refused Size) (large, same) = nothing refl (λ no. no) same
+change_of may old new (call.Loan size) (reply.Refused IdsExhausted) (fits, used, same) = nothing refl (λ no. no) same
+change_of may old new (call.Loan size) (reply.Refused Memory) (fits, left, same) = nothing refl (λ no. no) same
+change_of may old new (call.Loan size) (reply.Refused (Allocation error)) (fits, told, same) = nothing refl (λ no. no) same
+change_of may old new (call.Publish id readers) reply.Published (i, sample, at, unpublished, some, same) =
+    changed same (one_publish id readers i sample at unpublished some)
+change_of may old new (call.Publish id readers) (reply.Refused UnknownSample) (unknown, same) = nothing refl (λ no. no) same
+change_of may old new (call.Publish id readers) (reply.Refused AlreadyPublished) (is, same) = nothing refl (λ no. no) same
+change_of may old new (call.Publish id readers) (reply.Refused NoReaders) (there, none, same) = nothing refl (λ no. no) same
+change_of may old new (call.GiveBack id) reply.Returned (i, sample, at, last, same) = changed same (last_one id i sample at last)
+change_of may old new (call.GiveBack id) reply.Kept (i, sample, at, more, same) = changed same (one_less id i sample at more)
+change_of may old new (call.GiveBack id) (reply.Refused UnknownSample) (unknown, same) = nothing refl unknown same
+change_of may old new (call.IsOut id) (reply.Out answer) (tells, same) = nothing refl (λ no. no) same
+change_of may old new made told none = absurd none
 
-change-sound : (old new : Book) (call : LoanCall) (reply : LoanReply) → Change old call reply new → IsBook old → IsBook new
-change-sound old new call reply (no_change other told no_id none) is = is
-change-sound old new call reply (one_loan size id chunk numbered) is = IsBook-push old chunk is
-change-sound old new call reply (one_publish id readers i sample at unpublished some) is =
-    IsBook-set old i sample readers at.at some is
-change-sound old new call reply (one_less id i sample at more) is =
+change-sound : (old : Book) {new : Book} {made : LoanCall} {told : LoanReply} → Change old made told new → IsBook old → IsBook new
+change-sound old (no_change made told no_id none) is = is
+change-sound old (one_loan size id chunk numbered) is = IsBook-push old chunk is
+change-sound old (one_publish id readers i sample at unpublished some) is = IsBook-set old i sample readers at.at some is
+change-sound old (one_less id i sample at more) is =
     IsBook-set old i sample (returns_to_come sample.returns - 1) at.at (omega (arith, more)) is
-change-sound old new call reply (last_one id i sample at last) is =
-    IsBook-remove old i (slice_get_within old.out i sample at.at) is
+change-sound old (last_one id i sample at last) is = IsBook-remove old i (slice_get_within old.out i sample at.at) is
 
 -- each call keeps a book a book
-pub step-sound : (may_allocate : Answers) (old new : Book) (call : LoanCall) (reply : LoanReply) → IsBook old →
-    BookStep may_allocate old call reply new → IsBook new
-step-sound may_allocate old new call reply is step =
-    change-sound old new call reply (change_of may_allocate old new call reply step) is
+pub step-sound : (may : Answers) (old new : Book) (made : LoanCall) (told : LoanReply) → IsBook old →
+    BookStep may old made told new → IsBook new
+step-sound may old new made told is step = change-sound old (change_of may old new made told step) is

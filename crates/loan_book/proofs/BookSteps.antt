@@ -1,15 +1,13 @@
 -- What a step of a book keeps, and what it does to one sample.
 use Rattle.std.proofs.Common.{◌≡◌, ◌≢◌, ℕ, ◌<◌, length, refl, ap, sym, ◌∙◌, subst, arith, Some, None, Option, inl, inr}
 use Rattle.std.specs.Prelude.{slice_get}
-use Rattle.std.proofs.lemmas.Bool.{cases_lt}
 use Rattle.std.proofs.lemmas.Option.{slice_get_within, get_or_from_slice_get}
-use Rattle.bb_memory_base.specs.Chunk.{Chunk}
-use Rattle.bb_memory_base.proofs.SliceGets.{slice_get-set, slice_get-set_other, slice_get-set_same}
-use Rattle.loan_book.specs.Sample.{Sample}
-use Rattle.loan_book.specs.Book.{Book, IsBook, IsAt, IsOut, HasReturns, IsPublished, IsUnpublished}
+use Rattle.bb_memory_traits.specs.Chunk.{Chunk}
+use Rattle.bb_memory_traits.proofs.SliceGets.{slice_get-set, slice_get-set_other, slice_get-set_same}
+use Rattle.loan_book.specs.Book.{Sample, Book, IsBook, IsAt, IsOut, HasReturns, IsPublished, IsUnpublished}
 use Rattle.loan_book.specs.Calls.{with_sample, with_returns, without}
-use Rattle.bb_memory_base.proofs.SliceGets.{slice_get-last, slice_get-push, slice_get-pushed}
-use Rattle.bb_memory_base.proofs.Positions.{slice_get-removed, slice_get-unremoved}
+use Rattle.bb_memory_traits.proofs.SliceGets.{slice_get-last, slice_get-push, slice_get-pushed}
+use Rattle.bb_memory_traits.proofs.Positions.{slice_get-removed, slice_get-unremoved}
 
 -- a sample of one id is before no other sample of that id
 not_before : (book : Book) (id i j : ℕ) (one other : Sample) → IsBook book → IsAt book id i one → IsAt book id j other → ¬ (i < j)
@@ -26,11 +24,7 @@ pub one_position : (book : Book) (id i j : ℕ) (one other : Sample) → IsBook 
 one_position book id i j one other is here there =
     let up = not_before book id i j one other is here there in
     let down = not_before book id j i other one is there here in
-    elim (cases_lt i j) [
-      | inl before ↦ absurd (up before)
-      | inr behind ↦ elim
-          (cases_lt j i) [ inl after ↦ absurd (down after) | inr not_after ↦ omega arith ]
-    ]
+    omega (arith, up, down)
 
 pub one_sample : (book : Book) (id i j : ℕ) (one other : Sample) → IsBook book → IsAt book id i one → IsAt book id j other →
     one ≡ other
@@ -108,10 +102,6 @@ set-keeps book id other position sample returns (Some left) here apart (i, found
     let equal : found ≡ sample = cc in
     apart (sym here.has_id ∙ sym (ap (λ (s : Sample). s.id) equal) ∙ there.has_id) in
     (i, found, record { at = slice_get-set_other book.out position i waiting elsewhere ∙ there.at; has_id = there.has_id }, waits)
-
--- a sample that is gone stands nowhere
-pub gone-nowhere : (book : Book) (id position : ℕ) (sample : Sample) → HasOrIsGone book id None → ¬ IsAt book id position sample
-gone-nowhere book id position sample (gone, used) here = gone (position, sample, here)
 
 -- the sample itself waits for so many returns
 pub own-set : (book : Book) (id position : ℕ) (sample : Sample) (returns : ℕ) → IsAt book id position sample →

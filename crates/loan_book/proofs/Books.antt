@@ -1,16 +1,17 @@
--- Books: the chunks of their samples, and what each change of a book keeps.
-use Rattle.std.proofs.Common.{◌≡◌, ℕ, zero, suc, ◌+◌, ◌<◌, List, [], ◌∷◌, ◌++◌, length}
-use Rattle.std.proofs.Common.{get_or, take, drop, refl, ap, sym, subst, arith, Some, None}
-use Rattle.std.specs.Prelude.{slice_get, slice_set}
-use Rattle.std.specs.List.{remove}
+-- Books: the chunks of their samples, what each change keeps, and that the allocator stands for the chunks that are out.
+use Rattle.std.proofs.Common.{◌≡◌, ℕ, suc, ◌+◌, ◌<◌, ◌^◌, true, false, List, [], ◌∷◌, ◌++◌, length, get_or, take, drop}
+use Rattle.std.proofs.Common.{refl, ap, sym, subst, ◌∙◌, arith, Option, Some, None}
+use Rattle.std.specs.Prelude.{slice_get, slice_set, map, remove}
+use Rattle.std.specs.Option.{option_map, SomeIff, ForSome, is_some}
+use Rattle.std.proofs.Math.ListN.{get_or-map}
+use Rattle.std.proofs.Math.Seq.{map-set_same}
 use Rattle.std.proofs.lemmas.List.{map-append, take-map, drop-map}
 use Rattle.std.proofs.lemmas.List.Elements.{All-push, All-append, All-set, All-take, All-drop, All-weaker}
 use Rattle.std.proofs.lemmas.List.Quantifiers.{all_pairs_push, all_pairs_remove}
-use Rattle.std.proofs.lemmas.Option.{slice_get_within, get_or_from_slice_get}
-use Rattle.bb_memory_base.specs.Chunk.{Chunk}
-use Rattle.bb_memory_base.proofs.SliceGets.{length-set_at}
-use Rattle.loan_book.specs.Sample.{Sample, returns_to_come}
-use Rattle.loan_book.specs.Book.{Book, IsBook, chunks_of}
+use Rattle.std.proofs.lemmas.Option.{slice_get_within, get_or_from_slice_get, slice_get-map}
+use Rattle.bb_memory_traits.specs.Chunk.{Chunk}
+use Rattle.bb_memory_traits.proofs.SliceGets.{length-set_at}
+use Rattle.loan_book.specs.Book.{Sample, returns_to_come, Book, IsBook, chunks_of, IsLoanBook, book_of, loaned_before}
 use Rattle.loan_book.specs.Calls.{with_sample, with_returns, without}
 
 -- the chunks after each change
@@ -22,29 +23,24 @@ chunks-push samples sample = simp map-append
 pub chunks-remove : (samples : List Sample) (i : ℕ) → chunks_of (remove samples i) ≡ remove (chunks_of samples) i
 chunks-remove samples i = simp (map-append, take-map, drop-map)
 
-pub chunks-set : (samples : List Sample) (i : ℕ) (old new : Sample) → slice_get samples i ≡ Some old → new.chunk ≡ old.chunk →
-    chunks_of (slice_set samples i new) ≡ chunks_of samples
-chunks-set [] i old new at same = refl
-chunks-set (s ∷ samples) zero old new at same = let here : s ≡ old = cc in
-    ap (λ chunk. chunk ∷ chunks_of samples) (subst (λ (x : Sample). new.chunk ≡ x.chunk) (sym here) same)
-chunks-set (s ∷ samples) (suc i) old new at same = ap (λ chunks. s.chunk ∷ chunks) (chunks-set samples i old new at same)
+-- a set sample keeps what it has of the old one
+pub map-kept : {X : Type 0} (f : Sample → X) (samples : List Sample) (i : ℕ) (old new : Sample) →
+    slice_get samples i ≡ Some old → f new ≡ f old → map f (slice_set samples i new) ≡ map f samples
+map-kept f samples i old new at same =
+    map-set_same f samples i new old (same ∙ ap f (sym (get_or_from_slice_get samples i old old at)))
 
 -- the chunk of a sample stands where the sample does
 pub chunk-at : (samples : List Sample) (i : ℕ) (sample : Sample) → slice_get samples i ≡ Some sample →
     slice_get (chunks_of samples) i ≡ Some sample.chunk
-chunk-at [] i sample at = absurd (cc)
-chunk-at (s ∷ samples) zero sample at = let here : s ≡ sample = cc in ap (λ (x : Sample). Some x.chunk) here
-chunk-at (s ∷ samples) (suc i) sample at = chunk-at samples i sample at
+chunk-at samples i sample at = slice_get-map (λ (s : Sample). s.chunk) samples i ∙ ap (option_map (λ (s : Sample). s.chunk)) at
 
 -- the ids stay where a sample is set to one of its own id
 id-set : (samples : List Sample) (i : ℕ) (old new : Sample) → slice_get samples i ≡ Some old → new.id ≡ old.id →
     (k : ℕ) (d : Sample) → (get_or (slice_set samples i new) k d).id ≡ (get_or samples k d).id
-id-set [] i old new at same k d = refl
-id-set (s ∷ samples) zero old new at same zero d = let here : s ≡ old = cc in
-    subst (λ (x : Sample). new.id ≡ x.id) (sym here) same
-id-set (s ∷ samples) zero old new at same (suc k) d = refl
-id-set (s ∷ samples) (suc i) old new at same zero d = refl
-id-set (s ∷ samples) (suc i) old new at same (suc k) d = id-set samples i old new at same k d
+id-set samples i old new at same k d =
+    let id : Sample → ℕ = λ (s : Sample). s.id in
+    sym (get_or-map id (slice_set samples i new) k d)
+    ∙ ap (λ ids. get_or ids k d.id) (map-kept id samples i old new at same) ∙ get_or-map id samples k d
 
 -- each sample of a book waits for a return
 pub sample-waits : (book : Book) (position : ℕ) (sample : Sample) → IsBook book → slice_get book.out position ≡ Some sample →
@@ -87,3 +83,67 @@ IsBook-remove book position within is = record {
       All-append P (take position book.out) (drop (suc position) book.out) (All-take P position book.out is.waiting)
       (All-drop P (suc position) book.out is.waiting);
 }
+
+-- LOAN BOOKS
+
+-- the sample that a loan appends
+abbrev pub fresh_sample : ℕ → Chunk → Sample
+fresh_sample id chunk = record { id = id; chunk = chunk; returns = None }
+
+-- a search tells of returns to come that they are some, or none
+pub published_from : (returns : Option ℕ) → true ≡ is_some returns → (n : ℕ) × (returns ≡ Some n)
+published_from None some = cc
+published_from (Some n) some = (n, refl)
+
+pub unpublished_from : (returns : Option ℕ) → false ≡ is_some returns → returns ≡ None
+unpublished_from None none = refl
+unpublished_from (Some n) none = cc
+
+pub positive : (n : ℕ) → (n ≡ 0 → ⊥) → 0 < n
+positive n not_zero = omega (arith, not_zero)
+
+-- the next id after a loan: there is none where the greatest one was loaned
+pub next_loaned : (id : ℕ) (after : Option ℕ) → id < 2 ^ 64 → SomeIff after (id + 1 < 2 ^ 64) (id + 1) →
+    loaned_before after ≡ id + 1
+next_loaned id None within none = omega arith
+next_loaned id (Some next) within one = one.1
+
+next_fits : (id : ℕ) (after : Option ℕ) → SomeIff after (id + 1 < 2 ^ 64) (id + 1) → ForSome after (λ next. next < 2 ^ 64)
+next_fits id None none = λ next is. absurd (cc)
+next_fits id (Some next) one = λ other is. let same : next ≡ other = cc in omega (arith, one.0, one.1)
+
+module _ {A : Type 0} (stands_for : A → List Chunk → Type 0) where
+  pub IsLoanBook-loaned : (allocator left : A) (next after : Option ℕ) (out new : List Sample) (id : ℕ) (chunk : Chunk) →
+      next ≡ Some id → SomeIff after (id + 1 < 2 ^ 64) (id + 1) → new ≡ out ++ fresh_sample id chunk ∷ [] →
+      IsLoanBook stands_for allocator next out → stands_for left (chunks_of out ++ chunk ∷ []) →
+      IsLoanBook stands_for left after new
+  IsLoanBook-loaned allocator left next after out new id chunk was goes_on pushed is stands =
+      let book : Book = record { loaned = id; out = out } in
+      let is_book : IsBook book = subst (λ (n : Option ℕ). IsBook (book_of n out)) was is.book in
+      let one_more = next_loaned id after (is.next_fits id was) goes_on in
+      rw pushed (record {
+        stands = subst (stands_for left) (sym (chunks-push out (fresh_sample id chunk))) stands;
+        book = rw one_more (IsBook-push book chunk is_book);
+        next_fits = next_fits id after goes_on;
+      })
+
+  pub IsLoanBook-set : (allocator : A) (next : Option ℕ) (out : List Sample) (position : ℕ) (sample : Sample) (returns : ℕ) →
+      slice_get out position ≡ Some sample → 0 < returns → IsLoanBook stands_for allocator next out →
+      IsLoanBook stands_for allocator next (slice_set out position (record sample { returns = Some returns }))
+  IsLoanBook-set allocator next out position sample returns at some is =
+      let new : Sample = record sample { returns = Some returns } in
+      record {
+        stands = subst (stands_for allocator) (sym (map-kept (λ s. s.chunk) out position sample new at refl)) is.stands;
+        book = IsBook-set (book_of next out) position sample returns at some is.book;
+        next_fits = is.next_fits;
+      }
+
+  pub IsLoanBook-removed : (allocator left : A) (next : Option ℕ) (out new : List Sample) (position : ℕ) →
+      position < length out → new ≡ remove out position →
+      IsLoanBook stands_for allocator next out → stands_for left (remove (chunks_of out) position) →
+      IsLoanBook stands_for left next new
+  IsLoanBook-removed allocator left next out new position within removed is stands = rw removed (record {
+    stands = subst (stands_for left) (sym (chunks-remove out position)) stands;
+    book = IsBook-remove (book_of next out) position within is.book;
+    next_fits = is.next_fits;
+  })

@@ -2,8 +2,6 @@ pub mod BookLeads
 pub mod BookRuns
 pub mod BookSteps
 pub mod Books
-pub mod LoanBooks
 pub mod LoanedIds
 pub mod OneAnswers
-pub mod PublishedRuns
 pub mod Searches

@@ -3,12 +3,11 @@ use Rattle.std.proofs.Common.{◌≡◌, ℕ, suc, ◌+◌, List, [], ◌∷◌,
 use Rattle.std.proofs.Common.{Some}
 use Rattle.std.specs.List.{range_with_len, cons_option}
 use Rattle.std.proofs.lemmas.List.FromFn.{length-range_with_len}
-use Rattle.bb_memory_base.specs.Object.{IsRun}
+use Rattle.bb_memory_traits.specs.Object.{IsRun}
 use Rattle.loan_book.specs.declared.run.LoanCall.{LoanCall}
 use Rattle.loan_book.specs.declared.run.LoanReply.{LoanReply}
 use Rattle.loan_book.specs.Book.{Book}
-use Rattle.loan_book.specs.Calls.{Answers}
-use Rattle.loan_book.specs.Runs.{BookStep, id_of, ids_in}
+use Rattle.loan_book.specs.Calls.{Answers, BookStep, id_of, ids_in}
 use Rattle.loan_book.proofs.BookLeads.{Change, no_change, one_loan, change_of}
 
 -- a call that gives an id gives the number of loans, and counts one; another leaves the number
@@ -16,14 +15,11 @@ abbrev Counts : ℕ → ℕ → Option ℕ → Type 0
 Counts loaned next (Some id) = (id ≡ loaned) × (next ≡ loaned + 1)
 Counts loaned next None = next ≡ loaned
 
-same_book : (old new : Book) → new ≡ old → new.loaned ≡ old.loaned
-same_book old new same = ap (λ (book : Book). book.loaned) same
-
-change-counts : (old new : Book) (call : LoanCall) (reply : LoanReply) → Change old call reply new →
-    Counts old.loaned new.loaned (id_of reply)
-change-counts old new call reply (one_loan size id chunk numbered) = (numbered, refl)
-change-counts old new call reply (no_change other told no_id none) = subst (Counts old.loaned old.loaned) (sym no_id) refl
-change-counts old new call reply _ = refl
+change-counts : (old : Book) {new : Book} {made : LoanCall} {told : LoanReply} → Change old made told new →
+    Counts old.loaned new.loaned (id_of told)
+change-counts old (one_loan size id chunk numbered) = (numbered, refl)
+change-counts old (no_change made told no_id none) = subst (Counts old.loaned old.loaned) (sym no_id) refl
+change-counts old _ = refl
 
 -- these ids count up from the number of loans before, and lead to the number after
 abbrev CountUp : ℕ → ℕ → List ℕ → Type 0
@@ -38,24 +34,19 @@ count-on loaned mid next (Some id) ids (first, one_more) (n, counted, up) =
 
 count-run : (may_allocate : Answers) (old new : Book) (calls : List LoanCall) (replies : List LoanReply) →
     IsRun (BookStep may_allocate) old calls replies new → CountUp old.loaned new.loaned (ids_in replies)
-count-run may_allocate old new [] [] same = (0, same_book old new same ∙ sym (add-zero old.loaned), refl)
+count-run may_allocate old new [] [] same = (0, ap (λ (b : Book). b.loaned) same ∙ sym (add-zero old.loaned), refl)
 count-run may_allocate old new (call ∷ calls) (reply ∷ replies) (mid, step, rest) =
     count-on old.loaned mid.loaned new.loaned (id_of reply) (ids_in replies)
-    (change-counts old mid call reply (change_of may_allocate old mid call reply step))
+    (change-counts old (change_of may_allocate old mid call reply step))
     (count-run may_allocate mid new calls replies rest)
 count-run may_allocate old new [] (reply ∷ replies) none = absurd none
 count-run may_allocate old new (call ∷ calls) [] none = absurd none
 
--- each id that is given counts as one loan
-pub run-counted : (may_allocate : Answers) (old new : Book) (calls : List LoanCall) (replies : List LoanReply) →
-    IsRun (BookStep may_allocate) old calls replies new → new.loaned ≡ old.loaned + length (ids_in replies)
-run-counted may_allocate old new calls replies run =
-    let up = count-run may_allocate old new calls replies run in
-    up.1 ∙ ap (λ k. old.loaned + k) (sym (ap length up.2 ∙ length-range_with_len old.loaned up.0))
-
--- and the ids count up from the number of loans before
+-- each id that is given counts as one loan, and the ids count up from the number of loans before
 pub run-ids : (may_allocate : Answers) (old new : Book) (calls : List LoanCall) (replies : List LoanReply) →
-    IsRun (BookStep may_allocate) old calls replies new → ids_in replies ≡ range_with_len old.loaned (length (ids_in replies))
+    IsRun (BookStep may_allocate) old calls replies new →
+    (new.loaned ≡ old.loaned + length (ids_in replies)) × (ids_in replies ≡ range_with_len old.loaned (length (ids_in replies)))
 run-ids may_allocate old new calls replies run =
-    let up = count-run may_allocate old new calls replies run in
-    up.2 ∙ ap (λ k. range_with_len old.loaned k) (sym (ap length up.2 ∙ length-range_with_len old.loaned up.0))
+    let (n, counted, up) = count-run may_allocate old new calls replies run in
+    let many = sym (ap length up ∙ length-range_with_len old.loaned n) in
+    (counted ∙ ap (λ k. old.loaned + k) many, up ∙ ap (λ k. range_with_len old.loaned k) many)

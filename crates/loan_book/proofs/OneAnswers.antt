@@ -1,11 +1,11 @@
 -- Each call has one answer alone, or leads to one book at least.
 use Rattle.std.proofs.Common.{◌≡◌, ℕ, ◌<◌, ◌-◌, Bool, true, false, refl, ap, sym, ◌∙◌, subst, arith, Result, Ok, Err}
-use Rattle.bb_memory_base.specs.Chunk.{Chunk}
+use Rattle.std.specs.Prelude.{◌↔◌}
+use Rattle.bb_memory_traits.specs.Chunk.{Chunk}
 use Rattle.loan_book.specs.declared.error.LoanError.{LoanError}
 use Rattle.loan_book.specs.declared.error.LoanError.TheVariants.{Size, IdsExhausted, Memory, Allocation}
 use Rattle.loan_book.specs.declared.error.LoanError.TheVariants.{UnknownSample, AlreadyPublished, NoReaders}
-use Rattle.loan_book.specs.Sample.{Sample, returns_to_come}
-use Rattle.loan_book.specs.Book.{Book, IsBook, IsAt, IsOut, IsPublished, IsUnpublished}
+use Rattle.loan_book.specs.Book.{Sample, returns_to_come, Book, IsBook, IsAt, IsOut, IsPublished, IsUnpublished}
 use Rattle.loan_book.specs.Calls.{Answers, Loans, Publishes, GivesBack, with_returns, without}
 use Rattle.loan_book.proofs.BookSteps.{one_position, one_sample, unpublished-nowhere}
 
@@ -21,11 +21,8 @@ loan-one_book may_allocate old size (Err (Allocation error)) new next (fits, may
     same ∙ sym same_too
 loan-one_book may_allocate old size answer new next none none_too = absurd none
 
-is_out : (book : Book) (id : ℕ) → IsPublished book id → IsOut book id
-is_out book id (returns, (i, sample, at, has)) = (i, sample, at)
-
 -- when each answer to a publish comes
-abbrev PublishCause : Book → ℕ → ℕ → Result (Unit {0}) LoanError → Type 0
+abbrev pub PublishCause : Book → ℕ → ℕ → Result (Unit {0}) LoanError → Type 0
 PublishCause book id readers (Ok done) = IsUnpublished book id × (0 < readers)
 PublishCause book id readers (Err UnknownSample) = ¬ IsOut book id
 PublishCause book id readers (Err AlreadyPublished) = IsPublished book id
@@ -41,26 +38,23 @@ publish-cause old id readers (Err NoReaders) new (unpublished, none, same) = (un
 publish-cause old id readers answer new none = absurd none
 
 module _ (book : Book) (is : IsBook book) (id readers : ℕ) where
-  apart : IsUnpublished book id → ¬ IsPublished book id
-  apart = unpublished-nowhere book id is
-
   one-cause : (one other : Result (Unit {0}) LoanError) → PublishCause book id readers one →
       PublishCause book id readers other → one ≡ other
   one-cause (Ok done) (Ok done_too) first second = refl
   one-cause (Ok done) (Err UnknownSample) (there, some) gone = absurd (gone (there.0, there.1, there.2))
-  one-cause (Ok done) (Err AlreadyPublished) (there, some) published = absurd (apart there published)
+  one-cause (Ok done) (Err AlreadyPublished) (there, some) published = absurd (unpublished-nowhere book id is there published)
   one-cause (Ok done) (Err NoReaders) (there, some) (there_too, none) = absurd (omega arith)
   one-cause (Err UnknownSample) (Ok done) gone (there, some) = absurd (gone (there.0, there.1, there.2))
   one-cause (Err UnknownSample) (Err UnknownSample) gone second = refl
-  one-cause (Err UnknownSample) (Err AlreadyPublished) gone published = absurd (gone (is_out book id published))
+  one-cause (Err UnknownSample) (Err AlreadyPublished) gone was = absurd (gone (was.1.0, was.1.1, was.1.2))
   one-cause (Err UnknownSample) (Err NoReaders) gone (there, none) = absurd (gone (there.0, there.1, there.2))
-  one-cause (Err AlreadyPublished) (Ok done) published (there, some) = absurd (apart there published)
-  one-cause (Err AlreadyPublished) (Err UnknownSample) published gone = absurd (gone (is_out book id published))
+  one-cause (Err AlreadyPublished) (Ok done) was (there, some) = absurd (unpublished-nowhere book id is there was)
+  one-cause (Err AlreadyPublished) (Err UnknownSample) was gone = absurd (gone (was.1.0, was.1.1, was.1.2))
   one-cause (Err AlreadyPublished) (Err AlreadyPublished) published second = refl
-  one-cause (Err AlreadyPublished) (Err NoReaders) published (there, none) = absurd (apart there published)
+  one-cause (Err AlreadyPublished) (Err NoReaders) was (there, none) = absurd (unpublished-nowhere book id is there was)
   one-cause (Err NoReaders) (Ok done) (there, none) (there_too, some) = absurd (omega arith)
   one-cause (Err NoReaders) (Err UnknownSample) (there, none) gone = absurd (gone (there.0, there.1, there.2))
-  one-cause (Err NoReaders) (Err AlreadyPublished) (there, none) published = absurd (apart there published)
+  one-cause (Err NoReaders) (Err AlreadyPublished) (there, none) was = absurd (unpublished-nowhere book id is there was)
   one-cause (Err NoReaders) (Err NoReaders) first second = refl
   one-cause (Ok done) other first none = absurd none
   one-cause (Err UnknownSample) other first none = absurd none
@@ -112,6 +106,16 @@ module _ (book : Book) (is : IsBook book) (id readers : ℕ) where
   give-one (Ok false) other new next first none = absurd none
   give-one (Err UnknownSample) other new next first none = absurd none
   give-one one other new next none second = absurd none
+
+-- each refusal comes exactly where its cause holds
+pub publish-refusal : (book : Book) (is : IsBook book) (id readers : ℕ) (answer : Result (Unit {0}) LoanError) (new : Book) →
+    Publishes book id readers answer new → (error : LoanError) →
+    (answer ≡ Err error) ↔ PublishCause book id readers (Err error)
+publish-refusal book is id readers answer new step error =
+    let cause = publish-cause book id readers answer new step in (
+      λ same. subst (PublishCause book id readers) same cause,
+      λ other. one-cause book is id readers answer (Err error) cause other,
+    )
 
 pub publish-one : (book : Book) (is : IsBook book) (id readers : ℕ) (one other : Result (Unit {0}) LoanError) (new next : Book) →
     Publishes book id readers one new → Publishes book id readers other next → (one ≡ other) × (new ≡ next)

@@ -1,20 +1,28 @@
 //! Loan books.
 ghost use Rattle.std.specs.Prelude.{◌≡◌, ◌↔◌, ◌<◌, ◌≤◌, ◌^◌, ℕ, false, [], List, Result};
 ghost use Rattle.std.specs.Prelude.{length, slice_get, Some, IfErr, IfOk, OnOk, OnErr, IfSome, IfNone, IsTrue};
-ghost use Rattle.bb_memory_base.specs.Chunk.{Chunk, IsSound};
-ghost use Rattle.loan_book.specs.Sample.{Sample, returns_to_come};
+ghost use Rattle.bb_memory_traits.specs.Chunk.{Chunk, IsSound};
 ghost use Rattle.loan_book.specs.declared.error.LoanError.{LoanError};
-ghost use Rattle.loan_book.specs.Book.{Book, IsBook, IsAt, IsOut, HasReturns, IsPublished, IsUnpublished, chunks_out};
+ghost use Rattle.loan_book.specs.Book.{Sample, returns_to_come, Book, IsBook, chunks_out};
+ghost use Rattle.loan_book.specs.Book.{IsAt, IsOut, HasReturns, IsPublished, IsUnpublished};
+ghost use Rattle.loan_book.specs.Book.{IsAllocators, IsAskedOnce, StillStands};
 ghost use Rattle.loan_book.specs.Calls.{Loans, Publishes, GivesBack, with_returns, without};
-ghost use Rattle.loan_book.specs.LoanBook.{IsAllocators, IsAskedOnce, StillStands, loan_book_of};
 
 use crate::error::LoanError;
-use crate::sample::Sample;
-use bb_memory_base::allocator::Allocator;
-use bb_memory_base::layout::{Chunk, Layout};
+use bb_memory_traits::allocator::Allocator;
+use bb_memory_traits::layout::{Chunk, Layout};
 use std::alloc::Global;
 use std::collections::VecDeque;
 use std::marker::Model;
+
+/// A sample that is out.
+#[derive(Drop)]
+struct Sample {
+    id: u64,
+    chunk: Chunk,
+    /// How many returns are to come, or `None` until the sample is published.
+    returns: Option<u32>,
+}
 
 /// The samples that are out, over an allocator that it owns. A sample's id is the number of samples that were loaned before
 /// it. Its chunk goes back to the allocator when the last of its readers has returned it.
@@ -40,11 +48,11 @@ pub struct LoanBook<A: Allocator> {
 }
 
 impl<A: Allocator> Model for LoanBook<A> {
-    ghost use Rattle.loan_book.specs.LoanBook.{LoanBook, IsLoanBook, loan_book_of};
+    ghost use Rattle.loan_book.specs.Book.{LoanBook, IsLoanBook, book_of};
 
     ghost Value = { LoanBook A };
 
-    ghost view = { λ b. loan_book_of b.allocator b.next b.out.items };
+    ghost view = { λ b. record { allocator = b.allocator; book = book_of b.next b.out.items } };
 
     ghost invariant = { λ b. IsLoanBook A.stands_for b.allocator b.next b.out.items };
 }
@@ -106,7 +114,11 @@ impl<A: Allocator> LoanBook<A> {
         }
         match self.allocator.allocate(layout) {
             Ok(chunk) => {
-                self.out.push_back_reserved(Sample::new(id, chunk));
+                self.out.push_back_reserved(Sample {
+                    id,
+                    chunk,
+                    returns: None,
+                });
                 self.next = id.checked_add(1);
                 Ok((id, chunk))
             }
@@ -133,7 +145,7 @@ impl<A: Allocator> LoanBook<A> {
     {
         // Proof hint: brings the type's invariant into scope.
         let _ = &self.next;
-        let Some((position, returns)) = self.found(id) else {
+        let Some((position, returns)) = self.find(id) else {
             return Err(LoanError::UnknownSample);
         };
         if returns.is_some() {
@@ -163,7 +175,7 @@ impl<A: Allocator> LoanBook<A> {
     {
         // Proof hint: brings the type's invariant into scope.
         let _ = &self.next;
-        let Some((position, returns)) = self.found(id) else {
+        let Some((position, returns)) = self.find(id) else {
             return Err(LoanError::UnknownSample);
         };
         let to_come = returns.unwrap_or(1);
@@ -183,7 +195,7 @@ impl<A: Allocator> LoanBook<A> {
     {
         // Proof hint: brings the type's invariant into scope.
         let _ = &self.next;
-        self.position(id).is_some()
+        self.find(id).is_some()
     }
 
     /// Does nothing. It is the proof of what holds of every loan book: the allocator stands for exactly the chunks of the
@@ -204,19 +216,8 @@ impl<A: Allocator> LoanBook<A> {
         let _ = &self.next;
     }
 
-    /// Finds the position of the sample of this id among those that are out.
-    fn position(&self, id: u64) -> Option<usize>
-        ensures found { IfSome result
-            (λ position. (sample : Sample) × IsAt self.now.book id position sample) }
-        ensures absent { IfNone result (¬ IsOut self.now.book id) }
-    {
-        self.out
-            .binary_search_by_key(&id, |sample| sample.id())
-            .ok()
-    }
-
     /// Finds the sample of this id: its position, and how many returns it waits for, or `None` where it wasn't published yet.
-    fn found(&self, id: u64) -> Option<(usize, Option<u32>)>
+    fn find(&self, id: u64) -> Option<(usize, Option<u32>)>
         ensures found { IfSome result (λ found. (sample : Sample)
             × IsAt self.now.book id found.0 sample × (sample.returns ≡ found.1)) }
         ensures there { IfSome result (λ found. found.0 < length self.now.book.out) }
@@ -224,10 +225,10 @@ impl<A: Allocator> LoanBook<A> {
         ensures absent { IfNone result (¬ IsOut self.now.book id) }
         ensures book { IsBook self.now.book }
     {
-        // Proof hint: brings the type's invariant into scope.
-        let _ = &self.next;
-        let position = self.position(id)?;
-        Some((position, self.out[position].returns()))
+        let Ok(position) = self.out.binary_search_by_key(&id, |sample| sample.id) else {
+            return None;
+        };
+        Some((position, self.out[position].returns))
     }
 
     /// Has the sample at a position wait for so many returns.
@@ -239,7 +240,7 @@ impl<A: Allocator> LoanBook<A> {
         ensures same_allocator { self.new.allocator ≡ self.old.allocator }
         ensures stands { StillStands A.stands_for A.geometry self.old self.new }
     {
-        self.out[position].wait_for(returns);
+        self.out[position].returns = Some(returns);
     }
 
     /// Takes out the sample at a position, and gives its chunk back. The layout of a return decides nothing.
@@ -249,6 +250,7 @@ impl<A: Allocator> LoanBook<A> {
         ensures stands { StillStands A.stands_for A.geometry self.old self.new }
     {
         let sample = self.out.remove(position).unwrap();
-        self.allocator.deallocate(sample.place(), Layout::empty());
+        self.allocator
+            .deallocate(sample.chunk.place(), Layout::empty());
     }
 }

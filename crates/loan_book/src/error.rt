@@ -1,5 +1,5 @@
 //! Why a loan book refuses.
-use bb_memory_base::allocator::AllocationError;
+use bb_memory_traits::allocator::AllocationError;
 use thiserror::Error;
 
 /// Why a call of a loan book was refused.

@@ -1,11 +1,10 @@
 //! Samples that are loaned from an allocator and have several readers: a sample goes back to the allocator when the last
-//! of its readers has returned it. The crate stands on the trait [`Allocator`](bb_memory_base::allocator::Allocator)
+//! of its readers has returned it. The crate stands on the trait [`Allocator`](bb_memory_traits::allocator::Allocator)
 //! alone, and names no allocator.
 //!
 //! The modules, in the order in which to read them:
 //!
 //! - `error`: why a loan book refuses.
-//! - `sample`: one sample that is out.
 //! - `book`: the loan book and its calls.
 //! - `run`: calls one after the other, and what a list of them does.
 //! - `laws`: what holds of every book and every answer.
@@ -18,7 +17,6 @@ mod book;
 mod error;
 mod laws;
 mod run;
-mod sample;
 
 pub use book::LoanBook;
 pub use error::LoanError;

@@ -1,17 +1,17 @@
 //! Calls of a loan book one after the other.
 ghost use Rattle.std.specs.Prelude.{◌≡◌, ◌+◌, ◌<◌, ◌↔◌, ℕ, Some, drop, length, slice_get, IfOk, OnOk, OnErr};
 ghost use Rattle.std.specs.List.{range_with_len};
-ghost use Rattle.bb_memory_base.specs.Object.{IsRun};
-ghost use Rattle.bb_memory_base.specs.Chunk.{IsSound, Chunk as GivenChunk};
+ghost use Rattle.bb_memory_traits.specs.Object.{IsRun};
+ghost use Rattle.bb_memory_traits.specs.Chunk.{IsSound, Chunk as GivenChunk};
 ghost use Rattle.loan_book.specs.Book.{chunks_out, IsBook, IsOut, HasReturns, IsUnpublished};
-ghost use Rattle.loan_book.specs.Runs.{BookStep, ids_in, returns_in, publishes_in};
+ghost use Rattle.loan_book.specs.Calls.{BookStep, ids_in, returns_in, publishes_in};
 ghost use Rattle.loan_book.specs.declared.run.LoanCall.TheVariants.{Publish};
 ghost use Rattle.loan_book.specs.declared.run.LoanReply.TheVariants.{Loaned, Published};
 
 use crate::book::LoanBook;
 use crate::error::LoanError;
-use bb_memory_base::allocator::Allocator;
-use bb_memory_base::layout::Chunk;
+use bb_memory_traits::allocator::Allocator;
+use bb_memory_traits::layout::Chunk;
 use std::alloc::{AllocError, Global};
 
 /// A call of a loan book.

@@ -5,12 +5,12 @@ use Rattle.std.proofs.lemmas.Option.{none-some, same_Some}
 use Rattle.std.specs.Align.{IsLayout}
 use Rattle.std.specs.Option.{option_map}
 use Rattle.std.specs.Result.{result_ok}
-use Rattle.bb_memory_base.specs.declared.allocator.Command.{Command}
-use Rattle.bb_memory_base.specs.declared.allocator.Command.TheVariants.{Allocate, Release, Grow, Shrink}
+use Rattle.bb_memory_traits.specs.declared.allocator.Command.{Command}
+use Rattle.bb_memory_traits.specs.declared.allocator.Command.TheVariants.{Allocate, Release, Grow, Shrink}
 use Rattle.bb_memory_base.specs.declared.steps.bump.BumpStep.{BumpStep}
 use Rattle.bb_memory_base.specs.declared.steps.bump.BumpStep.TheVariants.{Read, Exchange, Load, Clear}
-use Rattle.bb_memory_base.specs.declared.layout.Layout.{Layout}
-use Rattle.bb_memory_base.proofs.Layouts.{same_layout}
+use Rattle.bb_memory_traits.specs.declared.layout.Layout.{Layout}
+use Rattle.bb_memory_traits.proofs.Layouts.{same_layout}
 use Rattle.script_runner.specs.declared.words.Numbers.TheVariants.{Two, Three, Five}
 use Rattle.script_runner.specs.Allocators.{command_words}
 use Rattle.script_runner.specs.Steps.{bump_step_words}

@@ -1,10 +1,9 @@
 -- The words of a line: there is one way only to read them.
-use Rattle.std.proofs.Common.{arith, ◌≡◌, ◌≢◌, ℕ, ◌<◌, ◌^◌, suc, List, [], ◌∷◌, ◌++◌, All, length, drop}
-use Rattle.std.proofs.Common.{refl, sym, ap, ap₂, ◌∙◌}
+use Rattle.std.proofs.Common.{arith, false, ◌==◌, ◌≡◌, ◌≢◌, ℕ, ◌<◌, ◌^◌, suc, List, [], ◌∷◌, ◌++◌, All, refl, sym, ap, ap₂, ◌∙◌}
+use Rattle.std.proofs.Common.{length, take, take_all, drop, ◌-◌}
 use Rattle.std.specs.Fmt.{decimal}
-use Rattle.std.specs.Str.Parse.{digits_value}
-use Rattle.std.proofs.lemmas.Fmt.{digits_decimal, digits_value-decimal}
-use Rattle.std.proofs.lemmas.List.{append_assoc, get_or_default}
+use Rattle.std.proofs.lemmas.Fmt.{digits_decimal, decimal_injective}
+use Rattle.std.proofs.lemmas.List.{append_assoc, append-nil, get_or_default}
 use Rattle.std.proofs.lemmas.Str.Parse.{digit_at}
 use Rattle.script_runner.proofs.Numbers.{own}
 use Rattle.script_runner.specs.Words.{Words, AreNumbers, AreWords, StartsWith, list_of, numbers_text}
@@ -48,12 +47,7 @@ start_more : (ns text : List ℕ) → StartsWith 32 (numbers_text ns ++ 32 ∷ t
 start_more [] text = refl
 start_more (n ∷ ns) text = refl
 
--- one text is written by one number
-same_decimal : (a b : ℕ) → a < 2 ^ 64 → b < 2 ^ 64 → decimal a ≡ decimal b → a ≡ b
-same_decimal a b small fits e =
-    sym (digits_value-decimal own a small) ∙ (ap (digits_value 10) e ∙ digits_value-decimal own b fits)
-
--- and by one list of numbers
+-- one text is written by one list of numbers
 numbers_same : (xs ys : List ℕ) → AreNumbers xs → AreNumbers ys → numbers_text xs ≡ numbers_text ys → xs ≡ ys
 numbers_same [] [] h h' e = refl
 numbers_same [] (y ∷ ys) h h' e = absurd (cc)
@@ -63,7 +57,7 @@ numbers_same (x ∷ xs) (y ∷ ys) h h' e =
     let parts =
     split_same 32 (decimal x) (decimal y) (numbers_text xs) (numbers_text ys) (spaceless_decimal x h.0)
     (spaceless_decimal y h'.0) (numbers_start xs) (numbers_start ys) tails in
-    ap₂ ◌∷◌ (same_decimal x y h.0 h'.0 parts.0) (numbers_same xs ys h.1 h'.1 parts.1)
+    ap₂ ◌∷◌ (decimal_injective x y h.0 h'.0 parts.0) (numbers_same xs ys h.1 h'.1 parts.1)
 
 -- the numbers of a list
 abbrev numbers_of : List ℕ → Numbers
@@ -144,7 +138,32 @@ at_most_five (Four a b c d) h = omega (arith, h)
 at_most_five (Five a b c d e) h = omega (arith, h)
 
 -- a rest with a byte is a space and what is behind it
-pub space_first : (rest front after : List ℕ) → StartsWith 32 rest → 0 < length rest → front ++ after ≡ drop 1 rest
-    → rest ≡ 32 ∷ (front ++ after)
-space_first [] front after s some e = absurd (omega (arith, some))
-space_first (b ∷ rest) front after s some e = ap₂ ◌∷◌ s (sym e)
+pub space_first : (rest front after : List ℕ) → StartsWith 32 rest → false ≡ (length rest == 0)
+    → take (length rest - 1) (drop 1 rest) ≡ front ++ after → rest ≡ 32 ∷ (front ++ after)
+space_first [] front after s some e = absurd (cc)
+space_first (b ∷ rest) front after s some e = ap₂ ◌∷◌ s (sym (take_all (length (b ∷ rest) - 1) rest (omega arith)) ∙ e)
+
+-- a number behind others is written behind them
+numbers_push : (ns : List ℕ) (n : ℕ) (after : List ℕ)
+    → numbers_text ns ++ 32 ∷ (decimal n ++ after) ≡ numbers_text (ns ++ n ∷ []) ++ after
+numbers_push [] n after = ap (λ l. 32 ∷ (l ++ after)) (sym (append-nil (decimal n)))
+numbers_push (m ∷ ns) n after =
+    ap (λ l. 32 ∷ l) (append_assoc (decimal m) (numbers_text ns) (32 ∷ (decimal n ++ after))
+    ∙ (ap (λ l. decimal m ++ l) (numbers_push ns n after)
+    ∙ sym (append_assoc (decimal m) (numbers_text (ns ++ n ∷ [])) after)))
+
+-- and may be written
+AreNumbers-push : (ns : List ℕ) (n : ℕ) → AreNumbers ns → n < 2 ^ 64 → AreNumbers (ns ++ n ∷ [])
+AreNumbers-push [] n h small = (small, tt)
+AreNumbers-push (m ∷ ns) n h small = (h.0, AreNumbers-push ns n h.1 small)
+
+-- a number more is read
+pub so_more : (line name ns field after more : List ℕ) (n : ℕ) → SoFar line name ns (32 ∷ (field ++ after))
+    → (n < 2 ^ 64) × (field ≡ decimal n) → more ≡ ns ++ n ∷ [] → StartsWith 32 after → SoFar line name more after
+so_more line name ns field after more n so (small, is) longer start = rw longer (record {
+  text = so.text ∙ ap (λ l. name ++ l)
+      (ap (λ f. numbers_text ns ++ 32 ∷ (f ++ after)) is ∙ numbers_push ns n after);
+  name_is = so.name_is;
+  numbers_are = AreNumbers-push ns n so.numbers_are small;
+  rest_starts = start;
+})

@@ -1,13 +1,12 @@
 -- Known bytes that grow, and bytes that are sent, all or a beginning.
-use Rattle.std.proofs.Common.{◌≡◌, ℕ, ◌-◌, List, [], ◌++◌, take, drop, length, Option, Some, None}
-use Rattle.std.proofs.Common.{Bool, true, false, inl, inr, ◌⊎◌, refl, sym, ap, ◌∙◌}
-use Rattle.std.proofs.lemmas.Bool.{false≢true}
+use Rattle.std.proofs.Common.{arith, tests, ◌==◌, ◌≡◌, ◌≢◌, ◌∷◌, IfSome, ℕ, ◌-◌, List, [], ◌++◌, take}
+use Rattle.std.proofs.Common.{drop, length, Option, Some, None, true, inl, inr, ◌⊎◌, refl, sym, ap, ◌∙◌}
 use Rattle.std.specs.Io.KnownBytes.{Appends, Keeps}
 use Rattle.std.proofs.lemmas.List.{append_assoc, append-nil, take-append-drop, take_rest}
-use Rattle.script_runner.specs.Inputs.{Ends, IsAnswered, IsOutput, IsUnreadable}
+use Rattle.script_runner.specs.Inputs.{Ends, IsAnswered, IsOutput, IsUnreadable, IsLeft, BeginsOutput}
 use Rattle.script_runner.specs.declared.status.Status.{Status}
-use Rattle.script_runner.specs.declared.status.Status.TheVariants.{Done, Unreadable, OutputFailed, OutOfMemory}
-use Rattle.script_runner.specs.Scripts.{AppendsPart, Sends}
+use Rattle.script_runner.specs.declared.status.Status.TheVariants.{Done, Unreadable, InputFailed, OutputFailed, OutOfMemory}
+use Rattle.script_runner.specs.Scripts.{AppendsPart, IsCutShort, Sends}
 use Rattle.script_runner.specs.Words.{unreadable_text}
 
 -- known bytes grow by no byte
@@ -36,19 +35,34 @@ pub sent_more : (bytes sent left rest : List ℕ) (count : ℕ) → bytes ≡ se
 sent_more bytes sent left rest count whole same =
     rw (same, take_rest left count, append_assoc sent (take count left) (drop count left), take-append-drop count left) whole
 
--- after what came before, a part is a part of the whole
-pub part_after : (old mid new : Option (List ℕ)) (front part rest : List ℕ) → Appends old mid front → AppendsPart mid new part
-    → AppendsPart old new (front ++ (part ++ rest))
-part_after old mid new front part rest before (sent, (more, same), wrote) =
-    let begins =
-    ap (λ p. front ++ (p ++ rest)) same
-    ∙ (ap (λ l. front ++ l) (append_assoc sent more rest) ∙ sym (append_assoc front sent (more ++ rest))) in
-    (front ++ sent, (more ++ rest, begins), appends_again old mid new front sent before wrote)
-
 -- nothing changes where nothing is written
 pub keeps_same : (known : Option (List ℕ)) → Keeps known known
 keeps_same None = tt
 keeps_same (Some a) = refl
+
+-- or no byte is
+pub kept_by_none : (old new : Option (List ℕ)) (left : List ℕ) (count : ℕ) → count ≡ 0 → Appends old new (take count left)
+    → Keeps old new
+kept_by_none None new left count none wrote = tt
+kept_by_none (Some a) None left count none wrote = absurd wrote
+kept_by_none (Some a) (Some b) left count none wrote = (rw none at wrote) ∙ append-nil a
+
+-- what isn't left of a text is written
+abbrev pub Sent : List ℕ → List ℕ → Option (List ℕ) → Option (List ℕ) → Type 0
+Sent text left old new = (sent : List ℕ) × (text ≡ sent ++ left) × Appends old new sent
+
+-- nothing is left, and nothing is written behind it
+pub all_sent : (old mid new : Option (List ℕ)) (text left : List ℕ) (status : Status) → Sent text left old mid
+    → true ≡ (length left == 0) → Keeps mid new → Sends old new text status status
+all_sent old mid new text [] status (sent, whole, wrote) none kept =
+    inl (refl, rw (whole ∙ append-nil sent) (appends_kept old mid new sent wrote kept))
+all_sent old mid new text (byte ∷ left) status sent none kept = grind (arith, tests)
+
+-- a write fails
+pub part_sent : (old mid new : Option (List ℕ)) (text left : List ℕ) (status : Status) → Sent text left old mid
+    → Keeps mid new → Sends old new text status OutputFailed
+part_sent old mid new text left status (sent, whole, wrote) kept =
+    inr (refl, (sent, (left, whole), appends_kept old mid new sent wrote kept))
 
 -- a write fails, and a beginning of the output was written
 ends_failed : (input : List ℕ) (old new : Option (List ℕ)) (text : List ℕ) → AppendsPart old new text
@@ -60,38 +74,28 @@ ends_failed input old new text (sent, begins, wrote) output = record {
   input_read = λ is. cc;
 }
 
--- what is written and then kept is what `finish` leaves, where it is all of the output and where a write fails
-pub ends_sent : (input : List ℕ) (old mid new : Option (List ℕ)) (text : List ℕ) (sent : Bool) (ends status : Status)
-    → Sends old mid text sent → Keeps mid new → (sent ≡ true) × (ends ≡ status) ⊎ (ends ≡ OutputFailed)
-    → IsOutput input text → (Appends old new text → Ends input old new status) → Ends input old new ends
-ends_sent input old mid new text true ends status wrote kept (inl is) output whole =
-    rw is.1 (whole (appends_kept old mid new text wrote kept))
-ends_sent input old mid new text false ends status wrote kept (inl is) output whole = absurd (false≢true is.0)
-ends_sent input old mid new text true ends status wrote kept (inr failed) output whole =
-    rw failed
-    (ends_failed input old new text (text, ([], sym (append-nil text)), appends_kept old mid new text wrote kept) output)
-ends_sent input old mid new text false ends status (sent, begins, wrote) kept (inr failed) output whole =
-    rw failed (ends_failed input old new text (sent, begins, appends_kept old mid new sent wrote kept) output)
+-- a script is answered, or a write fails
+pub ends_done : (input : List ℕ) (old new : Option (List ℕ)) (text : List ℕ) (ends : Status) → IsAnswered input text
+    → Sends old new text Done ends → Ends input old new ends
+ends_done input old new text ends answered (inl (is, wrote)) = rw is (record {
+  done = λ same. (text, answered, wrote);
+  unreadable = λ same. absurd (cc);
+  cut_short = elim [ inl same ↦ absurd (cc) | inr same ↦ absurd (cc) ];
+  input_read = λ same. cc;
+})
+ends_done input old new text ends answered (inr (is, part)) = rw is (ends_failed input old new text part (inl answered))
 
--- a script is answered
-pub ends_done : (input : List ℕ) (old new : Option (List ℕ)) (text : List ℕ) → IsAnswered input text → Appends old new text
-    → Ends input old new Done
-ends_done input old new text answered wrote = record {
-  done = λ is. (text, answered, wrote);
-  unreadable = λ is. absurd (cc);
-  cut_short = elim [ inl is ↦ absurd (cc) | inr is ↦ absurd (cc) ];
-  input_read = λ is. cc;
-}
-
--- a line is unreadable
-pub ends_unreadable : (input : List ℕ) (old new : Option (List ℕ)) (number : ℕ) → IsUnreadable input number
-    → Appends old new (unreadable_text number) → Ends input old new Unreadable
-ends_unreadable input old new number unread wrote = record {
-  done = λ is. absurd (cc);
-  unreadable = λ is. (number, unread, wrote);
-  cut_short = elim [ inl is ↦ absurd (cc) | inr is ↦ absurd (cc) ];
-  input_read = λ is. cc;
-}
+-- a line is unreadable, or a write fails
+pub ends_unreadable : (input : List ℕ) (old new : Option (List ℕ)) (number : ℕ) (ends : Status) → IsUnreadable input number
+    → Sends old new (unreadable_text number) Unreadable ends → Ends input old new ends
+ends_unreadable input old new number ends unread (inl (is, wrote)) = rw is (record {
+  done = λ same. absurd (cc);
+  unreadable = λ same. (number, unread, wrote);
+  cut_short = elim [ inl same ↦ absurd (cc) | inr same ↦ absurd (cc) ];
+  input_read = λ same. cc;
+})
+ends_unreadable input old new number ends unread (inr (is, part)) =
+    rw is (ends_failed input old new (unreadable_text number) part (inr (number, unread, refl)))
 
 -- memory is refused before anything is written
 pub ends_refused : (input : List ℕ) (old : Option (List ℕ)) → Ends input old old OutOfMemory
@@ -101,3 +105,47 @@ ends_refused input old = record {
   cut_short = λ short. inl (keeps_same old);
   input_read = λ is. cc;
 }
+
+-- how a run ends where so much of the input was left, and what it writes
+pub record Written (left old new : Option (List ℕ)) (status : Status) : Type 0 where
+  pub done : status ≡ Done → (input : List ℕ) × (text : List ℕ) × IsLeft input left × IsAnswered input text
+      × Appends old new text
+  pub unreadable : status ≡ Unreadable → (input : List ℕ) × (number : ℕ) × IsLeft input left × IsUnreadable input number
+      × Appends old new (unreadable_text number)
+  pub input_failed : status ≡ InputFailed → Keeps old new
+  pub cut_short : IsCutShort status → Keeps old new
+      ⊎ ((input : List ℕ) × (sent : List ℕ) × IsLeft input left × BeginsOutput input sent × Appends old new sent)
+
+-- an input that was read to its end is all that was left
+pub left_all : (left : Option (List ℕ)) (before after : List ℕ) → before ≡ []
+    → IfSome left (λ bytes. after ≡ before ++ bytes) → IsLeft after left
+left_all None before after none e = tt
+left_all (Some bytes) before after none e = e ∙ ap (λ l. l ++ bytes) none
+
+-- a run on an input
+pub ended : (left old new : Option (List ℕ)) (input : List ℕ) (status : Status) → IsLeft input left
+    → Ends input old new status → Written left old new status
+ended left old new input status all ends = record {
+  done = λ is. let (text, answered, wrote) = ends.done is in (input, text, all, answered, wrote);
+  unreadable = λ is. let (number, unread, wrote) = ends.unreadable is in (input, number, all, unread, wrote);
+  input_failed = λ is. absurd (ends.input_read is);
+  cut_short = λ short. elim (ends.cut_short short) [
+    | inl kept ↦ inl kept
+    | inr (sent, begins, wrote) ↦ inr (input, sent, all, begins, wrote)
+  ];
+}
+
+-- no input was read, and nothing is written
+unread : (left old : Option (List ℕ)) (status : Status) → status ≢ Done → status ≢ Unreadable → Written left old old status
+unread left old status not_done not_unreadable = record {
+  done = λ is. absurd (not_done is);
+  unreadable = λ is. absurd (not_unreadable is);
+  input_failed = λ is. keeps_same old;
+  cut_short = λ short. inl (keeps_same old);
+}
+
+pub unread_input : (left old : Option (List ℕ)) → Written left old old InputFailed
+unread_input left old = unread left old InputFailed (λ is. cc) (λ is. cc)
+
+pub unread_memory : (left old : Option (List ℕ)) → Written left old old OutOfMemory
+unread_memory left old = unread left old OutOfMemory (λ is. cc) (λ is. cc)

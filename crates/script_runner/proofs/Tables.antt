@@ -17,8 +17,7 @@ use Rattle.script_runner.specs.Inputs.{HasHeader, IsScriptOf, IsAnsweredBy, IsOu
 
 -- the first line is of this kind
 abbrev pub HasHeaderOf : List (List ℕ) → Kind → Type 0
-HasHeaderOf lines kind =
-    (header : kind.Header) × (rest : List (List ℕ)) × HasHeader kind lines header rest
+HasHeaderOf lines kind = (header : kind.Header) × (rest : List (List ℕ)) × HasHeader kind lines header rest
 
 -- what holds of some kind, in other words
 some-map : (table : List Kind) (P Q : Kind → Type 0) → ((one : Kind) → P one → Q one) → SomeOf table P → SomeOf table Q
@@ -204,6 +203,5 @@ pub outcome_later : (one : Kind) (others : List Kind) (first : List ℕ) (rest :
     → (HasHeaderOf (first ∷ rest) one → ⊥) → IsOutcome others (first ∷ rest) made
     → IsOutcome (one ∷ others) (first ∷ rest) made
 outcome_later one others first rest (Answered texts) none answered = inr answered
-outcome_later one others first rest (Unreadable number) none unread =
-    unreadable_later one others first rest number none unread
+outcome_later one others first rest (Unreadable number) none unread = unreadable_later one others first rest number none unread
 outcome_later one others first rest OutOfMemory none made = tt

@@ -1,32 +1,39 @@
 -- Texts one after another, and what is told of lines.
-use Rattle.std.proofs.Common.{ℕ, ◌+◌, ◌<◌, ◌≡◌, List, [], ◌∷◌, ◌++◌, length, take, drop, get_or, sym, ap, ◌∙◌, refl, subst}
+use Rattle.std.proofs.Common.{ℕ, ◌+◌, ◌<◌, ◌≡◌, List, [], ◌∷◌, ◌++◌, length, take, get_or, sym, ap, ap₂, ◌∙◌, refl, subst}
 use Rattle.std.proofs.Common.{Result, Ok, Err, OnOk}
 use Rattle.std.specs.List.{flat_map}
 use Rattle.std.specs.Prelude.{slice_get, unwrap_or}
-use Rattle.std.proofs.lemmas.List.{append_assoc, append-nil, get_or_default, take_more, take-append-drop, drop_more}
+use Rattle.std.proofs.lemmas.List.{append_assoc, append-nil, get_or_default, take_more}
 use Rattle.std.proofs.lemmas.Option.{unwrap_or-slice_get}
 use Rattle.bb_memory_base.specs.PoolMachine.{holder_in}
 use Rattle.bb_memory_base.specs.declared.steps.pool.Flag.{Flag}
 use Rattle.bb_memory_base.specs.declared.steps.pool.Flag.TheVariants.{Free}
-use Rattle.script_runner.specs.Steps.{flag_text, holder_text}
+use Rattle.script_runner.specs.Steps.{holder_text}
 use Rattle.std.proofs.lemmas.Grind.{flat_map-append}
 use Rattle.script_runner.specs.Scripts.{Rules, IsStep, IsTold}
 use Rattle.script_runner.specs.declared.engine.script.Line.{Line}
 
--- one text more
-pub texts_push : {V : Type 0} (bytes : V → List ℕ) (before grown : List V) (value : V) (text : List ℕ)
-    → grown ≡ before ++ value ∷ [] → bytes value ≡ text → flat_map bytes grown ≡ flat_map bytes before ++ text
-texts_push bytes before grown value text longer is =
-    ap (flat_map bytes) longer ∙ (flat_map-append bytes before (value ∷ [])
-    ∙ ap (λ l. flat_map bytes before ++ l) (append-nil (bytes value) ∙ is))
+-- the texts of one item more
+flat_map_push : {X : Type 0} (text_of : X → List ℕ) (before grown : List X) (item : X) → grown ≡ before ++ item ∷ []
+    → flat_map text_of grown ≡ flat_map text_of before ++ text_of item
+flat_map_push text_of before grown item longer =
+    ap (flat_map text_of) longer ∙ (flat_map-append text_of before (item ∷ [])
+    ∙ ap (λ l. flat_map text_of before ++ l) (append-nil (text_of item)))
 
--- the texts up to an item, and then its own
-pub texts_more : {X : Type 0} (text_of : X → List ℕ) (items : List X) (index : ℕ) (item : X) → index < length items
-    → item ≡ get_or items index item →
-    flat_map text_of (take (index + 1) items) ≡ flat_map text_of (take index items) ++ text_of item
-texts_more text_of items index item below is =
-    texts_push text_of (take index items) (take (index + 1) items) (get_or items index item) (text_of item)
-    (take_more items index item below) (ap text_of (sym is))
+-- the texts up to an item are written, and then its own
+pub texts_more : {X : Type 0} (text_of : X → List ℕ) (old mid new text : List ℕ) (items : List X) (i : ℕ) (item : X)
+    → i < length items → item ≡ get_or items i item → mid ≡ old ++ flat_map text_of (take i items) → new ≡ mid ++ text
+    → text ≡ text_of item → new ≡ old ++ flat_map text_of (take (i + 1) items)
+texts_more text_of old mid new text items i item below at before more is =
+    let front : List ℕ = flat_map text_of (take i items) in
+    let longer : flat_map text_of (take (i + 1) items) ≡ front ++ text_of item =
+    flat_map_push text_of (take i items) (take (i + 1) items) item
+    (take_more items i item below ∙ ap (λ x. take i items ++ x ∷ []) (sym at)) in
+    rw longer (more ∙ (ap₂ ◌++◌ before is ∙ append_assoc old front (text_of item)))
+
+-- the holder that a flag names, or a dash
+abbrev pub flag_text : Flag → List ℕ
+flag_text flag = holder_text (holder_in flag)
 
 -- the holders of the flags so far are written, and then one more
 pub holders_more : (old mid new : List ℕ) (flags : List Flag) (i : ℕ) → i < length flags
@@ -36,19 +43,7 @@ pub holders_more : (old mid new : List ℕ) (flags : List Flag) (i : ℕ) → i 
 holders_more old mid new flags i below before more =
     let flag : Flag = unwrap_or (slice_get flags i) Free in
     let is : flag ≡ get_or flags i flag = unwrap_or-slice_get flags i Free ∙ get_or_default flags i Free flag below in
-    rw (texts_more flag_text flags i flag below is) (more ∙ (ap (λ l. l ++ flag_text flag) before
-    ∙ append_assoc old (flat_map flag_text (take i flags)) (flag_text flag)))
-
--- the texts up to an item, its own and those after it
-pub texts_at : {X : Type 0} (text_of : X → List ℕ) (items : List X) (index : ℕ) (item : X) → index < length items
-    → item ≡ get_or items index item →
-    flat_map text_of items ≡ flat_map text_of (take index items) ++ (text_of item ++ flat_map text_of (drop (index + 1) items))
-texts_at text_of items index item below is =
-    ap (flat_map text_of) (sym (take-append-drop index items))
-    ∙ (flat_map-append text_of (take index items) (drop index items)
-    ∙ ap (λ l. flat_map text_of (take index items) ++ l)
-    (ap (flat_map text_of) (drop_more items index item below)
-    ∙ ap (λ x. text_of x ++ flat_map text_of (drop (index + 1) items)) (sym is)))
+    texts_more flag_text old mid new (flag_text flag) flags i flag below is before more refl
 
 -- a line more is told
 pub told_more : {S O C R : Type 0} (rules : Rules S O C R) (start mid end : S) (waiting before left : List C)

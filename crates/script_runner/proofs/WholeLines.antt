@@ -1,6 +1,6 @@
 -- What the lines of an input are, and that no others are.
-use Rattle.std.proofs.Common.{◌≡◌, ◌≢◌, ◌<◌, ℕ, suc, zero, Bool, true, false, List, [], ◌∷◌, ◌++◌, length, drop, arith}
-use Rattle.std.proofs.Common.{refl, sym, ap, ◌∙◌}
+use Rattle.std.proofs.Common.{◌≡◌, ◌≢◌, ℕ, suc, zero, Bool, true, false, List, [], ◌∷◌, ◌++◌, length, take}
+use Rattle.std.proofs.Common.{take_all, drop, ◌==◌, ◌-◌, arith, ◌<◌, refl, sym, ap, ◌∙◌}
 use Rattle.std.proofs.Common.{inl, inr, ◌⊎◌, append_assoc, subst, append-nil, length-append, tests, All, Contains, eqb}
 use Rattle.std.specs.List.{onto_first}
 use Rattle.std.proofs.lemmas.List.{append_cancel_right, flat_map_more}
@@ -54,8 +54,7 @@ feed_byte byte e = grind (arith, tests)
 
 -- another byte may go onto the first line
 no_feed-onto : (byte : ℕ) (lines : List (List ℕ)) → byte ≢ 10 → All HasNoFeed lines → All HasNoFeed (onto_first byte lines)
-no_feed-onto byte [] other all =
-    All-cons HasNoFeed (byte ∷ []) [] (no_feed-cons byte [] other no_feed-nil) (All-nil HasNoFeed)
+no_feed-onto byte [] other all = All-cons HasNoFeed (byte ∷ []) [] (no_feed-cons byte [] other no_feed-nil) (All-nil HasNoFeed)
 no_feed-onto byte (line ∷ lines) other all =
     All-cons HasNoFeed (byte ∷ line) lines (no_feed-cons byte line other (All-head HasNoFeed line lines all))
     (All-tail HasNoFeed line lines all)
@@ -144,19 +143,35 @@ lines_last (byte ∷ line) none some = last_by (feed byte) byte line refl none (
 
 -- so comes a text before a line feed
 pub lines_split : (input line rest : List ℕ) → input ≡ line ++ rest → All (λ byte. byte ≢ 10) line → StartsWith 10 rest
-    → 0 < length rest → lines_of input ≡ line ∷ lines_of (drop 1 rest)
-lines_split input line [] e clear start some = absurd (omega (arith, some))
+    → false ≡ (length rest == 0) → lines_of input ≡ line ∷ lines_of (take (length rest - 1) (drop 1 rest))
+lines_split input line [] e clear start some = absurd (cc)
 lines_split input line (byte ∷ rest) e clear start some =
-    ap lines_of (e ∙ ap (λ b. line ++ b ∷ rest) start) ∙ lines_line line rest (no_feed-all line clear)
+    rw (take_all (length (byte ∷ rest) - 1) rest (omega arith))
+    (ap lines_of (e ∙ ap (λ b. line ++ b ∷ rest) start) ∙ lines_line line rest (no_feed-all line clear))
 
 -- and one before no more
 pub lines_whole_text : (input line rest : List ℕ) → input ≡ line ++ rest → All (λ byte. byte ≢ 10) line
-    → 0 < length input → length rest ≡ 0 → lines_of input ≡ line ∷ lines_of rest
-lines_whole_text input line [] e clear some none =
-    let same : input ≡ line = e ∙ append-nil line in
+    → false ≡ (length input == 0) → true ≡ (length rest == 0) → lines_of input ≡ line ∷ lines_of rest
+lines_whole_text [] line rest e clear some none = absurd (cc)
+lines_whole_text (byte ∷ input) line [] e clear some none =
+    let same : byte ∷ input ≡ line = e ∙ append-nil line in
     ap lines_of same
-    ∙ lines_last line (no_feed-all line clear) (λ empty. omega (arith, some, ap length (same ∙ empty)))
-lines_whole_text input line (byte ∷ rest) e clear some none = absurd (omega (arith, none))
+    ∙ lines_last line (no_feed-all line clear) (λ empty. let nothing : byte ∷ input ≡ [] = same ∙ empty in cc)
+lines_whole_text (byte ∷ input) line (next ∷ rest) e clear some none = grind (arith, tests)
+
+-- what is behind a line feed is shorter than the input
+pub shorter_split : (input line rest : List ℕ) → input ≡ line ++ rest → false ≡ (length rest == 0)
+    → length (take (length rest - 1) (drop 1 rest)) < length input
+shorter_split input line [] e some = absurd (cc)
+shorter_split input line (byte ∷ rest) e some =
+    rw (take_all (length (byte ∷ rest) - 1) rest (omega arith)) (omega (arith, ap length e, length-append line (byte ∷ rest)))
+
+-- so is nothing
+pub shorter_whole : (input rest : List ℕ) → false ≡ (length input == 0) → true ≡ (length rest == 0)
+    → length rest < length input
+shorter_whole [] rest some none = absurd (cc)
+shorter_whole (byte ∷ input) [] some none = omega arith
+shorter_whole (byte ∷ input) (next ∷ rest) some none = grind (arith, tests)
 
 -- lines that end come first
 lines_ended : (front : List (List ℕ)) (rest : List ℕ) → All HasNoFeed front

@@ -1,22 +1,20 @@
 -- Scripts that drive an allocator: what all of them share, and the rules of each.
 use Rattle.std.specs.Fmt.{decimal}
 use Rattle.std.specs.Prelude.{ℕ, ◌≡◌, List, [], codes, length, true, ◌-◌, ◌++◌, Option, Some, None}
-use Rattle.bb_memory_base.specs.BumpObject.{bump_object, StandsFor as BumpStandsFor}
-use Rattle.bb_memory_base.specs.Chunk.{Chunk, IsRegion, Region, region_at, first_place}
-use Rattle.bb_memory_base.specs.OneChunkObject.{one_chunk_object}
-use Rattle.bb_memory_base.specs.PoolObject.{PoolGeometry, IsCut, at_most, pool_object}
-use Rattle.bb_memory_base.specs.Object.{ResizableStep, Step, IsRun}
-use Rattle.bb_memory_base.specs.declared.allocator.AllocationError.{AllocationError}
-use Rattle.bb_memory_base.specs.declared.allocator.AllocationError.TheVariants as refused
-use Rattle.bb_memory_base.specs.declared.allocator.AllocationGrowError.{AllocationGrowError}
-use Rattle.bb_memory_base.specs.declared.allocator.AllocationGrowError.TheVariants as grow
-use Rattle.bb_memory_base.specs.declared.allocator.AllocationShrinkError.{AllocationShrinkError}
-use Rattle.bb_memory_base.specs.declared.allocator.AllocationShrinkError.TheVariants as shrink
-use Rattle.bb_memory_base.specs.declared.allocator.Command.{Command}
-use Rattle.bb_memory_base.specs.declared.allocator.Command.TheVariants.{Allocate, Release, Grow, Shrink}
-use Rattle.bb_memory_base.specs.declared.allocator.Reply.{Reply}
-use Rattle.bb_memory_base.specs.declared.allocator.Reply.TheVariants as reply
-use Rattle.bb_memory_core.specs.Bump.{Bump, bump_text}
+use Rattle.bb_memory_traits.specs.BumpObject.{bump_object, StandsFor as BumpStandsFor}
+use Rattle.bb_memory_traits.specs.Chunk.{Chunk, IsRegion, region_at, first_place}
+use Rattle.bb_memory_traits.specs.OneChunkObject.{one_chunk_object}
+use Rattle.bb_memory_traits.specs.PoolObject.{PoolGeometry, IsCut, at_most, pool_object}
+use Rattle.bb_memory_traits.specs.Object.{ResizableStep, Step, IsRun}
+use Rattle.bb_memory_traits.specs.declared.allocator.AllocationError.{AllocationError}
+use Rattle.bb_memory_traits.specs.declared.allocator.AllocationError.TheVariants as refused
+use Rattle.bb_memory_traits.specs.declared.allocator.AllocationGrowError.TheVariants as grow
+use Rattle.bb_memory_traits.specs.declared.allocator.AllocationShrinkError.TheVariants as shrink
+use Rattle.bb_memory_traits.specs.declared.allocator.Command.{Command}
+use Rattle.bb_memory_traits.specs.declared.allocator.Command.TheVariants.{Allocate, Release, Grow, Shrink}
+use Rattle.bb_memory_traits.specs.declared.allocator.Reply.{Reply}
+use Rattle.bb_memory_traits.specs.declared.allocator.Reply.TheVariants as reply
+use Rattle.bb_memory_bump.specs.Bump.{Bump, bump_text}
 use Rattle.bb_memory_core.specs.IndexSets.{index_words}
 use Rattle.bb_memory_core.specs.OneChunk.{OneChunk, StandsFor as OneChunkStandsFor}
 use Rattle.bb_memory_core.specs.Pool.{Pool, StandsFor as PoolStandsFor, fresh_pool, CountedPool, counted, reads_after, MayBeCut}
@@ -27,38 +25,29 @@ use Rattle.script_runner.specs.declared.words.Bounds.{Bounds}
 use Rattle.script_runner.specs.declared.words.Numbers.{Numbers}
 use Rattle.script_runner.specs.declared.words.Numbers.TheVariants.{One, Two, Five, Four}
 
--- the words that write a command
 abbrev pub command_words : Command → Words
 command_words (Allocate layout) = words (codes "alloc") (Two layout.size layout.align)
 command_words (Release position) = words (codes "free") (One position)
 command_words (Grow position old new) = words (codes "grow") (Five position old.size old.align new.size new.align)
 command_words (Shrink position old new) = words (codes "shrink") (Five position old.size old.align new.size new.align)
 
--- a refusal is written by its name
 abbrev pub refusal_name : AllocationError → List ℕ
 refusal_name refused.SizeIsZero = codes "SizeIsZero"
 refusal_name refused.SizeTooLarge = codes "SizeTooLarge"
 refusal_name refused.AlignmentFailure = codes "AlignmentFailure"
 refusal_name refused.OutOfMemory = codes "OutOfMemory"
 
-abbrev pub grow_refusal_name : AllocationGrowError → List ℕ
-grow_refusal_name grow.GrowWouldShrink = codes "GrowWouldShrink"
-grow_refusal_name grow.AlignmentFailure = codes "AlignmentFailure"
-grow_refusal_name grow.OutOfMemory = codes "OutOfMemory"
-
-abbrev pub shrink_refusal_name : AllocationShrinkError → List ℕ
-shrink_refusal_name shrink.ShrinkWouldGrow = codes "ShrinkWouldGrow"
-shrink_refusal_name shrink.AlignmentFailure = codes "AlignmentFailure"
-shrink_refusal_name shrink.SizeIsZero = codes "SizeIsZero"
-
--- the line of a reply
 abbrev pub reply_line : Reply → List ℕ
 reply_line (reply.Chunk chunk) = words_then (codes "chunk") (Two chunk.place chunk.len) (codes "\n")
 reply_line reply.Released = name_line (codes "released")
 reply_line reply.Passed = name_line (codes "passed")
 reply_line (reply.Refused error) = name_line (refusal_name error)
-reply_line (reply.GrowRefused error) = name_line (grow_refusal_name error)
-reply_line (reply.ShrinkRefused error) = name_line (shrink_refusal_name error)
+reply_line (reply.GrowRefused grow.GrowWouldShrink) = name_line (codes "GrowWouldShrink")
+reply_line (reply.GrowRefused grow.AlignmentFailure) = name_line (codes "AlignmentFailure")
+reply_line (reply.GrowRefused grow.OutOfMemory) = name_line (codes "OutOfMemory")
+reply_line (reply.ShrinkRefused shrink.ShrinkWouldGrow) = name_line (codes "ShrinkWouldGrow")
+reply_line (reply.ShrinkRefused shrink.AlignmentFailure) = name_line (codes "AlignmentFailure")
+reply_line (reply.ShrinkRefused shrink.SizeIsZero) = name_line (codes "SizeIsZero")
 
 -- an allocator that a script drives, and the chunks that it has out
 pub record LiveState (A : Type 0) : Type 0 where
@@ -84,8 +73,7 @@ live_rules rules = record {
   command_words = command_words;
   can_show = true;
   starts = λ header state. rules.starts header state.allocator × (state.live ≡ []);
-  runs = λ old commands replies new.
-      rules.runs old.allocator old.live commands replies new.allocator new.live;
+  runs = λ old commands replies new. rules.runs old.allocator old.live commands replies new.allocator new.live;
   reply_text = reply_line;
   state_text = λ state. rules.state_text state.allocator (length state.live);
 }
@@ -97,12 +85,6 @@ pub record BumpRuns (old : Bump) (live : List Chunk) (commands : List Command)
   pub region : new.region ≡ old.region
   pub stands : BumpStandsFor new.region new.used left
 
--- how much is used, free and there
-abbrev pub figures_line : ℕ → ℕ → ℕ → List ℕ
-figures_line used free total =
-    codes "used " ++ (decimal used ++ (codes " free " ++ (decimal free
-    ++ (codes " total " ++ (decimal total ++ codes "\n")))))
-
 -- a bump that a script drives: it begins with nothing used
 abbrev pub bump_rules : AllocatorRules Bump Bounds
 bump_rules = record {
@@ -111,8 +93,9 @@ bump_rules = record {
   header_numbers = bounds_numbers;
   starts = λ bounds bump. bump ≡ record { region = region_of bounds; used = 0 };
   runs = BumpRuns;
-  state_text = λ bump _.
-      (bump_text bump ++ codes "\n") ++ figures_line bump.used (bump.region.size - bump.used) bump.region.size;
+  state_text = λ bump _. (bump_text bump ++ codes "\n") ++ (codes "used " ++ (decimal bump.used
+      ++ (codes " free " ++ (decimal (bump.region.size - bump.used)
+      ++ (codes " total " ++ (decimal bump.region.size ++ codes "\n"))))));
 }
 
 -- the replies are a run of the one-chunk object over its region, and it stands for the list that the run leaves
@@ -135,26 +118,20 @@ one_chunk_rules = record {
   header_numbers = bounds_numbers;
   starts = λ bounds one. one ≡ record { region = region_of bounds; kept = None };
   runs = OneChunkRuns;
-  state_text = λ one _.
-      codes "one start " ++ (decimal one.region.start
+  state_text = λ one _. codes "one start " ++ (decimal one.region.start
       ++ (codes " size " ++ (decimal one.region.size ++ available_text one.kept)));
 }
 
--- the region that is to be cut
-abbrev pub plan_region : PoolPlan → Region
-plan_region plan = region_at plan.start plan.size
-
 -- a pool may be made by the plan
 abbrev pub IsPoolPlan : PoolPlan → Type 0
-IsPoolPlan plan = MayBeCut (plan_region plan) plan.bucket
+IsPoolPlan plan = MayBeCut (region_at plan.start plan.size) plan.bucket
 
 abbrev pub pool_numbers : PoolPlan → Numbers
 pool_numbers plan = Four plan.start plan.size plan.bucket.size plan.bucket.align
 
 -- the pool's region is cut into all the buckets that it has room for; none is held, and no index word was read
 abbrev pub BeginsPool : PoolPlan → CountedPool → Type 0
-BeginsPool plan pool =
-    (geometry : PoolGeometry) × IsCut (plan_region plan) plan.bucket geometry
+BeginsPool plan pool = (geometry : PoolGeometry) × IsCut (region_at plan.start plan.size) plan.bucket geometry
     × (pool ≡ counted (fresh_pool geometry) 0)
 
 -- the replies are a run of the pool object over the pool's geometry, and the pool stands for the list that the run leaves
@@ -164,21 +141,17 @@ pub record PoolRuns (old : Pool) (live : List Chunk) (commands : List Command)
   pub geometry : new.geometry ≡ old.geometry
   pub stands : PoolStandsFor new left
 
--- the replies are such a run, and what was read is what the last request among the commands reads, or what it was before where
--- they have none
+-- the replies are such a run, and what was read is what the last request among the commands reads, if there is one
 pub record CountedPoolRuns (old : CountedPool) (live : List Chunk) (commands : List Command)
     (replies : List Reply) (new : CountedPool) (left : List Chunk) : Type 0 where
   pub runs : PoolRuns old.pool live commands replies new.pool left
-  pub reads : new.reads
-      ≡ reads_after old.pool.geometry.bucket (index_words old.pool.geometry.buckets) old.reads commands
+  pub reads : new.reads ≡ reads_after old.pool.geometry.bucket (index_words old.pool.geometry.buckets) old.reads commands
 
 -- the figures that `show` writes of either pool with so many chunks live, and then the rest of the line
 abbrev pub pool_figures : PoolGeometry → ℕ → List ℕ → List ℕ
 pool_figures geometry live rest =
-    codes " size " ++ (decimal geometry.region.size
-    ++ (codes " bucket " ++ (decimal geometry.bucket.size
-    ++ (codes " align " ++ (decimal geometry.bucket.align
-    ++ (codes " buckets " ++ (decimal geometry.buckets
+    codes " size " ++ (decimal geometry.region.size ++ (codes " bucket " ++ (decimal geometry.bucket.size
+    ++ (codes " align " ++ (decimal geometry.bucket.align ++ (codes " buckets " ++ (decimal geometry.buckets
     ++ (codes " live " ++ (decimal live ++ rest)))))))))
 
 -- a pool that a script drives: it begins with no bucket held
@@ -189,15 +162,13 @@ pool_rules = record {
   header_numbers = pool_numbers;
   starts = BeginsPool;
   runs = CountedPoolRuns;
-  state_text = λ pool live.
-      codes "pool start " ++ (decimal (first_place pool.pool.geometry.region pool.pool.geometry.bucket)
+  state_text = λ pool live. codes "pool start " ++ (decimal (first_place pool.pool.geometry.region pool.pool.geometry.bucket)
       ++ pool_figures pool.pool.geometry live (codes " reads " ++ (decimal pool.reads ++ codes "\n")));
 }
 
 -- the pool's region is cut into the buckets that it has room for, but into at most 512; none is held
 abbrev pub BeginsFixed : PoolPlan → CountedPool → Type 0
-BeginsFixed plan pool =
-    (whole : PoolGeometry) × IsCut (plan_region plan) plan.bucket whole
+BeginsFixed plan pool = (whole : PoolGeometry) × IsCut (region_at plan.start plan.size) plan.bucket whole
     × (pool ≡ counted (fresh_pool (at_most 512 whole)) 0)
 
 -- a fixed pool that a script drives: it begins with no bucket held

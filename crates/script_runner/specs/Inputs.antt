@@ -1,10 +1,8 @@
 -- What is written of an input.
 use Rattle.std.specs.Io.KnownBytes.{Keeps, Appends}
-use Rattle.std.specs.List.{flat_map}
 use Rattle.std.specs.Prelude.{ℕ, ◌≡◌, ◌≢◌, ◌-◌, ◌⊎◌, List, [], ◌∷◌, All, Option, IfSome, take}
 use Rattle.script_runner.specs.Scripts.{IsCutShort, Kind, kind, SomeOf, header_words, Begins, AreScript, IsPlayed, IsLineText}
-use Rattle.script_runner.specs.Words.{unreadable_text}
-use Rattle.script_runner.specs.Words.{MayStand, words_text, lines_of}
+use Rattle.script_runner.specs.Words.{MayStand, words_text, lines_of, unreadable_text}
 use Rattle.script_runner.specs.Allocators.{live_rules, bump_rules, one_chunk_rules, fixed_rules, pool_rules}
 use Rattle.script_runner.specs.Steps.{bump_step_rules, pool_step_rules}
 use Rattle.script_runner.specs.LoanPool.{loan_pool_rules}
@@ -15,8 +13,7 @@ use Rattle.script_runner.specs.declared.status.Status.{Status}
 use Rattle.script_runner.specs.declared.status.Status.TheVariants.{Done, Unreadable, InputFailed}
 
 -- the lines are a first line of this kind, that says this of what is to be made, and the rest
-pub record HasHeader (kind : Kind) (lines : List (List ℕ))
-    (header : kind.Header) (rest : List (List ℕ)) : Type 0 where
+pub record HasHeader (kind : Kind) (lines : List (List ℕ)) (header : kind.Header) (rest : List (List ℕ)) : Type 0 where
   pub allowed : kind.rules.is_header header
   pub stand : MayStand (header_words kind.rules header)
   pub cut : lines ≡ words_text (header_words kind.rules header) ∷ rest
@@ -24,13 +21,11 @@ pub record HasHeader (kind : Kind) (lines : List (List ℕ))
 -- the first line is of this kind, and so is each further line
 abbrev pub IsScriptOf : List (List ℕ) → Kind → Type 0
 IsScriptOf lines kind =
-    (header : kind.Header) × (rest : List (List ℕ)) × HasHeader kind lines header rest
-    × All (IsLineText kind.rules) rest
+    (header : kind.Header) × (rest : List (List ℕ)) × HasHeader kind lines header rest × All (IsLineText kind.rules) rest
 
 -- the lines are a script of this kind, and the text is what it is answered
 abbrev pub IsAnsweredBy : List (List ℕ) → List ℕ → Kind → Type 0
-IsAnsweredBy lines text kind =
-    (header : kind.Header) × (rest : List (List ℕ)) × HasHeader kind lines header rest
+IsAnsweredBy lines text kind = (header : kind.Header) × (rest : List (List ℕ)) × HasHeader kind lines header rest
     × (script : List (Line kind.Command)) × (first : kind.State) × (last : kind.State) × AreScript kind.rules rest script
     × kind.rules.starts header first × IsPlayed kind.rules first script text last
 
@@ -42,26 +37,17 @@ AreReadable table lines = SomeOf table (IsScriptOf lines)
 -- the lines before it are readable, where there are any, and with it they aren't
 abbrev pub IsUnreadableAt : List Kind → List (List ℕ) → ℕ → Type 0
 IsUnreadableAt table lines number =
-    ((number ≡ 1) ⊎ AreReadable table (take (number - 1) lines))
-    × ¬ AreReadable table (take number lines)
+    ((number ≡ 1) ⊎ AreReadable table (take (number - 1) lines)) × ¬ AreReadable table (take number lines)
 
 -- the outcome of checking and running the lines
 abbrev pub IsOutcome : List Kind → List (List ℕ) → Outcome → Type 0
-IsOutcome table lines (outcome.Answered texts) = SomeOf table (IsAnsweredBy lines (flat_map (λ text. text.items) texts.items))
+IsOutcome table lines (outcome.Answered text) = SomeOf table (IsAnsweredBy lines text.items)
 IsOutcome table lines (outcome.Unreadable number) = IsUnreadableAt table lines number
 IsOutcome table lines outcome.OutOfMemory = Unit {0}
 
--- the kinds of scripts
-abbrev pub kinds : List Kind
-kinds =
-    kind (live_rules bump_rules)
-    ∷ kind (live_rules one_chunk_rules)
-    ∷ kind (live_rules pool_rules)
-    ∷ kind (live_rules fixed_rules)
-    ∷ kind bump_step_rules
-    ∷ kind pool_step_rules
-    ∷ kind loan_pool_rules
-    ∷ []
+unfoldable pub kinds : List Kind
+kinds = kind (live_rules bump_rules) ∷ kind (live_rules one_chunk_rules) ∷ kind (live_rules pool_rules)
+    ∷ kind (live_rules fixed_rules) ∷ kind bump_step_rules ∷ kind pool_step_rules ∷ kind loan_pool_rules ∷ []
 
 -- the input is a script of some kind, and the text is what it is answered
 abbrev pub IsAnswered : List ℕ → List ℕ → Type 0
@@ -73,8 +59,7 @@ IsUnreadable input number = IsUnreadableAt kinds (lines_of input) number
 
 -- the text is what is written of the input, be it readable or not
 abbrev pub IsOutput : List ℕ → List ℕ → Type 0
-IsOutput input text =
-    IsAnswered input text ⊎ ((number : ℕ) × IsUnreadable input number × (text ≡ unreadable_text number))
+IsOutput input text = IsAnswered input text ⊎ ((number : ℕ) × IsUnreadable input number × (text ≡ unreadable_text number))
 
 -- the bytes begin what is written of the input
 abbrev pub BeginsOutput : List ℕ → List ℕ → Type 0
@@ -83,10 +68,8 @@ BeginsOutput input sent = (text : List ℕ) × IsOutput input text × Begins sen
 -- how a run on an input ends, and what it writes
 pub record Ends (input : List ℕ) (old new : Option (List ℕ)) (status : Status) : Type 0 where
   pub done : status ≡ Done → (text : List ℕ) × IsAnswered input text × Appends old new text
-  pub unreadable : status ≡ Unreadable
-      → (number : ℕ) × IsUnreadable input number × Appends old new (unreadable_text number)
-  pub cut_short : IsCutShort status
-      → Keeps old new ⊎ ((sent : List ℕ) × BeginsOutput input sent × Appends old new sent)
+  pub unreadable : status ≡ Unreadable → (number : ℕ) × IsUnreadable input number × Appends old new (unreadable_text number)
+  pub cut_short : IsCutShort status → Keeps old new ⊎ ((sent : List ℕ) × BeginsOutput input sent × Appends old new sent)
   pub input_read : status ≢ InputFailed
 
 -- the input is all that is left of a reader's bytes, where these are known

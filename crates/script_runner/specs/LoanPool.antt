@@ -1,11 +1,10 @@
 -- Scripts that loan samples from a pool.
 use Rattle.std.specs.Prelude.{ℕ, ◌≡◌, ◌^◌, ◌<◌, List, [], codes, true, false, Contains}
-use Rattle.bb_memory_base.specs.PoolObject.{MayAllocate}
-use Rattle.bb_memory_base.specs.Object.{IsRun}
+use Rattle.bb_memory_traits.specs.PoolObject.{MayAllocate}
+use Rattle.bb_memory_traits.specs.Object.{IsRun}
 use Rattle.bb_memory_core.specs.Pool.{CountedPool, StandsFor}
-use Rattle.loan_book.specs.Book.{chunks_out}
-use Rattle.loan_book.specs.LoanBook.{LoanBook}
-use Rattle.loan_book.specs.Runs.{BookStep}
+use Rattle.loan_book.specs.Book.{LoanBook, chunks_out}
+use Rattle.loan_book.specs.Calls.{BookStep}
 use Rattle.loan_book.specs.declared.error.LoanError.{LoanError}
 use Rattle.loan_book.specs.declared.error.LoanError.TheVariants as refused
 use Rattle.loan_book.specs.declared.run.LoanCall.{LoanCall}
@@ -23,7 +22,6 @@ abbrev pub IsCall : LoanCall → Type 0
 IsCall (Publish id readers) = readers < 2 ^ 32
 IsCall _ = Unit {0}
 
--- the words that write a call
 abbrev pub call_words : LoanCall → Words
 call_words (Loan size) = words (codes "loan") (One size)
 call_words (Publish id readers) = words (codes "publish") (Two id readers)
@@ -40,7 +38,6 @@ loan_refusal_name refused.UnknownSample = codes "UnknownSample"
 loan_refusal_name refused.AlreadyPublished = codes "AlreadyPublished"
 loan_refusal_name refused.NoReaders = codes "NoReaders"
 
--- the line of a reply
 abbrev pub loan_reply_line : LoanReply → List ℕ
 loan_reply_line (reply.Loaned id chunk) = words_then (codes "loan") (Three id chunk.place chunk.len) (codes "\n")
 loan_reply_line reply.Published = name_line (codes "published")
@@ -54,8 +51,7 @@ loan_reply_line (reply.Refused error) = name_line (loan_refusal_name error)
 -- the pool stands for exactly the chunks of the samples that are out
 pub record LoansRun (old : LoanBook CountedPool) (calls : List LoanCall)
     (replies : List LoanReply) (new : LoanBook CountedPool) : Type 0 where
-  pub run : IsRun (BookStep (MayAllocate old.allocator.pool.geometry))
-      old.book calls replies new.book
+  pub run : IsRun (BookStep (MayAllocate old.allocator.pool.geometry)) old.book calls replies new.book
   pub remembered : ¬ Contains replies (reply.Refused refused.Memory)
   pub geometry : new.allocator.pool.geometry ≡ old.allocator.pool.geometry
   pub stands : StandsFor new.allocator.pool (chunks_out new.book)

@@ -1,7 +1,7 @@
 -- Scripts of any kind: the rules of a kind, what a run writes, and how it ends.
 use Rattle.std.specs.Io.KnownBytes.{Appends}
 use Rattle.std.specs.List.{flat_map}
-use Rattle.std.specs.Prelude.{List, ◌⊎◌, [], ◌∷◌, ℕ, codes, Bool, true, not, ◌&&◌, IsTrue, ◌≡◌, ◌++◌, All, false, Option, Some}
+use Rattle.std.specs.Prelude.{List, ◌⊎◌, [], ◌∷◌, ℕ, codes, Bool, true, not, ◌&&◌, IsTrue, ◌≡◌, ◌++◌, All, Option, Some}
 use Rattle.std.specs.Prelude.{map, slice_get, take, None}
 use Rattle.std.specs.Str.{bytes_eq}
 use Rattle.script_runner.specs.Words.{Words, words, words_text, MayStand}
@@ -46,8 +46,7 @@ pub record Kind : Type 1 where
   pub rules : Rules State Header Command Reply
 
 abbrev pub kind : {S O C R : Type 0} → Rules S O C R → Kind
-kind {S} {O} {C} {R} rules =
-    record { State = S; Header = O; Command = C; Reply = R; rules = rules }
+kind {S} {O} {C} {R} rules = record { State = S; Header = O; Command = C; Reply = R; rules = rules }
 
 -- some kind of the table has the property
 abbrev pub SomeOf : List Kind → (Kind → Type 0) → Type 0
@@ -72,10 +71,9 @@ Begins sent text = (rest : List ℕ) × (text ≡ sent ++ rest)
 abbrev pub AppendsPart : Option (List ℕ) → Option (List ℕ) → List ℕ → Type 0
 AppendsPart old new text = (sent : List ℕ) × Begins sent text × Appends old new sent
 
--- known bytes grow by the text where all is sent, and else by a beginning of it
-abbrev pub Sends : Option (List ℕ) → Option (List ℕ) → List ℕ → Bool → Type 0
-Sends old new text true = Appends old new text
-Sends old new text false = AppendsPart old new text
+-- all is sent and the status is returned, or a beginning is and the output failed
+abbrev pub Sends : Option (List ℕ) → Option (List ℕ) → List ℕ → Status → Status → Type 0
+Sends old new text status ends = (ends ≡ status) × Appends old new text ⊎ (ends ≡ OutputFailed) × AppendsPart old new text
 
 -- the line may stand behind the first
 abbrev pub IsLineText : {S O C R : Type 0} → Rules S O C R → List ℕ → Type 0
@@ -84,8 +82,7 @@ IsLineText {S} {O} {C} {R} rules text = (line : Line C) × IsLine rules line × 
 -- the line at this index, counted from 0, is the first that is not readable
 abbrev pub IsFirstUnreadable : (List ℕ → Type 0) → List (List ℕ) → ℕ → Type 0
 IsFirstUnreadable IsReadable lines index =
-    All IsReadable (take index lines)
-    × (line : List ℕ) × (slice_get lines index ≡ Some line) × ¬ IsReadable line
+    All IsReadable (take index lines) × (line : List ℕ) × (slice_get lines index ≡ Some line) × ¬ IsReadable line
 
 -- the lines behind the first write the script, each as it may be
 abbrev pub AreScript : {S O C R : Type 0} → Rules S O C R → List (List ℕ) → List (Line C) → Type 0
@@ -93,8 +90,7 @@ AreScript rules lines script = All (IsLine rules) script × (lines ≡ map (line
 
 -- A single line: a command waits. A show has all that waits run at once; the replies are written, and then the state.
 abbrev pub IsStep : {S O C R : Type 0} → Rules S O C R → S → List C → Line C → List ℕ → S → List C → Type 0
-IsStep rules old waiting (Command command) text new left =
-    (new ≡ old) × (left ≡ waiting ++ command ∷ []) × (text ≡ [])
+IsStep rules old waiting (Command command) text new left = (new ≡ old) × (left ≡ waiting ++ command ∷ []) × (text ≡ [])
 IsStep {S} {O} {C} {R} rules old waiting Show text new left =
     (replies : List R) × rules.runs old waiting replies new × (left ≡ [])
     × (text ≡ flat_map rules.reply_text replies ++ rules.state_text new)

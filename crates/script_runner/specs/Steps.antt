@@ -1,17 +1,14 @@
 -- Scripts that take the steps of a machine: of a bump, or of a pool.
 use Rattle.std.specs.List.{flat_map}
 use Rattle.std.specs.Prelude.{ℕ, ◌≡◌, List, codes, true, [], ◌++◌, ◌^◌, ◌<◌, ◌≤◌, Option, Some, None}
-use Rattle.bb_memory_base.specs.BumpWorld.{BumpWorld, opened as opened_bump, outcomes_of as bump_outcomes}
-use Rattle.bb_memory_base.specs.BumpWorld.{after_steps as after_bump_steps}
-use Rattle.bb_memory_base.specs.Chunk.{IsRegion}
+use Rattle.bb_memory_base.specs.BumpWorld as bump_world
+use Rattle.bb_memory_traits.specs.Chunk.{IsRegion}
 use Rattle.bb_memory_base.specs.PoolMachine.{holder_in}
-use Rattle.bb_memory_base.specs.PoolWorld.{PoolWorld, opened as opened_pool, outcomes_of as pool_outcomes}
-use Rattle.bb_memory_base.specs.PoolWorld.{after_steps as after_pool_steps}
+use Rattle.bb_memory_base.specs.PoolWorld as pool_world
 use Rattle.bb_memory_base.specs.declared.steps.bump.BumpOutcome.{BumpOutcome}
 use Rattle.bb_memory_base.specs.declared.steps.bump.BumpOutcome.TheVariants as bump
 use Rattle.bb_memory_base.specs.declared.steps.bump.BumpStep.{BumpStep}
 use Rattle.bb_memory_base.specs.declared.steps.bump.BumpStep.TheVariants.{Read, Exchange, Load, Clear}
-use Rattle.bb_memory_base.specs.declared.steps.pool.Flag.{Flag}
 use Rattle.bb_memory_base.specs.declared.steps.pool.PoolOutcome.{PoolOutcome}
 use Rattle.bb_memory_base.specs.declared.steps.pool.PoolOutcome.TheVariants as pool
 use Rattle.bb_memory_base.specs.declared.steps.pool.PoolStep.{PoolStep}
@@ -28,14 +25,12 @@ IsBumpStep (Exchange party) = IsParty party
 IsBumpStep (Load party) = IsParty party
 IsBumpStep Clear = Unit {0}
 
--- the words that write a step
 abbrev pub bump_step_words : BumpStep → Words
 bump_step_words (Read party layout) = words (codes "read") (Three party layout.size layout.align)
 bump_step_words (Exchange party) = words (codes "exchange") (One party)
 bump_step_words (Load party) = words (codes "load") (One party)
 bump_step_words Clear = words (codes "clear") Zero
 
--- the line of an outcome
 abbrev pub bump_outcome_line : BumpOutcome → List ℕ
 bump_outcome_line (bump.Sees position) = words_then (codes "sees") (One position) (codes "\n")
 bump_outcome_line (bump.RefusedAtRead position) = words_then (codes "sees") (One position) (codes " refused OutOfMemory\n")
@@ -47,7 +42,7 @@ bump_outcome_line bump.Cleared = name_line (codes "cleared")
 bump_outcome_line bump.Passed = name_line (codes "passed")
 
 -- A bump world that a script drives by its steps. The outcomes are those of the steps, and the world is the one that they leave.
-abbrev pub bump_step_rules : Rules BumpWorld Bounds BumpStep BumpOutcome
+abbrev pub bump_step_rules : Rules bump_world.BumpWorld Bounds BumpStep BumpOutcome
 bump_step_rules = record {
   name = codes "steps-bump";
   is_header = λ bounds. IsRegion (region_of bounds);
@@ -55,8 +50,8 @@ bump_step_rules = record {
   is_command = IsBumpStep;
   command_words = bump_step_words;
   can_show = true;
-  starts = λ bounds world. world ≡ opened_bump (region_of bounds) 64;
-  runs = λ old steps outcomes new. (outcomes ≡ bump_outcomes old steps) × (new ≡ after_bump_steps old steps);
+  starts = λ bounds world. world ≡ bump_world.opened (region_of bounds) 64;
+  runs = λ old steps outcomes new. (outcomes ≡ bump_world.outcomes_of old steps) × (new ≡ bump_world.after_steps old steps);
   reply_text = bump_outcome_line;
   state_text = λ world. words_then (codes "used") (One world.state.position) (codes "\n");
 }
@@ -68,7 +63,6 @@ IsPoolStep (GiveBack party bucket) = IsParty party × (bucket < 2 ^ 32)
 -- no line writes the other steps
 IsPoolStep _ = ⊥
 
--- the words that write a step
 abbrev pub pool_step_words : PoolStep → Words
 pool_step_words (Try party) = words (codes "try") (One party)
 pool_step_words (GiveBack party bucket) = words (codes "give") (Two party bucket)
@@ -79,11 +73,6 @@ abbrev pub holder_text : Option ℕ → List ℕ
 holder_text (Some party) = words_text (words [] (One party))
 holder_text None = codes " -"
 
--- the holder that a flag names, or a dash
-abbrev pub flag_text : Flag → List ℕ
-flag_text flag = holder_text (holder_in flag)
-
--- the line of an outcome
 abbrev pub pool_outcome_line : PoolOutcome → List ℕ
 pool_outcome_line (pool.Takes bucket) = words_then (codes "takes") (One bucket) (codes "\n")
 pool_outcome_line (pool.Loses bucket) = words_then (codes "loses") (One bucket) (codes "\n")
@@ -95,7 +84,7 @@ pool_outcome_line (pool.Detaches bucket) = words_then (codes "detaches") (One bu
 pool_outcome_line (pool.Attaches bucket) = words_then (codes "attaches") (One bucket) (codes "\n")
 
 -- A pool world that a script drives by its steps. The outcomes are those of the steps, and the world is the one that they leave.
-abbrev pub pool_step_rules : Rules PoolWorld ℕ PoolStep PoolOutcome
+abbrev pub pool_step_rules : Rules pool_world.PoolWorld ℕ PoolStep PoolOutcome
 pool_step_rules = record {
   name = codes "steps-pool";
   is_header = λ buckets. buckets ≤ 4096;
@@ -103,8 +92,8 @@ pool_step_rules = record {
   is_command = IsPoolStep;
   command_words = pool_step_words;
   can_show = true;
-  starts = λ buckets world. world ≡ opened_pool buckets 64;
-  runs = λ old steps outcomes new. (outcomes ≡ pool_outcomes old steps) × (new ≡ after_pool_steps old steps);
+  starts = λ buckets world. world ≡ pool_world.opened buckets 64;
+  runs = λ old steps outcomes new. (outcomes ≡ pool_world.outcomes_of old steps) × (new ≡ pool_world.after_steps old steps);
   reply_text = pool_outcome_line;
-  state_text = λ world. codes "held" ++ (flat_map flag_text world.flags ++ codes "\n");
+  state_text = λ world. codes "held" ++ (flat_map (λ flag. holder_text (holder_in flag)) world.flags ++ codes "\n");
 }

@@ -2,19 +2,18 @@
 use Rattle.std.specs.Fmt.{decimal}
 use Rattle.std.specs.List.{flat_map, onto_first}
 use Rattle.std.specs.Prelude.{ℕ, ◌≡◌, ◌≢◌, ◌==◌, if◌then◌else◌, List, [], ◌∷◌, ◌++◌, All, Contains, ◌⊎◌, ◌^◌, ◌<◌, codes}
-use Rattle.bb_memory_base.specs.Chunk.{Region, region_at}
+use Rattle.bb_memory_traits.specs.Chunk.{Region, region_at}
 use Rattle.script_runner.specs.declared.words.Bounds.{Bounds}
 use Rattle.script_runner.specs.declared.words.Figure.{Figure}
 use Rattle.script_runner.specs.declared.words.Numbers.{Numbers}
 use Rattle.script_runner.specs.declared.words.Numbers.TheVariants.{Zero, One, Two, Three, Four, Five}
 use Rattle.script_runner.specs.declared.words.Text.{Text}
-use Rattle.script_runner.specs.declared.words.Text.TheVariants.{Line, Refused, Unreadable}
+use Rattle.script_runner.specs.declared.words.Text.TheVariants.{Name, Line, Refused}
 
 -- the lines of an input: a line feed ends each, and the last may do without
 abbrev pub lines_of : List ℕ → List (List ℕ)
 lines_of [] = []
-lines_of (byte ∷ bytes) =
-    if byte == 10 then [] ∷ lines_of bytes else onto_first byte (lines_of bytes)
+lines_of (byte ∷ bytes) = if byte == 10 then [] ∷ lines_of bytes else onto_first byte (lines_of bytes)
 
 -- the lines, a line feed after each
 abbrev pub ended : List (List ℕ) → List ℕ
@@ -22,8 +21,7 @@ ended lines = flat_map (λ line. line ++ 10 ∷ []) lines
 
 -- the last line has a byte
 abbrev pub EndsInText : List (List ℕ) → Type 0
-EndsInText lines =
-    (front : List (List ℕ)) × (last : List ℕ) × (lines ≡ front ++ last ∷ []) × (last ≢ [])
+EndsInText lines = (front : List (List ℕ)) × (last : List ℕ) × (lines ≡ front ++ last ∷ []) × (last ≢ [])
 
 -- no line has a line feed, and the lines, each ended, are the input;
 -- where it ends in text it is so without the last line feed
@@ -60,7 +58,6 @@ words_text words = words.name ++ numbers_text (list_of words.numbers)
 abbrev pub words_then : List ℕ → Numbers → List ℕ → List ℕ
 words_then name numbers text = words_text (words name numbers) ++ text
 
--- a line of one name
 abbrev pub name_line : List ℕ → List ℕ
 name_line name = words_then name Zero (codes "\n")
 
@@ -75,9 +72,9 @@ unreadable_text number = words_then (codes "line") (One number) (codes ": refuse
 
 -- the bytes of a line
 abbrev pub text_bytes : Text → List ℕ
+text_bytes (Name name) = name_line name.now
 text_bytes (Line name numbers) = words_then name.now numbers (codes "\n")
 text_bytes (Refused name numbers) = words_then name.now numbers (codes " refused OutOfMemory\n")
-text_bytes (Unreadable number) = unreadable_text number
 
 -- each of them may be written
 abbrev pub AreNumbers : List ℕ → Type 0

@@ -13,10 +13,10 @@ use crate::kinds::allocators::Live;
 use crate::kinds::loan_pool::LoanPool;
 use crate::kinds::pool::Fixed;
 use crate::words::Numbers;
-use bb_memory_core::bump_allocator::BumpAllocator;
+use bb_memory_base::steps::{BumpWorld, PoolWorld};
+use bb_memory_bump::bump_allocator::BumpAllocator;
 use bb_memory_core::one_chunk_allocator::OneChunkAllocator;
 use bb_memory_core::pool_allocator::PoolAllocator;
-use bb_memory_core::steps::{BumpWorld, PoolWorld};
 use std::alloc::Global;
 
 /// The kinds of scripts, in the order in which a header is tried: a row for each, and then the rows behind it.

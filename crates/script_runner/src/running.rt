@@ -1,17 +1,15 @@
 //! From the bytes of a script to the bytes that it is answered.
-ghost use Rattle.std.specs.Prelude.{◌≡◌, ◌⊎◌, ℕ, List, true};
-ghost use Rattle.std.specs.List.{flat_map};
+ghost use Rattle.std.specs.Prelude.{◌≡◌, ◌⊎◌, ℕ, List};
 ghost use Rattle.std.specs.Io.KnownBytes.{Keeps, Appends};
 ghost use Rattle.script_runner.specs.Scripts.{IsCutShort, Sends};
 ghost use Rattle.script_runner.specs.Inputs.{IsAnswered, IsUnreadable, BeginsOutput, IsLeft, IsOutcome, Ends, kinds};
-ghost use Rattle.script_runner.specs.declared.status.Status.TheVariants.{OutputFailed};
 ghost use Rattle.script_runner.specs.Words.{lines_of, unreadable_text};
 
 use crate::engine::driving::Outcome;
 use crate::engine::script::first_line;
 use crate::kinds::{AllKinds, Kinds};
 use crate::status::Status;
-use crate::words::{Text, words};
+use crate::words::{Numbers, words, write_words};
 use std::alloc::Global;
 use std::io::{ErrorKind, Read, Write};
 
@@ -40,21 +38,16 @@ pub fn run<R: Read + Drop, W: Write>(alloc: Global, mut reader: R, writer: &mut 
     }
 }
 
-/// Checks every line of an input, runs it, and then writes its texts.
+/// Checks every line of an input, runs it, and then writes its text.
 fn answer<W: Write>(alloc: Global, input: &[u8], writer: &mut W) -> Status
     ensures { Ends input.now (W.contents writer.old) (W.contents writer.new) result }
 {
     match outcome_of(alloc, input) {
-        Outcome::Answered(texts) => {
-            let sent = send_all(&texts, writer);
-            finish(sent, Status::Done, writer)
-        }
+        Outcome::Answered(text) => send(&text, Status::Done, writer),
         Outcome::Unreadable(number) => {
-            match Text::Unreadable(number).written(alloc) {
-                Ok(line) => {
-                    let sent = send(&line, writer);
-                    finish(sent, Status::Unreadable, writer)
-                }
+            let mut line = Vec::new(alloc);
+            match write_words(b"line", Numbers::One(number), b": refused\n", &mut line) {
+                Ok(()) => send(&line, Status::Unreadable, writer),
                 Err(_) => Status::OutOfMemory,
             }
         }
@@ -75,46 +68,24 @@ fn outcome_of(alloc: Global, input: &[u8]) -> Outcome
     }
 }
 
-/// Flushes what was sent, and returns the status.
-fn finish<W: Write>(sent: bool, status: Status, writer: &mut W) -> Status
-    ensures kept { Keeps (W.contents writer.old) (W.contents writer.new) }
-    ensures status { (sent ≡ true) × (result ≡ status) ⊎ (result ≡ OutputFailed) }
+/// Writes a text and flushes the writer. Returns the status, or where writing fails `OutputFailed`.
+fn send<W: Write>(text: &[u8], status: Status, writer: &mut W) -> Status
+    ensures { Sends (W.contents writer.old) (W.contents writer.new) text.now status result }
 {
-    if sent && writer.flush().is_ok() {
-        status
-    } else {
-        Status::OutputFailed
-    }
-}
-
-/// Writes texts one after another, or where that fails a beginning of them, and returns false.
-fn send_all<W: Write>(texts: &[Vec<u8>], writer: &mut W) -> bool
-    ensures { Sends (W.contents writer.old) (W.contents writer.new)
-        (flat_map (λ text. text.items) texts.now) result }
-{
-    for text in texts {
-        if !send(text, writer) {
-            return false;
-        }
-    }
-    true
-}
-
-/// Writes bytes, or where that fails a beginning of them, and returns false.
-fn send<W: Write>(bytes: &[u8], writer: &mut W) -> bool
-    ensures { Sends (W.contents writer.old) (W.contents writer.new) bytes.now result }
-{
-    let mut left = bytes;
+    let mut left = text;
     for _ in 0..u64::MAX {
         if left.is_empty() {
-            return true;
+            return match writer.flush() {
+                Ok(()) => status,
+                Err(_) => Status::OutputFailed,
+            };
         }
         match writer.write(left) {
-            Ok(0) => return false,
+            Ok(0) => return Status::OutputFailed,
             Ok(count) => left = &left[count..],
             Err(e) if e.kind() == ErrorKind::Interrupted => {}
-            Err(_) => return false,
+            Err(_) => return Status::OutputFailed,
         }
     }
-    false
+    Status::OutputFailed
 }

@@ -1,17 +1,16 @@
 //! The words of a line: a name, and numbers in decimal, with a space between each two.
 ghost use Rattle.std.specs.Prelude.{◌≡◌, ◌≢◌, ◌↔◌, ◌^◌, ◌<◌, ◌++◌, ◌∷◌, [], ℕ, All, IsTrue, Some};
-ghost use Rattle.std.specs.Prelude.{IfNone, IfOk, IfSome, OnOk, codes, length, slice_index};
+ghost use Rattle.std.specs.Prelude.{IfNone, IfSome, OnOk, codes, length, slice_index};
 ghost use Rattle.std.specs.Fmt.{decimal};
 ghost use Rattle.std.specs.Option.{SomeIff};
-ghost use Rattle.std.specs.Str.Parse.{AllDigits, digits_value};
-ghost use Rattle.bb_memory_base.specs.Chunk.{IsRegion};
-ghost use Rattle.bb_memory_base.specs.declared.layout.Layout.{Layout};
+ghost use Rattle.bb_memory_traits.specs.Chunk.{IsRegion};
+ghost use Rattle.bb_memory_traits.specs.declared.layout.Layout.{Layout};
 ghost use Rattle.script_runner.specs.Words.{Words, words, words_then, figures_then, text_bytes, list_of, AreWords, StartsWith};
 ghost use Rattle.script_runner.specs.Words.{IsParty, region_of, bounds_numbers};
 
-use bb_memory_core::layout::Layout;
-use bb_memory_core::region::Region;
-use std::alloc::{AllocError, Global};
+use bb_memory_traits::layout::Layout;
+use bb_memory_traits::region::Region;
+use std::alloc::AllocError;
 use std::io::Write;
 
 /// The number of parties in scripts of steps.
@@ -105,72 +104,47 @@ fn number(field: &[u8]) -> Option<usize>
     if !is_plain(field) {
         return None;
     }
-    value(field)
+    match str::from_utf8(field) {
+        Ok(text) => text.parse::<usize>().ok(),
+        Err(_) => None,
+    }
 }
 
-/// Tests that there is a byte, and no leading zero.
+/// Tests that there is a byte, no sign, and no leading zero.
 fn is_plain(field: &[u8]) -> bool
-    ensures { IsTrue result
-        ↔ ((0 < length field.now) × (slice_index field.now 0 ≡ 48 → length field.now ≡ 1)) }
+    ensures { IsTrue result ↔ ((0 < length field.now) × (slice_index field.now 0 ≢ 43)
+        × (slice_index field.now 0 ≡ 48 → length field.now ≡ 1)) }
 {
     match field.first() {
-        None => false,
+        None | Some(b'+') => false,
         Some(b'0') => field.len() == 1,
         Some(_) => true,
     }
 }
 
-/// Returns the value of these digits, where they are digits and it fits.
-fn value(digits: &[u8]) -> Option<usize>
-    ensures { SomeIff result
-        (AllDigits 10 digits.now × (digits_value 10 digits.now < 2 ^ 64))
-        (digits_value 10 digits.now) }
-{
-    let mut value: usize = 0;
-    for byte in digits {
-        let digit = (*byte as char).to_digit(10)?;
-        value = value.checked_mul(10)?.checked_add(digit as usize)?;
-    }
-    Some(value)
-}
-
 /// A line to write.
 #[derive(Clone, Copy)]
 pub enum Text {
+    /// A name alone.
+    Name(&'static [u8]),
     /// A name and numbers.
     Line(&'static [u8], Numbers),
     /// A name and numbers, of a step that was refused memory.
     Refused(&'static [u8], Numbers),
-    /// The number of the first unreadable line.
-    Unreadable(usize),
 }
 
 impl Text {
-    /// Returns the bytes of the line.
-    pub fn written(self, alloc: Global) -> Result<Vec<u8>, AllocError>
-        ensures { IfOk result (λ line. line.items ≡ text_bytes self) }
-    {
-        let mut line = Vec::new(alloc);
-        self.write(&mut line)?;
-        Ok(line)
-    }
-
     /// Adds the bytes of the line.
-    fn write(self, line: &mut Vec<u8>) -> Result<(), AllocError>
+    pub fn write(self, line: &mut Vec<u8>) -> Result<(), AllocError>
         ensures { OnOk result (line.new.items ≡ line.old.items ++ text_bytes self) }
     {
         match self {
+            Text::Name(name) => write_words(name, Numbers::Zero, b"\n", line),
             Text::Line(name, numbers) => write_words(name, numbers, b"\n", line),
             Text::Refused(name, numbers) => write_words(
                 name,
                 numbers,
                 b" refused OutOfMemory\n",
-                line,
-            ),
-            Text::Unreadable(number) => write_words(
-                b"line",
-                Numbers::One(number),
-                b": refused\n",
                 line,
             ),
         }
@@ -186,10 +160,14 @@ pub fn write_words(
 ) -> Result<(), AllocError>
     ensures { OnOk result (line.new.items ≡ line.old.items ++ words_then name.now numbers end.now) }
 {
-    line.extend_from_slice(name)?;
+    let Ok(()) = line.extend_from_slice(name) else {
+        return Err(AllocError);
+    };
     let mut left = numbers;
     while let Some((number, rest)) = left.split_first() {
-        write_figure(b" ", number, line)?;
+        let Ok(()) = write_figure(b" ", number, line) else {
+            return Err(AllocError);
+        };
         left = rest;
     }
     line.extend_from_slice(end)
@@ -205,7 +183,9 @@ pub fn write_figures(figures: &[Figure], end: &[u8], line: &mut Vec<u8>) -> Resu
 {
     let mut left = figures;
     while let Some((Figure(label, value), rest)) = left.split_first() {
-        write_figure(label, *value, line)?;
+        let Ok(()) = write_figure(label, *value, line) else {
+            return Err(AllocError);
+        };
         left = rest;
     }
     line.extend_from_slice(end)
@@ -215,7 +195,9 @@ pub fn write_figures(figures: &[Figure], end: &[u8], line: &mut Vec<u8>) -> Resu
 fn write_figure(label: &[u8], value: usize, line: &mut Vec<u8>) -> Result<(), AllocError>
     ensures { OnOk result (line.new.items ≡ line.old.items ++ (label.now ++ decimal value)) }
 {
-    line.extend_from_slice(label)?;
+    let Ok(()) = line.extend_from_slice(label) else {
+        return Err(AllocError);
+    };
     match write!(line, "{value}") {
         Ok(()) => Ok(()),
         Err(_) => Err(AllocError),

@@ -2,10 +2,10 @@
 use Rattle.std.specs.Prelude.{◌≡◌, ◌∷◌, ◌++◌, ◌+◌, ◌<◌, ◌≤◌, ◌⊎◌, [], ℕ, List, Result, Ok, Err, Some}
 use Rattle.std.specs.Prelude.{IfErr, IsOk, OnOk, length, slice_get}
 use Rattle.std.specs.Align.{IsLayout}
-use Rattle.bb_memory_base.specs.Chunk.{AreApart, Chunk, IsInside, Region}
-use Rattle.bb_memory_base.specs.HeldBytes.{HeldBytes, bytes_in, held_region}
-use Rattle.bb_memory_base.specs.declared.layout.Layout.{Layout}
-use Rattle.bb_memory_base.specs.declared.allocator.AllocationGrowError.{AllocationGrowError}
+use Rattle.bb_memory_traits.specs.Chunk.{AreApart, Chunk, IsInside, Region}
+use Rattle.bb_memory_traits.specs.HeldBytes.{HeldBytes, bytes_in, held_region}
+use Rattle.bb_memory_traits.specs.declared.layout.Layout.{Layout}
+use Rattle.bb_memory_traits.specs.declared.allocator.AllocationGrowError.{AllocationGrowError}
 use Rattle.uses.specs.declared.byte_vector.PushError.{PushError}
 use Rattle.uses.specs.declared.byte_vector.PushError.TheVariants.{TooLong, Full}
 use Rattle.uses.specs.Requests.{IsOfBytes}
@@ -18,19 +18,16 @@ pub record ByteVector : Type 0 where
 
 -- a vector's bytes in a region, wherever that starts
 abbrev pub contents : HeldBytes → ByteVector → List ℕ
-contents held vector =
-    bytes_in held (record { place = held.start + vector.offset; len = vector.len })
+contents held vector = bytes_in held (record { place = held.start + vector.offset; len = vector.len })
 
 -- the vector lies in a live chunk of the allocator whose region this is, and which may release this
-pub record LivesIn (region : Region) (may_release : ℕ → Type 0) (held : HeldBytes)
-    (vector : ByteVector) : Type 0 where
+pub record LivesIn (region : Region) (may_release : ℕ → Type 0) (held : HeldBytes) (vector : ByteVector) : Type 0 where
   pub same_region : held_region held ≡ region
   pub live : may_release (held.start + vector.offset)
   pub inside : vector.offset + vector.capacity ≤ length held.bytes
 
 -- a byte more stands behind the others, and the region begins and ends where it did
-pub record IsPushed (here there : HeldBytes) (old : ByteVector) (byte : ℕ) (new : ByteVector)
-    : Type 0 where
+pub record IsPushed (here there : HeldBytes) (old : ByteVector) (byte : ℕ) (new : ByteVector) : Type 0 where
   pub behind : contents there new ≡ contents here old ++ byte ∷ []
   pub region : held_region there ≡ held_region here
 
@@ -46,12 +43,10 @@ KeepsOthers here vector there = (another : Chunk) → IsInside (held_region here
 -- the answer may be given where a chunk of so many bytes is to grow by one: not every two layouts rule it out
 pub record MayGrowByOne (may_grow : Layout → Layout → Result Chunk AllocationGrowError → Type 0)
     (size : ℕ) (answer : Result Chunk AllocationGrowError) : Type 0 where
-  pub may : ¬ ((old new : Layout) → IsOfBytes old size → IsOfBytes new (size + 1)
-      → ¬ may_grow old new answer)
+  pub may : ¬ ((old new : Layout) → IsOfBytes old size → IsOfBytes new (size + 1) → ¬ may_grow old new answer)
 
 -- why such a chunk wasn't grown
-abbrev pub IsWhyFull :
-    (Layout → Layout → Result Chunk AllocationGrowError → Type 0) → ℕ → PushError → Type 0
+abbrev pub IsWhyFull : (Layout → Layout → Result Chunk AllocationGrowError → Type 0) → ℕ → PushError → Type 0
 -- there is no layout of as many bytes, or of one more
 IsWhyFull may_grow size (TooLong cause) = (¬ IsLayout size 1) ⊎ (¬ IsLayout (size + 1) 1)
 IsWhyFull may_grow size (Full error) = MayGrowByOne may_grow size (Err error)
@@ -72,10 +67,8 @@ pub record MakesRoom (stands_for : List Chunk → Type 0) (may_grow : Grows) (st
     (old : ByteVector) (result : Result (Unit {0}) PushError) (new : ByteVector) : Type 0 where
   pub at_once : old.len < old.capacity → IsOk result × (new.capacity ≡ old.capacity)
   pub grown : OnOk result ((live : List Chunk) (position : ℕ) (chunk : Chunk)
-      → old.len ≡ old.capacity → stands_for live → slice_get live position ≡ Some chunk
-      → chunk.place ≡ start + old.offset
+      → old.len ≡ old.capacity → stands_for live → slice_get live position ≡ Some chunk → chunk.place ≡ start + old.offset
       → IsGrown (may_grow live chunk.place) chunk.place old.capacity new.capacity)
   pub refused : IfErr result (λ error. (live : List Chunk) (position : ℕ) (chunk : Chunk)
-      → stands_for live → slice_get live position ≡ Some chunk
-      → chunk.place ≡ start + old.offset
+      → stands_for live → slice_get live position ≡ Some chunk → chunk.place ≡ start + old.offset
       → IsWhyFull (may_grow live chunk.place) old.capacity error)

@@ -1,13 +1,11 @@
 -- Messages for several readers, which lie in chunks of a region.
 use Rattle.std.specs.Prelude.{◌≡◌, ◌-◌, ◌<◌, ◌≤◌, ◌^◌, ◌↔◌, ⊤, ℕ, Bool, true, false, List, Result, Ok, Err}
 use Rattle.std.specs.Prelude.{IsTrue, drop, get_or, map, slice_set}
-use Rattle.bb_memory_base.specs.Chunk.{Chunk}
-use Rattle.bb_memory_base.specs.HeldBytes.{HeldBytes}
-use Rattle.bb_memory_base.specs.declared.layout.Layout.{Layout}
-use Rattle.bb_memory_base.specs.declared.allocator.AllocationError.{AllocationError}
-use Rattle.loan_book.specs.Book.{Book, chunks_of, chunks_out}
-use Rattle.loan_book.specs.LoanBook.{LoanBook}
-use Rattle.loan_book.specs.Sample.{Sample, returns_to_come}
+use Rattle.bb_memory_traits.specs.Chunk.{Chunk}
+use Rattle.bb_memory_traits.specs.HeldBytes.{HeldBytes}
+use Rattle.bb_memory_traits.specs.declared.layout.Layout.{Layout}
+use Rattle.bb_memory_traits.specs.declared.allocator.AllocationError.{AllocationError}
+use Rattle.loan_book.specs.Book.{Book, LoanBook, Sample, chunks_of, chunks_out, returns_to_come}
 use Rattle.loan_book.specs.declared.error.LoanError.TheVariants.{Size, IdsExhausted, Memory, Allocation}
 use Rattle.uses.specs.declared.ring.SendError.{SendError}
 use Rattle.uses.specs.declared.ring.SendError.TheVariants as send
@@ -47,8 +45,7 @@ IsWhyNotSent may_answer sent size (send.Refused Memory) = (size < 2 ^ 63) × (se
 -- no layout has so many bytes
 IsWhyNotSent may_answer sent size (send.Refused Size) = 2 ^ 63 ≤ size
 IsWhyNotSent may_answer sent size (send.Refused IdsExhausted) = (size < 2 ^ 63) × (2 ^ 64 ≤ sent)
-IsWhyNotSent may_answer sent size (send.Refused (Allocation error)) =
-    (sent < 2 ^ 64) × MayAnswer may_answer size (Err error)
+IsWhyNotSent may_answer sent size (send.Refused (Allocation error)) = (sent < 2 ^ 64) × MayAnswer may_answer size (Err error)
 -- for no other cause
 IsWhyNotSent may_answer sent size (send.Refused error) = ⊥
 
@@ -59,8 +56,7 @@ IsUnasked _ = ⊥
 
 -- A reader is done with the oldest message, of which this tells whether it was the last one: then the message leaves, and its
 -- chunk with it.
-pub record Finishes {A G : Type 0} (geometry_of : A → G) (old : Ring A) (result : Bool)
-    (new : Ring A) : Type 0 where
+pub record Finishes {A G : Type 0} (geometry_of : A → G) (old : Ring A) (result : Bool) (new : Ring A) : Type 0 where
   pub last : result ≡ true → new ≡ record old {
     allocator = new.allocator;
     chunks = drop 1 old.chunks;
@@ -92,15 +88,12 @@ Returned old true new = HasLeft old new
 Returned old false new = WaitsOn old new
 
 -- a reader has returned the oldest sample, for the last time or not
-pub record ReturnsOldest {A G : Type 0} (geometry_of : A → G) (old : LoanBook A) (last : Bool)
-    (new : LoanBook A) : Type 0 where
+pub record ReturnsOldest {A G : Type 0} (geometry_of : A → G) (old : LoanBook A) (last : Bool) (new : LoanBook A) : Type 0 where
   pub out : Returned old.book.out last new.book.out
   pub loaned : new.book.loaned ≡ old.book.loaned
   pub geometry : geometry_of new.allocator ≡ geometry_of old.allocator
 
 -- each chunk that may be given has exactly the asked size
-abbrev pub GivesExactly :
-    {G : Type 0} → (G → List Chunk → Layout → Result Chunk AllocationError → Type 0) → Type 0
-GivesExactly {G = G} may_allocate =
-    (geometry : G) (live : List Chunk) (layout : Layout) (chunk : Chunk)
+abbrev pub GivesExactly : {G : Type 0} → (G → List Chunk → Layout → Result Chunk AllocationError → Type 0) → Type 0
+GivesExactly {G = G} may_allocate = (geometry : G) (live : List Chunk) (layout : Layout) (chunk : Chunk)
     → may_allocate geometry live layout (Ok chunk) → chunk.len ≡ layout.size

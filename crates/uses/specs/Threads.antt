@@ -1,9 +1,12 @@
 -- Threads that share a bump or a pool, each with a party of its own.
-use Rattle.std.specs.Prelude.{◌≡◌, ℕ, All, List, Result, Ok, length}
-use Rattle.bb_memory_base.specs.Chunk.{Chunk, Region}
+use Rattle.std.specs.Prelude.{◌≡◌, ◌+◌, ◌%◌, ◌≤◌, ℕ, All, List, Result, Ok, length}
+use Rattle.std.proofs.lemmas.List.Elements.{All-contains, All-get_or}
+use Rattle.std.proofs.lemmas.Grind.{common_steps}
+use Rattle.std.proofs.lemmas.Option.{gets}
+use Rattle.bb_memory_traits.specs.Chunk.{AreApart, Chunk, IsPart, Region, chunk_end}
 use Rattle.bb_memory_base.specs.PoolLogs.{IsHeldAfter}
-use Rattle.bb_memory_base.specs.declared.allocator.AllocationError.{AllocationError}
-use Rattle.bb_memory_base.specs.declared.layout.Layout.{Layout}
+use Rattle.bb_memory_traits.specs.declared.allocator.AllocationError.{AllocationError}
+use Rattle.bb_memory_traits.specs.declared.layout.Layout.{Layout}
 use Rattle.bb_memory.specs.SharedBump.{AgreeAt, BumpParty, MayTake, greatest_seen, scene_at}
 use Rattle.bb_memory.specs.SharedPool.{PoolParty, SharedPool, TakenBucket, attach_entry, detach_entry, return_entry, with_entries}
 use Rattle.bb_memory.specs.SharedPoolNextFit.{MayTakeFrom, hint_of}
@@ -56,8 +59,7 @@ pub record HasAsked (layout : Layout) (party : BumpParty) : Type 0 where
 
 -- Workers, so many, have each asked for this layout, of a region of which some was used. The space used then agrees with their
 -- logs, which are all, and is the greatest position that one of them has seen.
-pub record IsCarved (region : Region) (used_before workers : ℕ) (layout : Layout) (used : ℕ)
-    : Type 0 where
+pub record IsCarved (region : Region) (used_before workers : ℕ) (layout : Layout) (used : ℕ) : Type 0 where
   pub parties : List BumpParty
   pub agree : AgreeAt (scene_at region used_before workers) used parties
   pub all : length parties ≡ workers
@@ -78,5 +80,28 @@ without bucket party = with_entries party (return_entry party.number bucket)
 
 -- the receiver once it attached this bucket and gave it back
 abbrev pub having_received : ℕ → PoolParty → PoolParty
-having_received bucket receiver =
-    without bucket (with_entries receiver (attach_entry receiver.number bucket))
+having_received bucket receiver = without bucket (with_entries receiver (attach_entry receiver.number bucket))
+
+-- ARENAS, each a bump over a chunk of a shared bump
+
+-- the thread's party, its chunk, and how much of that is used
+pub record Arena : Type 0 where
+  pub party : BumpParty
+  pub whole : Chunk
+  pub used : ℕ
+
+-- a chunk of the arena was given for this layout: it lies in the arena's chunk, behind all that was used
+pub record Serves (old : Arena) (layout : Layout) (new : Arena) (chunk : Chunk) : Type 0 where
+  pub part : IsPart chunk old.whole
+  pub behind : old.whole.place + old.used ≤ chunk.place
+  pub aligned : chunk.place % layout.align ≡ 0
+  pub exact_size : chunk.len ≡ layout.size
+  pub used : new ≡ record old { used = new.used }
+  pub up_to : old.whole.place + new.used ≡ chunk_end chunk
+
+-- the chunks are apart
+unfoldable pub HaveNothingShared : Chunk → Chunk → Type 0
+HaveNothingShared one other = AreApart one other
+
+-- lemmas of std by one name, for the attribute `using`, which takes no name with a dash
+pub ruleset contained = (All-contains, All-get_or, common_steps, gets)

@@ -1,13 +1,13 @@
 //! A vector of bytes that lives at an offset of a region, and can move to another region with its bytes.
 ghost use Rattle.std.specs.Prelude.{◌≡◌, ◌+◌, ◌<◌, ◌≤◌, ◌^◌, ℕ, List, Some};
 ghost use Rattle.std.specs.Prelude.{IfOk, IfErr, OnOk, OnErr, length, slice_get, slice_index};
-ghost use Rattle.bb_memory_base.specs.Chunk.{Chunk, AreApart, IsInside};
-ghost use Rattle.bb_memory_base.specs.HeldBytes.{held_region, bytes_in};
+ghost use Rattle.bb_memory_traits.specs.Chunk.{Chunk, AreApart, IsInside};
+ghost use Rattle.bb_memory_traits.specs.HeldBytes.{held_region, bytes_in};
 ghost use Rattle.uses.specs.ByteVectors.{IsGrown, IsPushed, IsWhyFull, KeepsOthers, LivesIn, MakesRoom, contents};
 
-use bb_memory_base::allocator::{AllocationGrowError, Allocator, BaseAllocator};
-use bb_memory_base::layout::{Chunk, Layout, LayoutError};
-use bb_memory_base::region::Region;
+use bb_memory_traits::allocator::{AllocationGrowError, Allocator, BaseAllocator};
+use bb_memory_traits::layout::{Chunk, Layout, LayoutError};
+use bb_memory_traits::region::Region;
 use std::marker::Model;
 use thiserror::Error;
 

@@ -1,9 +1,9 @@
 //! A budget of chunks for one tenant of an allocator.
-use bb_memory_base::allocator::{
+use bb_memory_traits::allocator::{
     AllocationError, AllocationGrowError, AllocationShrinkError, Allocator, BaseAllocator,
 };
-use bb_memory_base::layout::{Chunk, Layout};
-use bb_memory_base::lists::{append_law, remove_law};
+use bb_memory_traits::layout::{Chunk, Layout};
+use bb_memory_traits::lists::{append_law, remove_law};
 use std::marker::Model;
 
 /// An allocator that has at most so many chunks out. It is an allocator itself, so budgets nest.
@@ -16,8 +16,8 @@ pub struct ChunkBudget<A: BaseAllocator + Drop> {
 
 impl<A: BaseAllocator + Drop> Model for ChunkBudget<A> {
     ghost use Rattle.std.specs.Prelude.{◌≡◌, ◌≤◌, List, length};
-    ghost use Rattle.bb_memory_base.specs.Chunk.{Chunk};
-    ghost use Rattle.uses.specs.Limits.{Budgeted};
+    ghost use Rattle.bb_memory_traits.specs.Chunk.{Chunk};
+    ghost use Rattle.uses.specs.Requests.{Budgeted};
 
     ghost Value = { Budgeted A };
 
@@ -29,7 +29,7 @@ impl<A: BaseAllocator + Drop> Model for ChunkBudget<A> {
 
 impl<A: BaseAllocator + Drop> ChunkBudget<A> {
     ghost use Rattle.std.specs.Prelude.{◌≡◌, ◌≤◌, [], List, length};
-    ghost use Rattle.bb_memory_base.specs.Chunk.{Chunk};
+    ghost use Rattle.bb_memory_traits.specs.Chunk.{Chunk};
 
     /// Makes a budget of so many chunks, over an allocator that has nothing out.
     pub fn new(inner: A, budget: usize) -> Self
@@ -58,8 +58,8 @@ impl<A: BaseAllocator + Drop> ChunkBudget<A> {
 
 impl<A: BaseAllocator + Drop> BaseAllocator for ChunkBudget<A> {
     ghost use Rattle.std.specs.Prelude.{◌≡◌, ℕ, List, Some, length, slice_get, refl};
-    ghost use Rattle.bb_memory_base.specs.Chunk.{Chunk};
-    ghost use Rattle.uses.specs.Limits.{Limited, MayAnswerChunks};
+    ghost use Rattle.bb_memory_traits.specs.Chunk.{Chunk};
+    ghost use Rattle.uses.specs.Requests.{Limited, MayAnswerChunks};
 
     const RELEASE_EMPTIES: bool = A::RELEASE_EMPTIES;
 
@@ -119,7 +119,7 @@ impl<A: BaseAllocator + Drop> BaseAllocator for ChunkBudget<A> {
 
 impl<A: Allocator + Drop> Allocator for ChunkBudget<A> {
     ghost use Rattle.std.proofs.Common.{ap, subst};
-    ghost use Rattle.uses.specs.Limits.{Limited};
+    ghost use Rattle.uses.specs.Requests.{Limited};
 
     ghost Figures = { A.Figures };
 

@@ -8,6 +8,7 @@
 //! - `byte_vector`: a vector of bytes at an offset of a region, which can move to another region.
 //! - `ring`: messages for several readers, over a loan book. `ring/laws`: laws of the book's newest and oldest sample.
 //! - `bump_workers`: four threads over one bump, which one owner then has again. `pool_workers`: four threads over one pool.
+//! - `thread_arena`: a bump of one thread over a chunk of a shared bump.
 //! - `pool_messages`: messages whose buckets one party takes and another gives back.
 #![tactic(auto)]
 
@@ -19,3 +20,4 @@ pub mod pool_workers;
 pub mod ring;
 pub mod slab;
 pub mod tenants;
+pub mod thread_arena;

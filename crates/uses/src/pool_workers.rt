@@ -1,6 +1,6 @@
 //! Threads that take buckets of one pool, and what is known once all of them are back.
 ghost use Rattle.std.specs.Prelude.{◌≡◌, All, IfOk, length};
-ghost use Rattle.bb_memory_base.specs.declared.layout.Layout.{Layout};
+ghost use Rattle.bb_memory_traits.specs.declared.layout.Layout.{Layout};
 ghost use Rattle.bb_memory.specs.SharedPool.{AreFresh, HaveMet, HoldApart, PoolParty};
 ghost use Rattle.uses.specs.Threads.{AllComeBack, AsksNextFit, ComesBack, HasAskedNextFit};
 
@@ -83,7 +83,7 @@ fn take_one_each<R: Threads + Sync>(
 
 /// Makes a pool of eight buckets for four parties. It is refused only where memory was, since a pool may be made of this region
 /// and bucket.
-#[tactic(auto, unfolding(bb_memory_base::specs::LeastPlace::least_place))]
+#[tactic(auto, unfolding(bb_memory_traits::specs::LeastPlace::least_place))]
 fn pool_of_four(alloc: Global) -> Result<(SharedPoolAllocator, Vec<PoolParty>), AllocError>
     ensures parties { IfOk result (λ made. AreFresh made.0 4 made.1.items) }
     ensures buckets { IfOk result (λ made. made.0.scene.geometry.buckets ≡ 8) }

@@ -1,8 +1,8 @@
 //! Messages for several readers, each in a sample of a loan book.
 ghost use Rattle.std.specs.Prelude.{◌≡◌, ◌∷◌, ◌++◌, ◌<◌, ◌+◌, [], Some, Ok, IfSome, IfNone, IfOk, IfErr};
 ghost use Rattle.std.specs.Prelude.{OnErr, OnOk, get_or, length, slice_get};
-ghost use Rattle.bb_memory_base.specs.Chunk.{Chunk, IsSound};
-ghost use Rattle.bb_memory_base.specs.HeldBytes.{held_region};
+ghost use Rattle.bb_memory_traits.specs.Chunk.{Chunk, IsSound};
+ghost use Rattle.bb_memory_traits.specs.HeldBytes.{held_region};
 ghost use Rattle.loan_book.specs.Book.{Book, IsBook, chunks_out};
 ghost use Rattle.loan_book.specs.Calls.{with_sample};
 ghost use Rattle.uses.specs.Requests.{HasOneMore, MayAnswer};
@@ -11,9 +11,9 @@ ghost use Rattle.uses.specs.Rings.{Finishes, GivesExactly, IsUnasked, IsWhyNotSe
 mod laws;
 
 use crate::slab::put;
-use bb_memory_base::allocator::Allocator;
-use bb_memory_base::layout::Chunk;
-use bb_memory_base::region::Region;
+use bb_memory_traits::allocator::Allocator;
+use bb_memory_traits::layout::Chunk;
+use bb_memory_traits::region::Region;
 use laws::{first_law, newest_law, newest_state_law, returned_law, seam_law};
 use loan_book::{LoanBook, LoanError};
 use std::alloc::{AllocError, Global};
@@ -42,7 +42,7 @@ pub struct MessageRing<A: Allocator + Drop> {
 
 impl<A: Allocator + Drop> Model for MessageRing<A> {
     ghost use Rattle.std.specs.Prelude.{◌≡◌, ◌<◌};
-    ghost use Rattle.bb_memory_base.specs.HeldBytes.{held_region};
+    ghost use Rattle.bb_memory_traits.specs.HeldBytes.{held_region};
     ghost use Rattle.loan_book.specs.Book.{chunks_out};
     ghost use Rattle.uses.specs.Rings.{GivesExactly, Ring, ids_of, ring_of};
 

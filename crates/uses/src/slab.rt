@@ -1,14 +1,14 @@
 //! Records of bytes, each in a chunk of its own.
 ghost use Rattle.std.specs.Prelude.{◌≡◌, ◌∷◌, ◌++◌, ◌<◌, [], ℕ, List, Some, Ok, length, remove, slice_get, slice_set};
-ghost use Rattle.bb_memory_base.specs.Chunk.{Chunk, IsSound};
-ghost use Rattle.bb_memory_base.specs.declared.layout.Layout.{Layout};
-ghost use Rattle.bb_memory_base.specs.HeldBytes.{HeldBytes, held_region};
+ghost use Rattle.bb_memory_traits.specs.Chunk.{Chunk, IsSound};
+ghost use Rattle.bb_memory_traits.specs.declared.layout.Layout.{Layout};
+ghost use Rattle.bb_memory_traits.specs.HeldBytes.{HeldBytes, held_region};
 ghost use Rattle.uses.specs.Requests.{HoldsThen, IsOfBytes, Leaves, MayGiveLonger, Stores, records_in};
 
-use bb_memory_base::allocator::{AllocationError, Allocator, BaseAllocator};
-use bb_memory_base::layout::{Chunk, Layout, LayoutError};
-use bb_memory_base::lists::append_law;
-use bb_memory_base::region::{Region, live_bytes_law};
+use bb_memory_traits::allocator::{AllocationError, Allocator, BaseAllocator};
+use bb_memory_traits::layout::{Chunk, Layout, LayoutError};
+use bb_memory_traits::lists::append_law;
+use bb_memory_traits::region::{Region, live_bytes_law};
 use std::alloc::{AllocError, Global};
 use std::marker::Model;
 use thiserror::Error;
@@ -36,7 +36,7 @@ pub struct Slab<A: Allocator + Drop> {
 
 impl<A: Allocator + Drop> Model for Slab<A> {
     ghost use Rattle.std.specs.Prelude.{◌≡◌};
-    ghost use Rattle.bb_memory_base.specs.HeldBytes.{held_region};
+    ghost use Rattle.bb_memory_traits.specs.HeldBytes.{held_region};
     ghost use Rattle.uses.specs.Requests.{Records, records_in};
 
     // A slab is its records, with their allocator and the chunks in which they lie.
@@ -185,7 +185,7 @@ pub(crate) fn give_back<A: Allocator>(inner: &mut A, chunk: Chunk)
 
 /// An allocator that may give a longer chunk for a layout may give one for the layout's size, and taking a chunk out of a list
 /// takes its record out. It does nothing: its contract is the law.
-#[tactic(auto, using(bb_memory_base::specs::Hints::parts_of_lists))]
+#[tactic(auto, using(bb_memory_traits::specs::Hints::parts_of_lists))]
 fn records_law<A: Allocator>()
     ensures longer { (geometry : A.Geometry) (live : List Chunk) (size : ℕ) (layout : Layout)
         (chunk : Chunk)

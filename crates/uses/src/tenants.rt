@@ -2,15 +2,15 @@
 ghost use Rattle.std.specs.Prelude.{◌≡◌, ◌≢◌, ◌<◌, ◌≤◌, ◌+◌, ◌%◌, ◌↔◌, ◌∷◌, ◌++◌, [], ℕ, List, Some, Ok};
 ghost use Rattle.std.specs.Prelude.{IfOk, IfErr, IfSome, IsOk, IsSome, IsTrue, OnOk, OnErr};
 ghost use Rattle.std.specs.Prelude.{length, remove, slice_get, slice_index_or, sum};
-ghost use Rattle.bb_memory_base.specs.Chunk.{IsInside, IsSound};
+ghost use Rattle.bb_memory_traits.specs.Chunk.{IsInside, IsSound};
 ghost use Rattle.uses.specs.declared.tenants.Lease.{Lease};
-ghost use Rattle.uses.specs.Limits.{HasLeft, IsUnasked, IsWhyNotAdmitted, IsWhyNotLeased, bytes_for, bytes_out, chunks_of};
-ghost use Rattle.uses.specs.Limits.{lease_at, limit_of, used_by, with_lease, with_tenant, without_lease};
+ghost use Rattle.uses.specs.Requests.{HasLeft, IsRefusedUnasked, IsWhyNotAdmitted, IsWhyNotLeased, bytes_for, bytes_out};
+ghost use Rattle.uses.specs.Requests.{chunks_of, lease_at, limit_of, used_by, with_lease, with_tenant, without_lease};
 
 use crate::slab::{self, return_last};
-use bb_memory_base::allocator::{AllocationError, Allocator, BaseAllocator};
-use bb_memory_base::layout::{Chunk, Layout};
-use bb_memory_base::lists::{Grouped, append_law, group_law, map_law, position_law, sum_law};
+use bb_memory_traits::allocator::{AllocationError, Allocator, BaseAllocator};
+use bb_memory_traits::layout::{Chunk, Layout};
+use bb_memory_traits::lists::{Grouped, append_law, group_law, map_law, position_law, sum_law};
 use std::alloc::{AllocError, Global};
 use std::marker::Model;
 use thiserror::Error;
@@ -91,7 +91,7 @@ pub struct Tenants<A: Allocator + Drop> {
 
 impl<A: Allocator + Drop> Model for Tenants<A> {
     ghost use Rattle.std.specs.Prelude.{◌≡◌, ◌≤◌, ℕ, sum};
-    ghost use Rattle.uses.specs.Limits.{Tenancy, chunks_of, limit_of, used_by};
+    ghost use Rattle.uses.specs.Requests.{Tenancy, chunks_of, limit_of, used_by};
 
     // Tenants are their allocator, the whole, the limit of each, and the chunks that they hold.
     ghost Value = { Tenancy A };
@@ -213,7 +213,7 @@ impl<A: Allocator + Drop> Tenants<A> {
         ensures refused { IfErr result (IsWhyNotLeased
             (A.may_allocate (A.geometry self.old.allocator) (chunks_of self.old.leases))
             self.old tenant layout) }
-        ensures unasked { IfErr result (λ error. IsUnasked error → self.new ≡ self.old) }
+        ensures unasked { IfErr result (λ error. IsRefusedUnasked error → self.new ≡ self.old) }
         ensures unchanged { OnErr result
             (self.new ≡ record self.old { allocator = self.new.allocator }) }
         ensures geometry { A.geometry self.new.allocator ≡ A.geometry self.old.allocator }

@@ -3,6 +3,7 @@
 //! ends. Want of memory is accepted only where a request was refused.
 mod after_making;
 mod blocks;
+mod caching;
 mod layers;
 mod loans;
 mod makers;

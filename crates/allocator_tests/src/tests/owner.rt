@@ -1,8 +1,8 @@
 //! The driver of rows: an owner of an allocator and its region makes a row's calls. Each call stands in a function without
 //! a clause, so a test's own proof carries none of the library's.
 ghost use Rattle.std.specs.Prelude.{◌≡◌, ◌%◌, [], Some, IfSome, slice_get};
-ghost use Rattle.bb_memory_base.specs.Chunk.{region_at};
-ghost use Rattle.bb_memory_base.specs.HeldBytes.{held_region};
+ghost use Rattle.bb_memory_traits.specs.Chunk.{region_at};
+ghost use Rattle.bb_memory_traits.specs.HeldBytes.{held_region};
 
 use self::kinds::{Figures, Kind, Row, Run};
 use super::checks::{check, check_row, ends_unmade, fail};
@@ -80,7 +80,7 @@ pub(crate) struct Owner<A: BaseAllocator + Drop> {
 
 impl<A: BaseAllocator + Drop> Model for Owner<A> {
     ghost use Rattle.std.specs.Prelude.{◌≡◌};
-    ghost use Rattle.bb_memory_base.specs.HeldBytes.{held_region};
+    ghost use Rattle.bb_memory_traits.specs.HeldBytes.{held_region};
 
     // Nothing is told of an owner.
     ghost Value = { Unit {0} };

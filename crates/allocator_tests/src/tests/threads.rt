@@ -1,4 +1,4 @@
 //! Threads over one shared allocator, each row by its name. Each thread is handed a party, and hands it back.
 mod bumps;
 mod pools;
-mod queues;
+pub(super) mod queues;

@@ -1,10 +1,10 @@
 //! The law of parties of a shared pool that met.
 ghost use Rattle.std.specs.Prelude.{◌≡◌, ◌≢◌, ◌↔◌, ◌<◌, ℕ, All, Any, Contains, List, Some, [], length, slice_get, true};
-ghost use Rattle.bb_memory_base.specs.Chunk.{Chunk, IsSound};
-ghost use Rattle.bb_memory_base.specs.PoolObject.{IsHeld};
+ghost use Rattle.bb_memory_traits.specs.Chunk.{Chunk, IsSound};
+ghost use Rattle.bb_memory_traits.specs.PoolObject.{IsHeld};
 ghost use Rattle.bb_memory_base.specs.PoolMachine.{IsDetached, PoolScene, left_by};
 ghost use Rattle.bb_memory_base.specs.PoolLogs.{AreAsked, IsPoolRun, history_of, log_of, IsHeldAfter};
-ghost use Rattle.bb_memory_base.specs.declared.layout.Layout.{Layout};
+ghost use Rattle.bb_memory_traits.specs.declared.layout.Layout.{Layout};
 ghost use Rattle.bb_memory.specs.SharedPool.{HasTaker, HaveMet, HoldApart, IsHeldByOne, IsHeldOrDetached};
 ghost use Rattle.bb_memory.specs.SharedPool.{IsSharedScene, PoolParty, TookOne, WasDetachedByOne, refused_pass};
 

@@ -1,6 +1,6 @@
 //! Buckets that parties took.
 ghost use Rattle.std.specs.Prelude.{◌≡◌, ◌<◌, ◌≤◌};
-ghost use Rattle.bb_memory_base.specs.Chunk.{IsInside};
+ghost use Rattle.bb_memory_traits.specs.Chunk.{IsInside};
 ghost use Rattle.bb_memory.specs.SharedPool.{chunk_of, taken_bucket};
 
 use super::flags::Flags;

@@ -1,16 +1,16 @@
 //! The shared pools: buckets with a flag each, on which any number of threads step.
 ghost use Rattle.std.specs.Prelude.{◌≡◌, ◌≢◌, ℕ, ◌<◌, ◌≤◌, ◌↔◌, ◌%◌, ◌^◌, [], All, IsErr, IfErr, IfOk};
 ghost use Rattle.std.specs.Prelude.{◌+◌, IfSome, MatchOption, length};
-ghost use Rattle.bb_memory_base.specs.Chunk.{IsRegion, Chunk, IsInside};
-ghost use Rattle.bb_memory_base.specs.PoolObject.{IsWithin, MayGrow, MayShrink};
+ghost use Rattle.bb_memory_traits.specs.Chunk.{IsRegion, Chunk, IsInside};
+ghost use Rattle.bb_memory_traits.specs.PoolObject.{IsWithin, MayGrow, MayShrink};
 ghost use Rattle.bb_memory_base.specs.PoolLogs.{IsHeldAfter};
-ghost use Rattle.bb_memory_core.specs.Seats.{Stays, number_of, view_log};
+ghost use Rattle.bb_memory_bump.specs.Seats.{Stays, number_of, view_log};
 ghost use Rattle.bb_memory.specs.SharedPool.{AreAllHeldAfter, AreBothOf, AreFresh, AreInterleaved, HasTaker, HaveMet};
 ghost use Rattle.bb_memory.specs.SharedPool.{HoldApart, IsAlignedTo};
 ghost use Rattle.bb_memory.specs.SharedPool.{IsResizedTo, IsSameParty, IsSharedScene, MayTake, chunk_of};
 ghost use Rattle.bb_memory.specs.SharedPool.{return_entry, with_entries};
 ghost use Rattle.bb_memory.specs.SharedPoolRule.{IsIdleAt, MaySeat};
-ghost use Rattle.bb_memory.specs.SharedPoolSteps.{HasRefused, HasTaken};
+ghost use Rattle.bb_memory.specs.SharedPoolRule.{HasRefused, HasTaken};
 
 use super::bucket::Bucket;
 use super::flags::Flags;

@@ -1,8 +1,8 @@
 //! Buckets by their numbers and places, for a user that keeps numbers where it can't keep a [`Bucket`], which borrows its pool.
 ghost use Rattle.std.specs.Prelude.{◌≡◌, ℕ, ◌<◌, ◌≤◌, ◌%◌, IfSome, IfNone};
-ghost use Rattle.bb_memory_base.specs.PoolObject.{bucket_place};
+ghost use Rattle.bb_memory_traits.specs.PoolObject.{bucket_place};
 ghost use Rattle.bb_memory_base.specs.PoolLogs.{IsHeldAfter};
-ghost use Rattle.bb_memory_core.specs.Buckets.{IsPlaceOfBucket, TellsPlace};
+ghost use Rattle.bb_memory_core.specs.Pool.{IsPlaceOfBucket, TellsPlace};
 ghost use Rattle.bb_memory.specs.SharedPool.{chunk_of, taken_bucket};
 
 use super::bucket::Bucket;

@@ -1,6 +1,6 @@
 //! Buckets on their way from one party of a shared pool to another.
 ghost use Rattle.std.specs.Prelude.{◌≡◌, ◌<◌, ◌≤◌};
-ghost use Rattle.bb_memory.specs.SharedPoolDetached.{AreOf, HasDetached, HasAttached, MayDetach};
+ghost use Rattle.bb_memory.specs.SharedPool.{AreOf, HasDetached, HasAttached, MayDetach};
 
 use super::bucket::Bucket;
 use super::buckets::SharedBucketPool;

@@ -1,6 +1,6 @@
 //! A shared pool of at most a constant of buckets.
 ghost use Rattle.std.specs.Prelude.{◌≡◌, ◌-◌, ◌<◌, ◌≤◌, ◌^◌, IfOk, IfErr};
-ghost use Rattle.bb_memory_base.specs.Chunk.{region_at};
+ghost use Rattle.bb_memory_traits.specs.Chunk.{region_at};
 ghost use Rattle.bb_memory_core.specs.Pool.{IsCutAtMost, MayBeCut};
 ghost use Rattle.bb_memory.specs.SharedPool.{AreFresh};
 

@@ -1,21 +1,22 @@
 //! The flags that threads share, one a bucket: their words, and the only calls that touch them.
 //!
-//! `try_flag`, `try_at` and `give_back` make one atomic step each, by the seat of the party whose step it is, and tell that its
+//! `try_flag`, `try_at` and `give_back` make one logged step each, by the seat of the party whose step it is, and tell that its
 //! log then ends with that step and what it found. So do `detach` and `attach`, whose step is a load of the bucket's word,
 //! and which load a word more for the seat of what is detached. `deal`, `gather`, `find` and `meet` only load words, and are in
-//! no log; `open` is before all sharing, and `geometry` touches no word.
-ghost use Rattle.std.specs.Prelude.{◌≡◌, ℕ, ◌<◌, ◌≤◌, [], IfOk, MatchBool};
-ghost use Rattle.bb_memory_base.specs.Chunk.{IsRegion};
-ghost use Rattle.bb_memory_base.specs.PoolObject.{IsPoolGeometry};
-ghost use Rattle.bb_memory.specs.SharedPoolRule.{bucket_of, word_of, words_for, MayDetachAt, MayAttachAt, StandsAt};
-ghost use Rattle.bb_memory_core.specs.Seats.{IsDealt, MayGather, Stays, both_of, number_of, view_log};
+//! no log; nor is the load with which `try_at` begins, where it finds the flag free. `open` is before all sharing, and
+//! `geometry` touches no word.
+ghost use Rattle.std.specs.Prelude.{◌≡◌, ◌<◌, ◌≤◌, [], IfOk, MatchBool};
+ghost use Rattle.bb_memory_traits.specs.Chunk.{IsRegion};
+ghost use Rattle.bb_memory_traits.specs.PoolObject.{IsPoolGeometry};
+ghost use Rattle.bb_memory.specs.SharedPoolRule.{word_of, MayDetachAt, MayAttachAt, StandsAt};
+ghost use Rattle.bb_memory_bump.specs.Seats.{IsDealt, MayGather, Stays, both_of, number_of, view_log};
 ghost use Rattle.bb_memory.specs.SharedPoolRule.{AreTwoAt, IsHeldAt, IsIdleAt, IsDetachedAt, IsNextFor, IsOpened, IsSeatAt};
-ghost use Rattle.bb_memory.specs.SharedPoolSteps.{HasFound, HasDetachedAt, HasMissedAt, HasTakenAt, HasAttachedAt};
-ghost use Rattle.bb_memory.specs.SharedPoolSteps.{TellsLoss, TellsReturn, TellsTaking, TellsTwo};
+ghost use Rattle.bb_memory.specs.SharedPoolRule.{HasFound, HasDetachedAt, HasMissedAt, HasTakenAt, HasAttachedAt};
+ghost use Rattle.bb_memory.specs.SharedPoolRule.{TellsLoss, TellsReturn, TellsTaking, TellsTwo};
 
 use super::rule::{
-    Agreement, Attaches, Detaches, Gather, GiveDetached, GiveFirst, Meets, Returns, Scene, TakeIn,
-    Tries, TriesAt, View,
+    Agreement, Attaches, Detaches, Gather, GiveDetached, GiveFirst, LooksAt, Meets, Returns, Scene,
+    TakeIn, Tries, TriesAt, View,
 };
 use crate::pool_allocator::geometry::Geometry;
 use atomic_table::{Seat, Table};
@@ -26,23 +27,16 @@ const FREE: u64 = 0;
 
 const TAKEN: u64 = 1;
 
-/// How many words there are for so many buckets. The first eight, a cache line of them, are no flag: word 0 is loaded by steps
-/// that are about no flag. Behind them each 64 buckets have 64 words.
-fn count_words(buckets: u32) -> usize
-    ensures { result ≡ words_for buckets }
-{
-    8 + (buckets as usize + 63) / 64 * 64
-}
+/// The word of the first flag. The eight words before it, a cache line of them, are no flag: word 0 is loaded by steps that are
+/// about no flag.
+const FIRST: usize = 8;
 
-/// The word of a bucket's flag: nine words behind the one before it, round and round in the 64 words of its 64 buckets. With
-/// eight words on a cache line, flags that are tried one after the other are on different ones.
+/// The word of a bucket's flag. Flags stand in the order of their buckets: neighbours of one party's part of the pool share a
+/// cache line, and different parties' parts lie on different lines but at their borders.
 fn word_of(bucket: u32) -> usize
-    ensures value { result ≡ word_of bucket }
-    ensures back { bucket_of result ≡ bucket }
-    ensures within { (buckets : ℕ) → bucket < buckets → result < words_for buckets }
+    ensures { result ≡ word_of bucket }
 {
-    let number = bucket as usize;
-    8 + number / 64 * 64 + number * 9 % 64
+    FIRST + bucket as usize
 }
 
 /// The words that have the flags, and the buckets that these are of.
@@ -76,7 +70,7 @@ impl Flags {
         ensures region { IfOk result (λ made. IsRegion scene.geometry.region) }
         ensures geometry { IfOk result (λ made. IsPoolGeometry scene.geometry) }
     {
-        let words = Vec::from_elem(alloc, FREE, count_words(scene.geometry.count()))?;
+        let words = Vec::from_elem(alloc, FREE, FIRST + scene.geometry.count() as usize)?;
         let (table, seat) = Table::of_words(alloc, words.as_slice(), &scene)?;
         Ok((Flags { table, scene }, seat))
     }
@@ -107,7 +101,8 @@ impl Flags {
         found == FREE
     }
 
-    /// One exchange on the flag of this bucket, by a party that is in no pass: whether it took the bucket.
+    /// Tries this bucket, by a party that is in no pass: whether it took the bucket. The exchange is made only where a load finds
+    /// the flag free, since an exchange takes the flag's cache line from all other threads, also where it is lost.
     pub(super) fn try_at(&self, seat: &mut Seat<u8, View>, bucket: u32) -> bool
         requires seat { IsIdleAt self.now seat.old.table_id seat.old.me }
         requires below { bucket < self.now.scene.geometry.buckets }
@@ -117,10 +112,13 @@ impl Flags {
             (HasMissedAt self.now.scene (number_of seat.old.me.0) (view_log seat.old.me.0)
             bucket seat.new.me)) }
     {
-        let flag = self
-            .table
-            .shared
-            .compare_exchange::<TriesAt>(seat, word_of(bucket), FREE, TAKEN);
+        let shared = &self.table.shared;
+        let word = word_of(bucket);
+        let seen = shared.load::<LooksAt>(seat, word);
+        if seen != FREE {
+            return false;
+        }
+        let flag = shared.compare_exchange::<TriesAt>(seat, word, FREE, TAKEN);
         flag == FREE
     }
 

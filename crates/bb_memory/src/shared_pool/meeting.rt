@@ -1,8 +1,8 @@
 //! Any number of parties at one seat.
 ghost use Rattle.std.specs.Prelude.{◌++◌, map};
-ghost use Rattle.bb_memory_core.specs.Seats.{HasNow};
+ghost use Rattle.bb_memory_bump.specs.Seats.{HasNow};
 ghost use Rattle.bb_memory.specs.SharedPoolRule.{MayMeet, numbered_of};
-ghost use Rattle.bb_memory.specs.SharedPoolSteps.{HasFound};
+ghost use Rattle.bb_memory.specs.SharedPoolRule.{HasFound};
 
 use super::flags::Flags;
 use super::party::PoolParty;

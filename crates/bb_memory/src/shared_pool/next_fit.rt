@@ -1,10 +1,11 @@
 //! Next fit: requests whose search begins where the party's last one ended.
-ghost use Rattle.std.specs.Prelude.{◌≡◌, ◌+◌, ◌<◌, ◌^◌, IfSome, MatchOption};
-ghost use Rattle.bb_memory_core.specs.Seats.{Stays, number_of, view_log};
+ghost use Rattle.std.specs.Prelude.{◌≡◌, ℕ, ◌+◌, ◌<◌, ◌^◌, IfSome, MatchOption};
+ghost use Rattle.bb_memory_base.specs.PoolLogs.{PoolLog};
+ghost use Rattle.bb_memory_bump.specs.Seats.{Stays, number_of, view_log};
 ghost use Rattle.bb_memory.specs.SharedPool.{ServesNextFit};
 ghost use Rattle.bb_memory.specs.SharedPoolNextFit.{MayTakeFrom, probed, hint_of, part_of};
 ghost use Rattle.bb_memory.specs.SharedPoolRule.{IsIdleAt};
-ghost use Rattle.bb_memory.specs.SharedPoolSteps.{HasRefusedFrom, HasTakenFrom};
+ghost use Rattle.bb_memory.specs.SharedPoolRule.{HasRefusedFrom, HasTakenFrom, IsInSearch};
 
 use super::bucket::Bucket;
 use super::buckets::SharedBucketPool;
@@ -39,7 +40,7 @@ impl<const CAPPED: usize, const MOST: usize> SharedBucketPool<CAPPED, MOST> {
         (before / self.number_of_parties() as u64) as u32
     }
 
-    /// One whole search: an exchange on each flag from bucket `first` up, and then on those below it, until one is taken.
+    /// One whole search: a probe of each bucket from bucket `first` up, and then of each below it, until one is taken.
     fn next_fit(&self, seat: &mut Seat<u8, View>, first: u32) -> Option<u32>
         requires { IsIdleAt self.now seat.old.table_id seat.old.me }
         ensures told { Stays seat.old.table_id seat.new.table_id (MatchOption result
@@ -50,7 +51,30 @@ impl<const CAPPED: usize, const MOST: usize> SharedBucketPool<CAPPED, MOST> {
         ensures fits { IfSome result (λ bucket. bucket + 1 < 2 ^ 32) }
     {
         let count = self.number_of_buckets();
-        for probe in 0..count {
+        if count == 0 {
+            return None;
+        }
+        let bucket = probed(count, first, 0);
+        if self.flags.try_at(seat, bucket) {
+            return Some(bucket);
+        }
+        self.later_probes(seat, first)
+    }
+
+    /// The probes of a search behind its first, which missed: the clause holds for each log with which the search may have begun.
+    /// The loop stands apart, and isn't inlined, so that a search whose first probe takes a bucket is straight-line code.
+    #[inline(never)]
+    fn later_probes(&self, seat: &mut Seat<u8, View>, first: u32) -> Option<u32>
+        requires seat { IsIdleAt self.now seat.old.table_id seat.old.me }
+        requires some { 0 < self.now.scene.geometry.buckets }
+        ensures told { Stays seat.old.table_id seat.new.table_id ((number : ℕ) (log : PoolLog)
+            → IsInSearch self.now.scene number log first 1 seat.old.me → MatchOption result
+            (HasRefusedFrom self.now.scene number log first seat.new.me)
+            (HasTakenFrom self.now.scene number log first seat.new.me)) }
+        ensures fits { IfSome result (λ bucket. bucket + 1 < 2 ^ 32) }
+    {
+        let count = self.number_of_buckets();
+        for probe in 1..count {
             let bucket = probed(count, first, probe);
             if self.flags.try_at(seat, bucket) {
                 return Some(bucket);
@@ -60,11 +84,12 @@ impl<const CAPPED: usize, const MOST: usize> SharedBucketPool<CAPPED, MOST> {
     }
 
     /// Takes a bucket for the party, as `allocate` does, but tries the buckets in another order: after the same tests of size and
-    /// alignment it probes each flag once, by one exchange, until one is taken. The search begins at the party's hint: at the
-    /// bucket that the party gave back last, or behind the one that it took last, whichever came later; before both, at the first
-    /// bucket of a part of the pool of its own. The search goes on to the last bucket, and then from bucket 0 up. It is refused
-    /// with `OutOfMemory` where each probe misses. Where other parties step meanwhile, that doesn't mean that all buckets were
-    /// held at one moment. The party has to be this pool's.
+    /// alignment it probes each bucket once, until one is taken. A probe loads the flag, and makes an exchange only where the
+    /// flag is free, so held buckets cost no exchange. The search begins at the party's hint: at the bucket that the party gave
+    /// back last, or behind the one that it took last, whichever came later; before both, at the first bucket of a part of the
+    /// pool of its own. The search goes on to the last bucket, and then from bucket 0 up. It is refused with `OutOfMemory` where
+    /// each probe misses. Where other parties step meanwhile, that doesn't mean that all buckets were held at one moment. The
+    /// party has to be this pool's.
     pub fn allocate_next_fit(
         &self,
         party: &mut PoolParty,

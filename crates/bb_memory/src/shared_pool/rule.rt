@@ -45,7 +45,7 @@ impl TableRule<u8, View, Scene> for Agreement {
 pub(crate) struct Tries;
 
 impl Play<u8, View> for Tries {
-    ghost use Rattle.bb_memory.specs.SharedPoolSteps.{tries};
+    ghost use Rattle.bb_memory.specs.SharedPoolRule.{tries};
 
     ghost then = { tries };
 }
@@ -54,16 +54,25 @@ impl Play<u8, View> for Tries {
 pub(crate) struct TriesAt;
 
 impl Play<u8, View> for TriesAt {
-    ghost use Rattle.bb_memory.specs.SharedPoolSteps.{tries_at};
+    ghost use Rattle.bb_memory.specs.SharedPoolRule.{tries_at};
 
     ghost then = { tries_at };
+}
+
+/// A load of a flag by a party that is in no pass.
+pub(crate) struct LooksAt;
+
+impl Play<u8, View> for LooksAt {
+    ghost use Rattle.bb_memory.specs.SharedPoolRule.{looks_at};
+
+    ghost then = { looks_at };
 }
 
 /// A store of free, by a party after whose log the bucket is held.
 pub(crate) struct Returns;
 
 impl Play<u8, View> for Returns {
-    ghost use Rattle.bb_memory.specs.SharedPoolSteps.{returns};
+    ghost use Rattle.bb_memory.specs.SharedPoolRule.{returns};
 
     ghost then = { returns };
 }
@@ -72,7 +81,7 @@ impl Play<u8, View> for Returns {
 pub(crate) struct Meets;
 
 impl Play<u8, View> for Meets {
-    ghost use Rattle.bb_memory.specs.SharedPoolSteps.{meets};
+    ghost use Rattle.bb_memory.specs.SharedPoolRule.{meets};
 
     ghost then = { meets };
 }
@@ -81,7 +90,7 @@ impl Play<u8, View> for Meets {
 pub(crate) struct Detaches;
 
 impl Play<u8, View> for Detaches {
-    ghost use Rattle.bb_memory.specs.SharedPoolSteps.{detaches};
+    ghost use Rattle.bb_memory.specs.SharedPoolRule.{detaches};
 
     ghost then = { detaches };
 }
@@ -90,7 +99,7 @@ impl Play<u8, View> for Detaches {
 pub(crate) struct Attaches;
 
 impl Play<u8, View> for Attaches {
-    ghost use Rattle.bb_memory.specs.SharedPoolSteps.{attaches};
+    ghost use Rattle.bb_memory.specs.SharedPoolRule.{attaches};
 
     ghost then = { attaches };
 }
@@ -99,7 +108,7 @@ impl Play<u8, View> for Attaches {
 pub(crate) struct GiveDetached;
 
 impl Split<View> for GiveDetached {
-    ghost use Rattle.bb_memory_core.specs.Seats.{first_detached, others_detached};
+    ghost use Rattle.bb_memory_bump.specs.Seats.{first_detached, others_detached};
 
     ghost left = { others_detached };
 
@@ -110,7 +119,7 @@ impl Split<View> for GiveDetached {
 pub(crate) struct TakeIn;
 
 impl Join<View> for TakeIn {
-    ghost use Rattle.bb_memory_core.specs.Seats.{both_detached};
+    ghost use Rattle.bb_memory_bump.specs.Seats.{both_detached};
     ghost use Rattle.bb_memory.specs.SharedPoolRule.{nobody};
 
     ghost both = { both_detached };
@@ -122,7 +131,7 @@ impl Join<View> for TakeIn {
 pub(crate) struct GiveFirst;
 
 impl Split<View> for GiveFirst {
-    ghost use Rattle.bb_memory_core.specs.Seats.{first_of, others_of};
+    ghost use Rattle.bb_memory_bump.specs.Seats.{first_of, others_of};
 
     ghost left = { others_of };
 
@@ -133,7 +142,7 @@ impl Split<View> for GiveFirst {
 pub(crate) struct Gather;
 
 impl Join<View> for Gather {
-    ghost use Rattle.bb_memory_core.specs.Seats.{both_of};
+    ghost use Rattle.bb_memory_bump.specs.Seats.{both_of};
     ghost use Rattle.bb_memory.specs.SharedPoolRule.{nobody};
 
     ghost both = { both_of };

@@ -1,7 +1,8 @@
 //! The bump machine's steps, and what holds of every list of them.
 ghost use Rattle.std.specs.Prelude.{◌≡◌, ◌+◌, ◌≤◌, ◌<◌, ◌++◌, ◌≢◌, ℕ, List, [], All, Some, None, slice_get};
-ghost use Rattle.bb_memory_base.specs.Chunk.{Region, Chunk, AreApart, chunk_end, Layout, IsSound};
-ghost use Rattle.bb_memory_base.specs.BumpObject.{StandsFor, used_space};
+ghost use Rattle.bb_memory_traits.specs.Chunk.{Region, Chunk, AreApart, chunk_end, IsSound};
+ghost use Rattle.bb_memory_traits.specs.declared.layout.Layout.{Layout};
+ghost use Rattle.bb_memory_traits.specs.BumpObject.{StandsFor, used_space};
 ghost use Rattle.bb_memory_base.specs.BumpMachine.{BumpScene, OngoingCall, IsIdle, IsFitting, IsInCall, exchange_move, left_by};
 ghost use Rattle.bb_memory_base.specs.BumpMachine.{read_move, BumpStep, Read, Exchange, Load, Loaded};
 ghost use Rattle.bb_memory_base.specs.BumpLogs.{BumpLog, HasNoClear, IsLossAt, chunks_won, calls_begun_in, entries_by};

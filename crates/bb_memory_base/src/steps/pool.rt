@@ -1,8 +1,9 @@
 //! The pool machine's steps, and what holds of every list of them.
 ghost use Rattle.std.specs.Prelude.{◌≡◌, ◌<◌, ◌≤◌, ◌↔◌, ◌⊎◌, ◌∷◌, ℕ, Bool, true, false, List, [], Some, None, All, drop};
 ghost use Rattle.std.specs.Prelude.{length, replicate, slice_get, slice_set, take};
-ghost use Rattle.bb_memory_base.specs.Chunk.{Region, Chunk, Layout, IsSound};
-ghost use Rattle.bb_memory_base.specs.PoolObject.{PoolGeometry, pool_geometry, FillsRegion, IsPoolGeometry, at_most, IsHeld};
+ghost use Rattle.bb_memory_traits.specs.Chunk.{Region, Chunk, IsSound};
+ghost use Rattle.bb_memory_traits.specs.declared.layout.Layout.{Layout};
+ghost use Rattle.bb_memory_traits.specs.PoolObject.{PoolGeometry, pool_geometry, FillsRegion, IsPoolGeometry, at_most, IsHeld};
 ghost use Rattle.bb_memory_base.specs.PoolMachine.{PoolScene, IsHolder, IsDetached, IsTaken, left_by, opening_state, pool_step};
 ghost use Rattle.bb_memory_base.specs.PoolMachine.{PoolStep, Try, GiveBack, TryAt, Detach, Attach, Takes, Gives, Misses};
 ghost use Rattle.bb_memory_base.specs.PoolMachine.{Detaches, Attaches};

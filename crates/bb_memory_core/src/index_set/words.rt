@@ -1,34 +1,42 @@
 //! A set of numbers as words of 64 bits.
-ghost use Rattle.std.specs.Prelude.{◌≡◌, false, replicate, IfOk};
+ghost use Rattle.std.specs.Prelude.{◌≡◌, false, replicate, slice_set, IfOk};
+ghost use Rattle.bb_memory_core.specs.IndexSets.{Has};
 
 use crate::index_set::index_words::IndexWords;
 use crate::index_set::{Counter, IndexSet};
 use std::alloc::{AllocError, Allocator};
 use std::marker::Model;
 
+/// Stands for no number, since it is above each bound.
+const NONE: usize = usize::MAX;
+
 /// A bit for each number below the bound. The bits from the bound on are set for good, so that a word with a clear bit has a
 /// number to give.
 ///
-/// Where some word isn't full, one such is in hand, and the others are listed, each once; where all are full, a full one is in
-/// hand. A taking reads the word in hand, and no other: so it reads one word, however many are full. That word is full only where
-/// every word is, and then the taking is refused.
+/// The number that came back last is aside: it isn't in the set, though its bit stays set until another number comes back. A
+/// taking gives that number first, and reads its word alone.
+///
+/// `top` words aren't full: one such is in hand, and the others are listed, each once. Where no number is aside, a taking reads
+/// the word in hand, and no other: so it reads one word, however many are full. With all of them full, it is refused.
 #[derive(Drop)]
 pub struct Words<A: Allocator> {
     words: IndexWords<A>,
     bound: u32,
     hand: usize,
     top: usize,
+    aside: usize,
 }
 
 impl<A: Allocator> Model for Words<A> {
     ghost use Rattle.std.specs.Prelude.{Bool, List};
-    ghost use Rattle.bb_memory_core.specs.IndexSets.{numbers_of, IsWordSet};
+    ghost use Rattle.bb_memory_core.specs.IndexSets.{IsAside, less_aside, numbers_of, IsWordSet};
 
     ghost Value = { List Bool };
 
-    ghost view = { λ a. numbers_of a.bound a.words.words };
+    ghost view = { λ a. less_aside (numbers_of a.bound a.words.words) a.aside };
 
-    ghost invariant = { λ a. IsWordSet a.bound a.words.words a.words.listed a.hand a.top };
+    ghost invariant = { λ a. IsWordSet a.bound a.words.words a.words.listed a.hand a.top
+        × IsAside (numbers_of a.bound a.words.words) a.aside };
 }
 
 impl<A: Allocator> Words<A> {
@@ -51,7 +59,25 @@ impl<A: Allocator> Words<A> {
             bound,
             hand: 0,
             top: count,
+            aside: NONE,
         })
+    }
+
+    /// Clears the bit of a number of the set, and leaves the number that is aside there. The number's word is in hand from then
+    /// on, where it was full, and the word that was in hand is listed.
+    #[inline(always)]
+    fn put_back(&mut self, number: usize)
+        requires { Has self.old number }
+        ensures { self.new ≡ slice_set self.old number false }
+    {
+        let was_full = self.words.clear(number);
+        if was_full {
+            if self.top > 0 {
+                self.words.list(self.top - 1, self.hand);
+            }
+            self.hand = number / 64;
+            self.top += 1;
+        }
     }
 }
 
@@ -62,18 +88,26 @@ impl<A: Allocator> IndexSet for Words<A> {
 
     ghost words = { index_words };
 
-    /// Sets the lowest clear bit of the word in hand. Where that fills the word, the one that is listed last is in hand from then
-    /// on.
+    /// Gives the number that came back last, so its bucket is warm in the cache. Where none is aside, the lowest clear bit of the
+    /// word in hand is set. Where that fills the word, the word that is listed last is in hand from then on.
     #[inline(always)]
+    #[tactic(auto, using(crate::proofs::OpenWords::of_a_taking))]
     fn take(&mut self, counter: &mut Counter) -> Option<usize> {
-        if self.bound == 0 {
+        let number = self.aside;
+        if number != NONE {
+            self.aside = NONE;
+            let _ = self.words.word(number / 64, counter);
+            return Some(number);
+        }
+        if self.top == 0 {
+            // A refusal counts one read, too, where there is a word.
+            if self.bound > 0 {
+                let _ = self.words.word(0, counter);
+            }
             return None;
         }
         let hand = self.hand;
         let word = self.words.word(hand, counter);
-        if word == u64::MAX {
-            return None;
-        }
         let left = word | (word + 1);
         if left == u64::MAX {
             self.top -= 1;
@@ -85,26 +119,24 @@ impl<A: Allocator> IndexSet for Words<A> {
         Some(hand * 64 + word.trailing_ones() as usize)
     }
 
-    /// Takes the number's word in hand, where it was full, and lists the one that was in hand.
+    /// Puts the number aside, and the number that was aside before back into the words.
     #[inline(always)]
+    #[tactic(auto, using(crate::proofs::AsideNumbers::swapped, crate::proofs::AsideNumbers::less_none))]
     fn release(&mut self, number: usize) {
-        let was_full = self.words.clear(number);
-        if was_full {
-            if self.top > 0 {
-                self.words.list(self.top - 1, self.hand);
-            }
-            self.hand = number / 64;
-            self.top += 1;
+        let earlier = self.aside;
+        self.aside = number;
+        if earlier != NONE {
+            self.put_back(earlier);
         }
     }
 
     #[inline(always)]
     fn has(&self, number: usize) -> bool {
-        self.words.has(number)
+        self.words.has(number) && self.aside != number
     }
 
     #[inline(always)]
     fn has_room(&self) -> bool {
-        self.bound > 0 && self.words.is_open(self.hand)
+        self.aside < self.bound as usize || self.top > 0 && self.words.is_open(self.hand)
     }
 }

@@ -1,10 +1,10 @@
 //! Pools over a set of held buckets: what the pools of this crate have in common.
 ghost use Rattle.std.specs.Prelude.{◌≡◌, ◌≢◌, ◌↔◌, ◌≤◌, ℕ, false, true, List, OnOk, Some};
 ghost use Rattle.std.specs.Prelude.{IfSome, IsSome, IsTrue, length, remove, slice_get};
-ghost use Rattle.bb_memory_base.specs.Chunk.{Chunk};
-ghost use Rattle.bb_memory_base.specs.Object.{AnswersRun, Step, ResizableStep};
-ghost use Rattle.bb_memory_base.specs.PoolObject.{bucket_place, pool_object};
-ghost use Rattle.bb_memory_core.specs.Buckets.{TellsNumber, TellsPlace};
+ghost use Rattle.bb_memory_traits.specs.Chunk.{Chunk};
+ghost use Rattle.bb_memory_traits.specs.Object.{AnswersRun, Step, ResizableStep};
+ghost use Rattle.bb_memory_traits.specs.PoolObject.{bucket_place, pool_object};
+ghost use Rattle.bb_memory_core.specs.Pool.{TellsNumber, TellsPlace};
 ghost use Rattle.bb_memory_core.specs.Pool.{held_count, FreesBucket, HoldsPlace, IsPool, StandsFor};
 ghost use Rattle.bb_memory_core.specs.IndexSets.{Has, Lacks};
 ghost use Rattle.bb_memory_core.specs.Pool.{Takes, pool_of, reads_after, reads_of};
@@ -212,7 +212,7 @@ fn take<S: IndexSet>(
 
 impl<S: IndexSet> BaseAllocator for BucketPool<S> {
     ghost use Rattle.std.specs.Prelude.{ℕ, false};
-    ghost use Rattle.bb_memory_base.specs.PoolObject.{PoolGeometry, MayAllocate};
+    ghost use Rattle.bb_memory_traits.specs.PoolObject.{PoolGeometry, MayAllocate};
     ghost use Rattle.bb_memory_core.specs.Pool.{StandsFor, HoldsPlace, TakesBucket, FreesBucket, reads_of, held_place};
 
     const RELEASE_EMPTIES: bool = false;
@@ -280,7 +280,7 @@ impl<S: IndexSet> BaseAllocator for BucketPool<S> {
 impl<S: IndexSet> Allocator for BucketPool<S> {
     ghost use Rattle.bb_memory_core.specs.Pool.{covered, held_is_live};
     ghost use Rattle.std.specs.Prelude.{refl};
-    ghost use Rattle.bb_memory_base.specs.PoolObject.{PoolGeometry, MayGrow, MayShrink};
+    ghost use Rattle.bb_memory_traits.specs.PoolObject.{PoolGeometry, MayGrow, MayShrink};
 
     ghost Figures = { PoolGeometry };
 

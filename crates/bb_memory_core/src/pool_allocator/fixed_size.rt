@@ -1,7 +1,7 @@
 //! A pool that keeps which of its buckets are held in an array of its own.
 ghost use Rattle.std.specs.Prelude.{◌≡◌, [], ◌-◌, ◌<◌, ◌^◌, ◌↔◌, IsTrue};
-ghost use Rattle.bb_memory_base.specs.Chunk.{region_at};
-ghost use Rattle.bb_memory_base.specs.PoolObject.{PoolGeometry, IsCut, at_most};
+ghost use Rattle.bb_memory_traits.specs.Chunk.{region_at};
+ghost use Rattle.bb_memory_traits.specs.PoolObject.{PoolGeometry, IsCut, at_most};
 ghost use Rattle.bb_memory_core.specs.Pool.{MayBeCut, StandsFor, counted, fresh_pool};
 
 use crate::index_set::Counter;

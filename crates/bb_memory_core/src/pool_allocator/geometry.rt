@@ -1,9 +1,9 @@
 //! Where the buckets of a region are.
 ghost use Rattle.std.specs.Prelude.{◌≡◌, ℕ, ◌<◌, ◌≤◌, ◌/◌, ◌%◌, ◌↔◌, IfOk, IfSome, IfNone, IsTrue};
-ghost use Rattle.bb_memory_base.specs.Chunk.{IsRegion, region_at, Chunk, IsInside, first_place};
-ghost use Rattle.bb_memory_base.specs.PoolObject.{IsCut, IsPoolGeometry, at_most, bucket_place, pool_geometry, stride};
-ghost use Rattle.bb_memory_base.specs.PoolObject.{MayGrow, MayShrink};
-ghost use Rattle.bb_memory_core.specs.Buckets.{IsPlaceOfBucket, Shifts, TellsPlace};
+ghost use Rattle.bb_memory_traits.specs.Chunk.{IsRegion, region_at, Chunk, IsInside, first_place};
+ghost use Rattle.bb_memory_traits.specs.PoolObject.{IsCut, IsPoolGeometry, at_most, bucket_place, pool_geometry, stride};
+ghost use Rattle.bb_memory_traits.specs.PoolObject.{MayGrow, MayShrink};
+ghost use Rattle.bb_memory_core.specs.Pool.{IsPlaceOfBucket, Shifts, TellsPlace};
 ghost use Rattle.bb_memory_core.specs.Pool.{IsCutAtMost, MayBeCut};
 
 use crate::allocator::{AllocationGrowError, AllocationShrinkError};
@@ -41,9 +41,9 @@ pub struct Geometry {
 }
 
 impl Model for Geometry {
-    ghost use Rattle.bb_memory_base.specs.Chunk.{IsRegion, region_at};
-    ghost use Rattle.bb_memory_base.specs.PoolObject.{PoolGeometry, pool_geometry};
-    ghost use Rattle.bb_memory_core.specs.Buckets.{IsMeasured};
+    ghost use Rattle.bb_memory_traits.specs.Chunk.{IsRegion, region_at};
+    ghost use Rattle.bb_memory_traits.specs.PoolObject.{PoolGeometry, pool_geometry};
+    ghost use Rattle.bb_memory_core.specs.Pool.{IsMeasured};
 
     ghost Value = { PoolGeometry };
 
@@ -130,6 +130,17 @@ impl Geometry {
         }
     }
 
+    /// Tests that a distance is a multiple of the stride: by a mask, where the stride is a power of two.
+    #[inline(always)]
+    fn is_multiple(&self, distance: usize) -> bool
+        ensures { IsTrue result ↔ (distance % stride self.now.bucket ≡ 0) }
+    {
+        match self.shift {
+            Some(_) => distance & (self.stride - 1) == 0,
+            None => distance % self.stride == 0,
+        }
+    }
+
     /// The number of the bucket at this place, or `None` where no bucket begins there.
     #[inline(always)]
     pub fn number_at(&self, place: usize) -> Option<u32>
@@ -140,12 +151,11 @@ impl Geometry {
         ensures none { IfNone result (¬ IsPlaceOfBucket self.now place) }
     {
         let distance = place.checked_sub(self.first())?;
-        let number = self.strides(distance);
-        if number >= self.count() as usize {
+        if !self.is_multiple(distance) {
             return None;
         }
-        let chunk = self.chunk(number, 0);
-        if chunk.place() != place {
+        let number = self.strides(distance);
+        if number >= self.count() as usize {
             return None;
         }
         Some(number as u32)
@@ -173,7 +183,7 @@ impl Geometry {
         ensures inside { IsInside self.now.region result }
     {
         let place = self.first + bucket * self.stride;
-        Chunk::new(place, len).unwrap()
+        Chunk::new_unchecked(place, len)
     }
 
     /// Answers a `grow` of the chunk at `place`. The pool doesn't change.
@@ -193,7 +203,7 @@ impl Geometry {
         if new.size() > self.bucket.size() {
             return Err(AllocationGrowError::OutOfMemory);
         }
-        Ok(Chunk::new(place, new.size()).unwrap())
+        Ok(Chunk::new_unchecked(place, new.size()))
     }
 
     /// Answers a `shrink` of the chunk at `place`. The pool doesn't change.
@@ -216,6 +226,6 @@ impl Geometry {
         if new.align() > self.bucket.align() {
             return Err(AllocationShrinkError::AlignmentFailure);
         }
-        Ok(Chunk::new(place, new.size()).unwrap())
+        Ok(Chunk::new_unchecked(place, new.size()))
     }
 }

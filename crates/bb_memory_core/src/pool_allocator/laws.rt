@@ -1,16 +1,16 @@
 //! Laws that say in plain words what the definitions of the pool object and of its geometry come to.
 ghost use Rattle.std.specs.Prelude.{◌≡◌, ◌≢◌, ◌+◌, ◌-◌, ◌/◌, ◌^◌, ◌<◌, ◌≤◌, ◌%◌, [], List, All};
 ghost use Rattle.std.specs.Prelude.{AllPairs, ℕ, Result, Ok, Err, Some, IsOk, length, remove, slice_get};
-ghost use Rattle.bb_memory_base.specs.Chunk.{Region, IsRegion, region_end, Chunk, IsInside, first_place};
-ghost use Rattle.bb_memory_base.specs.Object.{AnswersAll, GivesOnly, IsRun, Step, ResizableStep};
-ghost use Rattle.bb_memory_base.specs.PoolObject.{PoolGeometry, IsCut, IsPoolGeometry, at_most, bucket_place, stride};
-ghost use Rattle.bb_memory_base.specs.PoolObject.{IsWithin, MayAllocate, MayGrow, MayShrink, pool_object};
-ghost use Rattle.bb_memory_base.specs.declared.layout.Layout.{Layout};
-ghost use Rattle.bb_memory_base.specs.declared.allocator.AllocationError.{AllocationError};
-ghost use Rattle.bb_memory_base.specs.declared.allocator.AllocationGrowError.{AllocationGrowError};
-ghost use Rattle.bb_memory_base.specs.declared.allocator.AllocationShrinkError.{AllocationShrinkError};
-ghost use Rattle.bb_memory_base.specs.declared.allocator.Command.{Command};
-ghost use Rattle.bb_memory_base.specs.declared.allocator.Reply.{Reply};
+ghost use Rattle.bb_memory_traits.specs.Chunk.{Region, IsRegion, region_end, Chunk, IsInside, first_place};
+ghost use Rattle.bb_memory_traits.specs.Object.{AnswersAll, GivesOnly, IsRun, Step, ResizableStep};
+ghost use Rattle.bb_memory_traits.specs.PoolObject.{PoolGeometry, IsCut, IsPoolGeometry, at_most, bucket_place, stride};
+ghost use Rattle.bb_memory_traits.specs.PoolObject.{IsWithin, MayAllocate, MayGrow, MayShrink, pool_object};
+ghost use Rattle.bb_memory_traits.specs.declared.layout.Layout.{Layout};
+ghost use Rattle.bb_memory_traits.specs.declared.allocator.AllocationError.{AllocationError};
+ghost use Rattle.bb_memory_traits.specs.declared.allocator.AllocationGrowError.{AllocationGrowError};
+ghost use Rattle.bb_memory_traits.specs.declared.allocator.AllocationShrinkError.{AllocationShrinkError};
+ghost use Rattle.bb_memory_traits.specs.declared.allocator.Command.{Command};
+ghost use Rattle.bb_memory_traits.specs.declared.allocator.Reply.{Reply};
 ghost use Rattle.bb_memory_core.specs.IndexSets.{Has};
 ghost use Rattle.bb_memory_core.specs.Pool.{AreAStrideApart, HoldsPlace, IsPool, MayBeCut, Pool, StandsFor, fresh_pool};
 

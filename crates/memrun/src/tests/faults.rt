@@ -24,7 +24,7 @@ used 1024 free 0 total 1024\n";
 type Row = (&'static [u8], &'static [u8], usize, Status);
 
 const SCRIPTS: [Row; 2] = [
-    (FIRST_PATH, FIRST_PATH_LINES, 50, Status::Done),
+    (FIRST_PATH, FIRST_PATH_LINES, 49, Status::Done),
     (
         b"bump 4096 8\nbad\n",
         b"line 2: refused\n",

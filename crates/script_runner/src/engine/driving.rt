@@ -73,8 +73,8 @@ pub trait Driven: Drop {
 /// The end of a script that was read.
 #[derive(Drop)]
 pub enum Outcome {
-    /// The texts to write: one for each reply, and one for each `show`.
-    Answered(Vec<Vec<u8>>),
+    /// The text to write: a line for each reply, and what each `show` writes.
+    Answered(Vec<u8>),
     /// The number of the first unreadable line.
     Unreadable(usize),
     /// Memory was refused.
@@ -89,7 +89,7 @@ pub fn drive<K: Driven>(alloc: Global, header: K::Header, rest: &[u8]) -> Outcom
 {
     match read_script::<K>(alloc, rest) {
         Ok(Ok(script)) => match answer::<K>(alloc, header, &script) {
-            Ok(texts) => Outcome::Answered(texts),
+            Ok(text) => Outcome::Answered(text),
             Err(_) => Outcome::OutOfMemory,
         },
         Ok(Err(index)) => Outcome::Unreadable(index + 2),
@@ -97,28 +97,28 @@ pub fn drive<K: Driven>(alloc: Global, header: K::Header, rest: &[u8]) -> Outcom
     }
 }
 
-/// Makes what the script drives, and runs the script on it. Returns the texts to write.
+/// Makes what the script drives, and runs the script on it. Returns the text to write.
 fn answer<K: Driven>(
     alloc: Global,
     header: K::Header,
     script: &[Line<K::Command>],
-) -> Result<Vec<Vec<u8>>, AllocError>
+) -> Result<Vec<u8>, AllocError>
     requires { K.rules.is_header header }
-    ensures { IfOk result (λ texts. (first : K) × (last : K) × K.rules.starts header first
-        × IsPlayed K.rules first script.now (flat_map (λ text. text.items) texts.items) last) }
+    ensures { IfOk result (λ text. (first : K) × (last : K) × K.rules.starts header first
+        × IsPlayed K.rules first script.now text.items last) }
 {
     let Ok(mut driven) = K::make(alloc, header) else {
         return Err(AllocError);
     };
     let mut waiting = Vec::new(alloc);
-    let mut texts = Vec::new(alloc);
+    let mut text = Vec::new(alloc);
     for line in script {
-        let Ok(()) = take(alloc, &mut driven, line, &mut waiting, &mut texts) else {
+        let Ok(()) = take(alloc, &mut driven, line, &mut waiting, &mut text) else {
             return Err(AllocError);
         };
     }
-    match tell(alloc, &mut driven, &waiting, &mut texts) {
-        Ok(()) => Ok(texts),
+    match tell(alloc, &mut driven, &waiting, &mut text) {
+        Ok(()) => Ok(text),
         Err(_) => Err(AllocError),
     }
 }
@@ -129,12 +129,11 @@ fn take<K: Driven>(
     driven: &mut K,
     line: &Line<K::Command>,
     waiting: &mut Vec<K::Command>,
-    texts: &mut Vec<Vec<u8>>,
+    text: &mut Vec<u8>,
 ) -> Result<(), AllocError>
     ensures { OnOk result ((added : List ℕ)
         × IsStep K.rules driven.old waiting.old.items line.now added driven.new waiting.new.items
-        × (flat_map (λ text. text.items) texts.new.items
-        ≡ flat_map (λ text. text.items) texts.old.items ++ added)) }
+        × (text.new.items ≡ text.old.items ++ added)) }
 {
     match line {
         Line::Command(command) => match waiting.push(*command) {
@@ -142,62 +141,31 @@ fn take<K: Driven>(
             Err(_) => Err(AllocError),
         },
         Line::Show => {
-            let Ok(()) = tell(alloc, driven, waiting, texts) else {
+            let Ok(()) = tell(alloc, driven, waiting, text) else {
                 return Err(AllocError);
             };
             waiting.clear();
-            show(alloc, driven, texts)
+            driven.write_state(text)
         }
     }
 }
 
-/// Adds the text of the state.
-fn show<K: Driven>(alloc: Global, driven: &K, texts: &mut Vec<Vec<u8>>) -> Result<(), AllocError>
-    ensures { OnOk result (flat_map (λ text. text.items) texts.new.items
-        ≡ flat_map (λ text. text.items) texts.old.items ++ K.rules.state_text driven.now) }
-{
-    let mut text = Vec::new(alloc);
-    let Ok(()) = driven.write_state(&mut text) else {
-        return Err(AllocError);
-    };
-    let Ok(()) = texts.push(text) else {
-        return Err(AllocError);
-    };
-    Ok(())
-}
-
-/// Runs commands, and adds the text of each reply.
+/// Runs commands, and adds the line of each reply.
 fn tell<K: Driven>(
     alloc: Global,
     driven: &mut K,
     commands: &[K::Command],
-    texts: &mut Vec<Vec<u8>>,
+    text: &mut Vec<u8>,
 ) -> Result<(), AllocError>
     ensures { OnOk result ((replies : List K.Reply)
         × K.rules.runs driven.old commands.now replies driven.new
-        × (flat_map (λ text. text.items) texts.new.items
-        ≡ flat_map (λ text. text.items) texts.old.items ++ flat_map K.rules.reply_text replies)) }
+        × (text.new.items ≡ text.old.items ++ flat_map K.rules.reply_text replies)) }
 {
-    match driven.run(alloc, commands) {
-        Ok(replies) => tell_replies::<K>(alloc, &replies, texts),
-        Err(_) => Err(AllocError),
-    }
-}
-
-/// Adds the text of each reply.
-fn tell_replies<K: Driven>(
-    alloc: Global,
-    replies: &[K::Reply],
-    texts: &mut Vec<Vec<u8>>,
-) -> Result<(), AllocError>
-    ensures { OnOk result (flat_map (λ text. text.items) texts.new.items
-        ≡ flat_map (λ text. text.items) texts.old.items ++ flat_map K.rules.reply_text replies.now) }
-{
-    for reply in replies {
-        let Ok(text) = K::reply_text(reply).written(alloc) else {
-            return Err(AllocError);
-        };
-        let Ok(()) = texts.push(text) else {
+    let Ok(replies) = driven.run(alloc, commands) else {
+        return Err(AllocError);
+    };
+    for reply in &replies {
+        let Ok(()) = K::reply_text(reply).write(text) else {
             return Err(AllocError);
         };
     }

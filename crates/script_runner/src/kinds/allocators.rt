@@ -1,22 +1,20 @@
 //! Allocators that a script drives: what all of them share.
-ghost use Rattle.std.specs.Prelude.{◌≡◌, IfSome, Some, codes};
-ghost use Rattle.bb_memory_base.specs.declared.allocator.Command.{Command};
-ghost use Rattle.script_runner.specs.Words.{words_then, text_bytes};
-ghost use Rattle.script_runner.specs.Allocators.{command_words, refusal_name, grow_refusal_name, shrink_refusal_name};
+ghost use Rattle.std.specs.Prelude.{◌≡◌};
+ghost use Rattle.script_runner.specs.Allocators.{refusal_name};
 
 use crate::engine::driving::Driven;
 use crate::words::{Numbers, Text, is, layout};
-use bb_memory_core::allocator::{
+use bb_memory_traits::allocator::{
     AllocationError, AllocationGrowError, AllocationShrinkError, Command, Reply,
 };
-use bb_memory_core::layout::Chunk;
+use bb_memory_traits::layout::Chunk;
 use std::alloc::{AllocError, Global};
 use std::marker::Model;
 
 /// An allocator that a script drives: how it is made by a header, run, and shown.
 pub trait Scripted: Drop {
     ghost use Rattle.std.specs.Prelude.{◌≡◌, ◌++◌, [], List, Some, OnOk, OnErr, IfOk, IfSome};
-    ghost use Rattle.bb_memory_base.specs.Chunk.{Chunk};
+    ghost use Rattle.bb_memory_traits.specs.Chunk.{Chunk};
     ghost use Rattle.script_runner.specs.Allocators.{AllocatorRules};
 
     /// The value that a header names.
@@ -95,13 +93,37 @@ impl<A: Scripted> Driven for Live<A> {
     }
 
     fn make(alloc: Global, header: A::Header) -> Result<Self, AllocError> {
-        let allocator = A::make(alloc, header)?;
+        let Ok(allocator) = A::make(alloc, header) else {
+            return Err(AllocError);
+        };
         let live = Vec::new(alloc);
         Ok(Live { allocator, live })
     }
 
     fn read(name: &[u8], numbers: Numbers) -> Option<Command> {
-        command(name, numbers)
+        match numbers {
+            Numbers::One(position) if is(name, b"free") => Some(Command::Release(position)),
+            Numbers::Two(size, align) if is(name, b"alloc") => match layout(size, align) {
+                Some(layout) => Some(Command::Allocate(layout)),
+                None => None,
+            },
+            Numbers::Five(position, old_size, old_align, size, align) => {
+                let Some(old) = layout(old_size, old_align) else {
+                    return None;
+                };
+                let Some(new) = layout(size, align) else {
+                    return None;
+                };
+                if is(name, b"grow") {
+                    Some(Command::Grow(position, old, new))
+                } else if is(name, b"shrink") {
+                    Some(Command::Shrink(position, old, new))
+                } else {
+                    None
+                }
+            }
+            _ => None,
+        }
     }
 
     fn run(&mut self, _alloc: Global, commands: &[Command]) -> Result<Vec<Reply>, AllocError> {
@@ -111,44 +133,28 @@ impl<A: Scripted> Driven for Live<A> {
     fn reply_text(reply: &Reply) -> Text {
         match reply {
             Reply::Chunk(chunk) => Text::Line(b"chunk", Numbers::Two(chunk.place(), chunk.len())),
-            Reply::Released => Text::Line(b"released", Numbers::Zero),
-            Reply::Passed => Text::Line(b"passed", Numbers::Zero),
-            Reply::Refused(error) => Text::Line(refusal(*error), Numbers::Zero),
-            Reply::GrowRefused(error) => Text::Line(grow_refusal(*error), Numbers::Zero),
-            Reply::ShrinkRefused(error) => Text::Line(shrink_refusal(*error), Numbers::Zero),
+            Reply::Released => Text::Name(b"released"),
+            Reply::Passed => Text::Name(b"passed"),
+            Reply::Refused(error) => Text::Name(refusal(*error)),
+            Reply::GrowRefused(AllocationGrowError::GrowWouldShrink) => Text::Name(
+                b"GrowWouldShrink",
+            ),
+            Reply::GrowRefused(AllocationGrowError::AlignmentFailure) => Text::Name(
+                b"AlignmentFailure",
+            ),
+            Reply::GrowRefused(AllocationGrowError::OutOfMemory) => Text::Name(b"OutOfMemory"),
+            Reply::ShrinkRefused(AllocationShrinkError::ShrinkWouldGrow) => Text::Name(
+                b"ShrinkWouldGrow",
+            ),
+            Reply::ShrinkRefused(AllocationShrinkError::AlignmentFailure) => Text::Name(
+                b"AlignmentFailure",
+            ),
+            Reply::ShrinkRefused(AllocationShrinkError::SizeIsZero) => Text::Name(b"SizeIsZero"),
         }
     }
 
     fn write_state(&self, line: &mut Vec<u8>) -> Result<(), AllocError> {
         self.allocator.write_state(self.live.len(), line)
-    }
-}
-
-/// Reads the words of a command.
-fn command(name: &[u8], numbers: Numbers) -> Option<Command>
-    ensures written { IfSome result (λ command. (name.now ≡ (command_words command).name)
-        × (numbers ≡ (command_words command).numbers)) }
-    ensures each { (command : Command) → name.now ≡ (command_words command).name
-        → numbers ≡ (command_words command).numbers → result ≡ Some command }
-{
-    match numbers {
-        Numbers::One(position) if is(name, b"free") => Some(Command::Release(position)),
-        Numbers::Two(size, align) if is(name, b"alloc") => match layout(size, align) {
-            Some(layout) => Some(Command::Allocate(layout)),
-            None => None,
-        },
-        Numbers::Five(position, old_size, old_align, size, align) => {
-            match (layout(old_size, old_align), layout(size, align)) {
-                (Some(old), Some(new)) if is(name, b"grow") => Some(Command::Grow(
-                    position, old, new,
-                )),
-                (Some(old), Some(new)) if is(name, b"shrink") => Some(Command::Shrink(
-                    position, old, new,
-                )),
-                _ => None,
-            }
-        }
-        _ => None,
     }
 }
 
@@ -161,25 +167,5 @@ pub fn refusal(error: AllocationError) -> &'static [u8]
         AllocationError::SizeTooLarge => b"SizeTooLarge",
         AllocationError::AlignmentFailure => b"AlignmentFailure",
         AllocationError::OutOfMemory => b"OutOfMemory",
-    }
-}
-
-fn grow_refusal(error: AllocationGrowError) -> &'static [u8]
-    ensures { result.now ≡ grow_refusal_name error }
-{
-    match error {
-        AllocationGrowError::GrowWouldShrink => b"GrowWouldShrink",
-        AllocationGrowError::AlignmentFailure => b"AlignmentFailure",
-        AllocationGrowError::OutOfMemory => b"OutOfMemory",
-    }
-}
-
-fn shrink_refusal(error: AllocationShrinkError) -> &'static [u8]
-    ensures { result.now ≡ shrink_refusal_name error }
-{
-    match error {
-        AllocationShrinkError::ShrinkWouldGrow => b"ShrinkWouldGrow",
-        AllocationShrinkError::AlignmentFailure => b"AlignmentFailure",
-        AllocationShrinkError::SizeIsZero => b"SizeIsZero",
     }
 }

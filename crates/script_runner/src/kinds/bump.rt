@@ -2,14 +2,14 @@
 
 use crate::kinds::allocators::Scripted;
 use crate::words::{Bounds, Figure, Numbers, region, write_figures};
-use bb_memory_core::allocator::{Command, Reply};
-use bb_memory_core::bump_allocator::{BumpAllocator, run_bump};
-use bb_memory_core::layout::Chunk;
+use bb_memory_bump::bump_allocator::{BumpAllocator, run_bump};
+use bb_memory_traits::allocator::{Command, Reply};
+use bb_memory_traits::layout::Chunk;
 use std::alloc::{AllocError, Global};
 use std::io::Write;
 
 impl Scripted for BumpAllocator {
-    ghost use Rattle.bb_memory_base.specs.BumpObject.{StandsFor};
+    ghost use Rattle.bb_memory_traits.specs.BumpObject.{StandsFor};
     ghost use Rattle.script_runner.specs.Allocators.{bump_rules};
 
     type Header = Bounds;

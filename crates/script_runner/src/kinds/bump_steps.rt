@@ -2,7 +2,7 @@
 
 use crate::engine::driving::Driven;
 use crate::words::{Bounds, Numbers, PARTIES, Text, is, layout, party_of, region, write_words};
-use bb_memory_core::steps::{BumpOutcome, BumpStep, BumpWorld};
+use bb_memory_base::steps::{BumpOutcome, BumpStep, BumpWorld};
 use std::alloc::{AllocError, Global};
 
 impl Driven for BumpWorld {
@@ -35,15 +35,25 @@ impl Driven for BumpWorld {
     fn read(name: &[u8], numbers: Numbers) -> Option<BumpStep> {
         match numbers {
             Numbers::Zero if is(name, b"clear") => Some(BumpStep::Clear),
-            Numbers::One(party) => match party_of(party) {
-                Some(party) if is(name, b"exchange") => Some(BumpStep::Exchange { party }),
-                Some(party) if is(name, b"load") => Some(BumpStep::Load { party }),
-                _ => None,
-            },
+            Numbers::One(party) => {
+                let Some(party) = party_of(party) else {
+                    return None;
+                };
+                if is(name, b"exchange") {
+                    Some(BumpStep::Exchange { party })
+                } else if is(name, b"load") {
+                    Some(BumpStep::Load { party })
+                } else {
+                    None
+                }
+            }
             Numbers::Three(party, size, align) if is(name, b"read") => {
-                match (party_of(party), layout(size, align)) {
-                    (Some(party), Some(layout)) => Some(BumpStep::Read { party, layout }),
-                    _ => None,
+                let Some(party) = party_of(party) else {
+                    return None;
+                };
+                match layout(size, align) {
+                    Some(layout) => Some(BumpStep::Read { party, layout }),
+                    None => None,
                 }
             }
             _ => None,
@@ -64,8 +74,8 @@ impl Driven for BumpWorld {
             BumpOutcome::Loses(used) => Text::Line(b"loses", Numbers::One(*used)),
             BumpOutcome::RefusedAtLoss(used) => Text::Refused(b"loses", Numbers::One(*used)),
             BumpOutcome::Loaded(used) => Text::Line(b"used", Numbers::One(*used)),
-            BumpOutcome::Cleared => Text::Line(b"cleared", Numbers::Zero),
-            BumpOutcome::Passed => Text::Line(b"passed", Numbers::Zero),
+            BumpOutcome::Cleared => Text::Name(b"cleared"),
+            BumpOutcome::Passed => Text::Name(b"passed"),
         }
     }
 

@@ -3,8 +3,8 @@ ghost use Rattle.std.specs.Prelude.{◌≡◌};
 ghost use Rattle.script_runner.specs.LoanPool.{loan_refusal_name};
 
 use crate::engine::driving::Driven;
-use crate::kinds::allocators::refusal;
-use crate::kinds::pool::{PoolPlan, pool_of, pool_plan};
+use crate::kinds::allocators::{Scripted, refusal};
+use crate::kinds::pool::{PoolPlan, pool_plan};
 use crate::words::{Numbers, Text, is, small};
 use bb_memory_core::pool_allocator::PoolAllocator;
 use loan_book::{LoanBook, LoanCall, LoanError, LoanReply, run_loans};
@@ -37,7 +37,9 @@ impl Driven for LoanPool {
     }
 
     fn make(alloc: Global, header: PoolPlan) -> Result<Self, AllocError> {
-        let pool = pool_of(alloc, header)?;
+        let Ok(pool) = <PoolAllocator<Global> as Scripted>::make(alloc, header) else {
+            return Err(AllocError);
+        };
         let book = LoanBook::new(alloc, pool);
         Ok(book)
     }
@@ -66,7 +68,9 @@ impl Driven for LoanPool {
     }
 
     fn run(&mut self, alloc: Global, calls: &[LoanCall]) -> Result<Vec<LoanReply>, AllocError> {
-        let replies = run_loans(alloc, self, calls)?;
+        let Ok(replies) = run_loans(alloc, self, calls) else {
+            return Err(AllocError);
+        };
         if replies.contains(&LoanReply::Refused(LoanError::Memory)) {
             return Err(AllocError);
         }
@@ -79,12 +83,12 @@ impl Driven for LoanPool {
                 let numbers = Numbers::Three(*id as usize, chunk.place(), chunk.len());
                 Text::Line(b"loan", numbers)
             }
-            LoanReply::Published => Text::Line(b"published", Numbers::Zero),
-            LoanReply::Returned => Text::Line(b"returned", Numbers::Zero),
-            LoanReply::Kept => Text::Line(b"kept", Numbers::Zero),
-            LoanReply::Out(true) => Text::Line(b"yes", Numbers::Zero),
-            LoanReply::Out(false) => Text::Line(b"no", Numbers::Zero),
-            LoanReply::Refused(error) => Text::Line(loan_refusal(*error), Numbers::Zero),
+            LoanReply::Published => Text::Name(b"published"),
+            LoanReply::Returned => Text::Name(b"returned"),
+            LoanReply::Kept => Text::Name(b"kept"),
+            LoanReply::Out(true) => Text::Name(b"yes"),
+            LoanReply::Out(false) => Text::Name(b"no"),
+            LoanReply::Refused(error) => Text::Name(loan_refusal(*error)),
         }
     }
 

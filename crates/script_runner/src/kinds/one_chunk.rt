@@ -2,9 +2,9 @@
 
 use crate::kinds::allocators::Scripted;
 use crate::words::{Bounds, Figure, Numbers, region, write_figures};
-use bb_memory_core::allocator::{Command, Reply};
-use bb_memory_core::layout::Chunk;
 use bb_memory_core::one_chunk_allocator::{OneChunkAllocator, run_one_chunk};
+use bb_memory_traits::allocator::{Command, Reply};
+use bb_memory_traits::layout::Chunk;
 use std::alloc::{AllocError, Global};
 
 impl Scripted for OneChunkAllocator {

@@ -1,15 +1,14 @@
 //! A pool that a script drives, and a fixed one.
-ghost use Rattle.std.specs.Prelude.{◌≡◌, [], IfOk, IfSome, Some};
-ghost use Rattle.bb_memory_core.specs.Pool.{StandsFor};
-ghost use Rattle.script_runner.specs.Allocators.{BeginsPool, IsPoolPlan, pool_numbers};
+ghost use Rattle.std.specs.Prelude.{◌≡◌, IfSome, Some};
+ghost use Rattle.script_runner.specs.Allocators.{IsPoolPlan, pool_numbers};
 
 use crate::kinds::allocators::Scripted;
 use crate::words::{Figure, Numbers, is, layout, write_figures};
-use bb_memory_core::allocator::{Command, Reply};
-use bb_memory_core::layout::{Chunk, Layout};
 use bb_memory_core::pool_allocator::{
     FixedSizePoolAllocator, PoolAllocator, run_fixed_pool, run_pool,
 };
+use bb_memory_traits::allocator::{Command, Reply};
+use bb_memory_traits::layout::{Chunk, Layout};
 use std::alloc::{AllocError, Global};
 
 /// The region that a pool cuts, and the layout of each of its buckets.
@@ -29,7 +28,9 @@ pub fn pool_plan(kind: &[u8], name: &[u8], numbers: Numbers) -> Option<PoolPlan>
 {
     match numbers {
         Numbers::Four(start, size, bucket, align) if is(name, kind) => {
-            let bucket = layout(bucket, align)?;
+            let Some(bucket) = layout(bucket, align) else {
+                return None;
+            };
             if PoolAllocator::can_make(bucket, start, size) {
                 Some(PoolPlan {
                     start,
@@ -59,7 +60,11 @@ impl Scripted for PoolAllocator<Global> {
     }
 
     fn make(alloc: Global, header: PoolPlan) -> Result<Self, AllocError> {
-        pool_of(alloc, header)
+        let uninit = PoolAllocator::new_uninit(header.bucket, header.start, header.size);
+        match uninit.init(alloc) {
+            Ok(pool) => Ok(pool),
+            Err(_) => Err(AllocError),
+        }
     }
 
     fn run(
@@ -81,19 +86,6 @@ impl Scripted for PoolAllocator<Global> {
             Figure(b" reads ", self.last_reads() as usize),
         ];
         write_figures(&figures, b"\n", line)
-    }
-}
-
-/// Makes a pool by the plan.
-pub fn pool_of(alloc: Global, plan: PoolPlan) -> Result<PoolAllocator<Global>, AllocError>
-    requires { IsPoolPlan plan }
-    ensures begins { IfOk result (λ pool. BeginsPool plan pool) }
-    ensures empty { IfOk result (λ pool. StandsFor pool.pool []) }
-{
-    let uninit = PoolAllocator::new_uninit(plan.bucket, plan.start, plan.size);
-    match uninit.init(alloc) {
-        Ok(pool) => Ok(pool),
-        Err(_) => Err(AllocError),
     }
 }
 

@@ -1,11 +1,8 @@
 //! A pool world that a script drives by its steps.
-ghost use Rattle.std.specs.Prelude.{◌≡◌, ◌++◌, OnOk};
-ghost use Rattle.std.specs.List.{flat_map};
-ghost use Rattle.script_runner.specs.Steps.{flag_text};
 
 use crate::engine::driving::Driven;
 use crate::words::{Numbers, PARTIES, Text, is, party_of, small, write_words};
-use bb_memory_core::steps::{PoolOutcome, PoolStep, PoolWorld};
+use bb_memory_base::steps::{PoolOutcome, PoolStep, PoolWorld};
 use std::alloc::{AllocError, Global};
 
 /// The most buckets that a script may ask for.
@@ -72,7 +69,7 @@ impl Driven for PoolWorld {
                 Text::Refused(b"loses", Numbers::One(*bucket as usize))
             }
             PoolOutcome::Gives(bucket) => Text::Line(b"gives", Numbers::One(*bucket as usize)),
-            PoolOutcome::Passed => Text::Line(b"passed", Numbers::Zero),
+            PoolOutcome::Passed => Text::Name(b"passed"),
             PoolOutcome::Misses(bucket) => Text::Line(b"misses", Numbers::One(*bucket as usize)),
             PoolOutcome::Detaches(bucket) => Text::Line(
                 b"detaches",
@@ -86,21 +83,18 @@ impl Driven for PoolWorld {
     }
 
     fn write_state(&self, line: &mut Vec<u8>) -> Result<(), AllocError> {
-        line.extend_from_slice(b"held")?;
-        write_holders(self, line)?;
+        let Ok(()) = line.extend_from_slice(b"held") else {
+            return Err(AllocError);
+        };
+        for bucket in 0..self.number_of_buckets() {
+            let written = match self.holder(bucket) {
+                Some(party) => write_words(b"", Numbers::One(party as usize), b"", line),
+                None => line.extend_from_slice(b" -"),
+            };
+            let Ok(()) = written else {
+                return Err(AllocError);
+            };
+        }
         line.extend_from_slice(b"\n")
     }
-}
-
-/// Writes the holder of each bucket.
-fn write_holders(world: &PoolWorld, line: &mut Vec<u8>) -> Result<(), AllocError>
-    ensures { OnOk result (line.new.items ≡ line.old.items ++ flat_map flag_text world.now.flags) }
-{
-    for bucket in 0..world.number_of_buckets() {
-        match world.holder(bucket) {
-            Some(party) => write_words(b"", Numbers::One(party as usize), b"", line)?,
-            None => line.extend_from_slice(b" -")?,
-        }
-    }
-    Ok(())
 }

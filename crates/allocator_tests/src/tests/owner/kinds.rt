@@ -1,6 +1,6 @@
 //! The allocators with one owner: how a row makes each, its getters and its runs.
 ghost use Rattle.std.specs.Prelude.{◌≡◌, [], IfSome};
-ghost use Rattle.bb_memory_base.specs.Chunk.{region_at};
+ghost use Rattle.bb_memory_traits.specs.Chunk.{region_at};
 ghost use Rattle.bb_memory.specs.Pool.{StandsFor};
 
 use super::{Owner, keeps};

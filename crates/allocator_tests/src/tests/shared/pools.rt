@@ -1,7 +1,7 @@
 //! Either form of the shared pool, so that one driver makes the rows of both.
 ghost use Rattle.std.specs.Prelude.{◌≡◌, ◌≤◌, ℕ, All, IfOk, IfSome};
 ghost use Rattle.bb_memory_base.specs.PoolLogs.{IsHeldAfter};
-ghost use Rattle.bb_memory_base.specs.Chunk.{region_at};
+ghost use Rattle.bb_memory_traits.specs.Chunk.{region_at};
 ghost use Rattle.bb_memory.specs.Pool.{MayBeCut};
 ghost use Rattle.bb_memory.specs.SharedPool.{IsAlignedTo, IsResizedTo};
 ghost use Rattle.allocator_tests.specs.Pools.{IsKeptBy};

@@ -220,7 +220,7 @@ fn last_of(pool: &SharedPoolAllocator, parties: &mut Vec<PoolParty>) -> Option<P
 }
 
 /// Makes a pool of two buckets, with its two parties.
-fn two_of(alloc: Global) -> Option<(SharedPoolAllocator, PoolParty, PoolParty)>
+pub(in crate::tests) fn two_of(alloc: Global) -> Option<(SharedPoolAllocator, PoolParty, PoolParty)>
     ensures others { IfSome result (λ made. 1 < made.0.scene.parties) }
     ensures first { IfSome result (λ made. made.1.allocator ≡ made.0) }
     ensures second { IfSome result (λ made. made.2.allocator ≡ made.0) }

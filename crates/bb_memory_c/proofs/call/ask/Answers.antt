@@ -1,6 +1,6 @@
 use Rattle.std.proofs.Common.{◌≡◌, Result, subst}
-use Rattle.bb_memory_base.specs.Chunk.{Chunk}
-use Rattle.bb_memory_base.specs.declared.allocator.AllocationError.{AllocationError}
+use Rattle.bb_memory_traits.specs.Chunk.{Chunk}
+use Rattle.bb_memory_traits.specs.declared.allocator.AllocationError.{AllocationError}
 use Rattle.bb_memory_c.specs.Answers.{answer_of}
 use Rattle.bb_memory_c.proofs.Layouts.{is_layout, the_same}
 use Rattle.bb_memory_c.proofs.call.ask.Goals as goal

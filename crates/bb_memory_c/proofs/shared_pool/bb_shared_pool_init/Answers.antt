@@ -1,7 +1,7 @@
 use Rattle.std.proofs.Common.{◌≡◌, ◌≢◌, ◌≤◌, ◌∙◌, ℕ, arith, refl, sym}
 use Rattle.std.proofs.lemmas.Bool.{false≢true}
-use Rattle.bb_memory_base.specs.Chunk.{region_at}
-use Rattle.bb_memory_c.proofs.Makers.{is_empty, not-cut, not-may, not-room, tried}
+use Rattle.bb_memory_traits.specs.Chunk.{region_at}
+use Rattle.bb_memory_c.proofs.Makers.{is_empty, made-already, not-cut, not-may, not-room, tried}
 use Rattle.bb_memory_c.proofs.shared_pool.bb_shared_pool_init.Goals as goal
 
 some_party : (parties : ℕ) → parties ≢ 0 → 1 ≤ parties
@@ -9,6 +9,9 @@ some_party parties some = omega arith
 
 no_party : (parties : ℕ) → parties ≡ 0 → ¬ (1 ≤ parties)
 no_party parties none one = omega arith
+
+pub returns-then-is_made : goal.returns-then-is_made
+returns-then-is_made c = made-already (c.is_made.ensures.value.0 c.if-is_made.true) c.is_made.ensures.unchanged
 
 pub returns-in-Err : goal.returns-in-Err
 returns-in-Err c =
@@ -33,6 +36,9 @@ returns-in_default c =
     (some_party _ c.if-parties-eq0.false, c.in-Ok.ensures.cut.may) _
     (c.has_room.ensures.0 c.if-not-has_room.false)
     (λ wrong. absurd (cc)) (λ _. refl) (λ _. c.is_made.ensures.unchanged)
+
+pub keep-requires : goal.keep-requires
+keep-requires c = c.is_made.ensures.unchanged ∙ is_empty _ _ c.is_made.ensures.value c.if-is_made.false
 
 pub returns : goal.returns
 returns c =

@@ -1,11 +1,10 @@
 use Rattle.std.proofs.Common.{rules, ◌≡◌, ◌+◌, ◌∷◌, ◌++◌, [], take, take_all, get_or, ◌∙◌, subst, arith}
 use Rattle.std.proofs.lemmas.List.{take_more}
-use Rattle.bb_memory_base.proofs.Runs.{IsRun-push}
+use Rattle.bb_memory_traits.proofs.Runs.{IsRun-push}
 use Rattle.loan_book.specs.declared.run.LoanCall.TheVariants.{Loan}
-use Rattle.loan_book.specs.Runs.{BookStep}
-use Rattle.loan_book.proofs.BookRuns.{run-returns, run-unpublished}
-use Rattle.loan_book.proofs.LoanedIds.{run-counted, run-ids}
-use Rattle.loan_book.proofs.PublishedRuns.{run-published, run-loaned}
+use Rattle.loan_book.specs.Calls.{BookStep}
+use Rattle.loan_book.proofs.BookRuns.{run-returns, run-unpublished, run-published, run-loaned}
+use Rattle.loan_book.proofs.LoanedIds.{run-ids}
 use Rattle.loan_book.proofs.run.run_loans.Goals as goal
 
 pub loop-call-preserved : goal.loop-call-preserved
@@ -43,12 +42,12 @@ returns g c =
     let run = rw all at c.loop-call.invariant.run in
     record {
       run = run;
-      counted = run-counted may old new calls replies run;
-      ids = run-ids may old new calls replies run;
-      returned = λ id returns waits. run-returns may old new calls replies id returns is waits run;
-      unpublished = λ id unpublished none. run-unpublished may old new calls replies id is unpublished none run;
-      published = λ i id readers called replied. run-published may old new calls replies i id readers is run called replied;
-      loaned = λ i id chunk replied none. run-loaned may old new calls replies i id chunk is run replied none;
+      counted = (run-ids may old new calls replies run).0;
+      ids = (run-ids may old new calls replies run).1;
+      returned = λ id returns waits. run-returns may new id old calls replies returns is waits run;
+      unpublished = λ id unpublished none. run-unpublished may new id old calls replies is unpublished none run;
+      published = λ i id readers called replied. run-published may new id old calls replies i readers is run called replied;
+      loaned = λ i id chunk replied none. run-loaned may new id old calls replies i chunk is run replied none;
       book = search rules;
       stands = search rules;
       sound = search rules;

@@ -1,6 +1,6 @@
 use Rattle.std.proofs.Common.{◌≡◌, ◌≤◌, take, length, vec_len, vec_capacity}
-use Rattle.bb_memory_base.specs.Object.{IsRun}
-use Rattle.loan_book.specs.Runs.{BookStep}
+use Rattle.bb_memory_traits.specs.Object.{IsRun}
+use Rattle.loan_book.specs.Calls.{BookStep}
 use Rattle.loan_book.proofs.run.run_loans.Given as goal
 
 -- the calls so far are a run, and there is room for the replies

@@ -5,13 +5,14 @@ use Rattle.script_runner.proofs.Tables.{unreadable_first, unreadable_empty, no_w
 use Rattle.script_runner.proofs.running.outcome_of.Goals as goal
 
 pub returns-in_default : goal.returns-in_default
-returns-in_default c =
-    rw (rw c.in_default.is at c.first_line.ensures.none) (unreadable_empty kinds)
+returns-in_default c = rw (rw c.in_default.is at c.first_line.ensures.none) (unreadable_empty kinds)
 
 pub run-requires-clause-apart : goal.run-requires-clause-apart
+unfolding kinds
 run-requires-clause-apart c = refl
 
 pub returns-in-Some-words : goal.returns-in-Some-words
+unfolding kinds
 returns-in-Some-words c = rw (c.in-Some.ensures.cut, c.in-Some-words.ensures.written.text) c.run.ensures
 
 pub returns-in-None : goal.returns-in-None

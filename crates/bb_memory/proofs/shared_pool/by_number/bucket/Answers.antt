@@ -1,5 +1,5 @@
 use Rattle.std.proofs.Common.{◌<◌, subst}
-use Rattle.bb_memory_base.proofs.PoolGeometries.{bucket_place-aligned}
+use Rattle.bb_memory_traits.proofs.PoolGeometries.{bucket_place-aligned}
 use Rattle.bb_memory.specs.SharedPool.{SharedPool}
 use Rattle.bb_memory.proofs.SharedPoolLaws.{held_below}
 use Rattle.bb_memory.proofs.shared_pool.by_number.bucket.Goals as goal

@@ -1,6 +1,6 @@
 use Rattle.std.proofs.Common.{ap, ◌∙◌}
 use Rattle.bb_memory_base.specs.BumpMachine.{Loaded, load, left_by, opening_state}
-use Rattle.bb_memory_base.proofs.LiveLists.{stands_for_some}
+use Rattle.bb_memory_traits.proofs.LiveLists.{stands_for_some}
 use Rattle.bb_memory_base.proofs.BumpRuns.{calls_run, calls_beginning, run_at_step, calls_stand, position_used}
 use Rattle.bb_memory_base.proofs.BumpStretches.{stretch_grows, sound_from, healthy_after}
 use Rattle.bb_memory_base.proofs.BumpLosses.{losses_raise, losses_few}

@@ -1,5 +1,5 @@
 use Rattle.std.proofs.Common.{rules}
-use Rattle.bb_memory_base.proofs.PoolGeometries.{some_geometry}
+use Rattle.bb_memory_traits.proofs.PoolGeometries.{some_geometry}
 use Rattle.bb_memory_base.proofs.PoolHolders.{detached_unheld, holder_in_log, one_holder}
 use Rattle.bb_memory_base.proofs.PoolPasses.{missed_is_held, refused_found_held}
 use Rattle.bb_memory_base.proofs.PoolRuns.{pool_run, run_at_step, taken_is_held, run_is_sound}

@@ -1,5 +1,5 @@
 use denote.Param.Send.{IsSend, owning_send}
-use Rattle.bb_memory_core.specs.contracts.bump_allocator.BumpAllocator.{the_row as made_row}
+use Rattle.bb_memory_bump.specs.contracts.bump_allocator.BumpAllocator.{the_row as made_row}
 use Rattle.bb_memory.proofs.bump_allocator.BumpAllocator.TheSendSync.{the_send}
 use Rattle.bb_memory_c.proofs.Crossing.{owned, two_send}
 use Rattle.bb_memory_c.specs.contracts.handle.BumpHandle.{the_row, the_type}

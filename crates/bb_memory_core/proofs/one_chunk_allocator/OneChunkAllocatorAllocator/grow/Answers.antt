@@ -1,8 +1,8 @@
 use Rattle.std.proofs.Common.{◌%◌, ap, ◌∙◌, arith}
-use Rattle.bb_memory_base.specs.Chunk.{Chunk}
-use Rattle.bb_memory_base.proofs.Layouts.{multiple}
+use Rattle.bb_memory_traits.specs.Chunk.{Chunk}
+use Rattle.bb_memory_traits.proofs.Layouts.{multiple}
 use Rattle.bb_memory_core.specs.OneChunk.{OneChunk}
-use Rattle.bb_memory_base.specs.OneChunkObject.{reserved_at, rest_from}
+use Rattle.bb_memory_traits.specs.OneChunkObject.{reserved_at, rest_from}
 use Rattle.bb_memory_core.proofs.one_chunk_allocator.OneChunkAllocatorAllocator.grow.Goals as goal
 
 pub returns-clause-value : goal.returns-clause-value

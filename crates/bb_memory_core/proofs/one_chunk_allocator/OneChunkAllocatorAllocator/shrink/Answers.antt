@@ -1,6 +1,6 @@
 use Rattle.std.proofs.Common.{◌%◌, ap, ◌∙◌, arith}
-use Rattle.bb_memory_base.specs.Chunk.{Chunk}
-use Rattle.bb_memory_base.proofs.Layouts.{multiple}
+use Rattle.bb_memory_traits.specs.Chunk.{Chunk}
+use Rattle.bb_memory_traits.proofs.Layouts.{multiple}
 use Rattle.bb_memory_core.proofs.one_chunk_allocator.OneChunkAllocatorAllocator.shrink.Goals as goal
 
 pub returns-clause-aligned : goal.returns-clause-aligned

@@ -1,5 +1,5 @@
 use Rattle.std.proofs.Common.{subst, List}
-use Rattle.bb_memory_base.specs.Chunk.{Chunk}
+use Rattle.bb_memory_traits.specs.Chunk.{Chunk}
 use Rattle.bb_memory_core.specs.OneChunk.{OneChunk, one_chunk_of, StandsFor}
 use Rattle.bb_memory_core.proofs.OneChunks.{stands_for_some}
 use Rattle.bb_memory_core.proofs.one_chunk_allocator.OneChunkAllocatorBaseAllocator.stands_for_some_list.Goals as goal

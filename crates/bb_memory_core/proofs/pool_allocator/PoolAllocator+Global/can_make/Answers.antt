@@ -1,6 +1,6 @@
 use Rattle.std.proofs.Common.{◌≡◌, ◌/◌, arith}
 use Rattle.std.proofs.lemmas.Bool.{ltb-true, lt-ltb}
-use Rattle.bb_memory_base.specs.Chunk.{Region, IsRegion, region_at, first_place}
+use Rattle.bb_memory_traits.specs.Chunk.{Region, IsRegion, region_at, first_place}
 use Rattle.bb_memory_core.proofs.Cuts.{stride-positive, room_for, may-be-cut, may-be-cut-few}
 use Rattle.bb_memory_core.proofs.pool_allocator.PoolAllocator+Global.can_make.Goals as goal
 

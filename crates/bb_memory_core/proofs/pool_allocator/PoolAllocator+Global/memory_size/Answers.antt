@@ -1,5 +1,5 @@
 use Rattle.std.proofs.Common.{◌≡◌, ◌*◌, ◌/◌, arith, ap}
-use Rattle.bb_memory_base.specs.Chunk.{region_at}
+use Rattle.bb_memory_traits.specs.Chunk.{region_at}
 use Rattle.bb_memory_core.proofs.Cuts.{cut-most, words_with_list-most}
 use Rattle.bb_memory_core.proofs.pool_allocator.PoolAllocator+Global.memory_size.Goals as goal
 

@@ -1,9 +1,9 @@
 use Rattle.std.proofs.Common.{◌≡◌, ℕ, ◌<◌, ◌≤◌, ◌&&◌, List, Bool, cond, leb, min, refl, sym, ap, ◌∙◌, subst, arith}
 use Rattle.std.proofs.lemmas.Bool.{le-leb, lt-leb}
 use Rattle.std.proofs.lemmas.Option.{slice_get_within}
-use Rattle.bb_memory_base.specs.Chunk.{Chunk}
-use Rattle.bb_memory_base.specs.PoolObject.{PoolGeometry, bucket_place, IsWithin}
-use Rattle.bb_memory_base.specs.declared.layout.Layout.{Layout}
+use Rattle.bb_memory_traits.specs.Chunk.{Chunk}
+use Rattle.bb_memory_traits.specs.PoolObject.{PoolGeometry, bucket_place, IsWithin}
+use Rattle.bb_memory_traits.specs.declared.layout.Layout.{Layout}
 use Rattle.bb_memory_core.specs.Pool.{pool_of, reads_of}
 use Rattle.bb_memory_core.proofs.pool_allocator.bucket_pool.take.Goals as goal
 

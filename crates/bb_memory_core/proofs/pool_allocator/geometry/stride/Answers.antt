@@ -1,5 +1,5 @@
 use Rattle.std.proofs.Common.{◌≡◌, ◌<◌, ◌^◌, arith}
-use Rattle.bb_memory_base.specs.LeastPlace.{least_place}
+use Rattle.bb_memory_traits.specs.LeastPlace.{least_place}
 use Rattle.bb_memory_core.proofs.Cuts.{stride-small, some-if}
 use Rattle.bb_memory_core.proofs.pool_allocator.geometry.stride.Goals as goal
 

@@ -1,4 +1,4 @@
-use Rattle.bb_memory_base.proofs.PoolGeometries.{bucket_place-aligned, bucket_place-after, stride-above}
+use Rattle.bb_memory_traits.proofs.PoolGeometries.{bucket_place-aligned, bucket_place-after, stride-above}
 use Rattle.bb_memory_core.proofs.Geometries.{some_cut, one_cut, cut-geometry, at_most-geometry}
 use Rattle.bb_memory_core.proofs.pool_allocator.laws.pool_geometry_law.Goals as goal
 

@@ -1,3 +1,4 @@
+use Rattle.loan_book.specs.Book.{chunks_of}
 use Rattle.loan_book.proofs.OneAnswers.{loan-one_book}
 use Rattle.loan_book.proofs.book.LoanBook.law.Goals as goal
 
@@ -5,3 +6,7 @@ pub returns-clause-loans_one_book : goal.returns-clause-loans_one_book
 returns-clause-loans_one_book g c size answer new next =
     let A = g.A.BaseAllocator in
     loan-one_book (A.may_allocate (A.geometry c.args.self.now.allocator)) c.args.self.now.book size answer new next
+
+pub returns-clause-sound : goal.returns-clause-sound
+returns-clause-sound g c = rw (← c.self.view_is)
+    (g.met.A.BaseAllocator.sound c.self.inside.allocator (chunks_of c.self.inside.out.items) c.self.invariant.stands)

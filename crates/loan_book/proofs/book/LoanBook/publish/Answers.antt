@@ -1,43 +1,84 @@
-use Rattle.std.proofs.Common.{◌∙◌, sym, subst, refl, Some}
+use Rattle.std.proofs.Common.{◌∙◌, sym, subst, refl, Some, Ok, Err}
+use Rattle.loan_book.specs.declared.error.LoanError.TheVariants.{UnknownSample, AlreadyPublished, NoReaders}
 use Rattle.loan_book.specs.Book.{Book, HasReturns}
-use Rattle.loan_book.proofs.BookSteps.{own-set, unpublished-nowhere}
-use Rattle.loan_book.proofs.LoanBooks.{published_from, unpublished_from}
+use Rattle.loan_book.specs.Calls.{Publishes}
+use Rattle.loan_book.proofs.BookSteps.{own-set}
+use Rattle.loan_book.proofs.Books.{published_from, unpublished_from, positive}
+use Rattle.loan_book.proofs.OneAnswers.{publish-refusal}
 use Rattle.loan_book.proofs.book.LoanBook.publish.Goals as goal
 
-pub returns-then-is_some-clause-answer : goal.returns-then-is_some-clause-answer
-returns-then-is_some-clause-answer g c =
+pub returns-in_default : goal.returns-in_default
+returns-in_default g c =
+    let book = c.args.self.now.book in
+    let answer : Publishes book c.args.id c.args.readers (Err UnknownSample) book = (c.in_default.ensures.absent, refl) in
+    let refusal = publish-refusal book c.in_default.ensures.book c.args.id c.args.readers (Err UnknownSample) book answer in
+    record {
+      answer = answer;
+      unknown_sample = refusal UnknownSample;
+      already_published = refusal AlreadyPublished;
+      no_readers = refusal NoReaders;
+      stands = rw (← c.self.view_is) record { stands = c.self.invariant.stands; geometry = refl };
+      waits = tt;
+      same_allocator = refl;
+      unchanged = refl;
+    }
+
+pub returns-then-is_some : goal.returns-then-is_some
+returns-then-is_some g c =
+    let book = c.args.self.now.book in
     let (sample, there, is) = c.in-Some.ensures.found in
-    let some = published_from c.in-Some.returns (sym c.if-is_some.ensures) in
-    ((some.0, (c.in-Some.position, sample, there, is ∙ some.1)), refl)
+    let (returns, published) = published_from c.in-Some.returns c.if-is_some.ensures in
+    let answer : Publishes book c.args.id c.args.readers (Err AlreadyPublished) book =
+    ((returns, (c.in-Some.position, sample, there, is ∙ published)), refl) in
+    let refusal = publish-refusal book c.in-Some.ensures.book c.args.id c.args.readers (Err AlreadyPublished) book answer in
+    record {
+      answer = answer;
+      unknown_sample = refusal UnknownSample;
+      already_published = refusal AlreadyPublished;
+      no_readers = refusal NoReaders;
+      stands = rw (← c.self.view_is) record { stands = c.self.invariant.stands; geometry = refl };
+      waits = tt;
+      same_allocator = refl;
+      unchanged = refl;
+    }
 
-pub returns-then-is_some-clause-already_published : goal.returns-then-is_some-clause-already_published
-returns-then-is_some-clause-already_published g c = (λ same. (returns-then-is_some-clause-answer g c).0, λ published. refl)
-
-pub returns-then-is_some-clause-no_readers : goal.returns-then-is_some-clause-no_readers
-returns-then-is_some-clause-no_readers g c = (
-  λ same. cc,
-  λ (unpublished, none). absurd (unpublished-nowhere c.args.self.now.book c.args.id c.in-Some.ensures.book unpublished
-      (returns-then-is_some-clause-answer g c).0),
-)
-
-pub returns-then-readers-eq0-clause-already_published : goal.returns-then-readers-eq0-clause-already_published
-returns-then-readers-eq0-clause-already_published g c =
+pub returns-then-readers-eq0 : goal.returns-then-readers-eq0
+returns-then-readers-eq0 g c =
+    let book = c.args.self.now.book in
     let (sample, there, is) = c.in-Some.ensures.found in
-    let none = unpublished_from c.in-Some.returns (λ some. let not = c.if-is_some.ensures in cc) in
-    let nowhere = unpublished-nowhere c.args.self.now.book c.args.id c.in-Some.ensures.book
-    (c.in-Some.position, sample, there, is ∙ none) in
-    (λ same. cc, λ published. absurd (nowhere published))
+    let none = is ∙ unpublished_from c.in-Some.returns c.if-is_some.ensures in
+    let answer : Publishes book c.args.id c.args.readers (Err NoReaders) book =
+    ((c.in-Some.position, sample, there, none), c.if-readers-eq0.true, refl) in
+    let refusal = publish-refusal book c.in-Some.ensures.book c.args.id c.args.readers (Err NoReaders) book answer in
+    record {
+      answer = answer;
+      unknown_sample = refusal UnknownSample;
+      already_published = refusal AlreadyPublished;
+      no_readers = refusal NoReaders;
+      stands = rw (← c.self.view_is) record { stands = c.self.invariant.stands; geometry = refl };
+      waits = tt;
+      same_allocator = refl;
+      unchanged = refl;
+    }
 
-pub returns-clause-already_published : goal.returns-clause-already_published
-returns-clause-already_published g c =
+pub returns : goal.returns
+returns g c =
+    let book = c.args.self.now.book in
     let (sample, there, is) = c.in-Some.ensures.found in
-    let none = unpublished_from c.in-Some.returns (λ some. let not = c.if-is_some.ensures in cc) in
-    let nowhere = unpublished-nowhere c.args.self.now.book c.args.id c.in-Some.ensures.book
-    (c.in-Some.position, sample, there, is ∙ none) in
-    (λ same. cc, λ published. absurd (nowhere published))
-
-pub returns-clause-waits : goal.returns-clause-waits
-returns-clause-waits g c =
-    let (sample, there, is) = c.in-Some.ensures.found in
-    subst (λ (b : Book). HasReturns b c.args.id (Some c.args.readers)) (sym (c.wait_for.ensures.book sample there.at))
-    (own-set c.args.self.now.book c.args.id c.in-Some.position sample c.args.readers there)
+    let none = is ∙ unpublished_from c.in-Some.returns c.if-is_some.ensures in
+    let set = c.wait_for.ensures.book sample there.at in
+    let new = c.wait_for.new.self.book in
+    let answer : Publishes book c.args.id c.args.readers (Ok tt) new =
+    (c.in-Some.position, sample, there, none, positive c.args.readers c.if-readers-eq0.false, set) in
+    let refusal = publish-refusal book c.in-Some.ensures.book c.args.id c.args.readers (Ok tt) new answer in
+    record {
+      answer = answer;
+      unknown_sample = refusal UnknownSample;
+      already_published = refusal AlreadyPublished;
+      no_readers = refusal NoReaders;
+      stands = c.wait_for.ensures.stands;
+      waits = subst (λ (b : Book). HasReturns b c.args.id (Some c.args.readers)) (sym set)
+          (own-set book c.args.id c.in-Some.position sample c.args.readers there);
+      same_allocator = c.wait_for.ensures.same_allocator;
+      unchanged = tt;
+    }

@@ -1,8 +1,7 @@
 use Rattle.std.proofs.Common.{rules, ℕ, ◌<◌, refl, sym, subst, length}
 use Rattle.std.proofs.lemmas.Option.{slice_get_read}
 use Rattle.loan_book.specs.Book.{chunks_of}
-use Rattle.loan_book.proofs.Books.{chunk-at}
-use Rattle.loan_book.proofs.LoanBooks.{IsLoanBook-removed}
+use Rattle.loan_book.proofs.Books.{chunk-at, IsLoanBook-removed}
 use Rattle.loan_book.proofs.book.LoanBook.take_out.Goals as goal
 
 pub deallocate-requires : goal.deallocate-requires
@@ -12,7 +11,7 @@ deallocate-requires g c =
     let within : c.args.position < length samples = rw (← c.self.view_is) at c.requires in
     let at = slice_get_read samples (length samples) c.args.position sample refl within
     (rw c.unwrap-sample.ensures at c.remove.ensures.value) in
-    subst (λ (place : ℕ). g.A.BaseAllocator.may_release c.self.inside.allocator place) (sym c.place.ensures)
+    subst (λ (place : ℕ). g.A.BaseAllocator.may_release c.self.inside.allocator place) (sym c.place.ensures.value)
     (g.met.A.BaseAllocator.releases c.self.inside.allocator
     (chunks_of samples) c.args.position sample.chunk c.self.invariant.stands (chunk-at samples c.args.position sample at))
 
@@ -24,7 +23,7 @@ invariant_of-self g c =
     let at = slice_get_read samples (length samples) c.args.position sample refl within
     (rw c.unwrap-sample.ensures at c.remove.ensures.value) in
     let left = c.deallocate.ensures.released (chunks_of samples) c.args.position sample.chunk c.self.invariant.stands
-    (chunk-at samples c.args.position sample at) (sym c.place.ensures) in
+    (chunk-at samples c.args.position sample at) (sym c.place.ensures.value) in
     IsLoanBook-removed g.A.BaseAllocator.stands_for c.self.inside.allocator c.deallocate.new.self c.self.inside.next samples
     c.remove.new.self.items c.args.position within
     (rw c.unwrap-sample.ensures at c.remove.ensures.items) c.self.invariant (rw g.met.A.Allocator.closes_up at left)

@@ -1,11 +1,10 @@
 use Rattle.std.proofs.Common.{◌≡◌, ◌+◌, ◌++◌, ◌∷◌, [], ap, refl, sym, take, take_all, ◌∙◌}
-use Rattle.std.specs.List.{flat_map}
 use Rattle.std.proofs.lemmas.List.{take_more}
 use Rattle.script_runner.proofs.Telling.{told_more}
 use Rattle.script_runner.proofs.engine.driving.answer.Goals as goal
 
 pub loop-line-init : goal.loop-line-init
-loop-line-init g c = (refl, c.new-waiting.ensures.items, ap (flat_map (λ t. t.items)) c.new-texts.ensures.items)
+loop-line-init g c = (refl, c.new-waiting.ensures.items, c.new-text.ensures.items)
 
 pub loop-line-preserved : goal.loop-line-preserved
 loop-line-preserved g c =
@@ -17,8 +16,7 @@ loop-line-preserved g c =
     take_more script i line c.loop-line-test.true ∙ ap (λ x. take i script ++ x ∷ []) (sym c.line-item.is) in
     rw (longer, grown)
     (told_more g.K.Driven.rules c.in-Ok.driven c.loop-line.driven c.take.new.driven [] c.loop-line.waiting.items
-    c.take.new.waiting.items (take i script) line (flat_map (λ t. t.items) c.loop-line.texts.items) added
-    c.loop-line.invariant step)
+    c.take.new.waiting.items (take i script) line c.loop-line.text.items added c.loop-line.invariant step)
 
 pub returns-in-Ok-tell : goal.returns-in-Ok-tell
 returns-in-Ok-tell g c =
@@ -30,7 +28,7 @@ returns-in-Ok-tell g c =
       (
         c.loop-line.driven,
         c.loop-line.waiting.items,
-        flat_map (λ t. t.items) c.loop-line.texts.items,
+        c.loop-line.text.items,
         replies,
         rw all at c.loop-line.invariant,
         rw c.deref.ensures.value at runs,

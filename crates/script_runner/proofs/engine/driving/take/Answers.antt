@@ -10,9 +10,9 @@ returns-in-Ok-tell g c =
     let state : List ℕ = rules.state_text c.tell.new.driven in
     let lines : List ℕ = flat_map rules.reply_text replies in
     let step = rw c.deref.ensures.value at runs in
-    on_ok c.show.result (λ shown. (
+    on_ok c.write_state.result (λ shown. (
       lines ++ state,
       rw c.in-Show.is (replies, step, c.clear.ensures.items, refl),
-      shown ∙ (ap (λ l. l ++ state) told ∙ append_assoc (flat_map (λ t. t.items) c.args.texts.now.items) lines state),
+      shown ∙ (ap (λ l. l ++ state) told ∙ append_assoc c.args.text.now.items lines state),
     ))
-    c.show.ensures
+    c.write_state.ensures

@@ -18,6 +18,9 @@ returns-in_default-read_line-clause-unreadable g c =
     (c.loop-line.invariant.read ∙ ap (λ ls. before ++ ls) c.in-Some.ensures.cut) c.loop-line.invariant.allowed
     c.loop-line.invariant.counted none
 
+pub returns-in_default-read_line-clause-within : goal.returns-in_default-read_line-clause-within
+returns-in_default-read_line-clause-within g c = omega (arith, c.loop-line.invariant.short, c.in-Some.ensures.shorter)
+
 pub loop-line-preserved : goal.loop-line-preserved
 loop-line-preserved g c =
     let rules = g.K.Driven.rules in

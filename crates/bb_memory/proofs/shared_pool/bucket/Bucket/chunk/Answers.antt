@@ -1,5 +1,5 @@
 use Rattle.std.proofs.Common.{ap, ◌∙◌}
-use Rattle.bb_memory_base.specs.PoolObject.{bucket_place}
+use Rattle.bb_memory_traits.specs.PoolObject.{bucket_place}
 use Rattle.bb_memory.specs.SharedPool.{chunk_of}
 use Rattle.bb_memory.proofs.shared_pool.bucket.Bucket.chunk.Goals as goal
 

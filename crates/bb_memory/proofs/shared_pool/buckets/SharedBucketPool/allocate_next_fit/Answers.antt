@@ -1,8 +1,8 @@
 use Rattle.std.proofs.Common.{◌+◌, Some, None, ap, ◌∙◌, arith}
-use Rattle.bb_memory_base.specs.PoolObject.{PoolGeometry}
-use Rattle.bb_memory_base.specs.declared.layout.Layout.{Layout}
-use Rattle.bb_memory_base.specs.declared.allocator.AllocationError.TheVariants.{OutOfMemory}
-use Rattle.bb_memory_core.specs.Seats.{number_of, view_log}
+use Rattle.bb_memory_traits.specs.PoolObject.{PoolGeometry}
+use Rattle.bb_memory_traits.specs.declared.layout.Layout.{Layout}
+use Rattle.bb_memory_traits.specs.declared.allocator.AllocationError.TheVariants.{OutOfMemory}
+use Rattle.bb_memory_bump.specs.Seats.{number_of, view_log}
 use Rattle.bb_memory.specs.SharedPool.{PoolParty, SharedPool}
 use Rattle.bb_memory.proofs.SharedPoolParties.{seated_then}
 use Rattle.bb_memory.proofs.SharedPoolRequests.{refused, served, stays}

@@ -1,6 +1,6 @@
 use Rattle.std.proofs.Common.{sym, ap, ◌∙◌, subst}
-use Rattle.bb_memory_base.specs.Chunk.{Chunk, IsInside}
-use Rattle.bb_memory_base.specs.PoolObject.{PoolGeometry}
+use Rattle.bb_memory_traits.specs.Chunk.{Chunk, IsInside}
+use Rattle.bb_memory_traits.specs.PoolObject.{PoolGeometry}
 use Rattle.bb_memory.specs.SharedPool.{SharedPool, TakenBucket, chunk_of, taken_bucket}
 use Rattle.bb_memory.proofs.shared_pool.buckets.SharedBucketPool.grow.Goals as goal
 

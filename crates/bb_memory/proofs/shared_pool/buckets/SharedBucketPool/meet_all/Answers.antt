@@ -3,7 +3,7 @@ use Rattle.std.specs.Prelude.{All, map}
 use Rattle.bb_memory_base.specs.PoolMachine.{PoolScene}
 use Rattle.bb_memory.specs.SharedPool.{IsSharedScene, PoolParty, SharedPool}
 use Rattle.bb_memory.specs.SharedPoolRule.{IsPartySeat, NumberedLog, numbered_of}
-use Rattle.bb_memory.specs.SharedPoolSteps.{TellsMeeting}
+use Rattle.bb_memory.specs.SharedPoolRule.{TellsMeeting}
 use Rattle.bb_memory.proofs.SharedPoolGatherings.{agrees, all_gathered, met_party, none_met}
 use Rattle.bb_memory.proofs.SharedPoolWholes.{met_apart, one_served}
 use Rattle.bb_memory.proofs.shared_pool.buckets.SharedBucketPool.meet_all.Goals as goal

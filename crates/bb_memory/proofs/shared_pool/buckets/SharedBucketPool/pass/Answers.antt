@@ -1,5 +1,5 @@
 use Rattle.std.proofs.Common.{◌≡◌, ℕ, ◌∙◌, arith, refl, sym, ap, subst}
-use Rattle.bb_memory_core.specs.Seats.{number_of, view_log}
+use Rattle.bb_memory_bump.specs.Seats.{number_of, view_log}
 use Rattle.bb_memory.specs.SharedPool.{SharedPool}
 use Rattle.bb_memory.proofs.SharedPoolPasses.{IsPassing, begins, goes_on, passing_next, passing_seat, refuses, takes}
 use Rattle.bb_memory.proofs.shared_pool.buckets.SharedBucketPool.pass.Goals as goal

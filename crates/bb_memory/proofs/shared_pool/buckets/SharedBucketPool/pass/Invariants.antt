@@ -1,5 +1,5 @@
 use Rattle.std.proofs.Common.{◌≡◌}
-use Rattle.bb_memory_core.specs.Seats.{number_of, view_log}
+use Rattle.bb_memory_bump.specs.Seats.{number_of, view_log}
 use Rattle.bb_memory.proofs.SharedPoolPasses.{IsPassing}
 use Rattle.bb_memory.proofs.shared_pool.buckets.SharedBucketPool.pass.Given as goal
 

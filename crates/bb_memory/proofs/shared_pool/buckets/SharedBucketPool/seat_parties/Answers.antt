@@ -3,9 +3,9 @@ use Rattle.std.specs.Prelude.{All, slice_get}
 use Rattle.std.proofs.lemmas.List.Elements.{All-push}
 use Rattle.atomic_table.specs.Table.{Me}
 use Rattle.bb_memory.specs.SharedPool.{IsSharedScene, PoolParty, SharedPool, fresh_party}
-use Rattle.bb_memory_core.specs.Seats.{first_of, others_of, standing_for, view_log}
+use Rattle.bb_memory_bump.specs.Seats.{first_of, others_of, standing_for, view_log}
 use Rattle.bb_memory.specs.SharedPoolRule.{NumberedLog, SeatView, party_in}
-use Rattle.bb_memory_core.proofs.Seatings.{fresh_more, given_more}
+use Rattle.bb_memory_bump.proofs.Seatings.{fresh_more, given_more}
 use Rattle.bb_memory.proofs.SharedPoolParties.{no_step, party_seat}
 use Rattle.bb_memory.proofs.shared_pool.buckets.SharedBucketPool.seat_parties.Goals as goal
 

@@ -1,7 +1,7 @@
 use Rattle.std.proofs.Common.{◌≡◌, ◌-◌, ◌<◌, ◌≤◌, ℕ, [], All, Some, length, vec_len, vec_capacity}
 use Rattle.std.specs.Prelude.{slice_get}
 use Rattle.bb_memory.specs.SharedPool.{fresh_party}
-use Rattle.bb_memory_core.specs.Seats.{fresh_from, standing_for}
+use Rattle.bb_memory_bump.specs.Seats.{fresh_from, standing_for}
 use Rattle.bb_memory.proofs.shared_pool.buckets.SharedBucketPool.seat_parties.Given as goal
 
 abbrev pub invariant-loop-number : goal.invariant-loop-number

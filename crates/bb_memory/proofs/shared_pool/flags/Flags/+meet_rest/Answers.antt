@@ -3,10 +3,10 @@ use Rattle.std.proofs.lemmas.Grind.{common_steps}
 use Rattle.std.proofs.lemmas.List.{map-append}
 use Rattle.std.proofs.lemmas.List.Elements.{All-pop}
 use Rattle.atomic_table.specs.Table.{Me}
-use Rattle.bb_memory_core.specs.Seats.{first_of, others_of}
+use Rattle.bb_memory_bump.specs.Seats.{first_of, others_of}
 use Rattle.bb_memory.specs.SharedPool.{PoolParty}
 use Rattle.bb_memory.specs.SharedPoolRule.{NumberedLog, SeatView, numbered_of}
-use Rattle.bb_memory.specs.SharedPoolSteps.{TellsMeeting}
+use Rattle.bb_memory.specs.SharedPoolRule.{TellsMeeting}
 use Rattle.bb_memory.proofs.SharedPoolGatherings.{as_it_was, comes, goes_back}
 use Rattle.bb_memory.proofs.shared_pool.flags.Flags.+meet_rest.Goals as goal
 

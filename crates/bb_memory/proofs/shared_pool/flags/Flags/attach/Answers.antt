@@ -1,6 +1,6 @@
 use Rattle.std.proofs.Common.{[], sym, ap, ◌∙◌, arith}
 use Rattle.bb_memory_base.specs.PoolMachine.{PoolScene}
-use Rattle.bb_memory_core.specs.Seats.{alone, both_detached, carrying, number_of, view_log}
+use Rattle.bb_memory_bump.specs.Seats.{alone, both_detached, carrying, number_of, view_log}
 use Rattle.bb_memory.specs.SharedPool.{SharedPool}
 use Rattle.bb_memory.proofs.SharedPoolDetaching.{attaches_as}
 use Rattle.bb_memory.proofs.SharedPoolSeats.{takes_in}
@@ -28,6 +28,6 @@ load-requires c =
       c.join_seat.ensures.0 ∙ c.requires.seat.table ∙ sym (ap (λ (p : SharedPool). p.table) c.self.view_is),
       omega arith,
       attaches_as c.self.inside.table.shared.key _ _ c.word_of.result (number_of me.0) c.args.bucket (view_log me.0)
-          c.join_seat.new.seat.me c.word_of.ensures.value
+          c.join_seat.new.seat.me c.word_of.ensures
           both c.requires.seat.seat.idle,
     )

@@ -1,6 +1,6 @@
 use Rattle.std.proofs.Common.{[], ◌<◌, sym, ap, ◌∙◌, arith, subst}
 use Rattle.bb_memory_base.specs.PoolMachine.{PoolScene}
-use Rattle.bb_memory_core.specs.Seats.{alone, number_of, view_log}
+use Rattle.bb_memory_bump.specs.Seats.{alone, number_of, view_log}
 use Rattle.bb_memory.specs.SharedPool.{SharedPool}
 use Rattle.bb_memory.proofs.SharedPoolDetaching.{detaches_as}
 use Rattle.bb_memory.proofs.SharedPoolSeats.{gives_detached}
@@ -15,7 +15,7 @@ load-requires c =
       c.requires.seat.table ∙ sym (ap (λ (p : SharedPool). p.table) c.self.view_is),
       omega arith,
       detaches_as c.self.inside.table.shared.key _ _ c.word_of.result (number_of me.0) c.args.bucket (view_log me.0) me
-          c.word_of.ensures.value
+          c.word_of.ensures
           (c.requires.seat.seat.is ∙ ap (λ (s : PoolScene). (alone s (number_of me.0) (view_log me.0), [])) (sym key))
           (subst (λ (s : PoolScene). 1 < s.parties) (sym key) c.requires.others) c.requires.held.held,
     )

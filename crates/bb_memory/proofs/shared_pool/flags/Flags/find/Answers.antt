@@ -1,10 +1,10 @@
 use Rattle.std.proofs.Common.{[], ℕ, sym, ap, ◌∙◌, arith, subst}
 use Rattle.atomic_table.specs.Table.{Me}
 use Rattle.bb_memory_base.specs.PoolMachine.{PoolScene}
-use Rattle.bb_memory_core.specs.Seats.{standing_for}
+use Rattle.bb_memory_bump.specs.Seats.{standing_for}
 use Rattle.bb_memory.specs.SharedPool.{SharedPool}
 use Rattle.bb_memory.specs.SharedPoolRule.{SeatView}
-use Rattle.bb_memory.specs.SharedPoolSteps.{TellsMeeting}
+use Rattle.bb_memory.specs.SharedPoolRule.{TellsMeeting}
 use Rattle.bb_memory.proofs.SharedPoolMeetings.{meets_as}
 use Rattle.bb_memory.proofs.shared_pool.flags.Flags.find.Goals as goal
 

@@ -1,8 +1,8 @@
 use Rattle.std.proofs.Common.{List, ℕ, ◌++◌, ap, ◌∙◌, subst}
 use Rattle.atomic_table.specs.Table.{Me}
-use Rattle.bb_memory_core.specs.Seats.{head_of, number_of, view_log}
+use Rattle.bb_memory_bump.specs.Seats.{head_of, number_of, view_log}
 use Rattle.bb_memory.specs.SharedPoolRule.{NumberedLog, SeatView}
-use Rattle.bb_memory.specs.SharedPoolSteps.{TellsMeeting}
+use Rattle.bb_memory.specs.SharedPoolRule.{TellsMeeting}
 use Rattle.bb_memory.proofs.SharedPoolMeetings.{two_met}
 use Rattle.bb_memory.proofs.shared_pool.flags.Flags.meet.Goals as goal
 

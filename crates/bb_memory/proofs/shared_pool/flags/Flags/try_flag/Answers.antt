@@ -1,6 +1,6 @@
 use Rattle.std.proofs.Common.{◌≡◌, ◌<◌, [], sym, ap, ◌∙◌, arith, subst}
 use Rattle.bb_memory_base.specs.PoolMachine.{PoolScene}
-use Rattle.bb_memory_core.specs.Seats.{alone, number_of, view_log}
+use Rattle.bb_memory_bump.specs.Seats.{alone, number_of, view_log}
 use Rattle.bb_memory.specs.SharedPool.{SharedPool}
 use Rattle.bb_memory.proofs.SharedPoolKeeps.{tries_as}
 use Rattle.bb_memory.proofs.shared_pool.flags.Flags.try_flag.Goals as goal
@@ -16,7 +16,7 @@ compare_exchange-found-requires c =
       c.requires.seat.table ∙ sym (ap (λ (p : SharedPool). p.table) c.self.view_is),
       omega arith,
       tries_as c.self.inside.table.shared.key _ _ c.word_of.result (number_of me.0) c.args.bucket (view_log me.0) me
-          c.word_of.ensures.value
+          c.word_of.ensures
           (c.requires.seat.seat.is ∙ ap (λ (s : PoolScene). (alone s (number_of me.0) (view_log me.0), [])) (sym key))
           (subst (λ (s : PoolScene). c.args.bucket < s.geometry.buckets) (sym key) c.requires.next.below) c.requires.next.next,
     )

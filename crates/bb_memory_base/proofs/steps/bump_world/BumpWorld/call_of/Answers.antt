@@ -1,7 +1,7 @@
 use Rattle.std.proofs.Common.{ap, sym, ◌∙◌, subst, slice_get, IsSome}
 use Rattle.bb_memory_base.specs.BumpMachine.{AllFitting}
 use Rattle.bb_memory_base.specs.BumpWorld.{BumpWorld}
-use Rattle.bb_memory_base.proofs.SliceGets.{slice_get-some}
+use Rattle.bb_memory_traits.proofs.SliceGets.{slice_get-some}
 use Rattle.bb_memory_base.proofs.steps.bump_world.BumpWorld.call_of.Goals as goal
 
 pub returns-clause-value : goal.returns-clause-value

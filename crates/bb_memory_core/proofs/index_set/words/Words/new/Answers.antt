@@ -1,5 +1,6 @@
-use Rattle.std.proofs.Common.{◌≡◌, ◌∙◌, ℕ, List, ap, arith, set, ◌-◌, ◌<◌, length, length-set}
+use Rattle.std.proofs.Common.{◌≡◌, ◌∙◌, ℕ, List, ap, refl, arith, set, ◌-◌, ◌<◌, length, length-set}
 use Rattle.bb_memory_core.specs.IndexSets.{index_words, Slots, numbers_of}
+use Rattle.bb_memory_core.proofs.AsideNumbers.{less_none}
 use Rattle.bb_memory_core.proofs.NumberWords.{fresh_whole, fresh_part, last_word, zeros}
 use Rattle.bb_memory_core.proofs.OpenWords.{fresh_set, named_more}
 use Rattle.bb_memory_core.proofs.index_set.words.Words.new.Goals as goal
@@ -33,14 +34,20 @@ invariant_of-result g c =
           let listed : c.if-used-ne0.words.listed ≡ c.loop-k.words.listed =
           ap (λ (s : Slots). s.listed) w.words-is ∙ w.put.ensures.listed in
           let made = fresh_part bound count is (omega arith) in
-          rw listed (fresh_set bound count c.if-used-ne0.words.words _ c.loop-k.words.listed words is made.0 made.1 inv.room
-          (λ j h. inv.named j (omega (arith, h))))
+          rw listed (
+            fresh_set bound count c.if-used-ne0.words.words _ c.loop-k.words.listed words is made.0 made.1 inv.room
+                (λ j h. inv.named j (omega (arith, h))),
+            λ some. absurd (some refl),
+          )
       | else-used-ne0 w ↦
           let words : c.if-used-ne0.words.words ≡ zeros count = ap (λ (s : Slots). s.words) w.words-is ∙ inv.words in
           let listed : c.if-used-ne0.words.listed ≡ c.loop-k.words.listed = ap (λ (s : Slots). s.listed) w.words-is in
           let made = fresh_whole bound count is (omega arith) in
-          rw listed (fresh_set bound count c.if-used-ne0.words.words _ c.loop-k.words.listed words is made.0 made.1 inv.room
-          (λ j h. inv.named j (omega (arith, h))))
+          rw listed (
+            fresh_set bound count c.if-used-ne0.words.words _ c.loop-k.words.listed words is made.0 made.1 inv.room
+                (λ j h. inv.named j (omega (arith, h))),
+            λ some. absurd (some refl),
+          )
     ]
 
 pub returns : goal.returns
@@ -54,8 +61,8 @@ returns g c =
           let words : c.if-used-ne0.words.words ≡ set (zeros count) (count - 1) (last_word bound) =
           ap (λ (s : Slots). s.words) w.words-is ∙ w.put.ensures.words
           ∙ ap (λ (ws : List ℕ). set ws (count - 1) (last_word bound)) inv.words in
-          ap (numbers_of bound) words ∙ (fresh_part bound count is (omega arith)).2
+          less_none bound c.if-used-ne0.words.words _ (omega arith) ∙ ap (numbers_of bound) words ∙ (fresh_part bound count is (omega arith)).2
       | else-used-ne0 w ↦
           let words : c.if-used-ne0.words.words ≡ zeros count = ap (λ (s : Slots). s.words) w.words-is ∙ inv.words in
-          ap (numbers_of bound) words ∙ (fresh_whole bound count is (omega arith)).2
+          less_none bound c.if-used-ne0.words.words _ (omega arith) ∙ ap (numbers_of bound) words ∙ (fresh_whole bound count is (omega arith)).2
     ]

@@ -1,9 +1,9 @@
 use Rattle.std.proofs.Common.{◌≡◌, ℕ, ◌≤◌, Result, Ok, Err, ap, arith}
 use Rattle.std.specs.Prelude.{IfOk}
-use Rattle.bb_memory_base.specs.Chunk.{Chunk}
-use Rattle.bb_memory_base.specs.PoolObject.{MayShrink}
-use Rattle.bb_memory_base.specs.declared.layout.Layout.{Layout}
-use Rattle.bb_memory_base.specs.declared.allocator.AllocationShrinkError.{AllocationShrinkError}
+use Rattle.bb_memory_traits.specs.Chunk.{Chunk}
+use Rattle.bb_memory_traits.specs.PoolObject.{MayShrink}
+use Rattle.bb_memory_traits.specs.declared.layout.Layout.{Layout}
+use Rattle.bb_memory_traits.specs.declared.allocator.AllocationShrinkError.{AllocationShrinkError}
 use Rattle.bb_memory_core.proofs.Pools.{held_bucket_below}
 use Rattle.bb_memory_core.proofs.PoolCalls.{MayShrink-resized}
 use Rattle.bb_memory_core.proofs.pool_allocator.bucket_pool.BucketPoolAllocator.shrink.Goals as goal

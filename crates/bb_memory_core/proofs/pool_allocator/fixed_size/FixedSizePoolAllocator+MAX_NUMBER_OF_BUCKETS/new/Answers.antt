@@ -1,18 +1,23 @@
-use Rattle.std.proofs.Common.{Bool, false, List, [], replicate, sym, ap, subst, ◌∙◌}
-use Rattle.bb_memory_base.specs.PoolObject.{PoolGeometry, at_most}
-use Rattle.bb_memory_core.specs.Pool.{CountedPool, Pool, StandsFor, counted, pool_of, fresh_pool}
+use Rattle.std.proofs.Common.{[], sym, ap, subst, ◌∙◌, arith}
+use Rattle.bb_memory_traits.specs.PoolObject.{PoolGeometry, at_most}
+use Rattle.bb_memory_core.specs.Pool.{CountedPool, Pool, StandsFor, counted, fresh_pool}
+use Rattle.bb_memory_core.proofs.FreshPools.{fresh-counted, fresh-is_pool}
 use Rattle.bb_memory_core.proofs.Pools.{fresh-stands}
 use Rattle.bb_memory_core.proofs.pool_allocator.fixed_size.FixedSizePoolAllocator+MAX_NUMBER_OF_BUCKETS.new.Goals as goal
 
+pub invariant_of-result : goal.invariant_of-result
+invariant_of-result g c =
+    let told = c.count.ensures in (
+      fresh-is_pool c.cut_at_most-geometry.result c.new-held.result _ c.new-held.ensures told.value told.region told.geometry,
+      omega (arith, c.new.ensures),
+    )
+
 pub returns-clause-value : goal.returns-clause-value
 returns-clause-value g c =
-    let geometry : PoolGeometry = c.cut_at_most-geometry.result in
     let cut = c.cut_at_most-geometry.ensures in (
       cut.whole,
       cut.cut,
-      ap (counted (pool_of geometry c.new-held.result)) c.new.ensures
-          ∙ ap (λ (held : List Bool). counted (pool_of geometry held) 0)
-          (c.new-held.ensures ∙ ap (λ n. replicate n false) c.count.ensures.value)
+      fresh-counted c.cut_at_most-geometry.result c.new-held.result _ c.new-held.ensures c.count.ensures.value _ c.new.ensures
           ∙ ap (λ (geometry : PoolGeometry). counted (fresh_pool geometry) 0) cut.first,
     )
 

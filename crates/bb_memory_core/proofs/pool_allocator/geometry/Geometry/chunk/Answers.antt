@@ -1,12 +1,11 @@
 use Rattle.std.proofs.Common.{sym, subst}
-use Rattle.bb_memory_base.specs.Chunk.{IsChunk, IsInside, region_at}
-use Rattle.bb_memory_base.specs.PoolObject.{PoolGeometry, pool_geometry}
-use Rattle.bb_memory_core.proofs.Cuts.{some-if, some-value}
+use Rattle.bb_memory_traits.specs.Chunk.{IsChunk, IsInside, region_at}
+use Rattle.bb_memory_traits.specs.PoolObject.{PoolGeometry, pool_geometry}
 use Rattle.bb_memory_core.proofs.Measures.{measured-chunk, measured-inside, measured-place}
 use Rattle.bb_memory_core.proofs.pool_allocator.geometry.Geometry.chunk.Goals as goal
 
-pub unwrap-requires : goal.unwrap-requires
-unwrap-requires c =
+pub new_unchecked-requires : goal.new_unchecked-requires
+new_unchecked-requires c =
     let inside = c.self.inside in
     let geometry : PoolGeometry =
     pool_geometry (region_at inside.region_start inside.region_size) inside.bucket inside.buckets in
@@ -15,7 +14,7 @@ unwrap-requires c =
     let chunk =
     measured-chunk geometry inside.first inside.stride inside.shift c.self.invariant c.args.bucket c.args.len below short in
     let place = measured-place geometry inside.first inside.stride inside.shift c.self.invariant c.args.bucket in
-    some-if c.new.result _ _ c.new.ensures (subst (λ p. IsChunk (record { place = p; len = c.args.len })) (sym place) chunk)
+    subst (λ p. IsChunk (record { place = p; len = c.args.len })) (sym place) chunk
 
 pub returns-clause-inside : goal.returns-clause-inside
 returns-clause-inside c =
@@ -27,7 +26,6 @@ returns-clause-inside c =
     let lies =
     measured-inside geometry inside.first inside.stride inside.shift c.self.invariant c.args.bucket c.args.len below short in
     let place = measured-place geometry inside.first inside.stride inside.shift c.self.invariant c.args.bucket in
-    let value = some-value c.new.result _ _ c.unwrap.result c.new.ensures c.unwrap.ensures in
-    subst (λ (g : PoolGeometry). IsInside g.region c.unwrap.result) c.self.view_is
-    (subst (IsInside geometry.region) (sym value)
+    subst (λ (g : PoolGeometry). IsInside g.region c.new_unchecked.result) c.self.view_is
+    (subst (IsInside geometry.region) (sym c.new_unchecked.ensures)
     (subst (λ p. IsInside geometry.region (record { place = p; len = c.args.len })) (sym place) lies))

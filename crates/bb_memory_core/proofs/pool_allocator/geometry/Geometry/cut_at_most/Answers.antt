@@ -1,6 +1,6 @@
 use Rattle.std.proofs.Common.{ap, ◌∙◌}
-use Rattle.bb_memory_base.specs.Chunk.{region_at}
-use Rattle.bb_memory_base.specs.PoolObject.{at_most, pool_geometry}
+use Rattle.bb_memory_traits.specs.Chunk.{region_at}
+use Rattle.bb_memory_traits.specs.PoolObject.{at_most, pool_geometry}
 use Rattle.bb_memory_core.proofs.pool_allocator.geometry.Geometry.cut_at_most.Goals as goal
 
 pub returns : goal.returns

@@ -1,6 +1,6 @@
 use Rattle.std.proofs.Common.{◌≡◌, ◌/◌, arith, subst, ℕ, sym}
-use Rattle.bb_memory_base.specs.Chunk.{Region, region_at, first_place}
-use Rattle.bb_memory_base.specs.PoolObject.{IsCut, pool_geometry}
+use Rattle.bb_memory_traits.specs.Chunk.{Region, region_at, first_place}
+use Rattle.bb_memory_traits.specs.PoolObject.{IsCut, pool_geometry}
 use Rattle.bb_memory_core.proofs.Cuts.{stride-positive, room_for, room-cut, may-be-cut-few, some-value}
 use Rattle.bb_memory_core.proofs.pool_allocator.geometry.Geometry.new.Goals as goal
 

@@ -1,7 +1,8 @@
-use Rattle.std.proofs.Common.{◌≡◌, ◌-◌, ◌/◌, ◌<◌, ℕ, ap, sym, ◌∙◌}
-use Rattle.bb_memory_base.specs.Chunk.{first_place}
-use Rattle.bb_memory_base.specs.PoolObject.{PoolGeometry, bucket_place, stride}
-use Rattle.bb_memory_core.proofs.Cuts.{number-at}
+use Rattle.std.proofs.Common.{◌≡◌, ◌-◌, ◌/◌, ◌%◌, ◌<◌, ℕ, ap, sym, ◌∙◌}
+use Rattle.std.proofs.lemmas.Bool.{false≢true}
+use Rattle.bb_memory_traits.specs.Chunk.{first_place}
+use Rattle.bb_memory_traits.specs.PoolObject.{PoolGeometry, bucket_place, stride}
+use Rattle.bb_memory_core.proofs.Cuts.{number-at, whole-at}
 use Rattle.bb_memory_core.proofs.pool_allocator.geometry.Geometry.number_at.Goals as goal
 
 -- the number that was computed is that of each bucket at the place
@@ -14,14 +15,12 @@ computed geometry i place first distance number begins far divided some at =
     ∙ ap (λ n. n / stride geometry.bucket) (sym far)
     ∙ sym divided
 
-pub returns-then-place-clause-none : goal.returns-then-place-clause-none
-returns-then-place-clause-none c at =
+pub returns-then-not-is_multiple-clause-none : goal.returns-then-not-is_multiple-clause-none
+returns-then-not-is_multiple-clause-none c at =
     let geometry : PoolGeometry = c.args.self.now in
-    let told = c.strides-number.ensures in
-    let same : at.0 ≡ c.strides-number.result = computed geometry at.0 c.args.place c.first.result _ _ c.first.ensures
-    ((c.in_ok-distance.ensures {u = tt}).1) told.value told.some at.2 in
-    c.if-place.true (c.place.ensures.value ∙ ap (λ k. k.place) c.chunk-chunk.ensures.value
-    ∙ ap (bucket_place geometry) (sym same) ∙ sym at.2)
+    let far = (c.in_ok-distance.ensures {u = tt}).1 ∙ ap (λ n. c.args.place - n) c.first.ensures in
+    let whole = ap (λ n. n % stride geometry.bucket) far ∙ whole-at geometry at.0 c.args.place at.2 in
+    false≢true (sym c.if-not-is_multiple.true ∙ c.is_multiple.ensures.1 whole)
 
 pub returns-clause-one : goal.returns-clause-one
 returns-clause-one c j at =

@@ -1,0 +1,243 @@
+//! Parties that cache the buckets that they gave back last: a layer over the shared pools.
+ghost use Rattle.std.specs.Prelude.{◌≡◌, ◌≢◌, ◌<◌, ◌≤◌, ◌∷◌, ◌++◌, [], ℕ, List, Contains, IfErr, IfOk, Ok, length, vec_capacity};
+ghost use Rattle.bb_memory_traits.specs.PoolObject.{IsWithin};
+ghost use Rattle.bb_memory_base.specs.PoolLogs.{IsHeldAfter};
+ghost use Rattle.bb_memory.specs.SharedPool.{IsSameParty, Serves, return_entry, taken_bucket, with_entries};
+ghost use Rattle.bb_memory.specs.SharedPoolCaching.{AreCached, IsOut, RefusesCaching, SearchesPool, returns_of};
+
+use super::bucket::Bucket;
+use super::buckets::SharedBucketPool;
+use super::by_number;
+use super::party::PoolParty;
+use crate::allocator::AllocationError;
+use crate::layout::Layout;
+use std::alloc::Global;
+use std::marker::Model;
+
+/// A party of a shared pool that caches at most `most` of the buckets that it gave back last. Its next requests take the cached
+/// buckets first, without a step. Each call takes the party's pool by `&`: a [`SharedPoolAllocator`](super::SharedPoolAllocator)
+/// or a [`SharedFixedSizePoolAllocator`](super::SharedFixedSizePoolAllocator).
+///
+/// A cached bucket stays held, so the other parties are refused where each bucket is cached or out. Give a pool more buckets than
+/// all its parties together may cache. Dropping a caching party leaks the buckets that it caches; `into_party` gives them back.
+///
+/// ```
+/// let Ok(mut caching) = CachingParty::new(alloc, party, 4) else {
+///     return Err(AllocationError::OutOfMemory);
+/// };
+/// let layout = Layout::from_size_align(48, 4).unwrap();
+/// let taken = caching.allocate(&pool, layout)?;
+/// let number = taken.number();
+/// caching.deallocate(&pool, taken);
+/// let again = caching.allocate(&pool, layout)?;
+/// let its_number = again.number();
+/// prove!(its_number == number);
+/// caching.deallocate(&pool, again);
+/// let party = caching.into_party(&pool);
+/// ```
+#[derive(Drop)]
+pub struct CachingParty {
+    party: PoolParty,
+    cached: Vec<u32>,
+    most: u32,
+}
+
+impl Model for CachingParty {
+    ghost use Rattle.std.specs.Prelude.{◌<◌, ◌≤◌, ◌^◌, length, vec_capacity};
+    ghost use Rattle.bb_memory.specs.SharedPoolCaching.{AreCached, CachingParty};
+
+    ghost Value = { CachingParty };
+
+    ghost view = { λ c. record { party = c.party; cached = c.cached.items; most = c.most } };
+
+    ghost invariant = { λ c. AreCached c.party c.cached.items
+        × (length c.cached.items ≤ c.most) × (c.most ≤ vec_capacity c.cached)
+        × (c.most < 2 ^ 32) };
+}
+
+impl CachingParty {
+    /// Makes a caching party of this party. Each bucket that the party holds is out, as none is cached yet. At most `most`
+    /// buckets will be cached; with 0 each call does what the pool's call does. The list of cached buckets takes memory here, and
+    /// no other call takes any. A refusal, for want of memory, hands the party back unchanged.
+    #[tactic(auto, unfolding(crate::specs::SharedPoolCaching::IsOut))]
+    pub fn new(alloc: Global, party: PoolParty, most: u32) -> Result<Self, PoolParty>
+        ensures empty { IfOk result (λ made.
+            made ≡ record { party = party; cached = []; most = most }) }
+        ensures out { IfOk result (λ made. (bucket : ℕ) → IsHeldAfter party.log bucket
+            → IsOut made bucket) }
+        ensures refused { IfErr result (λ handed_back. handed_back ≡ party) }
+    {
+        let Ok(cached) = Vec::with_capacity(alloc, most as usize) else {
+            return Err(party);
+        };
+        Ok(CachingParty {
+            party,
+            cached,
+            most,
+        })
+    }
+
+    /// Returns how many buckets are cached. The party holds each of them, and no two are the same.
+    pub fn number_of_cached(&self) -> u32
+        ensures value { result ≡ length self.now.cached }
+        ensures within { result ≤ self.now.most }
+        ensures cached { AreCached self.now.party self.now.cached }
+    {
+        self.cached.len() as u32
+    }
+
+    /// Takes a bucket, with a chunk of `layout.size()` bytes: the one that was cached last, without a step. Where none is cached,
+    /// it searches the pool as `allocate_next_fit` does. It is refused in this order: with `SizeTooLarge` where the size is
+    /// greater than the bucket's, and with `AlignmentFailure` where the alignment is greater than the bucket's, both without a
+    /// step; and with `OutOfMemory` where none is cached and each probe of the search misses. The party has to be this pool's.
+    #[tactic(auto, unfolding(crate::specs::SharedPoolCaching::IsOut))]
+    pub fn allocate<'p, const CAPPED: usize, const MOST: usize>(
+        &mut self,
+        pool: &'p SharedBucketPool<CAPPED, MOST>,
+        layout: Layout,
+    ) -> Result<Bucket<'p>, AllocationError>
+        requires party { self.old.party.allocator ≡ pool.now }
+        ensures cached { (before : List ℕ) (last : ℕ)
+            → IsWithin self.old.party.allocator.scene.geometry.bucket layout
+            → self.old.cached ≡ before ++ last ∷ []
+            → (result ≡ Ok (taken_bucket self.old.party.allocator last layout.size))
+            × (self.new ≡ record self.old { cached = before }) }
+        ensures searched { self.old.cached ≡ [] → SearchesPool self.old layout result self.new }
+        ensures refused { IfErr result (λ error. RefusesCaching self.old layout error self.new) }
+        ensures within { IfOk result (λ bucket.
+            IsWithin self.old.party.allocator.scene.geometry.bucket layout) }
+        ensures serves { Serves self.old.party.allocator self.old.party layout
+            result self.new.party }
+        ensures taken { IfOk result (λ bucket. IsOut self.new bucket.number) }
+        ensures fresh { IfOk result (λ bucket. (other : ℕ) → IsOut self.old other
+            → other ≢ bucket.number) }
+        ensures others_kept { (other : ℕ) → IsOut self.old other → IsOut self.new other }
+        ensures others { (other : ℕ) → IfOk result (λ bucket. other ≢ bucket.number)
+            → IsOut self.new other → IsOut self.old other }
+        ensures party { self.new.party.allocator ≡ self.old.party.allocator }
+        ensures most { self.new.most ≡ self.old.most }
+    {
+        // Proof hint: brings the party's invariant into scope on the returns without a step.
+        let _ = self.party.number();
+        if layout.size() > pool.bucket_size() {
+            return Err(AllocationError::SizeTooLarge);
+        }
+        if layout.align() > pool.max_alignment() {
+            return Err(AllocationError::AlignmentFailure);
+        }
+        match self.cached.pop() {
+            Some(number) => {
+                let bucket = by_number::bucket(pool, &self.party, number, layout.size());
+                Ok(bucket)
+            }
+            None => pool.allocate_next_fit(&mut self.party, layout),
+        }
+    }
+
+    /// Gives back a bucket. Where fewer than `most` are cached, the bucket is cached without a step. Otherwise it goes back to
+    /// the pool by one store. The party and the bucket have to be this pool's, and the bucket has to be out: the party holds it,
+    /// and doesn't cache it.
+    #[tactic(auto, unfolding(crate::specs::SharedPoolCaching::IsOut))]
+    pub fn deallocate<const CAPPED: usize, const MOST: usize>(
+        &mut self,
+        pool: &SharedBucketPool<CAPPED, MOST>,
+        bucket: Bucket<'_>,
+    )
+        requires party { self.old.party.allocator ≡ pool.now }
+        requires bucket { bucket.allocator ≡ pool.now }
+        requires out { IsOut self.old bucket.number }
+        ensures cached { length self.old.cached < self.old.most
+            → self.new ≡ record self.old { cached = self.old.cached ++ bucket.entry.number ∷ [] } }
+        ensures returned { self.old.most ≤ length self.old.cached
+            → self.new ≡ record self.old {
+              party = with_entries self.old.party
+                  (return_entry self.old.party.number bucket.entry.number);
+            } }
+        ensures given_back { ¬ IsOut self.new bucket.entry.number }
+        ensures others_kept { (other : ℕ) → other ≢ bucket.entry.number
+            → IsOut self.old other → IsOut self.new other }
+        ensures others { (other : ℕ) → IsOut self.new other → IsOut self.old other }
+        ensures party { self.new.party.allocator ≡ self.old.party.allocator }
+        ensures most { self.new.most ≡ self.old.most }
+    {
+        if self.cached.len() < self.most as usize {
+            self.cached.push_reserved(bucket.number());
+        } else {
+            pool.deallocate_bucket(&mut self.party, bucket);
+        }
+    }
+
+    /// Gives all cached buckets back to the pool, each by one store, from the one that was cached last. Then the party holds just
+    /// the buckets that are out. The party has to be this pool's.
+    #[tactic(auto, unfolding(crate::specs::SharedPoolCaching::IsOut))]
+    pub fn flush<const CAPPED: usize, const MOST: usize>(
+        &mut self,
+        pool: &SharedBucketPool<CAPPED, MOST>,
+    )
+        requires party { self.old.party.allocator ≡ pool.now }
+        ensures logged { self.new ≡ record self.old {
+          party = with_entries self.old.party
+              (returns_of self.old.party.number self.old.cached);
+          cached = [];
+        } }
+        ensures unchanged { self.old.cached ≡ [] → self.new ≡ self.old }
+        ensures is_party { IsSameParty self.old.party self.new.party }
+        ensures others_kept { (other : ℕ) → IsOut self.old other → IsOut self.new other }
+        ensures others { (other : ℕ) → IsHeldAfter self.new.party.log other
+            → IsOut self.old other }
+    {
+        return_all(pool, &mut self.party, &mut self.cached);
+    }
+
+    /// Gives all cached buckets back to the pool, as `flush` does, and returns the party, which holds just the buckets that are
+    /// out. The party has to be this pool's.
+    #[tactic(auto, unfolding(crate::specs::SharedPoolCaching::IsOut))]
+    pub fn into_party<const CAPPED: usize, const MOST: usize>(
+        mut self,
+        pool: &SharedBucketPool<CAPPED, MOST>,
+    ) -> PoolParty
+        requires party { self.party.allocator ≡ pool.now }
+        ensures logged { result
+            ≡ with_entries self.party (returns_of self.party.number self.cached) }
+        ensures unchanged { self.cached ≡ [] → result ≡ self.party }
+        ensures is_party { IsSameParty self.party result }
+        ensures others_kept { (other : ℕ) → IsOut self other → IsHeldAfter result.log other }
+        ensures others { (other : ℕ) → IsHeldAfter result.log other → IsOut self other }
+    {
+        self.flush(pool);
+        let CachingParty {
+            party,
+            cached: _,
+            most: _,
+        } = self;
+        party
+    }
+}
+
+/// Gives these buckets back to the pool, the last first.
+fn return_all<const CAPPED: usize, const MOST: usize>(
+    pool: &SharedBucketPool<CAPPED, MOST>,
+    party: &mut PoolParty,
+    cached: &mut Vec<u32>,
+)
+    requires party { party.old.allocator ≡ pool.now }
+    requires cached { AreCached party.old cached.old.items }
+    ensures logged { party.new
+        ≡ with_entries party.old (returns_of party.old.number cached.old.items) }
+    ensures is_party { IsSameParty party.old party.new }
+    ensures none { cached.new.items ≡ [] }
+    ensures capacity { vec_capacity cached.new ≡ vec_capacity cached.old }
+    ensures others_kept { (other : ℕ) → ¬ Contains cached.old.items other
+        → IsHeldAfter party.old.log other → IsHeldAfter party.new.log other }
+    ensures others { (other : ℕ) → IsHeldAfter party.new.log other
+        → IsHeldAfter party.old.log other }
+    ensures given_back { (other : ℕ) → IsHeldAfter party.new.log other
+        → ¬ Contains cached.old.items other }
+{
+    // Proof hint: brings the party's invariant into scope where none is cached.
+    let _ = party.number();
+    while let Some(number) = cached.pop() {
+        let bucket = by_number::bucket(pool, party, number, 0);
+        pool.deallocate_bucket(party, bucket);
+    }
+}

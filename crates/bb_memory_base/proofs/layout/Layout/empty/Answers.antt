@@ -1,5 +1,0 @@
-use Rattle.bb_memory_base.proofs.Layouts.{empty-valid}
-use Rattle.bb_memory_base.proofs.layout.Layout.empty.Goals as goal
-
-pub invariant_of-result : goal.invariant_of-result
-invariant_of-result c = record { valid = empty-valid }

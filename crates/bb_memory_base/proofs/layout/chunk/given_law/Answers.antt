@@ -1,5 +1,0 @@
-use Rattle.bb_memory_base.proofs.LiveBytes.{given_apart, last_two_apart}
-use Rattle.bb_memory_base.proofs.layout.chunk.given_law.Goals as goal
-
-pub returns : goal.returns
-returns c = record { given = given_apart; last_two = last_two_apart }

@@ -1,9 +1,0 @@
-use Rattle.bb_memory_base.proofs.Layouts.{layout-plain}
-use Rattle.bb_memory_base.proofs.Layouts as layouts
-use Rattle.bb_memory_base.proofs.layout.layout_law.Goals as goal
-
-pub returns-clause-valid : goal.returns-clause-valid
-returns-clause-valid c = layout-plain
-
-pub returns-clause-multiple : goal.returns-clause-multiple
-returns-clause-multiple c = layouts.multiple

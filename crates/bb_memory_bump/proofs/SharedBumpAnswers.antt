@@ -1,0 +1,169 @@
+-- What a request that has ended says of its answer and of its party.
+use Rattle.std.proofs.Common.{◌≡◌, ℕ, ◌+◌, ◌<◌, ◌≤◌, List, [], ◌∷◌, ◌++◌, length, sym, ap, ◌∙◌, subst, append-nil, arith, Result}
+use Rattle.std.proofs.Common.{Ok, Err}
+use Rattle.std.specs.Prelude.{IfOk, OnErr, drop, max}
+use Rattle.std.proofs.lemmas.Bool.{leb-false}
+use Rattle.std.proofs.Math.Seq.{drop-append_seam}
+use Rattle.std.proofs.lemmas.List.Elements.{All-nil}
+use Rattle.atomic_table.specs.Seated.{TableId}
+use Rattle.atomic_table.specs.Table.{Me}
+use Rattle.bb_memory_traits.specs.Chunk.{region_end, Chunk, chunk_end}
+use Rattle.bb_memory_traits.specs.BumpObject.{chunk_at_or_after, next_chunk}
+use Rattle.bb_memory_base.specs.BumpMachine.{BumpScene, chunk_at}
+use Rattle.bb_memory_base.specs.BumpLogs.{BumpLog, chunks_won, losses_in, HasPositionFrom, HasPositionUpTo, seen_in}
+use Rattle.bb_memory_traits.specs.declared.layout.Layout.{Layout}
+use Rattle.bb_memory_traits.specs.declared.allocator.AllocationError.{AllocationError}
+use Rattle.bb_memory_traits.specs.declared.allocator.AllocationError.TheVariants.{OutOfMemory}
+use Rattle.bb_memory_base.proofs.BumpBounds.{won_grows}
+use Rattle.bb_memory_traits.proofs.LiveLists.{StandsFor-end}
+use Rattle.bb_memory_bump.specs.Seats.{number_of, view_log}
+use Rattle.bb_memory_bump.specs.SharedBump.{BumpParty, IsAnsweredAt, IsFoundBy, IsRefused, IsWon, MayTake, floor_of, seen_by}
+use Rattle.bb_memory_bump.specs.SharedBump.{with_entries}
+use Rattle.bb_memory_bump.specs.SharedBumpRule.{SeatView, met_by, party_in}
+use Rattle.bb_memory_bump.specs.SharedBumpRule.{HasEnded, HasRefused, HasWon, IsCounted}
+use Rattle.bb_memory_bump.proofs.SharedBumpParties.{entries_added}
+
+-- ENTRIES
+
+-- what was added to a party's log is told by the party
+added_once : (party : BumpParty) (added other : BumpLog) → with_entries party other ≡ with_entries party added → other ≡ added
+added_once party added other same =
+    sym (drop-append_seam party.log other)
+    ∙ ap (λ (p : BumpParty). drop (length party.log) p.log) same
+    ∙ drop-append_seam party.log added
+
+nothing_added : (party : BumpParty) (added : BumpLog) → party ≡ with_entries party added → [] ≡ added
+nothing_added party added same =
+    added_once party added []
+    ((λ i. record { allocator = party.allocator; number = party.number; log = append-nil party.log i; met = party.met }) ∙ same)
+
+counted_found : (scene : BumpScene) (log : BumpLog) (met : ℕ) (added : BumpLog) (party : BumpParty) →
+    IsCounted scene log met added →
+    party.allocator.scene ≡ scene → log ≡ party.log → met ≡ party.met → IsFoundBy party added
+counted_found scene log met added party counted scene_is log_is met_is =
+    subst (λ (x : BumpScene × BumpLog × ℕ). IsFoundBy
+    (record {
+      allocator = record { table = party.allocator.table; scene = x.0 };
+      number = party.number;
+      log = x.1;
+      met = x.2;
+    }) added)
+    (λ i. (sym scene_is i, log_is i, met_is i))
+    record { seen = counted.seen; within = counted.within }
+
+-- where no step was made
+pub nothing_found : (party : BumpParty) (added : BumpLog) → party ≡ with_entries party added → IsFoundBy party added
+nothing_found party added same =
+    subst (IsFoundBy party) (nothing_added party added same) record {
+      seen = All-nil (HasPositionFrom (floor_of party) party.allocator.scene.region);
+      within = All-nil (HasPositionUpTo party.allocator.scene.region.size party.allocator.scene.region);
+    }
+
+pub nothing_lost : (party : BumpParty) (added : BumpLog) (most : ℕ) → party ≡ with_entries party added → losses_in added ≤ most
+nothing_lost party added most same =
+    subst (λ (entries : BumpLog). losses_in entries ≤ most) (nothing_added party added same) (none most)
+  where
+    none : (most : ℕ) → losses_in [] ≤ most
+    none most = omega arith
+
+-- REQUESTS THAT MADE STEPS
+
+-- what a request has of its answer and its party
+pub record Says (scene : BumpScene) (party new : BumpParty) (layout : Layout) (told : Result Chunk AllocationError)
+    : Type 0 where
+  pub answer : MayTake party layout told new
+  pub found : (other : BumpLog) → new ≡ with_entries party other → IsFoundBy party other
+  pub losses : (other : BumpLog) → new ≡ with_entries party other → losses_in other ≤ scene.region.size
+  pub won : IfOk told (λ chunk. chunks_won new.log ≡ chunks_won party.log ++ chunk ∷ [])
+  pub none_won : OnErr told (chunks_won new.log ≡ chunks_won party.log)
+  pub floor : IfOk told (λ chunk. scene.region.start + floor_of party ≤ chunk.place)
+  pub alone : scene.parties ≡ 1 → IsAnsweredAt scene.region (seen_by party) layout told
+
+-- a party before a request and after it, by its fields
+module _ (scene : BumpScene) (table was : TableId) (number : ℕ) (old new : Me ℕ SeatView) (party : BumpParty)
+    (same : table ≡ was) (view_is : party_in was number old.0 ≡ party)
+    (scene_is : party.allocator.scene ≡ scene) where
+  log_is : view_log old.0 ≡ party.log
+  log_is = ap (λ (p : BumpParty). p.log) view_is
+
+  met_is : met_by old.0 ≡ party.met
+  met_is = ap (λ (p : BumpParty). p.met) view_is
+
+  then : (added : BumpLog) → HasEnded scene (number_of old.0) (view_log old.0) (met_by old.0) added new →
+      party_in table number new.0 ≡ with_entries party added
+  then added ended =
+      entries_added table was number (number_of old.0) scene added old new party same ended.seat.seat.is ended.unchanged
+      view_is scene_is
+
+  found_by : (added : BumpLog) → HasEnded scene (number_of old.0) (view_log old.0) (met_by old.0) added new →
+      (other : BumpLog) → party_in table number new.0 ≡ with_entries party other → IsFoundBy party other
+  found_by added ended other is =
+      subst (IsFoundBy party) (sym (added_once party added other (sym is ∙ then added ended)))
+      (counted_found scene (view_log old.0) (met_by old.0) added party ended.counted scene_is log_is met_is)
+
+  lost_by : (added : BumpLog) → HasEnded scene (number_of old.0) (view_log old.0) (met_by old.0) added new →
+      (other : BumpLog) → party_in table number new.0 ≡ with_entries party other → losses_in other ≤ scene.region.size
+  lost_by added ended other is =
+      subst (λ (entries : BumpLog). losses_in entries ≤ scene.region.size)
+      (sym (added_once party added other (sym is ∙ then added ended))) ended.counted.losses
+
+  -- the chunks that its log has won
+  won_by : (added : BumpLog) (won : List Chunk) →
+      HasEnded scene (number_of old.0) (view_log old.0) (met_by old.0) added new →
+      chunks_won added ≡ won → chunks_won (view_log new.0) ≡ chunks_won party.log ++ won
+  won_by added won ended won_is =
+      ap (λ (p : BumpParty). chunks_won p.log) (then added ended)
+      ∙ won_grows party.log added
+      ∙ ap (λ (chunks : List Chunk). chunks_won party.log ++ chunks) won_is
+
+  -- a request of this layout by the party
+  module _ (layout : Layout) (asks : 0 < layout.size) (own : number_of old.0 ≡ number) where
+    told_to : number_of old.0 ≡ party.number
+    told_to = own ∙ ap (λ (p : BumpParty). p.number) view_is
+
+    pub says_won : (chunk : Chunk) → HasWon scene (number_of old.0) (view_log old.0) (met_by old.0) layout new chunk →
+        Says scene party (party_in table number new.0) layout (Ok chunk)
+    says_won chunk won = record {
+      answer = (
+        asks,
+        won.added,
+        subst (λ (x : BumpScene × ℕ). IsWon x.0.region x.1 layout won.added chunk) (λ i. (sym scene_is i, told_to i)) won.won,
+        then won.added won.ended,
+      );
+      found = found_by won.added won.ended;
+      losses = lost_by won.added won.ended;
+      won = won_by won.added (chunk ∷ []) won.ended won.chunks;
+      none_won = tt;
+      floor = subst (λ (x : BumpScene × BumpLog × ℕ). scene.region.start + max (seen_in x.0 x.1) x.2 ≤ chunk.place)
+          (λ i. (sym scene_is i, log_is i, met_is i)) won.behind;
+      alone = λ one. subst (λ (x : BumpScene × BumpLog). IsAnsweredAt scene.region (seen_in x.0 x.1) layout (Ok chunk))
+          (λ i. (sym scene_is i, log_is i))
+          (λ live stands. let end = StandsFor-end scene.region (seen_in scene (view_log old.0)) live stands in
+          (asks, won.below, won.alone one ∙ ap (λ (v : ℕ). chunk_at_or_after v layout) (omega (arith, end))));
+    }
+
+    pub says_refused : HasRefused scene (number_of old.0) (view_log old.0) (met_by old.0) layout new →
+        Says scene party (party_in table number new.0) layout (Err OutOfMemory)
+    says_refused refused = record {
+      answer = (
+        asks,
+        refused.added,
+        subst (λ (x : BumpScene × ℕ). IsRefused x.0.region x.1 layout refused.added)
+            (λ i. (sym scene_is i, told_to i)) refused.refused,
+        then refused.added refused.ended,
+      );
+      found = found_by refused.added refused.ended;
+      losses = lost_by refused.added refused.ended;
+      won = tt;
+      none_won = won_by refused.added [] refused.ended refused.chunks ∙ append-nil (chunks_won party.log);
+      floor = tt;
+      alone = λ one.
+          let seen = seen_in scene (view_log old.0) in
+          subst (λ (x : BumpScene × BumpLog). IsAnsweredAt scene.region (seen_in x.0 x.1) layout (Err OutOfMemory))
+          (λ i. (sym scene_is i, log_is i))
+          (λ live stands. let end = StandsFor-end scene.region seen live stands in
+          let same : chunk_end (chunk_at scene.region seen layout) ≡ chunk_end (next_chunk scene.region live layout) =
+          ap (λ (v : ℕ). chunk_end (chunk_at_or_after v layout)) (omega (arith, end)) in
+          let past = leb-false (chunk_end (chunk_at scene.region seen layout)) (region_end scene.region) (refused.alone one) in
+          (asks, omega (arith, same, past)));
+    }

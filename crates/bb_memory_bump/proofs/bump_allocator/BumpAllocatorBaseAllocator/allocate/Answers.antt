@@ -1,0 +1,59 @@
+use Rattle.std.proofs.Common.{◌≡◌, ◌+◌, ◌<◌, ◌≤◌, refl, arith, ap, sym, ◌∙◌, subst}
+use Rattle.bb_memory_traits.specs.Chunk.{region_end, Chunk, chunk_end}
+use Rattle.bb_memory_traits.specs.BumpObject.{StandsFor, chunk_at_or_after, next_chunk}
+use Rattle.bb_memory_traits.proofs.LiveLists.{StandsFor-end, StandsFor-push}
+use Rattle.bb_memory_bump.specs.Bump.{Bump, bump_of}
+use Rattle.bb_memory_bump.proofs.bump_allocator.BumpAllocatorBaseAllocator.allocate.Goals as goal
+
+pub returns-in_default-clause-answer : goal.returns-in_default-clause-answer
+returns-in_default-clause-answer c = λ live stands.
+    let layout = c.args.layout in
+    let bump = bump_of c.self.inside.start c.self.inside.size c.self.inside.current_position in
+    let here = subst (λ (b : Bump). StandsFor b.region b.used live) (sym c.self.view_is) stands in
+    let end = StandsFor-end bump.region bump.used live here in
+    let same = ap (λ v. chunk_end (chunk_at_or_after v layout)) end in
+    subst (λ (b : Bump). (0 < layout.size) × (region_end b.region < chunk_end (next_chunk b.region live layout))) c.self.view_is
+    (omega arith, omega (arith, c.in_default.ensures.value, same))
+
+pub returns-clause-answer : goal.returns-clause-answer
+returns-clause-answer c = λ live stands.
+    let layout = c.args.layout in
+    let chunk = c.in-Some.chunk in
+    let bump = bump_of c.self.inside.start c.self.inside.size c.self.inside.current_position in
+    let here = subst (λ (b : Bump). StandsFor b.region b.used live) (sym c.self.view_is) stands in
+    let end = StandsFor-end bump.region bump.used live here in
+    let told = c.in-Some.ensures.value in
+    subst (λ (b : Bump). (0 < layout.size) × (chunk_end chunk ≤ region_end b.region) × (chunk ≡ next_chunk b.region live layout))
+    c.self.view_is (
+      omega arith,
+      omega (arith, told.0, ap (λ (k : Chunk). chunk_end k) told.1),
+      told.1 ∙ ap (λ v. chunk_at_or_after v layout) end,
+    )
+
+pub returns-clause-appended : goal.returns-clause-appended
+returns-clause-appended c = λ live stands.
+    let chunk = c.in-Some.chunk in
+    let bump = bump_of c.self.inside.start c.self.inside.size c.self.inside.current_position in
+    let here = subst (λ (b : Bump). StandsFor b.region b.used live) (sym c.self.view_is) stands in
+    let end = StandsFor-end bump.region bump.used live here in
+    let told = c.in-Some.ensures in
+    rw c.end.ensures (StandsFor-push bump.region bump.used live chunk here (omega (arith, told.above, end))
+    (omega (arith, told.value.0, ap (λ (k : Chunk). chunk_end k) told.value.1)))
+
+pub returns-in_default-clause-kept : goal.returns-in_default-clause-kept
+returns-in_default-clause-kept c = λ live stands. stands
+
+pub returns-in_default-clause-value : goal.returns-in_default-clause-value
+returns-in_default-clause-value c =
+    let bump = bump_of c.self.inside.start c.self.inside.size c.self.inside.current_position in
+    let full : region_end bump.region < chunk_end (chunk_at_or_after (bump.region.start + bump.used) c.args.layout) =
+    omega (arith, c.in_default.ensures.value) in
+    rw (← c.self.view_is) record {
+      accepted = (λ given. absurd (cc given), λ room. absurd (omega (arith, full, room.1)));
+      size_is_zero = (λ is. absurd (cc is), λ zero. absurd (omega (arith, zero)));
+      begins = tt;
+      exact_size = tt;
+      behind = tt;
+      used = tt;
+      unchanged = refl;
+    }

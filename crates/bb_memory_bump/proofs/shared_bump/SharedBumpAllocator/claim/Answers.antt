@@ -1,0 +1,100 @@
+use Rattle.std.proofs.Common.{◌∙◌, ℕ, ap, arith, subst, sym}
+use Rattle.atomic_table.specs.Table.{Me}
+use Rattle.bb_memory_base.specs.BumpLogs.{call_in}
+use Rattle.bb_memory_bump.specs.Seats.{number_of, view_log}
+use Rattle.bb_memory_bump.specs.SharedBumpRule.{IsSeatOf, SeatView, met_by}
+use Rattle.bb_memory_bump.proofs.SharedBumpRequests.{begins, goes_on, raises, refused_at_once, refused_later, wins}
+use Rattle.bb_memory_bump.proofs.shared_bump.SharedBumpAllocator.claim.Goals as goal
+
+pub returns-in-None-clause-call : goal.returns-in-None-clause-call
+returns-in-None-clause-call g c =
+    let me = c.args.seat.now.me in record {
+      table = c.read-seen.ensures.table;
+      step = refused_at_once c.args.self.now.scene (number_of me.0)
+          (view_log me.0) (met_by me.0) c.args.layout c.read-seen.result c.read-seen.new.seat.me
+          (rw c.self.view_is at c.read-seen.ensures.step) c.in-None.ensures.fits;
+    }
+
+pub loop-seen-init : goal.loop-seen-init
+loop-seen-init g c =
+    let me = c.args.seat.now.me in record {
+      table = c.read-seen.ensures.table;
+      trying = begins c.args.self.now.scene (number_of me.0) (view_log me.0) (met_by me.0) c.args.layout c.read-seen.result
+          c.read-seen.new.seat.me (rw c.self.view_is at c.read-seen.ensures.step) c.in-Some.ensures.fits.fitting;
+      placed = c.in-Some.ensures.fits.placed;
+      inside = c.in-Some.ensures.fits.inside;
+      aligned = c.in-Some.ensures.fits.aligned;
+    }
+
+pub returns-then-found-seen-clause-call : goal.returns-then-found-seen-clause-call
+returns-then-found-seen-clause-call g c =
+    let me = c.args.seat.now.me in
+    let before = c.loop-seen.invariant in record {
+      table = c.exchange-found.ensures.table ∙ before.table;
+      step = wins c.args.self.now.scene (number_of me.0) (view_log me.0) (met_by me.0) c.args.layout c.loop-seen.seen
+          c.exchange-found.result c.loop-seen.seat.me c.exchange-found.new.seat.me before.trying
+          (rw c.self.view_is at c.exchange-found.ensures.step)
+          c.loop-seen.chunk c.if-found-seen.true before.placed before.inside.below;
+    }
+
+pub returns-in-None-place-clause-call : goal.returns-in-None-place-clause-call
+returns-in-None-place-clause-call g c =
+    let me = c.args.seat.now.me in
+    let before = c.loop-seen.invariant in record {
+      table = c.exchange-found.ensures.table ∙ before.table;
+      step = refused_later c.args.self.now.scene (number_of me.0) (view_log me.0) (met_by me.0) c.args.layout c.loop-seen.seen
+          c.exchange-found.result c.loop-seen.seat.me c.exchange-found.new.seat.me before.trying
+          (rw c.self.view_is at c.exchange-found.ensures.step) c.if-found-seen.false c.in-None-place.ensures.fits;
+    }
+
+pub loop-seen-preserved : goal.loop-seen-preserved
+loop-seen-preserved g c =
+    let me = c.args.seat.now.me in
+    let before = c.loop-seen.invariant in record {
+      table = c.exchange-found.ensures.table ∙ before.table;
+      trying =
+          goes_on c.args.self.now.scene (number_of me.0) (view_log me.0) (met_by me.0) c.args.layout c.loop-seen.seen
+          c.exchange-found.result
+          c.loop-seen.seat.me c.exchange-found.new.seat.me before.trying (rw c.self.view_is at c.exchange-found.ensures.step)
+          c.if-found-seen.false c.in-Some-place.ensures.fits.fitting;
+      placed = c.in-Some-place.ensures.fits.placed;
+      inside = c.in-Some-place.ensures.fits.inside;
+      aligned = c.in-Some-place.ensures.fits.aligned;
+    }
+
+pub place-requires-in-loop-seen : goal.place-requires-in-loop-seen
+place-requires-in-loop-seen g c =
+    let me = c.args.seat.now.me in
+    (raises c.args.self.now.scene (number_of me.0) (view_log me.0) (met_by me.0) c.args.layout c.loop-seen.seen
+    c.exchange-found.result
+    c.loop-seen.seat.me c.exchange-found.new.seat.me c.loop-seen.invariant.trying
+    (rw c.self.view_is at c.exchange-found.ensures.step)).1
+
+pub loop-seen-smaller : goal.loop-seen-smaller
+loop-seen-smaller g c =
+    let me = c.args.seat.now.me in
+    let up = raises c.args.self.now.scene (number_of me.0) (view_log me.0) (met_by me.0) c.args.layout c.loop-seen.seen
+    c.exchange-found.result
+    c.loop-seen.seat.me c.exchange-found.new.seat.me c.loop-seen.invariant.trying
+    (rw c.self.view_is at c.exchange-found.ensures.step) in
+    let apart = c.if-found-seen.false in
+    omega (arith, up, apart)
+
+pub read-seen-requires : goal.read-seen-requires
+read-seen-requires g c = rw c.self.view_is c.requires
+
+pub exchange-found-requires-clause-seat : goal.exchange-found-requires-clause-seat
+exchange-found-requires-clause-seat g c =
+    let before = c.loop-seen.invariant in
+    let seat = c.loop-seen.seat.me in
+    let scene = c.args.self.now.scene in
+    rw c.self.view_is record {
+      table = before.table ∙ c.requires.seat.table;
+      seat = subst (λ (me : Me ℕ SeatView). IsSeatOf scene (number_of me.0) (view_log me.0) seat) (sym before.trying.seat.is)
+          before.trying.seat;
+    }
+
+pub exchange-found-requires-clause-call : goal.exchange-found-requires-clause-call
+exchange-found-requires-clause-call g c =
+    let before = c.loop-seen.invariant.trying in
+    ap (λ (me : Me ℕ SeatView). call_in (view_log me.0)) before.seat.is ∙ before.call

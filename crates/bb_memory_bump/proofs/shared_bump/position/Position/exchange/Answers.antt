@@ -1,0 +1,31 @@
+use Rattle.std.proofs.Common.{[], sym, ap, ◌∙◌, arith}
+use Rattle.bb_memory_base.specs.BumpMachine.{BumpScene, chunk_at, position_behind}
+use Rattle.bb_memory_bump.specs.Seats.{alone, number_of, view_log}
+use Rattle.bb_memory_bump.specs.SharedBumpRule.{met_by, sight}
+use Rattle.bb_memory_bump.proofs.SharedBumpKeeps.{exchanges_as}
+use Rattle.bb_memory_bump.proofs.SharedBumpParties.{told_exchange}
+use Rattle.bb_memory_bump.proofs.shared_bump.position.Position.exchange.Goals as goal
+
+pub compare_exchange-found-requires : goal.compare_exchange-found-requires
+compare_exchange-found-requires c =
+    let fields = c.self.invariant in
+    let me = c.args.seat.now.me in
+    let scene = ap (λ b. b.scene) c.self.view_is in (
+      c.requires.seat.table ∙ sym (ap (λ b. b.table) c.self.view_is),
+      omega (arith, fields.words),
+      exchanges_as c.self.inside.table.shared.key _ _ (number_of me.0) c.args.layout c.args.seen c.args.behind (view_log me.0)
+          (met_by me.0) me
+          (c.requires.seat.seat.is ∙ ap (λ s. (alone (sight s (met_by me.0)) (number_of me.0) (view_log me.0), [])) (sym scene))
+          c.requires.call
+          (c.requires.behind ∙ ap (λ (s : BumpScene). position_behind s.region (chunk_at s.region c.args.seen c.args.layout))
+          (sym scene)),
+    )
+
+pub returns : goal.returns
+returns c =
+    let me = c.args.seat.now.me in record {
+      table = c.compare_exchange-found.ensures.0;
+      step = told_exchange c.args.self.now.scene (number_of me.0) (view_log me.0) c.compare_exchange-found.result me
+          c.compare_exchange-found.new.seat.me
+          c.requires.seat.seat c.compare_exchange-found.ensures.2;
+    }

@@ -1,0 +1,29 @@
+use Rattle.std.proofs.Common.{[], sym, ap, ◌∙◌, arith}
+use Rattle.bb_memory_bump.specs.Seats.{alone, number_of, view_log}
+use Rattle.bb_memory_bump.specs.SharedBumpRule.{met_by, sight}
+use Rattle.bb_memory_bump.proofs.SharedBumpKeeps.{reads_as}
+use Rattle.bb_memory_bump.proofs.SharedBumpParties.{told_read}
+use Rattle.bb_memory_bump.proofs.shared_bump.position.Position.read.Goals as goal
+
+pub load-requires : goal.load-requires
+load-requires g c =
+    let fields = c.self.invariant in
+    let me = c.args.seat.now.me in
+    let of = c.requires.seat.seat in
+    let scene = ap (λ b. b.scene) c.self.view_is in (
+      c.requires.seat.table ∙ sym (ap (λ b. b.table) c.self.view_is),
+      omega (arith, fields.words),
+      reads_as c.self.inside.table.shared.key _ _ (number_of me.0) c.args._layout g.L.Asked.layout (view_log me.0) (met_by me.0)
+          me
+          (of.seat.is ∙ ap (λ s. (alone (sight s (met_by me.0)) (number_of me.0) (view_log me.0), [])) (sym scene)) of.idle
+          c.requires.asks c.requires.told,
+    )
+
+pub returns : goal.returns
+returns g c =
+    let me = c.args.seat.now.me in record {
+      table = c.load.ensures.0;
+      step = told_read c.args.self.now.scene (number_of me.0)
+          (view_log me.0) c.args._layout c.load.result g.L.Asked.layout _ me c.load.new.seat.me
+          c.requires.seat.seat.seat c.requires.told c.load.ensures.2;
+    }

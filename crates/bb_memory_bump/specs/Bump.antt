@@ -1,0 +1,48 @@
+-- A bump allocator, as its contracts see it.
+use Rattle.std.specs.Prelude.{◌≡◌, ℕ, ◌+◌, ◌<◌, ◌≤◌, ◌↔◌, ◌++◌, [], List, Result, Err, IsOk, IfOk, OnErr, codes}
+use Rattle.std.specs.Fmt.{decimal}
+use Rattle.bb_memory_traits.specs.Chunk.{Region, IsRegion, region_at, region_end, Chunk, chunk_end}
+use Rattle.bb_memory_traits.specs.LeastPlace.{least_place}
+use Rattle.bb_memory_traits.specs.BumpObject.{StandsFor, chunk_at_or_after}
+use Rattle.bb_memory_traits.specs.declared.layout.Layout.{Layout}
+use Rattle.bb_memory_traits.specs.declared.allocator.AllocationError.{AllocationError}
+use Rattle.bb_memory_traits.specs.declared.allocator.AllocationError.TheVariants.{SizeIsZero}
+
+-- the bump's region, and how much of it is used
+pub record Bump : Type 0 where
+  pub region : Region
+  pub used : ℕ
+
+abbrev pub bump_of : ℕ → ℕ → ℕ → Bump
+bump_of start size used = record { region = region_at start size; used = used }
+
+-- no more is used than there is
+pub record IsBump (bump : Bump) : Type 0 where
+  pub region : IsRegion bump.region
+  pub used : bump.used ≤ bump.region.size
+
+-- What a request is answered by the value alone, and what the bump is then.
+pub record Takes (old : Bump) (layout : Layout) (answer : Result Chunk AllocationError) (new : Bump)
+    : Type 0 where
+  -- each outcome, both ways
+  pub accepted : IsOk answer ↔ ((0 < layout.size) × (chunk_end (chunk_at_or_after (old.region.start + old.used) layout)
+      ≤ region_end old.region))
+  pub size_is_zero : (answer ≡ Err SizeIsZero) ↔ (layout.size ≡ 0)
+  -- the chunk
+  pub begins : IfOk answer (λ chunk. chunk.place ≡ least_place (old.region.start + old.used) layout.align)
+  pub exact_size : IfOk answer (λ chunk. chunk.len ≡ layout.size)
+  pub behind : IfOk answer (λ chunk. old.region.start + old.used ≤ chunk.place)
+  -- what is used then ends with the chunk, and a refusal leaves everything
+  pub used : IfOk answer (λ chunk. new.region.start + new.used ≡ chunk_end chunk)
+  pub unchanged : OnErr answer (new ≡ old)
+
+-- What the bump is after a release, whichever place it names, and so on each list that it stood for, the empty one too.
+pub record Frees (old new : Bump) : Type 0 where
+  pub value : new ≡ bump_of old.region.start old.region.size 0
+  pub released : (live : List Chunk) → StandsFor old.region old.used live → StandsFor new.region new.used []
+
+-- what Display writes
+abbrev pub bump_text : Bump → List ℕ
+bump_text bump =
+    codes "BumpAllocator { start: " ++ (decimal bump.region.start ++ (codes ", size: " ++ (decimal bump.region.size
+    ++ (codes ", current_position: " ++ (decimal bump.used ++ codes " }")))))

@@ -1,0 +1,4 @@
+pub mod Bump
+pub mod Seats
+pub mod SharedBump
+pub mod SharedBumpRule

@@ -1,0 +1,227 @@
+-- A shared bump and its parties, as their contracts see them, and what each call adds to its party's log.
+use Rattle.std.specs.Prelude.{◌≡◌, ◌≢◌, ℕ, ◌+◌, ◌<◌, ◌≤◌, true, false, List, [], ◌∷◌, ◌++◌, None, Result, Ok, Err, All, Contains}
+use Rattle.std.specs.Prelude.{Some, length, map, max, slice_get}
+use Rattle.atomic_table.specs.Seated.{TableId}
+use Rattle.bb_memory_traits.specs.Chunk.{Region, Chunk, AreApart, chunk_end}
+use Rattle.bb_memory_base.specs.BumpMachine.{BumpScene, chunk_at, fits}
+use Rattle.bb_memory_base.specs.BumpLogs.{BumpLog, chunks_won, entry_of, CommonInterleaving, Interleaving, HasLog}
+use Rattle.bb_memory_base.specs.BumpLogs.{HasPositionFrom, HasPositionUpTo, LogsAgree, call_in, seen_in}
+use Rattle.bb_memory_traits.specs.BumpObject.{MayAllocate, StandsFor}
+use Rattle.bb_memory_traits.specs.declared.layout.Layout.{Layout}
+use Rattle.bb_memory_traits.specs.declared.allocator.AllocationError.{AllocationError}
+use Rattle.bb_memory_traits.specs.declared.allocator.AllocationError.TheVariants.{SizeIsZero, SizeTooLarge, AlignmentFailure}
+use Rattle.bb_memory_traits.specs.declared.allocator.AllocationError.TheVariants.{OutOfMemory}
+use Rattle.bb_memory_base.specs.declared.steps.bump.BumpStep.TheVariants.{Read, Exchange, Load}
+use Rattle.bb_memory_base.specs.declared.steps.bump.BumpOutcome.TheVariants.{Sees, RefusedAtRead, Wins, Loses, RefusedAtLoss}
+use Rattle.bb_memory_base.specs.declared.steps.bump.BumpOutcome.TheVariants.{Loaded}
+
+-- a shared bump: which one it is, and where its machine began: its region, the position at `share`, and how many parties it has
+pub record SharedBump : Type 0 where
+  pub table : TableId
+  pub scene : BumpScene
+
+abbrev pub scene_at : Region → ℕ → ℕ → BumpScene
+scene_at region opening parties = record { region = region; opening = opening; parties = parties }
+
+-- the opening is in the region, and there is a party
+pub record IsSharedScene (scene : BumpScene) : Type 0 where
+  pub opening : scene.opening ≤ scene.region.size
+  pub parties : 1 ≤ scene.parties
+
+-- a party: the bump that it belongs to, its number there, its log, and the position that its last meeting found, or 0
+pub record BumpParty : Type 0 where
+  pub allocator : SharedBump
+  pub number : ℕ
+  pub log : BumpLog
+  pub met : ℕ
+
+-- the party of this number, which has made no step
+abbrev pub fresh_party : SharedBump → ℕ → BumpParty
+fresh_party allocator number =
+    record { allocator = allocator; number = number; log = []; met = 0 }
+
+-- all parties of a bump that has so many, numbered from 0, and none has made a step
+pub record AreFresh (allocator : SharedBump) (count : ℕ) (parties : List BumpParty) : Type 0 where
+  pub so_many : allocator.scene.parties ≡ count
+  pub as_many : length parties ≡ count
+  pub fresh : (number : ℕ) → number < count → slice_get parties number ≡ Some (fresh_party allocator number)
+  pub theirs : All (λ party. party.allocator ≡ allocator) parties
+
+-- the party with these more entries in its log
+abbrev pub with_entries : BumpParty → BumpLog → BumpParty
+with_entries party entries = record {
+  allocator = party.allocator;
+  number = party.number;
+  log = party.log ++ entries;
+  met = party.met;
+}
+
+-- the party after a meeting that found this position
+abbrev pub meeting_at : ℕ → BumpParty → BumpParty
+meeting_at position party = record {
+  allocator = party.allocator;
+  number = party.number;
+  log = party.log;
+  met = position;
+}
+
+-- what the party has seen: the greatest position in its log, or the opening where that is empty
+abbrev pub seen_by : BumpParty → ℕ
+seen_by party = seen_in party.allocator.scene party.log
+
+-- the party's floor: what the party knows that the position is at least, which it has seen, or which its last meeting found
+abbrev pub floor_of : BumpParty → ℕ
+floor_of party = max (seen_by party) party.met
+
+-- the greatest position that one of these parties has seen, or 0 where there is none
+abbrev pub greatest_seen : List BumpParty → ℕ
+greatest_seen [] = 0
+greatest_seen (party ∷ parties) = max (seen_by party) (greatest_seen parties)
+
+-- WHAT CALLS ADD TO A LOG
+
+-- a load, which found this position
+abbrev pub load_entry : ℕ → ℕ → BumpLog
+load_entry party position = entry_of (Load party) (Loaded position) ∷ []
+
+-- A request under way, and the position that it has seen: a read, and then losses, each at a greater position. The layout fits
+-- at each of them.
+pub data Tries (region : Region) (party : ℕ) (layout : Layout) : BumpLog → ℕ → Type 0 where
+  by_read : (tried : BumpLog) (position : ℕ) → tried ≡ entry_of (Read party layout) (Sees position) ∷ [] →
+      fits region position layout ≡ true → Tries region party layout tried position
+  by_loss : (before tried : BumpLog) (seen position : ℕ) → Tries region party layout before seen →
+      tried ≡ before ++ entry_of (Exchange party) (Loses position) ∷ [] → seen < position →
+      fits region position layout ≡ true → Tries region party layout tried position
+
+-- A request that has won this chunk, which is the one that the layout gets at the position that it had seen.
+pub record IsWon (region : Region) (party : ℕ) (layout : Layout) (added : BumpLog) (chunk : Chunk)
+    : Type 0 where
+  pub seen : ℕ
+  pub tried : BumpLog
+  pub tries : Tries region party layout tried seen
+  pub is : added ≡ tried ++ entry_of (Exchange party) (Wins chunk) ∷ []
+  pub placed : chunk ≡ chunk_at region seen layout
+
+-- A request that was refused: by a read, or by a loss at a greater position, at which the layout doesn't fit.
+pub data IsRefused (region : Region) (party : ℕ) (layout : Layout) (added : BumpLog) : Type 0 where
+  at_read : (position : ℕ) → added ≡ entry_of (Read party layout) (RefusedAtRead position) ∷ [] →
+      fits region position layout ≡ false → IsRefused region party layout added
+  at_loss : (tried : BumpLog) (seen position : ℕ) → Tries region party layout tried seen →
+      added ≡ tried ++ entry_of (Exchange party) (RefusedAtLoss position) ∷ [] → seen < position →
+      fits region position layout ≡ false → IsRefused region party layout added
+
+-- each position in these entries is at least the party's floor, and at most the region's size
+pub record IsFoundBy (party : BumpParty) (added : BumpLog) : Type 0 where
+  pub seen : All (HasPositionFrom (floor_of party) party.allocator.scene.region) added
+  pub within : let region = party.allocator.scene.region in
+      All (HasPositionUpTo region.size region) added
+
+-- WHAT A REQUEST MAY BE ANSWERED
+
+-- What a party's request may be answered, and what the party is then.
+abbrev pub MayTake : BumpParty → Layout → Result Chunk AllocationError → BumpParty → Type 0
+MayTake party layout (Ok chunk) new =
+    (0 < layout.size) × (added : BumpLog) × IsWon party.allocator.scene.region party.number layout added chunk
+    × (new ≡ with_entries party added)
+-- no step
+MayTake party layout (Err SizeIsZero) new = (layout.size ≡ 0) × (new ≡ party)
+-- a read, or a loss, at which the layout doesn't fit
+MayTake party layout (Err OutOfMemory) new =
+    (0 < layout.size) × (added : BumpLog) × IsRefused party.allocator.scene.region party.number layout added
+    × (new ≡ with_entries party added)
+-- a shared bump never refuses so
+MayTake party layout (Err SizeTooLarge) new = ⊥
+MayTake party layout (Err AlignmentFailure) new = ⊥
+
+-- the answer is the bump object's where this much of the region is used
+abbrev pub IsAnsweredAt : Region → ℕ → Layout → Result Chunk AllocationError → Type 0
+IsAnsweredAt region used layout answer =
+    (live : List Chunk) → StandsFor region used live → MayAllocate region live layout answer
+
+-- INTERLEAVINGS
+
+-- some interleaving of the party's log with some logs of the bump's other parties is allowed, and leaves this position
+abbrev pub IsInterleaved : BumpParty → ℕ → Type 0
+IsInterleaved party position = Interleaving party.allocator.scene party.number party.log position
+
+-- What holds of every party: its number is below how many there are, and it is in no call. Some interleaving has its log and
+-- leaves what the party has seen, and some one leaves its floor. No meeting found more than the region's size.
+pub record IsParty (party : BumpParty) : Type 0 where
+  pub scene : IsSharedScene party.allocator.scene
+  pub number : party.number < party.allocator.scene.parties
+  pub idle : call_in party.log ≡ None
+  pub interleaved : IsInterleaved party (seen_by party)
+  pub reached : IsInterleaved party (floor_of party)
+  pub met : party.met ≤ party.allocator.scene.region.size
+
+-- a party before a call and after it: it has its number still, and what holds of every party holds of it
+pub record IsSameParty (old new : BumpParty) : Type 0 where
+  pub number : new.number ≡ old.number
+  pub is_party : IsParty new
+
+-- A load of the party's found this position: it is at least what the party had seen, and its floor, and at most the size; and
+-- exactly what it had seen where it is the only one.
+pub record HasLoaded (bump : SharedBump) (old : BumpParty) (found : ℕ) (new : BumpParty) : Type 0 where
+  pub logged : new ≡ with_entries old (load_entry old.number found)
+  pub number : new.number ≡ old.number
+  pub is_party : IsParty new
+  pub seen : seen_by old ≤ found
+  pub floor : floor_of old ≤ found
+  pub within : found ≤ bump.scene.region.size
+  pub alone : bump.scene.parties ≡ 1 → found ≡ seen_by old
+
+-- both parties are this bump's
+pub record AreBothOf (allocator : SharedBump) (one other : BumpParty) : Type 0 where
+  pub a : one.allocator ≡ allocator
+  pub b : other.allocator ≡ allocator
+
+-- an interleaving that has the logs of both parties
+abbrev pub AreInterleaved : BumpParty → BumpParty → Type 0
+AreInterleaved a b =
+    (position : ℕ) × CommonInterleaving a.allocator.scene a.number a.log b.number b.log position
+
+-- Two parties met where this position was found: it is at least what either knew, at most the size, and what an interleaving of
+-- both logs leaves.
+pub record MeetAt (bump : SharedBump) (a b : BumpParty) (found : ℕ) : Type 0 where
+  pub differ : a.number ≢ b.number
+  pub interleaved : AreInterleaved a b
+  pub risen : (floor_of a ≤ found) × (floor_of b ≤ found)
+  pub within : found ≤ bump.scene.region.size
+  pub leaves : CommonInterleaving bump.scene a.number a.log b.number b.log found
+
+-- no chunk that was won in the one log overlaps one of the other
+abbrev pub HaveChunksApart : BumpLog → BumpLog → Type 0
+HaveChunksApart log other_log =
+    All (λ chunk. All (AreApart chunk) (chunks_won other_log)) (chunks_won log)
+
+-- each chunk that was won in the log ends at or before this much of the region
+abbrev pub HasChunksWithin : Region → BumpLog → ℕ → Type 0
+HasChunksWithin region log used =
+    All (λ chunk. chunk_end chunk ≤ region.start + used) (chunks_won log)
+
+-- ALL PARTIES
+
+-- each of so many numbers is that of one of these parties
+abbrev pub HaveAllNumbers : ℕ → List BumpParty → Type 0
+HaveAllNumbers count parties =
+    (number : ℕ) → number < count → Contains (map (λ party. party.number) parties) number
+
+-- There is a log for each of the bump's parties, with which this position agrees, and these parties' logs are among them. Where
+-- these are all parties, each log is one of theirs, and the position is the greatest that one of them has seen.
+pub record AgreeAt (scene : BumpScene) (position : ℕ) (parties : List BumpParty) : Type 0 where
+  pub logs : List BumpLog
+  pub agree : LogsAgree scene position logs
+  pub one_a_party : length logs ≡ scene.parties
+  pub theirs : All (λ party. HasLog logs party.number party.log) parties
+  pub differ : (i j : ℕ) (one other : BumpParty) → slice_get parties i ≡ Some one → slice_get parties j ≡ Some other → i ≢ j →
+      one.number ≢ other.number
+  pub whole : length parties ≡ scene.parties → HaveAllNumbers scene.parties parties × (position ≡ greatest_seen parties)
+
+-- Parties that have met, before and after. The position that they found is at least each one's floor, and is the one that some
+-- interleaving of all their logs leaves.
+pub record HaveMet (scene : BumpScene) (old new : List BumpParty) : Type 0 where
+  pub position : ℕ
+  pub kept : new ≡ map (meeting_at position) old
+  pub risen : All (λ party. floor_of party ≤ position) old
+  pub within : position ≤ scene.region.size
+  pub agree : AgreeAt scene position old

@@ -1,0 +1,294 @@
+-- The rule of a shared bump's word, what its seats and fields stand for, and what each step on the word tells the party that
+-- makes it.
+use Rattle.std.specs.Prelude.{◌≡◌, ℕ, ◌<◌, ◌≤◌, List, [], ◌∷◌, ◌++◌, All, None, length, max, ◌≢◌, ◌+◌, ◌%◌, true, false, Option}
+use Rattle.std.specs.Prelude.{Some}
+use Rattle.std.specs.declared.vec.Vec.{Vec}
+use mathlib.Core.Option.{some}
+use lib.ListN.{get_elem?}
+use Rattle.atomic_table.specs.Seated.{TableId}
+use Rattle.atomic_table.specs.Table.{State, Me, Step}
+use Rattle.bb_memory_traits.specs.Chunk.{IsRegion, region_at, Region, region_end, Chunk, IsInside, chunk_end}
+use Rattle.bb_memory_base.specs.BumpMachine.{BumpScene, OngoingCall, chunk_at, fits, read_move, exchange_move}
+use Rattle.bb_memory_base.specs.BumpLogs.{BumpEntry, BumpLog, Interleaving, LogsAgree, call_in, seen_in, chunks_won, entry_of}
+use Rattle.bb_memory_base.specs.BumpLogs.{losses_in, HasPositionFrom, CommonInterleaving, HasPositionUpTo}
+use Rattle.bb_memory_bump.specs.Seats.{AreSeated, HasRoomFor, IsAt, Numbered, Seat, alone, fresh_from, number_of, numbered}
+use Rattle.bb_memory_bump.specs.Seats.{standing_for, view_log, HaveLogs, times_in}
+use Rattle.bb_memory_bump.specs.SharedBump.{BumpParty, IsSharedScene, SharedBump, scene_at, HasChunksWithin, HaveChunksApart}
+use Rattle.bb_memory_bump.specs.SharedBump.{IsRefused, IsWon}
+use Rattle.bb_memory_traits.specs.declared.layout.Layout.{Layout}
+use Rattle.bb_memory_base.specs.declared.steps.bump.BumpStep.{BumpStep}
+use Rattle.bb_memory_base.specs.declared.steps.bump.BumpStep.TheVariants.{Read, Exchange, Load}
+use Rattle.bb_memory_base.specs.declared.steps.bump.BumpOutcome.{BumpOutcome}
+use Rattle.bb_memory_base.specs.declared.steps.bump.BumpOutcome.TheVariants.{Loaded}
+
+-- SEATS
+
+-- a party's number with its log, and what a seat of a shared bump knows
+abbrev pub NumberedLog : Type 0
+NumberedLog = Numbered BumpEntry
+
+abbrev pub numbered_of : BumpParty → NumberedLog
+numbered_of party = numbered party.number party.log
+
+-- the scene, and the position that the last meeting there found, or 0
+pub record Sight : Type 0 where
+  pub scene : BumpScene
+  pub met : ℕ
+
+abbrev pub sight : BumpScene → ℕ → Sight
+sight scene met = record { scene = scene; met = met }
+
+abbrev pub SeatView : Type 0
+SeatView = Seat Sight BumpEntry
+
+abbrev pub scene_of : SeatView → BumpScene
+scene_of view = view.scene.scene
+
+abbrev pub met_by : SeatView → ℕ
+met_by view = view.scene.met
+
+-- the party of a seat in the table
+abbrev pub party_in : TableId → ℕ → SeatView → BumpParty
+party_in table number view = record {
+  allocator = record { table = table; scene = scene_of view };
+  number = number;
+  log = view_log view;
+  met = met_by view;
+}
+
+-- The seat stands for this party alone. Some interleaving has its log and leaves what the party has seen, and some one leaves its
+-- floor.
+pub record IsSeatOf (scene : BumpScene) (number : ℕ) (log : BumpLog) (me : Me ℕ SeatView)
+    : Type 0 where
+  pub is : me ≡ (alone (sight scene (met_by me.0)) number log, [])
+  pub interleaved : Interleaving scene number log (seen_in scene log)
+  pub reached : Interleaving scene number log (max (seen_in scene log) (met_by me.0))
+
+-- the seat of an idle party
+pub record IsSeatOfIdle (scene : BumpScene) (number : ℕ) (log : BumpLog) (me : Me ℕ SeatView)
+    : Type 0 where
+  pub seat : IsSeatOf scene number log me
+  pub idle : call_in log ≡ None
+
+-- the seat of an idle party with this number
+pub record IsPartySeat (number : ℕ) (me : Me ℕ SeatView) : Type 0 where
+  pub seat : IsSeatOfIdle (scene_of me.0) number (view_log me.0) me
+  pub below : number < (scene_of me.0).parties
+  pub shared : IsSharedScene (scene_of me.0)
+  pub met : met_by me.0 ≤ (scene_of me.0).region.size
+
+-- SEATS AT A BUMP'S TABLE
+
+-- the seat of one party
+abbrev pub IsSeatAt : SharedBump → TableId → Me ℕ SeatView → Type 0
+IsSeatAt bump here me = IsAt bump.table here (IsSeatOf bump.scene (number_of me.0) (view_log me.0) me)
+
+-- the seat of an idle party
+abbrev pub IsIdleAt : SharedBump → TableId → Me ℕ SeatView → Type 0
+IsIdleAt bump here me = IsAt bump.table here (IsSeatOfIdle bump.scene (number_of me.0) (view_log me.0) me)
+
+-- the seats of two parties
+pub record AreTwoAt (bump : SharedBump) (here : TableId) (me : Me ℕ SeatView) (there : TableId) (other : Me ℕ SeatView)
+    : Type 0 where
+  pub a : IsSeatAt bump here me
+  pub b : IsSeatAt bump there other
+
+-- a seat of any number of parties
+abbrev pub StandsAt : SharedBump → TableId → Me ℕ SeatView → Type 0
+StandsAt bump here me =
+    IsAt bump.table here (me ≡ (standing_for (sight bump.scene (met_by me.0)) me.0.parties, []))
+
+-- such a seat, at which these parties may meet, too
+pub record MayMeet (bump : SharedBump) (here : TableId) (me : Me ℕ SeatView) (guests : List BumpParty) : Type 0 where
+  pub seat : StandsAt bump here me
+  pub rest : All (λ party. party.allocator ≡ bump) guests
+
+-- THE RULE
+
+-- Words and logs agree: there is a log for each party, with which the machine's position agrees that the word has. Each party
+-- stands in exactly one view, with its log; a dropped party's view stays. No meeting has found more than the position.
+pub record WordsAndLogsAgree (scene : BumpScene) (state : State ℕ SeatView) : Type 0 where
+  pub position : ℕ
+  pub logs : List BumpLog
+  pub agree : LogsAgree scene position logs
+  pub words : state.words ≡ position ∷ []
+  pub opened : scene.opening ≤ scene.region.size
+  pub one_a_party : length logs ≡ scene.parties
+  pub seated : AreSeated scene.parties logs state.views
+  pub met : (seat : ℕ) (view : SeatView) → get_elem? state.views seat ≡ some view → met_by view ≤ position
+
+-- the table has one word, and no slot
+pub record HasOneWord (table : TableId) : Type 0 where
+  pub words : table.words ≡ 1
+  pub slots : table.slots ≡ 0
+
+-- the scene is over the region, and its opening is in it
+pub record IsSharedBump (scene : BumpScene) (start size : ℕ) : Type 0 where
+  pub region : scene.region ≡ region_at start size
+  pub is_region : IsRegion (region_at start size)
+  pub shared : IsSharedScene scene
+
+-- DEALING
+
+-- the view of the first seat, which stands for all parties
+abbrev pub all_parties : BumpScene → SeatView
+all_parties scene = standing_for (sight scene 0) (fresh_from 0 scene.parties)
+
+-- the bump's machine begins at a scene, and a seat of its table stands for all parties
+pub record IsOpened (begins : BumpScene) (bump : SharedBump) (here : TableId) (me : Me ℕ SeatView) : Type 0 where
+  pub scene : bump.scene ≡ begins
+  pub table : here ≡ bump.table
+  pub seat : me ≡ (all_parties begins, [])
+
+-- a seat of its table stands for all its parties, which are so many, and a vector has room for them
+pub record MaySeat {Z : Type 0} (bump : SharedBump) (count : ℕ) (here : TableId) (me : Me ℕ SeatView) (all : Vec BumpParty Z)
+    : Type 0 where
+  pub table : here ≡ bump.table
+  pub seat : me ≡ (all_parties bump.scene, [])
+  pub parties : count ≡ bump.scene.parties
+  pub room : HasRoomFor count all
+
+-- a view of no party
+abbrev pub nobody : SeatView
+nobody = standing_for (sight (scene_at (region_at 0 0) 0 0) 0) []
+
+-- MEETING
+
+-- the view of the parties of a guest and of a view, which knows what the last meeting of either found
+abbrev pub gathered : SeatView → SeatView → SeatView
+gathered view guest =
+    standing_for (sight (scene_of view) (max (met_by view) (met_by guest))) (guest.parties ++ view.parties)
+
+-- the view after a meeting that found this position
+abbrev pub meeting_of : ℕ → SeatView → SeatView
+meeting_of position view = standing_for (sight (scene_of view) position) view.parties
+
+-- WHAT A STEP TELLS
+
+-- A step of a party found this position: at least what the party had seen and what its last meeting had found, and at most the
+-- size; and exactly what it had seen where it is the only party. Its log then has the step, with this outcome.
+pub record Tells (scene : BumpScene) (number : ℕ) (log : BumpLog) (met : ℕ) (step : BumpStep)
+    (outcome : BumpOutcome) (found : ℕ) (new : Me ℕ SeatView) : Type 0 where
+  pub seat : IsSeatOf scene number (log ++ entry_of step outcome ∷ []) new
+  pub unchanged : met_by new.0 ≡ met
+  pub seen : seen_in scene log ≤ found
+  pub above : met ≤ found
+  pub within : found ≤ scene.region.size
+  pub exact : scene.parties ≡ 1 → found ≡ seen_in scene log
+
+abbrev pub TellsRead : BumpScene → ℕ → BumpLog → ℕ → Layout → ℕ → Me ℕ SeatView → Type 0
+TellsRead scene number log met layout found new =
+    Tells scene number log met (Read number layout) (read_move scene.region found layout).outcome found new
+
+-- the exchange of the call that the party is in
+abbrev pub TellsExchange : BumpScene → ℕ → BumpLog → ℕ → ℕ → Me ℕ SeatView → Type 0
+TellsExchange scene number log met found new =
+    (call : OngoingCall) → call_in log ≡ Some call → Tells scene number log met
+    (Exchange number) (exchange_move scene.region found call).outcome found new
+
+abbrev pub TellsLoad : BumpScene → ℕ → BumpLog → ℕ → ℕ → Me ℕ SeatView → Type 0
+TellsLoad scene number log met found new =
+    Tells scene number log met (Load number) (Loaded found) found new
+
+-- A load by a seat that stands for these parties found this position: at least what the last meetings had found, and at most the
+-- size. There is a log for each of the bump's parties, with which it agrees, and theirs are among them; no two are one.
+pub record TellsMeeting (scene : BumpScene) (parties : List NumberedLog) (met found : ℕ)
+    : Type 0 where
+  pub above : met ≤ found
+  pub within : found ≤ scene.region.size
+  pub opened : scene.opening ≤ scene.region.size
+  pub logs : List BumpLog
+  pub agree : LogsAgree scene found logs
+  pub one_a_party : length logs ≡ scene.parties
+  pub theirs : HaveLogs scene.parties logs parties
+  pub once : (number : ℕ) → number < scene.parties → times_in number parties ≤ 1
+
+-- what a meeting of two found: they are different ones, no chunk of the one overlaps one of the other, and one interleaving has
+-- both logs, which leaves the position
+pub record TellsTwo (scene : BumpScene) (number : ℕ) (log : BumpLog) (other : ℕ)
+    (other_log : BumpLog) (found : ℕ) : Type 0 where
+  pub differ : number ≢ other
+  pub apart : HaveChunksApart log other_log
+  pub interleaved : CommonInterleaving scene number log other other_log found
+  pub seen : (seen_in scene log ≤ found) × (seen_in scene other_log ≤ found)
+  pub within : found ≤ scene.region.size
+  pub chunks : HasChunksWithin scene.region log found × HasChunksWithin scene.region other_log found
+
+-- THE STEPS AS THE TABLE KNOWS THEM
+
+abbrev pub reads : Option Layout → Step ℕ → Me ℕ SeatView → ℕ → Me ℕ SeatView → Type 0
+reads (Some layout) step old found new =
+    TellsRead (scene_of old.0) (number_of old.0) (view_log old.0) (met_by old.0) layout found new
+reads None step old found new = Unit {0}
+
+abbrev pub exchanges : Step ℕ → Me ℕ SeatView → ℕ → Me ℕ SeatView → Type 0
+exchanges step old found new =
+    TellsExchange (scene_of old.0) (number_of old.0) (view_log old.0) (met_by old.0) found new
+
+abbrev pub loads : Step ℕ → Me ℕ SeatView → ℕ → Me ℕ SeatView → Type 0
+loads step old found new =
+    TellsLoad (scene_of old.0) (number_of old.0) (view_log old.0) (met_by old.0) found new
+
+-- a load by a seat that stands for any number of parties
+abbrev pub meets : Step ℕ → Me ℕ SeatView → ℕ → Me ℕ SeatView → Type 0
+meets step old found new =
+    (new ≡ (meeting_of found old.0, old.1)) × TellsMeeting (scene_of old.0) old.0.parties (met_by old.0) found
+
+-- A load by a seat found this position, where these parties have met. The seat stays at its table.
+pub record HasFound (scene : BumpScene) (parties : List NumberedLog) (was : TableId) (old : Me ℕ SeatView) (found : ℕ)
+    (is : TableId) (new : Me ℕ SeatView) : Type 0 where
+  pub table : is ≡ was
+  pub seat : new ≡ (meeting_of found old.0, [])
+  pub told : TellsMeeting scene parties (met_by old.0) found
+
+-- REQUESTS
+
+-- the party of a seat may ask for this layout: it is idle, and the size isn't 0. A step is told the layout by its type
+pub record MayAsk (bump : SharedBump) (here : TableId) (me : Me ℕ SeatView) (asked : Option Layout) (layout : Layout)
+    : Type 0 where
+  pub seat : IsIdleAt bump here me
+  pub asks : 0 < layout.size
+  pub told : asked ≡ Some layout
+
+-- the chunk of this layout at a position, where it fits
+pub record IsFor (region : Region) (position : ℕ) (layout : Layout) (chunk : Chunk) : Type 0 where
+  pub fitting : fits region position layout ≡ true
+  pub placed : chunk ≡ chunk_at region position layout
+  pub aligned : chunk.place % layout.align ≡ 0
+  pub inside : IsInside region chunk
+  pub above : region.start + position ≤ chunk.place
+
+-- what is known of the positions and losses in what was added to a log
+pub record IsCounted (scene : BumpScene) (log : BumpLog) (met : ℕ) (added : BumpLog)
+    : Type 0 where
+  pub seen : All (HasPositionFrom (max (seen_in scene log) met) scene.region) added
+  pub within : All (HasPositionUpTo scene.region.size scene.region) added
+  pub losses : losses_in added ≤ scene.region.size
+
+-- A request that has ended: the party is idle, and has added this.
+pub record HasEnded (scene : BumpScene) (number : ℕ) (log : BumpLog) (met : ℕ) (added : BumpLog)
+    (new : Me ℕ SeatView) : Type 0 where
+  pub seat : IsSeatOfIdle scene number (log ++ added) new
+  pub unchanged : met_by new.0 ≡ met
+  pub counted : IsCounted scene log met added
+
+-- a request that won this chunk, which lies behind the party's floor; where the party is the only one, it is the one at what it
+-- had seen
+pub record HasWon (scene : BumpScene) (number : ℕ) (log : BumpLog) (met : ℕ) (layout : Layout)
+    (new : Me ℕ SeatView) (chunk : Chunk) : Type 0 where
+  pub added : BumpLog
+  pub ended : HasEnded scene number log met added new
+  pub won : IsWon scene.region number layout added chunk
+  pub chunks : chunks_won added ≡ chunk ∷ []
+  pub behind : scene.region.start + max (seen_in scene log) met ≤ chunk.place
+  pub below : chunk_end chunk ≤ region_end scene.region
+  pub alone : scene.parties ≡ 1 → chunk ≡ chunk_at scene.region (seen_in scene log) layout
+
+-- a refused request; where the party is the only one, the layout doesn't fit at what it had seen
+pub record HasRefused (scene : BumpScene) (number : ℕ) (log : BumpLog) (met : ℕ)
+    (layout : Layout) (new : Me ℕ SeatView) : Type 0 where
+  pub added : BumpLog
+  pub ended : HasEnded scene number log met added new
+  pub refused : IsRefused scene.region number layout added
+  pub chunks : chunks_won added ≡ []
+  pub alone : scene.parties ≡ 1 → fits scene.region (seen_in scene log) layout ≡ false

@@ -1,0 +1,283 @@
+//! An allocator that gives one chunk after another, and takes all of them back at once.
+ghost use Rattle.std.specs.Prelude.{◌≡◌, [], List, All, ◌+◌, ◌<◌, ◌≤◌, ◌%◌, ◌↔◌, ℕ};
+ghost use Rattle.std.specs.Prelude.{IfOk, IfErr, IsTrue, Ok, Some, length, slice_get};
+ghost use Rattle.bb_memory_traits.specs.Chunk.{Region, IsRegion, region_at, Chunk, IsInside, chunk_end};
+ghost use Rattle.bb_memory_traits.specs.Object.{AnswersAll, AnswersOnce, GivesOnly, AnswersRun, IsRun, Step};
+ghost use Rattle.bb_memory_traits.specs.BumpObject.{MayAllocate, IsInOrder, StandsFor, bump_object, used_space};
+ghost use Rattle.bb_memory_traits.specs.declared.layout.Layout.{Layout};
+ghost use Rattle.bb_memory_traits.specs.declared.allocator.AllocationError.{AllocationError};
+ghost use Rattle.bb_memory_traits.specs.declared.allocator.Command.{Command};
+ghost use Rattle.bb_memory_traits.specs.declared.allocator.Reply.{Reply};
+ghost use Rattle.bb_memory_traits.specs.declared.allocator.AllocationError.TheVariants.{OutOfMemory};
+ghost use Rattle.bb_memory_bump.specs.Bump.{Bump, bump_of};
+ghost use Rattle.bb_memory_bump.specs.SharedBump.{fresh_party, scene_at};
+
+pub use crate::allocator::{AllocationError, BaseAllocator};
+use crate::allocator::{Command, Reply, run_base};
+use crate::layout::{Chunk, Layout};
+use crate::region;
+use crate::shared_bump::{BumpParty, SharedBumpAllocator};
+use std::alloc::{AllocError, Global};
+use std::fmt;
+use std::marker::Model;
+
+/// Gives chunks in order, each at the first suitable place behind the one before. All are given back at once.
+///
+/// ```
+/// let mut bump = BumpAllocator::new(4096, 1024);
+/// let layout = Layout::from_size_align(48, 4).unwrap();
+/// let chunk = bump.allocate(layout)?;
+/// let (place, len, used) = (chunk.place(), chunk.len(), bump.used_space());
+/// prove!(place == 4096 && len == 48 && used == 48);
+/// bump.deallocate(place, layout);
+/// let free = bump.free_space();
+/// prove!(free == 1024);
+/// ```
+#[derive(Debug, Drop)]
+pub struct BumpAllocator {
+    start: usize,
+    size: usize,
+    current_position: usize,
+}
+
+impl Model for BumpAllocator {
+    ghost use Rattle.bb_memory_bump.specs.Bump.{Bump, IsBump, bump_of};
+
+    ghost Value = { Bump };
+
+    ghost view = { λ a. bump_of a.start a.size a.current_position };
+
+    ghost invariant = { λ a. IsBump (bump_of a.start a.size a.current_position) };
+}
+
+impl BumpAllocator {
+    /// An allocator over the region of `size` bytes at `start`, with nothing given. The start has to be greater than 0,
+    /// and start plus size at most `usize::MAX`; [`BumpAllocator::can_make`] tests both.
+    #[inline]
+    pub fn new(start: usize, size: usize) -> Self
+        requires { IsRegion (region_at start size) }
+        ensures value { result ≡ bump_of start size 0 }
+        ensures empty { StandsFor result.region result.used [] }
+    {
+        BumpAllocator {
+            start,
+            size,
+            current_position: 0,
+        }
+    }
+
+    /// Tests that `new` may be called with these.
+    pub fn can_make(start: usize, size: usize) -> bool
+        ensures { IsTrue result ↔ IsRegion (region_at start size) }
+    {
+        region::Region::can_make(start, size)
+    }
+
+    /// An allocator over the region of `size` bytes at `start`, of which `position` are used.
+    pub(crate) fn at_position(start: usize, size: usize, position: usize) -> Self
+        requires region { IsRegion (region_at start size) }
+        requires position { position ≤ size }
+        ensures { result ≡ bump_of start size position }
+    {
+        BumpAllocator {
+            start,
+            size,
+            current_position: position,
+        }
+    }
+
+    /// Where the region starts.
+    #[inline]
+    pub fn start_address(&self) -> usize
+        ensures value { result ≡ self.now.region.start }
+        ensures is_region { IsRegion self.now.region }
+    {
+        self.start
+    }
+
+    /// How many bytes are used: those from the region's start to the end of the last chunk, padding included.
+    #[inline]
+    pub fn used_space(&self) -> usize
+        ensures value { result ≡ self.now.used }
+        ensures of_live { (live : List Chunk) → StandsFor self.now.region self.now.used live
+            → result ≡ used_space self.now.region live }
+    {
+        self.current_position
+    }
+
+    /// How many bytes are behind the last chunk.
+    #[inline]
+    pub fn free_space(&self) -> usize
+        ensures { self.now.used + result ≡ self.now.region.size }
+    {
+        self.size - self.current_position
+    }
+
+    /// How many bytes the region has.
+    #[inline]
+    pub fn total_space(&self) -> usize
+        ensures { result ≡ self.now.region.size }
+    {
+        self.size
+    }
+
+    /// Shares the bump among that many parties, at least one: what was used stays used, and each party begins with an empty
+    /// log. The only refusal is `OutOfMemory`, where the memory for the word or for the parties was refused; the allocator
+    /// then comes back as it was.
+    pub fn share(
+        self,
+        alloc: Global,
+        parties: u32,
+    ) -> Result<(SharedBumpAllocator, Vec<BumpParty>), (BumpAllocator, AllocationError)>
+        requires parties { 1 ≤ parties }
+
+        // The machine begins at this region and position, with these parties.
+        ensures scene { IfOk result (λ shared.
+            shared.0.scene ≡ scene_at self.region self.used parties) }
+
+        // There are as many parties as asked, all of this shared bump, numbered from 0, with empty logs.
+        ensures parties { IfOk result (λ shared. shared.0.scene.parties ≡ parties) }
+        ensures as_many { IfOk result (λ shared. length shared.1.items ≡ parties) }
+        ensures fresh { IfOk result (λ shared. (number : ℕ) → number < parties
+            → slice_get shared.1.items number ≡ Some (fresh_party shared.0 number)) }
+        ensures theirs { IfOk result (λ shared.
+            All (λ party. party.allocator ≡ shared.0) shared.1.items) }
+
+        ensures unchanged { IfErr result (λ refused. refused.0 ≡ self) }
+        ensures refused { IfErr result (λ refused. refused.1 ≡ OutOfMemory) }
+    {
+        let start = self.start;
+        let size = self.size;
+        let position = self.current_position;
+        match SharedBumpAllocator::open(alloc, start, size, position, parties) {
+            Ok(shared) => Ok(shared),
+            Err(AllocError) => Err((self, AllocationError::OutOfMemory)),
+        }
+    }
+}
+
+impl fmt::Display for BumpAllocator {
+    ghost use Rattle.std.specs.Prelude.{Some};
+    ghost use Rattle.bb_memory_bump.specs.Bump.{bump_text};
+
+    ghost output = { λ bump. Some (bump_text bump) };
+
+    fn fmt<W: fmt::Write>(&self, f: &mut fmt::Formatter<W>) -> fmt::Result {
+        let start = self.start;
+        let size = self.size;
+        let current_position = self.current_position;
+        write!(
+            f,
+            "BumpAllocator {{ start: {start}, size: {size}, current_position: {current_position} }}"
+        )
+    }
+}
+
+impl BaseAllocator for BumpAllocator {
+    ghost use Rattle.std.specs.Prelude.{true};
+    ghost use Rattle.bb_memory_traits.specs.Chunk.{Region};
+    ghost use Rattle.bb_memory_traits.specs.BumpObject.{MayAllocate, StandsFor};
+    ghost use Rattle.bb_memory_bump.specs.Bump.{Takes, Frees};
+
+    const RELEASE_EMPTIES: bool = true;
+
+    ghost RELEASE_EMPTIES = { true };
+
+    ghost Geometry = { Region };
+
+    ghost geometry = { λ bump. bump.region };
+
+    ghost region_of = { λ region. region };
+
+    ghost may_allocate = { MayAllocate };
+
+    ghost stands_for = { λ bump live. StandsFor bump.region bump.used live };
+
+    ghost may_release = { λ _ _. Unit {0} };
+
+    ghost Note = { Unit {0} };
+
+    ghost note = { λ _. tt };
+
+    ghost note_after = { λ _ _ note. note };
+
+    ghost takes = { Takes };
+
+    ghost frees = { λ bump _ _ new. Frees bump new };
+
+    /// A chunk of exactly `layout.size()` bytes, at the least multiple of `layout.align()` behind what is used. Size 0 is
+    /// refused with `SizeIsZero`, and a chunk that would end behind the region with `OutOfMemory`. A refusal leaves the
+    /// allocator as it was.
+    #[inline(always)]
+    fn allocate(&mut self, layout: Layout) -> Result<Chunk, AllocationError> {
+        if layout.size() == 0 {
+            return Err(AllocationError::SizeIsZero);
+        }
+        let end = self.start + self.size;
+        let Some(chunk) = Chunk::at_or_after(self.start + self.current_position, layout, end) else {
+            return Err(AllocationError::OutOfMemory);
+        };
+        self.current_position = chunk.end() - self.start;
+        Ok(chunk)
+    }
+
+    /// Gives back all chunks, whichever place and layout are named.
+    #[inline(always)]
+    fn deallocate(&mut self, _place: usize, _layout: Layout) {
+        self.current_position = 0;
+    }
+
+    fn stands_for_some_list(&self) {
+        // Proof hint: brings the type's invariant into scope.
+        let _ = &self.start;
+    }
+
+    fn answers_fit(&self) {
+        // Proof hint: brings the type's invariant into scope.
+        let _ = &self.start;
+    }
+
+    ghost releases = { λ bump live position chunk stands at. tt };
+
+    ghost sound = { λ bump live stands. stands.sound };
+}
+
+/// Applies the commands in order, as [`run_base`] does: the replies and the live list are a run of the bump object over
+/// the allocator's region, and the list is sound afterwards. The allocator has to stand for the live list. `AllocError` comes
+/// only where memory was refused, and then the allocator and the list are as before.
+pub fn run_bump(
+    allocator: &mut BumpAllocator,
+    live: &mut Vec<Chunk>,
+    commands: &[Command],
+) -> Result<Vec<Reply>, AllocError>
+    requires { StandsFor allocator.old.region allocator.old.used live.old.items }
+    ensures { AnswersRun (λ bump. StandsFor bump.region bump.used) (λ bump. bump.region)
+        (λ region. region) (Step (bump_object allocator.old.region))
+        commands.now result allocator.old allocator.new live.old.items live.new.items }
+{
+    run_base(allocator, live, commands)
+}
+
+/// Says what the definition of the bump object comes to for every region and every list of commands. There is exactly one answer
+/// to each request. A chunk that is given begins at a multiple of the asked alignment, has exactly the asked size, and begins at
+/// or after the end of every chunk of the list, where that is in order. Each run from a live list that a bump stands for leads to
+/// such a list again, which is sound. It does nothing: its contract is the law.
+pub fn bump_object_law()
+    ensures some_answer { (region : Region) → AnswersAll (bump_object region) }
+    ensures one_answer { (region : Region) → AnswersOnce (bump_object region) }
+    ensures aligned { (region : Region) → GivesOnly (bump_object region)
+        (λ layout chunk. chunk.place % layout.align ≡ 0) }
+    ensures exact_size { (region : Region) → GivesOnly (bump_object region)
+        (λ layout chunk. chunk.len ≡ layout.size) }
+    ensures inside { (region : Region) (live : List Chunk) (layout : Layout) (chunk : Chunk)
+        → IsInOrder region.start live → MayAllocate region live layout (Ok chunk)
+        → IsInside region chunk }
+    ensures after_all { (region : Region) (live : List Chunk) (layout : Layout) (chunk : Chunk)
+        → IsInOrder region.start live → MayAllocate region live layout (Ok chunk)
+        → All (λ other. chunk_end other ≤ chunk.place) live }
+    ensures keeps_sound { (region : Region) (position : ℕ) (live new : List Chunk)
+        (commands : List Command) (replies : List Reply)
+        → StandsFor region position live
+        → IsRun (Step (bump_object region)) live commands replies new
+        → (left : ℕ) × StandsFor region left new }
+{}

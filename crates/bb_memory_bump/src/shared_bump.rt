@@ -1,0 +1,375 @@
+//! The bump that threads share: its word is the position, and each thread steps with a party of its own.
+ghost use Rattle.std.specs.Prelude.{◌≡◌, ◌≢◌, ◌+◌, ◌-◌, ◌≤◌, ◌%◌, ◌∷◌, ◌++◌, [], List, All, IfOk};
+ghost use Rattle.std.specs.Prelude.{ℕ, OnErr, Some, length, slice_get, Contains};
+ghost use Rattle.bb_memory_traits.specs.Chunk.{IsRegion, region_at, AreApart, Chunk, IsInside, IsSound};
+ghost use Rattle.bb_memory_traits.specs.BumpObject.{StandsFor};
+ghost use Rattle.bb_memory_base.specs.BumpLogs.{BumpLog, chunks_won, history_of, losses_in, Interleaving};
+ghost use Rattle.bb_memory_base.specs.BumpLogs.{IsCallRun, OpensWith, calls_of, live_after};
+ghost use Rattle.bb_memory_bump.specs.SharedBump.{AgreeAt, AreBothOf, AreFresh, AreInterleaved, BumpParty, HasChunksWithin};
+ghost use Rattle.bb_memory_bump.specs.SharedBump.{HaveChunksApart};
+ghost use Rattle.bb_memory_bump.specs.SharedBump.{HasLoaded, HaveMet, IsAnsweredAt, IsFoundBy, IsInterleaved, IsParty};
+ghost use Rattle.bb_memory_bump.specs.SharedBump.{IsSameParty};
+ghost use Rattle.bb_memory_bump.specs.SharedBump.{IsSharedScene, MayTake, MeetAt};
+ghost use Rattle.bb_memory_bump.specs.SharedBump.{floor_of, greatest_seen, meeting_at, scene_at, seen_by};
+ghost use Rattle.bb_memory_bump.specs.SharedBump.{with_entries};
+ghost use Rattle.bb_memory_bump.specs.SharedBumpRule.{MaySeat};
+
+mod all_parties;
+mod meeting;
+mod party;
+mod position;
+mod request;
+mod rule;
+
+pub use crate::allocator::AllocationError;
+use crate::bump_allocator::BumpAllocator;
+use crate::layout::{Chunk, Layout};
+pub use all_parties::shared_bump_meeting_law;
+use atomic_table::Seat;
+pub use party::BumpParty;
+use position::Position;
+use rule::{Scene, View};
+use std::alloc::{AllocError, Global};
+use std::marker::{Brand, Model};
+
+/// A bump that threads share through `&`, made by [`BumpAllocator::share`]. Each call of a thread takes its own party by
+/// `&mut`; the party has to be this allocator's, and stays so. No call takes memory, and none waits for another.
+///
+/// A party's log has its own atomic steps on the position, in order, each with what it found. Whatever the threads do, word
+/// and logs agree: the steps of all parties together are one list that the bump machine allows, which leaves the word. A user
+/// who has all parties is told so by [`meet_all`](SharedBumpAllocator::meet_all), and then has [`shared_bump_meeting_law`];
+/// [`shared_bump_law`] says what a user has of one party, and of two that met.
+///
+/// ```
+/// let Ok((shared, mut parties)) = BumpAllocator::new(4096, 64).share(alloc, 1) else {
+///     return Err(AllocationError::OutOfMemory);
+/// };
+/// let mut party = parties.pop().unwrap();
+/// let chunk = shared.allocate(&mut party, Layout::from_size_align(40, 1).unwrap())?;
+/// let (place, len) = (chunk.place(), chunk.len());
+/// prove!(4096 <= place && len == 40);
+/// let bump = shared.into_owner(party);
+/// let total = bump.total_space();
+/// prove!(total == 64);
+/// ```
+#[derive(Drop)]
+pub struct SharedBumpAllocator {
+    position: Position,
+    start: usize,
+    size: usize,
+}
+
+impl Model for SharedBumpAllocator {
+    ghost use Rattle.std.specs.Prelude.{◌≡◌};
+    ghost use Rattle.bb_memory_traits.specs.Chunk.{region_at};
+    ghost use Rattle.bb_memory_bump.specs.SharedBump.{SharedBump};
+
+    ghost Value = { SharedBump };
+
+    ghost use Rattle.bb_memory_bump.specs.SharedBumpRule.{IsSharedBump};
+
+    ghost view = { λ a. a.position };
+
+    ghost invariant = { λ a. IsSharedBump a.position.scene a.start a.size };
+}
+
+impl SharedBumpAllocator {
+    /// A shared bump over the region of `size` bytes at `start`, of which `position` are used, with its parties.
+    pub(crate) fn open(
+        alloc: Global,
+        start: usize,
+        size: usize,
+        position: usize,
+        parties: u32,
+    ) -> Result<(SharedBumpAllocator, Vec<BumpParty>), AllocError>
+        requires region { IsRegion (region_at start size) }
+        requires scene { IsSharedScene (scene_at (region_at start size) position parties) }
+        ensures scene { IfOk result (λ made.
+            made.0.scene ≡ scene_at (region_at start size) position parties) }
+        ensures parties { IfOk result (λ made. AreFresh made.0 parties made.1.items) }
+    {
+        let mut all = Vec::with_capacity(alloc, parties as usize)?;
+        let scene = Scene {
+            start,
+            size,
+            opening: position,
+            parties,
+        };
+        let (position, seat) = Position::open(alloc, scene)?;
+        let shared = SharedBumpAllocator {
+            position,
+            start,
+            size,
+        };
+        shared.seat_parties(seat, parties, &mut all);
+        Ok((shared, all))
+    }
+
+    /// Asks for a chunk of exactly `layout.size()` bytes, at the least multiple of `layout.align()` behind what is used.
+    ///
+    /// Size 0 is refused with `SizeIsZero`, and no step is made. Else the party reads the position; where the layout
+    /// doesn't fit there, the answer is `OutOfMemory`. Else it puts the end of its chunk in the position's place, where
+    /// that is still what it has seen. Where it isn't, the party goes on from the position that it found: it rounds anew,
+    /// or answers `OutOfMemory` where the layout doesn't fit there. There is no other refusal. Each loss raises what the
+    /// party has seen, so a request loses at most as many exchanges as the region has bytes. The party has to be this bump's.
+    pub fn allocate(&self, party: &mut BumpParty, layout: Layout) -> Result<Chunk, AllocationError>
+        requires party { party.old.allocator ≡ self.now }
+
+        // What is added to the party's log says what the answer is.
+        ensures answer { MayTake party.old layout result party.new }
+
+        // The party stays this allocator's, and some interleaving has its log. So what `shared_bump_law`
+        // says holds of it.
+        ensures party { party.new.allocator ≡ self.now }
+        ensures is_party { IsSameParty party.old party.new }
+
+        // The chunk is the one that the log has won since; a refusal wins none.
+        ensures won { IfOk result (λ chunk.
+            chunks_won party.new.log ≡ chunks_won party.old.log ++ chunk ∷ []) }
+        ensures none_won { OnErr result (chunks_won party.new.log ≡ chunks_won party.old.log) }
+
+        // Each position that it finds is at least the party's floor, and at most the size.
+        ensures found { (added : BumpLog) → party.new ≡ with_entries party.old added
+            → IsFoundBy party.old added }
+
+        // A chunk begins at or after the party's floor.
+        ensures floor { IfOk result (λ chunk.
+            self.now.scene.region.start + floor_of party.old ≤ chunk.place) }
+
+        // Where the party is the only one, the answer is the bump object's at what it had seen.
+        ensures alone { self.now.scene.parties ≡ 1
+            → IsAnsweredAt self.now.scene.region (seen_by party.old) layout result }
+
+        // It loses at most as many exchanges as the region has bytes.
+        ensures losses { (added : BumpLog) → party.new ≡ with_entries party.old added
+            → losses_in added ≤ self.now.scene.region.size }
+
+        ensures inside { IfOk result (IsInside self.now.scene.region) }
+        ensures aligned { IfOk result (λ chunk. chunk.place % layout.align ≡ 0) }
+        ensures exact_size { IfOk result (λ chunk. chunk.len ≡ layout.size) }
+    {
+        // Proof hint: brings the party's invariant into scope on the early returns.
+        let _ = &party.number;
+        if layout.size() == 0 {
+            return Err(AllocationError::SizeIsZero);
+        }
+        match self.claim::<Brand>(&mut party.seat, layout) {
+            Some(chunk) => Ok(chunk),
+            None => Err(AllocationError::OutOfMemory),
+        }
+    }
+
+    /// Two parties meet: no chunk of the one overlaps one of the other. It loads a word four times, which is in no log. What it
+    /// finds raises the floor of both, and nothing else changes. The parties have to be this bump's.
+    pub fn meet(&self, a: &mut BumpParty, b: &mut BumpParty)
+        requires parties { AreBothOf self.now a.old b.old }
+        ensures kept { (a.new ≡ meeting_at a.new.met a.old) × (b.new ≡ meeting_at a.new.met b.old) }
+        ensures parties { AreBothOf self.now a.new b.new }
+        ensures apart { HaveChunksApart a.old.log b.old.log }
+
+        // What it found is at least what either knew, at most the size, and what an interleaving of
+        // both logs leaves.
+        ensures met { MeetAt self.now a.old b.old a.new.met }
+
+        // Each chunk of either ends there or before.
+        ensures behind { let region = self.now.scene.region in
+            HasChunksWithin region a.new.log a.new.met × HasChunksWithin region b.new.log a.new.met }
+    {
+        self.position.meet(&mut a.seat, &mut b.seat);
+    }
+
+    /// All these parties meet: no chunk of one overlaps a chunk of another. One interleaving has all their logs, and leaves the
+    /// position that the meeting finds. Where these are all the bump's parties, it has no other steps, and the position is the
+    /// greatest that one of them has seen. The position found raises the floor of each, and nothing else changes. The meeting
+    /// loads a word once, and two times more for each party but one, which is in no log. The parties have to be this bump's.
+    pub fn meet_all(&self, parties: &mut Vec<BumpParty>)
+        requires parties { All (λ party. party.allocator ≡ self.now) parties.old.items }
+        ensures met { HaveMet self.now.scene parties.old.items parties.new.items }
+        ensures apart { (i j : ℕ) (one other : BumpParty)
+            → slice_get parties.old.items i ≡ Some one → slice_get parties.old.items j ≡ Some other
+            → i ≢ j → HaveChunksApart one.log other.log }
+        ensures parties { All (λ party. party.allocator ≡ self.now) parties.new.items }
+    {
+        let _ = &self.start;
+        if let Some(party) = parties.pop() {
+            let BumpParty { number, mut seat } = party;
+            self.meet_rest(&mut seat, parties);
+            parties.push_reserved(BumpParty { number, seat });
+        }
+    }
+
+    /// Where the region starts.
+    pub fn start_address(&self) -> usize
+        ensures value { result ≡ self.now.scene.region.start }
+    {
+        self.start
+    }
+
+    /// How many bytes are used: those from the region's start to the end of the last chunk, padding included. It is what
+    /// one load found. The party has to be this bump's.
+    pub fn used_space(&self, party: &mut BumpParty) -> usize
+        requires party { party.old.allocator ≡ self.now }
+        ensures party { party.new.allocator ≡ self.now }
+        ensures loaded { HasLoaded self.now party.old result party.new }
+    {
+        self.position.load(&mut party.seat)
+    }
+
+    /// How many bytes are behind the last chunk: the total less what one load found to be used. The party has to be this bump's.
+    pub fn free_space(&self, party: &mut BumpParty) -> usize
+        requires party { party.old.allocator ≡ self.now }
+        ensures party { party.new.allocator ≡ self.now }
+        ensures loaded { let used = self.now.scene.region.size - result in
+            HasLoaded self.now party.old used party.new }
+        ensures within { result ≤ self.now.scene.region.size }
+    {
+        self.size - self.used_space(party)
+    }
+
+    /// How many bytes the region has. The position at the opening is at most that, and there is a party.
+    pub fn total_space(&self) -> usize
+        ensures value { result ≡ self.now.scene.region.size }
+        ensures region { IsRegion self.now.scene.region }
+        ensures scene { IsSharedScene self.now.scene }
+    {
+        self.size
+    }
+
+    /// The bump again, for one owner: of the same region, at the position that the parties' steps left (with several parties that
+    /// is tested, and no clause). It is at least what this party has seen, and exactly that where it was the only party ever. The
+    /// party has to be this bump's.
+    pub fn into_owner(self, party: BumpParty) -> BumpAllocator
+        requires party { party.allocator ≡ self }
+        ensures region { result.region ≡ self.scene.region }
+        ensures interleaved { Interleaving self.scene party.number party.log result.used }
+        ensures seen { seen_by party ≤ result.used }
+        ensures floor { floor_of party ≤ result.used }
+        ensures within { result.used ≤ self.scene.region.size }
+        ensures exact { self.scene.parties ≡ 1 → result.used ≡ seen_by party }
+
+        // Each chunk that was won in the party's log ends there or before.
+        ensures behind { HasChunksWithin self.scene.region party.log result.used }
+    {
+        let SharedBumpAllocator {
+            position,
+            start,
+            size,
+        } = self;
+        let BumpParty { number: _, seat } = party;
+        let used = position.close(seat);
+        BumpAllocator::at_position(start, size, used)
+    }
+
+    /// The bump again, for one owner who has all its parties: of the same region, and at exactly the greatest position that one
+    /// of them has seen. It stands for the list that was live before the bump was shared, with the chunks that were won since
+    /// behind it, in the order of an interleaving of all logs. The parties have to be this bump's, and as many as it has.
+    pub fn into_owner_all(self, mut parties: Vec<BumpParty>) -> BumpAllocator
+        requires parties { All (λ party. party.allocator ≡ self) parties.items }
+        requires all { length parties.items ≡ self.scene.parties }
+        ensures region { result.region ≡ self.scene.region }
+        ensures agree { AgreeAt self.scene result.used parties.items }
+        ensures exact { result.used ≡ greatest_seen parties.items }
+        ensures floor { All (λ party. floor_of party ≤ result.used) parties.items }
+        ensures stands { (live : List Chunk)
+            → OpensWith self.scene live → (all : AgreeAt self.scene result.used parties.items)
+            → StandsFor self.scene.region result.used
+            (live ++ chunks_won (history_of self.scene all.agree.steps)) }
+    {
+        let party = parties.pop().unwrap();
+        let BumpParty {
+            number: _,
+            mut seat,
+        } = party;
+        self.gather_rest(&mut seat, parties);
+        let SharedBumpAllocator {
+            position,
+            start,
+            size,
+        } = self;
+        let last = position.close(seat);
+        BumpAllocator::at_position(start, size, last)
+    }
+
+    /// Gives each party a seat of its own.
+    fn seat_parties(&self, mut rest: Seat<u8, View>, parties: u32, all: &mut Vec<BumpParty>)
+        requires { MaySeat self.now parties rest.table_id rest.me all.old }
+        ensures { AreFresh self.now parties all.new.items }
+    {
+        for number in 0..parties {
+            let seat = self.position.deal(&mut rest);
+            all.push_reserved(BumpParty { number, seat });
+        }
+    }
+}
+
+/// Says what follows for each party of a shared bump, and for two that met, whatever the threads did. It does nothing: its
+/// contract is the law.
+///
+/// A possible history of a party is an interleaving of its log: a list of allowed steps from the opening, in which the party's
+/// steps are exactly its log, and which leaves a position. `IsParty` has one that leaves what the party has seen, and one that
+/// leaves its floor, so that one list of steps explains its log and what its last meeting found. The others' steps in it are some
+/// that explain the log, and needn't be those that were made. Two parties that met have such a list together, which
+/// `AreInterleaved` tells. A list that the opening stands for is one that was live before the bump was shared.
+pub fn shared_bump_law()
+    // The calls of a party's history are a run of the bump object from that list.
+    ensures run { (party : BumpParty) (position : ℕ) (live : List Chunk)
+        (history : IsInterleaved party position) → let scene = party.allocator.scene in
+        let steps = history.steps in
+        OpensWith scene live
+        → IsCallRun scene.region live (calls_of scene steps) (live_after scene live steps) }
+
+    // The run leads to that list with the chunks that were won since behind it.
+    ensures since { (party : BumpParty) (position : ℕ) (live : List Chunk)
+        (history : IsInterleaved party position) → let scene = party.allocator.scene in
+        let steps = history.steps in
+        live_after scene live steps ≡ live ++ chunks_won (history_of scene steps) }
+
+    // Each chunk of the party is in the list that the run leaves.
+    ensures held { (party : BumpParty) (position : ℕ) (live : List Chunk)
+        (history : IsInterleaved party position) → let scene = party.allocator.scene in
+        All (Contains (live_after scene live history.steps)) (chunks_won party.log) }
+
+    // A bump that has used as much as the history leaves stands for that list.
+    ensures stands { (party : BumpParty) (position : ℕ) (live : List Chunk)
+        (history : IsInterleaved party position) → let scene = party.allocator.scene in
+        OpensWith scene live
+        → StandsFor scene.region position (live_after scene live history.steps) }
+
+    // The chunks that a party's log has won are a sound list of the region.
+    ensures sound { (party : BumpParty)
+        → IsParty party
+        → IsSound party.allocator.scene.region (chunks_won party.log) }
+
+    // Each ends at or before what the party has seen, and so at or before its floor.
+    ensures ends { (party : BumpParty)
+        → HasChunksWithin party.allocator.scene.region party.log (seen_by party) }
+
+    // Each is apart from each chunk that was live before the bump was shared.
+    ensures older { (party : BumpParty) (live : List Chunk)
+        → IsParty party → OpensWith party.allocator.scene live
+        → All (λ older. All (AreApart older) (chunks_won party.log)) live }
+
+    // Two parties that met have one history together, whose calls are a run too: one run has the
+    // calls of both.
+    ensures both_run { (a b : BumpParty) (live : List Chunk) (met : AreInterleaved a b)
+        → let scene = a.allocator.scene in
+        let steps = met.1.steps in
+        OpensWith scene live
+        → IsCallRun scene.region live (calls_of scene steps) (live_after scene live steps) }
+
+    // Each chunk of either is in the list that this run leaves.
+    ensures both_held { (a b : BumpParty) (live : List Chunk) (met : AreInterleaved a b)
+        → let held = Contains (live_after a.allocator.scene live met.1.steps) in
+        All held (chunks_won a.log) × All held (chunks_won b.log) }
+
+    // No chunk of one party overlaps a chunk of another that it met.
+    ensures apart { (a b : BumpParty)
+        → IsParty a → AreInterleaved a b → a.number ≢ b.number
+        → HaveChunksApart a.log b.log }
+
+    // So of each two of their chunks.
+    ensures each_apart { (log other_log : BumpLog) (i j : ℕ) (chunk other : Chunk)
+        → HaveChunksApart log other_log
+        → slice_get (chunks_won log) i ≡ Some chunk
+        → slice_get (chunks_won other_log) j ≡ Some other → AreApart chunk other }
+{}

@@ -1,0 +1,53 @@
+//! The law of parties of a shared bump that met.
+ghost use Rattle.std.specs.Prelude.{◌≡◌, ◌≢◌, ◌++◌, ℕ, All, Any, Contains, List, Some, length, slice_get};
+ghost use Rattle.bb_memory_traits.specs.Chunk.{Chunk};
+ghost use Rattle.bb_memory_traits.specs.BumpObject.{StandsFor};
+ghost use Rattle.bb_memory_base.specs.BumpMachine.{BumpScene};
+ghost use Rattle.bb_memory_base.specs.BumpLogs.{chunks_won, history_of, log_of, IsCallRun, OpensWith, calls_of, live_after};
+ghost use Rattle.bb_memory_bump.specs.SharedBump.{AgreeAt, BumpParty, HaveChunksApart, IsSharedScene};
+
+/// Says what follows for parties of a shared bump that met ([`meet_all`](super::SharedBumpAllocator::meet_all)), and above all of
+/// all its parties, whatever the threads did. It does nothing: its contract is the law.
+///
+/// A meeting has one list of steps from the opening, each of which the machine allows (`agree.steps`), in which the steps of each
+/// party that met are exactly its log, and which leaves the position that the meeting found. Where as many parties met as the
+/// bump has, it has no other steps. A list that the opening stands for is one that was live before the bump was shared.
+pub fn shared_bump_meeting_law()
+    // The calls at their deciding steps are a run of the bump object, from the list that was live
+    // before the bump was shared to the one that the position found stands for.
+    ensures run { (scene : BumpScene) (position : ℕ) (parties : List BumpParty) (live : List Chunk)
+        (met : AgreeAt scene position parties) → let steps = met.agree.steps in
+        OpensWith scene live
+        → IsCallRun scene.region live (calls_of scene steps) (live_after scene live steps) }
+    ensures stands { (scene : BumpScene) (position : ℕ) (parties : List BumpParty)
+        (live : List Chunk) (met : AgreeAt scene position parties) → OpensWith scene live
+        → StandsFor scene.region position (live_after scene live met.agree.steps) }
+
+    // That is the older list with the chunks that were won since behind it.
+    ensures since { (scene : BumpScene) (position : ℕ) (parties : List BumpParty)
+        (live : List Chunk) (met : AgreeAt scene position parties) → let steps = met.agree.steps in
+        live_after scene live steps ≡ live ++ chunks_won (history_of scene steps) }
+
+    // It has each chunk of each party that met.
+    ensures held { (scene : BumpScene) (position : ℕ) (parties : List BumpParty)
+        (live : List Chunk) (met : AgreeAt scene position parties)
+        → let held = Contains (live_after scene live met.agree.steps) in
+        All (λ party. All held (chunks_won party.log)) parties }
+
+    // Each party's steps in the list of steps are its log.
+    ensures logged { (scene : BumpScene) (position : ℕ) (parties : List BumpParty)
+        (met : AgreeAt scene position parties)
+        → All (λ party. log_of scene met.agree.steps party.number ≡ party.log) parties }
+
+    // No chunk of one of them overlaps a chunk of another.
+    ensures apart { (scene : BumpScene) (position : ℕ) (parties : List BumpParty)
+        (met : AgreeAt scene position parties) (i j : ℕ) (one other : BumpParty)
+        → IsSharedScene scene → slice_get parties i ≡ Some one → slice_get parties j ≡ Some other
+        → i ≢ j → HaveChunksApart one.log other.log }
+
+    // Where all have met, each step stands in the log of one of them: it was nobody else's.
+    ensures nobody_else { (scene : BumpScene) (position : ℕ) (parties : List BumpParty)
+        (met : AgreeAt scene position parties) → length parties ≡ scene.parties
+        → All (λ entry. Any (λ party. Contains party.log entry) parties)
+        (history_of scene met.agree.steps) }
+{}

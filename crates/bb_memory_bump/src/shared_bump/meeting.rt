@@ -1,0 +1,56 @@
+//! Any number of parties at one seat.
+ghost use Rattle.std.specs.Prelude.{◌≡◌, ◌≤◌, ◌++◌, [], All, map};
+ghost use Rattle.bb_memory_bump.specs.Seats.{HasNow, Stays, standing_for};
+ghost use Rattle.bb_memory_bump.specs.SharedBump.{meeting_at};
+ghost use Rattle.bb_memory_bump.specs.SharedBumpRule.{MayMeet, met_by, numbered_of, sight};
+ghost use Rattle.bb_memory_bump.specs.SharedBumpRule.{HasFound};
+
+use super::rule::View;
+use super::{BumpParty, SharedBumpAllocator};
+use atomic_table::Seat;
+
+impl SharedBumpAllocator {
+    /// These parties meet those of the seat, and go back to their own.
+    pub(super) fn meet_rest(&self, seat: &mut Seat<u8, View>, rest: &mut Vec<BumpParty>) -> usize
+        requires { MayMeet self.now seat.old.table_id seat.old.me rest.old.items }
+        ensures found { HasFound self.now.scene
+            (map numbered_of rest.old.items ++ seat.old.me.0.parties)
+            seat.old.table_id seat.old.me result seat.new.table_id seat.new.me }
+        ensures rest { HasNow (map (meeting_at result) rest.old.items) rest.old rest.new }
+        ensures risen { All (λ party. party.met ≤ result) rest.old.items }
+    {
+        let Some(party) = rest.pop() else {
+            return self.position.find(seat);
+        };
+        let BumpParty {
+            number,
+            seat: guest,
+        } = party;
+        self.position.gather(seat, guest);
+        let found = self.meet_rest(seat, rest);
+        let back = self.position.deal(seat);
+        rest.push_reserved(BumpParty { number, seat: back });
+        found
+    }
+
+    /// These parties go to the seat, before its own.
+    pub(super) fn gather_rest(&self, seat: &mut Seat<u8, View>, mut rest: Vec<BumpParty>)
+        requires { MayMeet self.now seat.old.table_id seat.old.me rest.items }
+        ensures seat { Stays seat.old.table_id seat.new.table_id (seat.new.me
+            ≡ (
+              standing_for (sight self.now.scene (met_by seat.new.me.0))
+                  (map numbered_of rest.items ++ seat.old.me.0.parties),
+              [],
+            )) }
+        ensures met { met_by seat.old.me.0 ≤ met_by seat.new.me.0 }
+        ensures risen { All (λ party. party.met ≤ met_by seat.new.me.0) rest.items }
+    {
+        while let Some(party) = rest.pop() {
+            let BumpParty {
+                number: _,
+                seat: guest,
+            } = party;
+            self.position.gather(seat, guest);
+        }
+    }
+}

@@ -1,0 +1,38 @@
+//! Parties, each of which is one user's right to step on a shared bump.
+ghost use Rattle.std.specs.Prelude.{◌≡◌};
+ghost use Rattle.bb_memory_bump.specs.SharedBump.{IsParty};
+
+use super::rule::View;
+use atomic_table::Seat;
+use std::marker::Model;
+
+/// One user of a shared bump. It goes with its thread, and each call that steps on the position asks for it. The list of its
+/// steps, its log, is known to contracts alone.
+#[derive(Drop)]
+pub struct BumpParty {
+    pub(super) number: u32,
+    pub(super) seat: Seat<u8, View>,
+}
+
+impl Model for BumpParty {
+    ghost use Rattle.bb_memory_bump.specs.SharedBump.{BumpParty};
+    ghost use Rattle.bb_memory_bump.specs.SharedBumpRule.{IsPartySeat, party_in};
+
+    ghost Value = { BumpParty };
+
+    ghost view = { λ p. party_in p.seat.table_id p.number p.seat.me.0 };
+
+    ghost invariant = { λ p. IsPartySeat p.number p.seat.me };
+}
+
+impl BumpParty {
+    /// The party's number, from 0 and below how many parties there are.
+    pub fn number(&self) -> u32
+        ensures value { result ≡ self.now.number }
+
+        // The party is in no call, and some interleaving has its log.
+        ensures party { IsParty self.now }
+    {
+        self.number
+    }
+}

@@ -1,0 +1,154 @@
+//! The position that threads share: its word, and the only calls that touch it.
+//!
+//! `read`, `exchange` and `load` make one atomic step each, by the seat of the party whose step it is, and tell that its log then
+//! ends with that step and what it found. `deal`, `gather`, `find` and `meet` only load the word, and are in no log; `open` and
+//! `close` are before and after all sharing.
+ghost use Rattle.std.specs.Prelude.{◌≡◌, ◌≤◌, [], IfOk, Some};
+ghost use Rattle.bb_memory_base.specs.BumpMachine.{chunk_at, position_behind};
+ghost use Rattle.bb_memory_base.specs.BumpLogs.{call_in};
+ghost use Rattle.bb_memory_bump.specs.Seats.{IsDealt, MayGather, Stays, number_of, view_log};
+ghost use Rattle.bb_memory_bump.specs.SharedBumpRule.{AreTwoAt, IsIdleAt, IsOpened, IsSeatAt, StandsAt, gathered, meeting_of};
+ghost use Rattle.bb_memory_bump.specs.SharedBumpRule.{met_by, scene_of};
+ghost use Rattle.bb_memory_bump.specs.SharedBumpRule.{HasFound, MayAsk, TellsExchange, TellsLoad, TellsMeeting, TellsRead};
+ghost use Rattle.bb_memory_bump.specs.SharedBumpRule.{TellsTwo};
+
+use super::rule::{
+    Agreement, Asked, Exchanges, Gather, GiveFirst, Loads, Meets, Reads, Scene, View,
+};
+use crate::layout::Layout;
+use atomic_table::{Seat, Table};
+use std::alloc::{AllocError, Global};
+use std::marker::Model;
+
+/// The word that has the position.
+#[derive(Drop)]
+pub(super) struct Position {
+    table: Table<u8, View, Scene, Agreement, Global>,
+}
+
+impl Model for Position {
+    ghost use Rattle.std.specs.Prelude.{◌≡◌};
+    ghost use Rattle.bb_memory_bump.specs.SharedBump.{SharedBump};
+    ghost use Rattle.bb_memory_bump.specs.SharedBumpRule.{HasOneWord};
+
+    ghost Value = { SharedBump };
+
+    ghost view = { λ p. record { table = p.table.shared.table_id; scene = p.table.shared.key } };
+
+    ghost invariant = { λ p. HasOneWord p.table.shared.table_id };
+}
+
+impl Position {
+    /// The position at a scene's opening, and a seat that stands for all its parties.
+    pub(super) fn open(
+        alloc: Global,
+        scene: Scene,
+    ) -> Result<(Position, Seat<u8, View>), AllocError>
+        requires opening { scene.opening ≤ scene.region.size }
+        ensures { IfOk result (λ made. IsOpened scene made.0 made.1.table_id made.1.me) }
+    {
+        let (table, seat) = Table::of_words(alloc, &[scene.opening as u64], &scene)?;
+        Ok((Position { table }, seat))
+    }
+
+    /// A seat of its own for the first party that a seat stands for.
+    pub(super) fn deal(&self, rest: &mut Seat<u8, View>) -> Seat<u8, View>
+        requires { rest.old.table_id ≡ self.now.table }
+        ensures { IsDealt rest.old.table_id rest.old.me rest.new.table_id rest.new.me
+            result.table_id result.me }
+    {
+        self.table.shared.split_seat::<GiveFirst>(rest)
+    }
+
+    /// The read that begins a request. For which layout it is, the step says by its type.
+    pub(super) fn read<L: Asked>(&self, seat: &mut Seat<u8, View>, _layout: Layout) -> usize
+        requires { MayAsk self.now seat.old.table_id seat.old.me L.layout _layout }
+        ensures { Stays seat.old.table_id seat.new.table_id (TellsRead self.now.scene
+            (number_of seat.old.me.0) (view_log seat.old.me.0) (met_by seat.old.me.0)
+            _layout result seat.new.me) }
+    {
+        self.table.shared.load::<Reads<L>>(seat, 0) as usize
+    }
+
+    /// An exchange of the request that the seat's party is in: `behind` is the end of its chunk at `seen`.
+    pub(super) fn exchange(
+        &self,
+        seat: &mut Seat<u8, View>,
+        layout: Layout,
+        seen: usize,
+        behind: usize,
+    ) -> usize
+        requires seat { IsSeatAt self.now seat.old.table_id seat.old.me }
+        requires call { call_in (view_log seat.old.me.0)
+            ≡ Some (record { layout = layout; seen = seen }) }
+        requires behind { let region = self.now.scene.region in
+            behind ≡ position_behind region (chunk_at region seen layout) }
+        ensures { Stays seat.old.table_id seat.new.table_id (TellsExchange self.now.scene
+            (number_of seat.old.me.0) (view_log seat.old.me.0) (met_by seat.old.me.0)
+            result seat.new.me) }
+    {
+        let shared = &self.table.shared;
+        let found = shared.compare_exchange::<Exchanges>(seat, 0, seen as u64, behind as u64);
+        found as usize
+    }
+
+    /// A load that asks how much is used.
+    pub(super) fn load(&self, seat: &mut Seat<u8, View>) -> usize
+        requires { IsIdleAt self.now seat.old.table_id seat.old.me }
+        ensures { Stays seat.old.table_id seat.new.table_id (TellsLoad self.now.scene
+            (number_of seat.old.me.0) (view_log seat.old.me.0) (met_by seat.old.me.0)
+            result seat.new.me) }
+    {
+        self.table.shared.load::<Loads>(seat, 0) as usize
+    }
+
+    /// A guest's parties go to this seat, before its own.
+    pub(super) fn gather(&self, seat: &mut Seat<u8, View>, guest: Seat<u8, View>)
+        requires { MayGather self.now.table seat.old.table_id guest.table_id guest.me }
+        ensures { Stays seat.old.table_id seat.new.table_id
+            (seat.new.me ≡ (gathered seat.old.me.0 guest.me.0, seat.old.me.1)) }
+    {
+        self.table.shared.join_seat::<Gather>(seat, guest);
+    }
+
+    /// A load that asks where the parties of one seat have met.
+    pub(super) fn find(&self, seat: &mut Seat<u8, View>) -> usize
+        requires { StandsAt self.now seat.old.table_id seat.old.me }
+        ensures { HasFound self.now.scene seat.old.me.0.parties
+            seat.old.table_id seat.old.me result seat.new.table_id seat.new.me }
+    {
+        self.table.shared.load::<Meets>(seat, 0) as usize
+    }
+
+    /// Two parties meet at one seat, load the position there, and go back to their own.
+    pub(super) fn meet(&self, a: &mut Seat<u8, View>, b: &mut Seat<u8, View>) -> usize
+        requires { AreTwoAt self.now a.old.table_id a.old.me b.old.table_id b.old.me }
+        ensures a { Stays a.old.table_id a.new.table_id
+            (a.new.me ≡ (meeting_of result a.old.me.0, [])) }
+        ensures b { Stays b.old.table_id b.new.table_id
+            (b.new.me ≡ (meeting_of result b.old.me.0, [])) }
+        ensures risen { (met_by a.old.me.0 ≤ result) × (met_by b.old.me.0 ≤ result) }
+        ensures met { TellsTwo self.now.scene
+            (number_of a.old.me.0) (view_log a.old.me.0)
+            (number_of b.old.me.0) (view_log b.old.me.0) result }
+    {
+        let guest = self.deal(b);
+        self.gather(a, guest);
+        let found = self.find(a);
+        *b = self.deal(a);
+        found
+    }
+
+    /// The last position, once no thread shares it any more.
+    pub(super) fn close(self, seat: Seat<u8, View>) -> usize
+        requires table { seat.table_id ≡ self.table }
+        requires scene { scene_of seat.me.0 ≡ self.scene }
+        ensures last { TellsMeeting self.scene seat.me.0.parties (met_by seat.me.0) result }
+    {
+        let Position { table } = self;
+        let closed = table.close_with(seat);
+        let position = closed.word(0) as usize;
+        closed.free();
+        position
+    }
+}

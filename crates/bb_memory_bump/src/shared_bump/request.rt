@@ -1,0 +1,54 @@
+//! Requests: a read, and exchanges until one wins or the layout no longer fits.
+ghost use Rattle.std.specs.Prelude.{◌≡◌, ◌≤◌, ◌%◌, false, IfSome, MatchOption};
+ghost use Rattle.bb_memory_traits.specs.Chunk.{IsInside};
+ghost use Rattle.bb_memory_base.specs.BumpMachine.{fits};
+ghost use Rattle.bb_memory_bump.specs.Seats.{Stays, number_of, view_log};
+ghost use Rattle.bb_memory_bump.specs.SharedBumpRule.{met_by};
+ghost use Rattle.bb_memory_bump.specs.SharedBumpRule.{HasRefused, HasWon, IsFor, MayAsk};
+
+use super::SharedBumpAllocator;
+use super::rule::{Asked, View};
+use crate::layout::{Chunk, Layout};
+use atomic_table::Seat;
+
+impl SharedBumpAllocator {
+    /// Asks until it wins a chunk or is refused. The layout isn't of size 0.
+    pub(super) fn claim<L: Asked>(&self, seat: &mut Seat<u8, View>, layout: Layout) -> Option<Chunk>
+        requires { MayAsk self.now seat.old.table_id seat.old.me L.layout layout }
+        ensures call { Stays seat.old.table_id seat.new.table_id (MatchOption result
+            (HasRefused self.now.scene (number_of seat.old.me.0) (view_log seat.old.me.0)
+            (met_by seat.old.me.0) layout seat.new.me)
+            (HasWon self.now.scene (number_of seat.old.me.0) (view_log seat.old.me.0)
+            (met_by seat.old.me.0) layout seat.new.me)) }
+        ensures aligned { IfSome result (λ chunk. chunk.place % layout.align ≡ 0) }
+        ensures inside { IfSome result (IsInside self.now.scene.region) }
+    {
+        let mut seen = self.position.read::<L>(seat, layout);
+        let mut chunk = match self.place(seen, layout) {
+            Some(chunk) => chunk,
+            None => return None,
+        };
+        loop {
+            let found = self
+                .position
+                .exchange(seat, layout, seen, chunk.end() - self.start);
+            if found == seen {
+                return Some(chunk);
+            }
+            seen = found;
+            match self.place(seen, layout) {
+                Some(next) => chunk = next,
+                None => return None,
+            }
+        }
+    }
+
+    /// The chunk that a layout gets at a position, where it fits there.
+    fn place(&self, position: usize, layout: Layout) -> Option<Chunk>
+        requires { position ≤ self.now.scene.region.size }
+        ensures fits { MatchOption result (fits self.now.scene.region position layout ≡ false)
+            (IsFor self.now.scene.region position layout) }
+    {
+        Chunk::at_or_after(self.start + position, layout, self.start + self.size)
+    }
+}

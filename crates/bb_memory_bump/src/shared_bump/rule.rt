@@ -1,0 +1,118 @@
+//! The rule of a shared bump's word, the steps on it, and how seats are dealt.
+use atomic_table::{Join, Play, Split, TableRule};
+use std::marker::{Brand, Model, PhantomData};
+
+/// The scene of a shared bump's machine: where it begins.
+#[derive(Drop)]
+pub(crate) struct Scene {
+    pub(crate) start: usize,
+    pub(crate) size: usize,
+    pub(crate) opening: usize,
+    pub(crate) parties: u32,
+}
+
+impl Model for Scene {
+    ghost use Rattle.bb_memory_traits.specs.Chunk.{region_at};
+    ghost use Rattle.bb_memory_base.specs.BumpMachine.{BumpScene};
+    ghost use Rattle.bb_memory_bump.specs.SharedBump.{scene_at};
+
+    ghost Value = { BumpScene };
+
+    ghost view = { λ s. scene_at (region_at s.start s.size) s.opening s.parties };
+}
+
+/// Knowledge of a seat: the parties that it stands for, each with its log. No value of this type is made.
+pub(crate) struct View {}
+
+impl Model for View {
+    ghost use Rattle.bb_memory_bump.specs.SharedBumpRule.{SeatView, nobody};
+
+    ghost Value = { SeatView };
+
+    ghost view = { λ v. nobody };
+}
+
+/// The word and the logs of the parties agree.
+pub(crate) struct Agreement;
+
+impl TableRule<u8, View, Scene> for Agreement {
+    ghost use Rattle.bb_memory_bump.specs.SharedBumpRule.{WordsAndLogsAgree, all_parties};
+
+    ghost holds = { WordsAndLogsAgree };
+
+    ghost first = { all_parties };
+}
+
+/// The layout of a request, which a load can't be told.
+pub(crate) trait Asked {
+    ghost use Rattle.std.specs.Prelude.{Option};
+    ghost use Rattle.bb_memory_traits.specs.declared.layout.Layout.{Layout};
+
+    ghost layout: { Option Layout };
+}
+
+impl Asked for Brand {
+    ghost use Rattle.std.specs.Prelude.{None};
+
+    ghost layout = { None };
+}
+
+/// A load that begins a request.
+pub(crate) struct Reads<L> {
+    asked: PhantomData<L>,
+}
+
+impl<L: Asked> Play<u8, View> for Reads<L> {
+    ghost use Rattle.bb_memory_bump.specs.SharedBumpRule.{reads};
+
+    ghost then = { reads L.layout };
+}
+
+/// The exchange of a request that is under way.
+pub(crate) struct Exchanges;
+
+impl Play<u8, View> for Exchanges {
+    ghost use Rattle.bb_memory_bump.specs.SharedBumpRule.{exchanges};
+
+    ghost then = { exchanges };
+}
+
+/// A load that asks how much is used.
+pub(crate) struct Loads;
+
+impl Play<u8, View> for Loads {
+    ghost use Rattle.bb_memory_bump.specs.SharedBumpRule.{loads};
+
+    ghost then = { loads };
+}
+
+/// A load by a seat that stands for any number of parties.
+pub(crate) struct Meets;
+
+impl Play<u8, View> for Meets {
+    ghost use Rattle.bb_memory_bump.specs.SharedBumpRule.{meets};
+
+    ghost then = { meets };
+}
+
+/// The first party goes to the new seat.
+pub(crate) struct GiveFirst;
+
+impl Split<View> for GiveFirst {
+    ghost use Rattle.bb_memory_bump.specs.Seats.{first_of, others_of};
+
+    ghost left = { others_of };
+
+    ghost right = { first_of };
+}
+
+/// One seat stands for the parties of two.
+pub(crate) struct Gather;
+
+impl Join<View> for Gather {
+    ghost use Rattle.bb_memory_bump.specs.SharedBumpRule.{gathered, nobody};
+
+    ghost both = { gathered };
+
+    ghost spent = { nobody };
+}

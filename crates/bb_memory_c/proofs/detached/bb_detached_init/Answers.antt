@@ -1,0 +1,15 @@
+use Rattle.std.proofs.Common.{◌∙◌, Some, ap, sym}
+use Rattle.bb_memory_c.proofs.Makers.{held-already, is_empty, made-or-refused}
+use Rattle.bb_memory_c.proofs.detached.bb_detached_init.Goals as goal
+
+pub returns-then-is_made : goal.returns-then-is_made
+returns-then-is_made c = held-already (c.is_made.ensures.value.0 c.if-is_made.true) c.is_made.ensures.unchanged
+
+pub keep-requires : goal.keep-requires
+keep-requires c = c.is_made.ensures.unchanged ∙ is_empty _ _ c.is_made.ensures.value c.if-is_made.false
+
+pub returns : goal.returns
+returns c =
+    let none = is_empty _ _ c.is_made.ensures.value c.if-is_made.false in
+    made-or-refused none tt c.keep.result (λ is. c.keep.ensures.ok is ∙ ap Some c.new.ensures)
+    (λ not. (c.keep.ensures.refused not).0) (λ not. (c.keep.ensures.refused not).1 ∙ sym none)

@@ -1,8 +1,0 @@
-use Rattle.std.proofs.Common.{rules, refl}
-use Rattle.bb_memory_c.proofs.Made.{at_lent, answers}
-use Rattle.bb_memory_c.proofs.detached.bb_detached_is_full.Goals as goal
-
-pub returns-in-Some : goal.returns-in-Some
-returns-in-Some c =
-    answers _ c.in-Some.ensures.value _ (at_lent _ _ c.in-Some.is (c.made_mut.follows.holds _))
-    (record { yes = search rules; no = search rules }, refl)

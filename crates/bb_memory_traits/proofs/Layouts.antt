@@ -1,0 +1,122 @@
+-- Which layouts there are.
+use Rattle.std.proofs.Common.{◌≡◌, ℕ, suc, ◌+◌, ◌-◌, ◌*◌, ◌/◌, ◌%◌, ◌^◌, ◌<◌, ◌≤◌, ◌↔◌, ⊎_elim, arith, refl, sym, ap, ◌∙◌, inl}
+use Rattle.std.proofs.Common.{inr, div-add-mod', mul-le-mul_right, pow_pos, pow_mono, pow-add, pow-suc}
+use Rattle.std.proofs.Math.Nat.{mul_assoc}
+use Rattle.std.proofs.lemmas.Bool.{cases_lt}
+use Rattle.std.proofs.lemmas.Nat.{mod-mul-add}
+use Rattle.std.proofs.Props.{props}
+use Rattle.std.specs.Align.{IsLayout}
+use Rattle.std.specs.Int.{IsPowerOfTwo}
+use mathlib.Core.HLevel.{is_prop→PathP}
+use Rattle.bb_memory_traits.specs.LeastPlace.{least_place}
+use Rattle.bb_memory_traits.specs.Chunk.{Layout}
+use Rattle.bb_memory_traits.specs.LeastPlace.{IsUsual}
+use Rattle.bb_memory_traits.proofs.LeastPlaces.{least_place-is}
+use Rattle.bb_memory_traits.proofs.PowersOfTwo.{power_of_two-from_test, power_of_two-test, power_of_two-positive}
+
+-- a layout is a power of two, and a size that is small enough once it is rounded up to that
+pub layout-plain : (size align : ℕ) → IsLayout size align ↔ (IsPowerOfTwo align × (least_place size align < 2 ^ 63))
+unfolding least_place
+layout-plain size align = (
+  λ layout. (power_of_two-from_test align layout.power_of_two, layout.fits),
+  λ (power, fits). record {
+    power_of_two = power_of_two-test align power;
+    positive = power_of_two-positive align power;
+    fits = fits;
+  },
+)
+
+-- of two powers of two the lower one divides the higher one
+power-divides : (low high : ℕ) → IsPowerOfTwo low → IsPowerOfTwo high → low ≤ high → (k : ℕ) × (high ≡ k * low)
+power-divides low high p q le = elim (cases_lt q.0 p.0) [
+  | inl below ↦ absurd (omega (arith, p.1, q.1, pow_pos q.0, pow-suc 2 q.0, pow_mono {i = suc q.0} {j = p.0} (omega arith)))
+  | inr above ↦
+      let parts : q.0 ≡ (q.0 - p.0) + p.0 = omega arith in
+      (2 ^ (q.0 - p.0), q.1 ∙ ap (λ j. 2 ^ j) parts ∙ pow-add 2 (q.0 - p.0) p.0 ∙ ap (λ m. 2 ^ (q.0 - p.0) * m) (sym p.1))
+]
+
+-- A size fits once it is rounded up exactly where it is at most what an alignment leaves of 2 ^ 63.
+pub fits-up_to : (size align : ℕ) → IsPowerOfTwo align → align < 2 ^ 64 →
+    (align ≤ 2 ^ 63) × ((least_place size align < 2 ^ 63) ↔ (size ≤ 2 ^ 63 - align))
+fits-up_to size align power small =
+    let low : align ≤ 2 ^ 63 = elim (cases_lt power.0 64) [
+      | inl below ↦ omega (arith, power.1, pow_mono {i = power.0} {j = 63} (omega arith))
+      | inr above ↦ absurd (omega (arith, power.1, pow_mono {i = 64} {j = power.0} above))
+    ] in
+    let whole = power-divides align (2 ^ 63) power (63, refl) low in
+    let positive = power_of_two-positive align power in
+    let place = least_place-is size align positive in
+    let k = place.multiple.0 in (
+      low,
+      (
+        λ fits. elim (cases_lt k whole.0) [
+          | inl less ↦ let more = mul-le-mul_right {m = k + 1} {n = whole.0} align (omega arith) in
+              omega (arith, place.above, place.multiple.1, whole.1, more)
+          | inr past ↦ absurd (omega (arith, fits, place.multiple.1, whole.1, mul-le-mul_right align past))
+        ],
+        λ below. elim (cases_lt 0 whole.0) [
+          | inl some ↦
+              let before : whole.0 ≡ (whole.0 - 1) + 1 = omega arith in
+              let parts : whole.0 * align ≡ (whole.0 - 1) * align + align = omega (arith, ap (λ m. m * align) before) in
+              omega (arith, positive, parts, whole.1, place.least (whole.0 - 1) (omega (arith, below, parts, whole.1)))
+          | inr none ↦ let nothing : whole.0 ≡ 0 = omega arith in absurd (omega (arith, whole.1, ap (λ m. m * align) nothing))
+        ],
+      ),
+    )
+
+-- a multiple of an alignment is one of each smaller alignment
+pub multiple : (place : ℕ) (layout wider : Layout) → layout.align ≤ wider.align → place % wider.align ≡ 0 →
+    place % layout.align ≡ 0
+multiple place layout wider le is =
+    let low = layout-plain layout.size layout.align in
+    let high = layout-plain wider.size wider.align in
+    let divides = power-divides layout.align wider.align (low.0 layout.valid).0 (high.0 wider.valid).0 le in
+    let whole : place ≡ place / wider.align * divides.0 * layout.align + 0 =
+    omega (
+      arith,
+      div-add-mod' place wider.align,
+      is,
+      ap (λ h. place / wider.align * h) divides.1,
+      mul_assoc (place / wider.align) divides.0 layout.align,
+    ) in
+    ap (λ m. m % layout.align) whole ∙ mod-mul-add (place / wider.align * divides.0) layout.align 0 layout.valid.positive
+
+-- no bytes have a layout
+pub empty-valid : IsLayout 0 1
+unfolding lib.Count.ones
+empty-valid = record { power_of_two = refl; positive = omega arith; fits = omega arith }
+
+-- layouts of the same numbers are the same
+pub same_layout : (a b : Layout) → a.size ≡ b.size → a.align ≡ b.align → a ≡ b
+same_layout a b size align = λ i. record {
+  size = size i;
+  align = align i;
+  valid = is_prop→PathP (λ j. IsLayout (size j) (align j)) (λ j. hlevel props) a.valid b.valid i;
+}
+
+-- USUAL LAYOUTS
+
+usual-at : (size align k : ℕ) → size ≤ 2 ^ 62 → 0 < align → align ≤ 4096 → align ≡ 2 ^ k → IsLayout size align
+usual-at size align k small positive low power = record {
+  power_of_two = power_of_two-test align (k, power);
+  positive = positive;
+  fits = omega arith;
+}
+
+-- usual layouts are accepted
+pub usual-accepted : (size align : ℕ) → IsUsual size align → IsLayout size align
+usual-accepted size align usual =
+    let small = usual.small in
+    ⊎_elim (λ e. usual-at size align 0 small (omega (arith, e)) (omega (arith, e)) e)
+    (⊎_elim (λ e. usual-at size align 1 small (omega (arith, e)) (omega (arith, e)) e)
+    (⊎_elim (λ e. usual-at size align 2 small (omega (arith, e)) (omega (arith, e)) e)
+    (⊎_elim (λ e. usual-at size align 3 small (omega (arith, e)) (omega (arith, e)) e)
+    (⊎_elim (λ e. usual-at size align 4 small (omega (arith, e)) (omega (arith, e)) e)
+    (⊎_elim (λ e. usual-at size align 5 small (omega (arith, e)) (omega (arith, e)) e)
+    (⊎_elim (λ e. usual-at size align 6 small (omega (arith, e)) (omega (arith, e)) e)
+    (⊎_elim (λ e. usual-at size align 7 small (omega (arith, e)) (omega (arith, e)) e)
+    (⊎_elim (λ e. usual-at size align 8 small (omega (arith, e)) (omega (arith, e)) e)
+    (⊎_elim (λ e. usual-at size align 9 small (omega (arith, e)) (omega (arith, e)) e)
+    (⊎_elim (λ e. usual-at size align 10 small (omega (arith, e)) (omega (arith, e)) e)
+    (⊎_elim (λ e. usual-at size align 11 small (omega (arith, e)) (omega (arith, e)) e)
+    (λ e. usual-at size align 12 small (omega (arith, e)) (omega (arith, e)) e)))))))))))) usual.power

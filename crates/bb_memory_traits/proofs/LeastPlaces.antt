@@ -1,0 +1,96 @@
+-- The least place is what its name says, and a mask computes it.
+use Rattle.std.proofs.Common.{◌≡◌, ℕ, ◌+◌, ◌-◌, ◌*◌, ◌/◌, ◌%◌, ◌^◌, ◌<◌, ◌≤◌, bit_and}
+use Rattle.std.proofs.Common.{arith, ap, sym, ◌∙◌, inl, inr, mul-le-mul_right, div-add-mod'}
+use Rattle.std.proofs.Math.Nat.{mod-eq_of_lt, mod_self}
+use Rattle.std.proofs.lemmas.Bool.{cases_lt}
+use Rattle.std.proofs.lemmas.Nat.{mod-mul-add, le-div}
+use Rattle.std.specs.Int.{IsPowerOfTwo}
+use Rattle.bb_memory_traits.specs.LeastPlace.{least_place, IsLeastPlace}
+use Rattle.bb_memory_traits.proofs.PowersOfTwo.{power_of_two-positive, power_of_two-divides, power_of_two-clears}
+
+-- a multiple stays where it is
+least_place-stays : (v align : ℕ) → 0 < align → v % align ≡ 0 → least_place v align ≡ v
+unfolding least_place
+least_place-stays v align positive none =
+    let all : align - v % align ≡ align = omega (arith, none) in
+    let nothing : (align - v % align) % align ≡ 0 = ap (λ n. n % align) all ∙ mod_self align in
+    omega (arith, nothing)
+
+-- any other number goes up by what its rest lacks
+least_place-raises : (v align : ℕ) → 0 < align → 0 < v % align → least_place v align ≡ v + (align - v % align)
+unfolding least_place
+least_place-raises v align positive some =
+    let lack : (align - v % align) % align ≡ align - v % align = mod-eq_of_lt (omega arith) in
+    omega (arith, lack)
+
+-- a number that is a multiple and a small rest has that rest
+rest_of : (n k align rest : ℕ) → n ≡ k * align + rest → rest < align → n % align ≡ rest
+rest_of n k align rest parts small = ap (λ m. m % align) parts ∙ mod-mul-add k align rest small
+
+-- to go one short of an alignment up and take the rest away gives the least place
+pub least_place-rounds : (v align : ℕ) → 0 < align → least_place v align ≡ (v + (align - 1)) - (v + (align - 1)) % align
+least_place-rounds v align positive =
+    let whole = div-add-mod' v align in
+    elim (cases_lt 0 (v % align)) [
+      | inl some ↦ let rest = rest_of (v + (align - 1)) (v / align + 1) align (v % align - 1) (omega arith) (omega arith) in
+          omega (arith, least_place-raises v align positive some, rest)
+      | inr none ↦ let rest = rest_of (v + (align - 1)) (v / align) align (align - 1) (omega arith) (omega arith) in
+          omega (arith, least_place-stays v align positive (omega arith), rest)
+    ]
+
+-- the least place by its quotient
+least_place-quotient : (v align : ℕ) → 0 < align → least_place v align ≡ (v + (align - 1)) / align * align
+least_place-quotient v align positive = omega (arith, least_place-rounds v align positive, div-add-mod' (v + (align - 1)) align)
+
+-- a multiple that isn't below a number isn't below the least place
+least_place-below : (v align k : ℕ) → 0 < align → v ≤ k * align → least_place v align ≤ k * align
+least_place-below v align k positive above =
+    let quotient = least_place-quotient v align positive in
+    let whole = div-add-mod' (v + (align - 1)) align in
+    elim (cases_lt k ((v + (align - 1)) / align)) [
+      | inl less ↦ let more = mul-le-mul_right {m = k + 1} {n = (v + (align - 1)) / align} align (omega arith) in
+          absurd (omega (arith, more))
+      | inr most ↦ omega (arith, quotient, mul-le-mul_right align most)
+    ]
+
+-- the least place is the least multiple that isn't below the number
+pub least_place-is : (v align : ℕ) → 0 < align → IsLeastPlace v align (least_place v align)
+least_place-is v align positive = record {
+  multiple = ((v + (align - 1)) / align, least_place-quotient v align positive);
+  above = omega (arith, least_place-rounds v align positive);
+  least = λ k above. least_place-below v align k positive above;
+}
+
+-- there is one least multiple alone
+pub least_place-unique : (v align p : ℕ) → 0 < align → IsLeastPlace v align p → p ≡ least_place v align
+least_place-unique v align p positive is =
+    let place = least_place-is v align positive in
+    let low = is.least place.multiple.0 (omega (arith, place.above, place.multiple.1)) in
+    let high = place.least is.multiple.0 (omega (arith, is.above, is.multiple.1)) in
+    omega (arith, low, high, place.multiple.1, is.multiple.1)
+
+-- the least place has no rest
+pub least_place-multiple : (v align : ℕ) → 0 < align → least_place v align % align ≡ 0
+least_place-multiple v align positive =
+    let place = least_place-is v align positive in
+    rest_of (least_place v align) place.multiple.0 align 0 (omega (arith, place.multiple.1)) positive
+
+-- a multiple that is less than an alignment above the number isn't above the least place
+pub least_place-beyond : (v align k : ℕ) → 0 < align → k * align ≤ v + (align - 1) → k * align ≤ least_place v align
+least_place-beyond v align k positive near =
+    let most = le-div k (v + (align - 1)) align positive near in
+    omega (arith, least_place-quotient v align positive, mul-le-mul_right align most)
+
+-- to round up by a mask, as the machine does
+pub least_place-masked : (v align : ℕ) → IsPowerOfTwo align → align < 2 ^ 64 → v + (align - 1) < 2 ^ 64
+    → (least_place v align < 2 ^ 64) × (bit_and (v + (align - 1)) (2 ^ 64 - 1 - (align - 1)) ≡ least_place v align)
+least_place-masked v align power small fits =
+    let rounds = least_place-rounds v align (power_of_two-positive align power) in
+    (omega (arith, rounds), power_of_two-clears (v + (align - 1)) align power small fits ∙ sym rounds)
+
+-- where the sum doesn't fit the machine, the least place doesn't either
+pub least_place-too_far : (v align : ℕ) → IsPowerOfTwo align → align < 2 ^ 64 →
+    2 ^ 64 ≤ v + (align - 1) → 2 ^ 64 ≤ least_place v align
+least_place-too_far v align power small far =
+    let parts = power_of_two-divides align power small in
+    omega (arith, parts.1, least_place-beyond v align parts.0 (power_of_two-positive align power) (omega (arith, parts.1)))

@@ -1,0 +1,113 @@
+-- The bytes of the chunks of a sound list, while one of them is written over.
+use Rattle.std.proofs.Common.{arith, ◌≡◌, ◌≢◌, ℕ, ◌+◌, zero, suc, ◌<◌, Some, List, [], ◌∷◌, ◌++◌, length, get_or, ap, ◌∙◌, subst}
+use Rattle.std.proofs.Common.{refl, ⊎_elim}
+use Rattle.std.specs.Prelude.{All, map, slice_get, slice_set}
+use Rattle.std.proofs.lemmas.Bool.{cases_lt}
+use Rattle.std.proofs.lemmas.List.{map-append, get_or_append_left, get_or_push, length_push}
+use Rattle.std.proofs.lemmas.Option.{slice_get_within, get_or_from_slice_get}
+use Rattle.bb_memory_traits.specs.Chunk.{Region, Chunk, IsInside, AreApart, IsSound}
+use Rattle.bb_memory_traits.specs.HeldBytes.{HeldBytes, held_region, bytes_in, ChangesOnly}
+use Rattle.bb_memory_traits.proofs.ApartBytes.{apart-kept}
+
+pub inside_at : (region : Region) (live : List Chunk) (i : ℕ) (chunk : Chunk) → IsSound region live →
+    slice_get live i ≡ Some chunk → IsInside region chunk
+inside_at region live i chunk sound at =
+    subst (IsInside region) (get_or_from_slice_get live i chunk chunk at)
+    (sound.inside i chunk (slice_get_within live i chunk at))
+
+before_apart : (region : Region) (live : List Chunk) (i j : ℕ) (one other : Chunk) → IsSound region live →
+    slice_get live i ≡ Some one → slice_get live j ≡ Some other → i < j → AreApart one other
+before_apart region live i j one other sound at at' below =
+    subst (λ (c : Chunk). AreApart c other) (get_or_from_slice_get live i one one at)
+    (subst (λ (c : Chunk). AreApart (get_or live i one) c) (get_or_from_slice_get live j other one at')
+    (sound.apart i j one below (slice_get_within live j other at')))
+
+pub apart_at : (region : Region) (live : List Chunk) (i j : ℕ) (one other : Chunk) → IsSound region live →
+    slice_get live i ≡ Some one → slice_get live j ≡ Some other → i ≢ j → AreApart one other
+apart_at region live i j one other sound at at' differ =
+    ⊎_elim (λ below. before_apart region live i j one other sound at at' below)
+    (λ above. λ shared. before_apart region live j i other one sound at' at (omega (arith, above, differ))
+    (shared.0, shared.2, shared.1))
+    (cases_lt i j)
+
+map_same : (f g : Chunk → List ℕ) (live : List Chunk) → ((k : ℕ) (c : Chunk) → slice_get live k ≡ Some c → f c ≡ g c) →
+    map f live ≡ map g live
+map_same f g [] same = refl
+map_same f g (c ∷ cs) same =
+    let here : f c ≡ g c = same zero c refl in
+    ap (λ x. x ∷ map f cs) here ∙ ap (λ l. g c ∷ l) (map_same f g cs (λ k d at. same (suc k) d at))
+
+set_here : (f g : Chunk → List ℕ) (live : List Chunk) (i : ℕ) (chunk : Chunk) (bytes : List ℕ) → slice_get live i ≡ Some chunk →
+    f chunk ≡ bytes → ((k : ℕ) (c : Chunk) → i ≢ k → slice_get live k ≡ Some c → f c ≡ g c) →
+    map f live ≡ slice_set (map g live) i bytes
+set_here f g [] i chunk bytes at is others = absurd (cc)
+set_here f g (c ∷ cs) zero chunk bytes at is others =
+    let first : c ≡ chunk = cc in
+    ap (λ x. x ∷ map f cs) (ap f first ∙ is)
+    ∙ ap (λ l. bytes ∷ l) (map_same f g cs (λ k d there. others (suc k) d (λ no. omega (arith, no)) there))
+set_here f g (c ∷ cs) (suc i) chunk bytes at is others =
+    ap (λ x. x ∷ map f cs) (others zero c (λ no. omega (arith, no)) refl) ∙ ap (λ l. g c ∷ l)
+    (set_here f g cs i chunk bytes at is (λ k d differ there. others (suc k) d (λ same. differ (omega (arith, same))) there))
+
+-- each other chunk of the list keeps its bytes
+pub others_kept : (old new : HeldBytes) (live : List Chunk) (i k : ℕ) (chunk other : Chunk) (bytes : List ℕ) →
+    IsSound (held_region old) live → slice_get live i ≡ Some chunk → ChangesOnly old new chunk bytes →
+    i ≢ k → slice_get live k ≡ Some other → bytes_in new other ≡ bytes_in old other
+others_kept old new live i k chunk other bytes sound at changes differ there =
+    let region = held_region old in
+    apart-kept old new chunk other bytes changes (inside_at region live i chunk sound at)
+    (inside_at region live k other sound there)
+    (apart_at region live i k chunk other sound at there differ)
+
+-- so of the list's contents one is set
+pub contents_set : (old new : HeldBytes) (live : List Chunk) (i : ℕ) (chunk : Chunk) (bytes : List ℕ) →
+    IsSound (held_region old) live → slice_get live i ≡ Some chunk → ChangesOnly old new chunk bytes →
+    map (bytes_in new) live ≡ slice_set (map (bytes_in old) live) i bytes
+contents_set old new live i chunk bytes sound at changes =
+    set_here (bytes_in new) (bytes_in old) live i chunk bytes at changes.inside
+    (λ k other differ there. others_kept old new live i k chunk other bytes sound at changes differ there)
+
+-- a chunk that was given last is apart from each one before it
+pub given_apart : (region : Region) (live : List Chunk) (chunk : Chunk) →
+    IsSound region (live ++ chunk ∷ []) → All (AreApart chunk) live
+given_apart region live chunk sound = λ k d within. λ shared.
+    let left = get_or_append_left live (chunk ∷ []) d k within in
+    let last = get_or_push live chunk d (length live) refl in
+    let apart : AreApart (get_or (live ++ chunk ∷ []) k d) (get_or (live ++ chunk ∷ []) (length live) d) =
+    sound.apart k (length live) d within (omega (arith, length_push live chunk)) in
+    let flipped : AreApart (get_or live k d) chunk =
+    subst (λ (c : Chunk). AreApart c chunk) left
+    (subst (λ (c : Chunk). AreApart (get_or (live ++ chunk ∷ []) k d) c) last apart) in
+    flipped (shared.0, shared.2, shared.1)
+
+-- the last two are apart
+pub last_two_apart : (region : Region) (live : List Chunk) (one other : Chunk) →
+    IsSound region ((live ++ one ∷ []) ++ other ∷ []) → AreApart one other
+last_two_apart region live one other sound = λ shared.
+    let all = given_apart region (live ++ one ∷ []) other sound in
+    let at = get_or_push live one one (length live) refl in
+    let apart : AreApart other one = subst (λ (c : Chunk). AreApart other c) at
+    (all (length live) one (omega (arith, length_push live one))) in
+    apart (shared.0, shared.2, shared.1)
+
+-- so what is written in it goes behind the contents of the others
+pub contents_given : (old new : HeldBytes) (live : List Chunk) (chunk : Chunk) (bytes : List ℕ) →
+    IsSound (held_region old) (live ++ chunk ∷ []) → ChangesOnly old new chunk bytes →
+    map (bytes_in new) (live ++ chunk ∷ []) ≡ map (bytes_in old) live ++ bytes ∷ []
+contents_given old new live chunk bytes sound changes =
+    let region : Region = held_region old in
+    let all : List Chunk = live ++ chunk ∷ [] in
+    let long : length all ≡ length live + 1 = length_push live chunk in
+    let itself : IsInside region chunk =
+    subst (IsInside region) (get_or_push live chunk chunk (length live) refl)
+    (sound.inside (length live) chunk (omega (arith, long))) in
+    let same : map (bytes_in new) live ≡ map (bytes_in old) live =
+    map_same (bytes_in new) (bytes_in old) live (λ k c at.
+    let within = slice_get_within live k c at in
+    let is : get_or live k c ≡ c = get_or_from_slice_get live k c c at in
+    let apart : AreApart chunk c = subst (λ (o : Chunk). AreApart chunk o) is (given_apart region live chunk sound k c within) in
+    let there : get_or all k c ≡ c = get_or_append_left live (chunk ∷ []) c k within ∙ is in
+    let inside : IsInside region c = subst (IsInside region) there (sound.inside k c (omega (arith, within, long))) in
+    apart-kept old new chunk c bytes changes itself inside apart) in
+    map-append (bytes_in new) live (chunk ∷ [])
+    ∙ (ap (λ l. l ++ bytes_in new chunk ∷ []) same ∙ ap (λ b. map (bytes_in old) live ++ b ∷ []) changes.inside)

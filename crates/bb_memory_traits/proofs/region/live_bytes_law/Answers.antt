@@ -1,0 +1,11 @@
+use Rattle.bb_memory_traits.specs.HeldBytes.{held_region}
+use Rattle.bb_memory_traits.proofs.LiveBytes.{inside_at, apart_at, others_kept, contents_set}
+use Rattle.bb_memory_traits.proofs.region.live_bytes_law.Goals as goal
+
+pub returns : goal.returns
+returns c = record {
+  inside = λ held. inside_at (held_region held);
+  apart = λ held. apart_at (held_region held);
+  others = others_kept;
+  contents = contents_set;
+}

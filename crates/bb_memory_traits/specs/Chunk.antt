@@ -1,0 +1,79 @@
+-- Regions, chunks and lists of live chunks. Passed on with them are layouts and the causes of a refused request.
+use Rattle.std.specs.Prelude.{ℕ, ◌+◌, ◌<◌, ◌^◌, ◌≤◌, List, All, AllPairs, ◌≡◌, ◌%◌}
+use Rattle.bb_memory_traits.specs.LeastPlace.{least_place}
+pub use Rattle.bb_memory_traits.specs.declared.allocator.AllocationError.{AllocationError}
+pub use Rattle.bb_memory_traits.specs.declared.allocator.AllocationError.TheVariants.{AlignmentFailure, OutOfMemory, SizeIsZero}
+pub use Rattle.bb_memory_traits.specs.declared.allocator.AllocationError.TheVariants.{SizeTooLarge}
+pub use Rattle.bb_memory_traits.specs.declared.layout.Layout.{Layout}
+
+-- Regions: the memory that is handed in. All sizes, lengths and positions are in bytes, and numbers here have no
+-- greatest one.
+
+-- the start of a region, and how many bytes it has
+pub record Region : Type 0 where
+  pub start : ℕ
+  pub size : ℕ
+
+abbrev pub region_at : ℕ → ℕ → Region
+region_at start size = record { start = start; size = size }
+
+abbrev pub region_end : Region → ℕ
+region_end region = region.start + region.size
+
+-- a region doesn't start at 0, and its end is a number of the machine
+pub record IsRegion (region : Region) : Type 0 where
+  pub start : 0 < region.start
+  pub end : region_end region < 2 ^ 64
+
+-- the numbers from a place to place + length, the last excluded
+pub record Chunk : Type 0 where
+  pub place : ℕ
+  pub len : ℕ
+
+abbrev pub chunk_end : Chunk → ℕ
+chunk_end chunk = chunk.place + chunk.len
+
+-- the place isn't 0, and the end is a number of the machine
+pub record IsChunk (chunk : Chunk) : Type 0 where
+  pub place : 0 < chunk.place
+  pub end : chunk_end chunk < 2 ^ 64
+
+-- n is one of the chunk's numbers
+abbrev pub Covers : Chunk → ℕ → Type 0
+Covers chunk n = (chunk.place ≤ n) × (n < chunk_end chunk)
+
+-- a part of a chunk begins at or behind the chunk's place, and ends at or before its end
+abbrev pub IsPart : Chunk → Chunk → Type 0
+IsPart part whole = (whole.place ≤ part.place) × (chunk_end part ≤ chunk_end whole)
+
+-- two chunks share a number
+abbrev pub Overlap : Chunk → Chunk → Type 0
+Overlap one other = (n : ℕ) × Covers one n × Covers other n
+
+abbrev pub AreApart : Chunk → Chunk → Type 0
+AreApart one other = ¬ Overlap one other
+
+-- the chunk lies inside the region
+pub record IsInside (region : Region) (chunk : Chunk) : Type 0 where
+  pub above : region.start ≤ chunk.place
+  pub below : chunk_end chunk ≤ region_end region
+
+-- Live lists: what is out, in the order in which it was given. A position counts from 0.
+
+-- each chunk is inside the region, and no two at different positions overlap
+pub record IsSound (region : Region) (live : List Chunk) : Type 0 where
+  pub inside : All (IsInside region) live
+  pub apart : AllPairs AreApart live
+
+-- The fit of a chunk that is given to a request.
+
+-- the chunk is inside the region, at a multiple of the asked alignment, and at least as long as asked
+pub record Fits (region : Region) (layout : Layout) (chunk : Chunk) : Type 0 where
+  pub inside : IsInside region chunk
+  pub aligned : chunk.place % layout.align ≡ 0
+  pub long_enough : layout.size ≤ chunk.len
+
+-- The place of a layout's first chunk in a region.
+
+abbrev pub first_place : Region → Layout → ℕ
+first_place region layout = least_place region.start layout.align

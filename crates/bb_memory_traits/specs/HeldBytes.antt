@@ -1,0 +1,48 @@
+-- The bytes of a region.
+use Rattle.std.specs.Prelude.{ℕ, ◌≡◌, ◌+◌, ◌-◌, List, length, take, drop, slice_range, replicate, Result, IfOk, OnErr}
+use Rattle.bb_memory_traits.specs.Chunk.{Region, Chunk}
+
+-- bytes from a place on
+pub record HeldBytes : Type 0 where
+  pub start : ℕ
+  pub bytes : List ℕ
+
+-- the region that holds them
+abbrev pub held_region : HeldBytes → Region
+held_region held = record { start = held.start; size = length held.bytes }
+
+-- the bytes before a chunk, its own, and those behind it
+abbrev pub bytes_before : HeldBytes → Chunk → List ℕ
+bytes_before held chunk = take (chunk.place - held.start) held.bytes
+
+abbrev pub bytes_in : HeldBytes → Chunk → List ℕ
+bytes_in held chunk = slice_range held.bytes (chunk.place - held.start) (chunk.place - held.start + chunk.len)
+
+abbrev pub bytes_behind : HeldBytes → Chunk → List ℕ
+bytes_behind held chunk = drop (chunk.place - held.start + chunk.len) held.bytes
+
+-- the chunk then has these bytes, and every other one is as it was
+pub record ChangesOnly (old new : HeldBytes) (chunk : Chunk) (bytes : List ℕ) : Type 0 where
+  pub start : new.start ≡ old.start
+  pub size : length new.bytes ≡ length old.bytes
+  pub inside : bytes_in new chunk ≡ bytes
+  pub before : bytes_before new chunk ≡ bytes_before old chunk
+  pub behind : bytes_behind new chunk ≡ bytes_behind old chunk
+
+-- the chunk's bytes are then zero, and every other one is as it was
+abbrev pub ZeroesOnly : HeldBytes → HeldBytes → Chunk → Type 0
+ZeroesOnly old new chunk = ChangesOnly old new chunk (replicate chunk.len 0)
+
+-- a chunk's first bytes
+abbrev pub first_part : ℕ → Chunk → Chunk
+first_part size chunk = record { place = chunk.place; len = size }
+
+-- an answered chunk has this part of it zeroed, and nothing else; a refusal leaves every byte
+pub record ZeroesAnswered {Error : Type 0} (part : Chunk → Chunk) (old new : HeldBytes)
+    (answer : Result Chunk Error) : Type 0 where
+  pub zeroed : IfOk answer (λ chunk. ZeroesOnly old new (part chunk))
+  pub unchanged : OnErr answer (new ≡ old)
+
+-- the rest of a chunk behind its first bytes
+abbrev pub part_behind : ℕ → Chunk → Chunk
+part_behind size chunk = record { place = chunk.place + size; len = chunk.len - size }

@@ -1,0 +1,19 @@
+-- The least place: the least multiple of an alignment that isn't below a number; and layouts whose test computes on numerals.
+use Rattle.std.specs.Prelude.{ℕ, ◌≡◌, ◌*◌, ◌≤◌, ◌⊎◌, ◌^◌}
+use Rattle.std.specs.Int.{next_multiple_of}
+
+unfoldable pub least_place : ℕ → ℕ → ℕ
+least_place v align = next_multiple_of v align
+
+-- the place is a multiple of the alignment, isn't below v, and no multiple that isn't below v is less
+pub record IsLeastPlace (v align place : ℕ) : Type 0 where
+  pub multiple : (k : ℕ) × (place ≡ k * align)
+  pub above : v ≤ place
+  pub least : (k : ℕ) → v ≤ k * align → place ≤ k * align
+
+-- a power of two up to 4096, and a size far below isize::MAX
+pub record IsUsual (size align : ℕ) : Type 0 where
+  pub small : size ≤ 2 ^ 62
+  pub power : (align ≡ 1) ⊎ ((align ≡ 2) ⊎ ((align ≡ 4) ⊎ ((align ≡ 8) ⊎ ((align ≡ 16)
+      ⊎ ((align ≡ 32) ⊎ ((align ≡ 64) ⊎ ((align ≡ 128) ⊎ ((align ≡ 256) ⊎ ((align ≡ 512)
+      ⊎ ((align ≡ 1024) ⊎ ((align ≡ 2048) ⊎ (align ≡ 4096))))))))))))

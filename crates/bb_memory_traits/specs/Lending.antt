@@ -1,0 +1,19 @@
+-- The bytes of a region after one of its chunks was lent.
+use Rattle.std.specs.Prelude.{ℕ, ◌+◌, ◌-◌, List, ◌++◌, take, drop, length}
+use Rattle.std.specs.Borrow.{Lends, MutBor, Fml, u8, Array}
+use Rattle.bb_memory_traits.specs.Chunk.{Chunk}
+use Rattle.bb_memory_traits.specs.HeldBytes.{HeldBytes, bytes_before}
+use Rattle.bb_memory_traits.specs.contracts.region.Region.{the_row}
+
+-- the bytes before the chunk, those that were written in it, and those behind it, cut to the old length, since a
+-- borrower writes as many bytes as it was lent
+abbrev pub written : HeldBytes → Chunk → List ℕ → HeldBytes
+written held chunk bytes = record {
+  start = held.start;
+  bytes = take (length held.bytes) (bytes_before held chunk
+      ++ (bytes ++ drop (chunk.place - held.start + length bytes) held.bytes));
+}
+
+-- the region ends with what the borrower left in the chunk
+abbrev pub LendsChunk : MutBor HeldBytes → Chunk → MutBor (List ℕ) → Fml
+LendsChunk lender chunk lent = Lends the_row (Array u8 0) lender lent (written lender.now chunk)

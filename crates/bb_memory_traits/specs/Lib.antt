@@ -1,0 +1,10 @@
+pub mod BumpObject
+pub mod Chunk
+pub mod HeldBytes
+pub mod Hints
+pub mod LeastPlace
+pub mod Lending
+pub mod Object
+pub mod OneChunkObject
+pub mod PoolObject
+pub mod Request

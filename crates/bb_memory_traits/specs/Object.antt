@@ -1,0 +1,189 @@
+-- Objects that hold live chunks and nothing else: what they may answer, what that makes of the live list, and their runs.
+use Rattle.std.specs.Prelude.{◌≡◌, ℕ, ◌<◌, Bool, true, false, List, [], ◌∷◌, ◌++◌, length, remove, Result, Ok, Err, ◌+◌, ◌≤◌}
+use Rattle.std.specs.Prelude.{fold, Some, slice_get, Vec, vec_len, vec_capacity, IfOk, OnOk, OnErr, ◌≢◌, ◌%◌, AllPairs, slice_set}
+use Rattle.bb_memory_traits.specs.Chunk.{Chunk, Layout, AllocationError, Region, Fits, IsSound}
+use Rattle.bb_memory_traits.specs.declared.allocator.Command.{Command}
+use Rattle.bb_memory_traits.specs.declared.allocator.Command.TheVariants.{Allocate, Release, Grow, Shrink}
+use Rattle.bb_memory_traits.specs.declared.allocator.Reply.{Reply}
+use Rattle.bb_memory_traits.specs.declared.allocator.Reply.TheVariants as reply
+use Rattle.bb_memory_traits.specs.declared.allocator.AllocationGrowError.{AllocationGrowError}
+use Rattle.bb_memory_traits.specs.declared.allocator.AllocationShrinkError.{AllocationShrinkError}
+
+pub record Object : Type 1 where
+  -- a release gives back all chunks at once, or one
+  pub release_empties : Bool
+  -- answers that the object may give to a request for a layout on a live list
+  pub may_allocate : List Chunk → Layout → Result Chunk AllocationError → Type 0
+
+abbrev pub object_of : Bool → (List Chunk → Layout → Result Chunk AllocationError → Type 0) → Object
+object_of release_empties may_allocate = record { release_empties = release_empties; may_allocate = may_allocate }
+
+-- the list after an answer: a chunk is appended, and a refusal changes nothing
+abbrev pub appended : List Chunk → Result Chunk AllocationError → List Chunk
+appended live (Ok chunk) = live ++ chunk ∷ []
+appended live (Err error) = live
+
+-- the list after a release: all is given back at once, or that chunk is taken out and the list closes up
+abbrev pub released : Bool → List Chunk → ℕ → List Chunk
+released true live position = []
+released false live position = remove live position
+
+-- from `old` the object may answer a request so, and goes on to `new`
+pub record Allocates (object : Object) (old : List Chunk) (layout : Layout)
+    (answer : Result Chunk AllocationError) (new : List Chunk) : Type 0 where
+  pub answers : object.may_allocate old layout answer
+  pub leaves : new ≡ appended old answer
+
+-- from `old` the chunk at a position is given back, and the object goes on to `new`
+pub record Releases (object : Object) (old : List Chunk) (position : ℕ) (new : List Chunk) : Type 0 where
+  pub within : position < length old
+  pub leaves : new ≡ released object.release_empties old position
+
+-- ALL ANSWERS
+
+-- there is an answer to each request on each live list
+abbrev pub AnswersAll : Object → Type 0
+AnswersAll object = (live : List Chunk) (layout : Layout) → (answer : Result Chunk AllocationError)
+    × object.may_allocate live layout answer
+
+-- there is no more than one
+abbrev pub AnswersOnce : Object → Type 0
+AnswersOnce object = (live : List Chunk) (layout : Layout) (one other : Result Chunk AllocationError) →
+    object.may_allocate live layout one → object.may_allocate live layout other → one ≡ other
+
+-- each chunk that it may give is to the asked layout as this says
+abbrev pub GivesOnly : Object → (Layout → Chunk → Type 0) → Type 0
+GivesOnly object Suits = (live : List Chunk) (layout : Layout) (chunk : Chunk) →
+    object.may_allocate live layout (Ok chunk) → Suits layout chunk
+
+-- RUNS: commands applied one after the other to an object, with one reply each
+
+-- From `old` the object may give this reply to the command, and goes on to `new`.
+abbrev pub Step : Object → List Chunk → Command → Reply → List Chunk → Type 0
+Step object old (Allocate layout) (reply.Chunk chunk) new = Allocates object old layout (Ok chunk) new
+Step object old (Allocate layout) (reply.Refused error) new = Allocates object old layout (Err error) new
+Step object old (Release position) reply.Released new = Releases object old position new
+-- a position that the list doesn't have is passed over, and so is every resize
+Step object old (Release position) reply.Passed new = (length old ≤ position) × (new ≡ old)
+Step object old (Grow position from to) reply.Passed new = new ≡ old
+Step object old (Shrink position from to) reply.Passed new = new ≡ old
+-- no other reply is given
+Step object old command other new = ⊥
+
+-- Replies to commands, one step after another. A step goes on from a live list here, and from a book of
+-- samples in a crate above.
+abbrev pub IsRun : {S C R : Type 0} → (S → C → R → S → Type 0) → S → List C → List R → S → Type 0
+IsRun step old [] [] new = new ≡ old
+IsRun {S = S} step old (command ∷ commands) (reply ∷ replies) new =
+    (mid : S) × step old command reply mid × IsRun step mid commands replies new
+IsRun step old [] (reply ∷ replies) new = ⊥
+IsRun step old (command ∷ commands) [] new = ⊥
+
+-- each chunk that was replied to a request is to the asked layout as this says
+abbrev pub EachGiven : (Layout → Chunk → Type 0) → List Command → List Reply → Type 0
+EachGiven Suits commands replies =
+    (i : ℕ) (layout : Layout) (chunk : Chunk) → slice_get commands i ≡ Some (Allocate layout) →
+    slice_get replies i ≡ Some (reply.Chunk chunk) → Suits layout chunk
+
+-- An allocator's note after a command, where a request makes `after` of it: no other command changes it.
+abbrev pub note_after_command : {Note : Type 0} → (Layout → Note → Note) → Note → Command → Note
+note_after_command after note (Allocate layout) = after layout note
+note_after_command after note other = note
+
+-- the note after these commands, one after the other
+abbrev pub note_after_run : {Note : Type 0} → (Layout → Note → Note) → Note → List Command → Note
+note_after_run after note commands = fold (note_after_command after) note commands
+
+-- The reply to an applied command, and what the command leaves, by the words of `BaseAllocator`: the reply and the live list
+-- are a step of these, a chunk that was replied to a request fits, the allocator stands for the list, has the geometry that it
+-- had, and keeps the command's note. The list is at most one longer, and has lost no room.
+pub record Applies {Allocator Geometry Note Alloc : Type 0} (stands_for : Allocator → List Chunk → Type 0)
+    (geometry_of : Allocator → Geometry) (region_of : Geometry → Region) (note_of : Allocator → Note)
+    (note_after : Geometry → Layout → Note → Note) (Steps : List Chunk → Command → Reply → List Chunk → Type 0)
+    (command : Command) (answer : Reply) (old new : Allocator) (live left : Vec Chunk Alloc) : Type 0 where
+  pub step : Steps live.items command answer left.items
+  pub fits : (layout : Layout) (chunk : Chunk) → command ≡ Allocate layout → answer ≡ reply.Chunk chunk
+      → Fits (region_of (geometry_of old)) layout chunk
+  pub stands : stands_for new left.items
+  pub geometry : geometry_of new ≡ geometry_of old
+  pub note : note_of new ≡ note_after_command (note_after (geometry_of old)) (note_of old) command
+  pub len : vec_len left ≤ vec_len live + 1
+  pub capacity : vec_capacity live ≤ vec_capacity left
+
+-- The replies of an allocator to a list of commands, and what it leaves. The replies and the live list are a run by these steps;
+-- the allocator stands for the list that is left, which is sound, and has the geometry that it had; each chunk that was replied
+-- to a request fits. Where memory was refused, nothing was applied.
+pub record AnswersRun {Allocator Geometry Alloc Error : Type 0} (stands_for : Allocator → List Chunk → Type 0)
+    (geometry_of : Allocator → Geometry) (region_of : Geometry → Region)
+    (Steps : List Chunk → Command → Reply → List Chunk → Type 0) (commands : List Command)
+    (answer : Result (Vec Reply Alloc) Error) (old new : Allocator) (live left : List Chunk) : Type 0 where
+  pub run : IfOk answer (λ replies. IsRun Steps live commands replies.items left)
+  pub stands : OnOk answer (stands_for new left)
+  pub sound : OnOk answer (IsSound (region_of (geometry_of old)) left)
+  pub fits : IfOk answer (λ replies. EachGiven (Fits (region_of (geometry_of old))) commands replies.items)
+  pub geometry : geometry_of new ≡ geometry_of old
+  pub unchanged : OnErr answer (new ≡ old)
+  pub kept : OnErr answer (left ≡ live)
+
+-- RESIZABLE OBJECTS: chunks are resized in place, and a release takes out one chunk alone
+
+-- no two chunks have the same place
+abbrev pub PlacesDiffer : List Chunk → Type 0
+PlacesDiffer live = AllPairs (λ one other. one.place ≢ other.place) live
+
+pub record ResizableObject : Type 1 where
+  pub base : Object
+  -- how much is reserved for the chunk at a place, in bytes
+  pub reserved : ℕ → ℕ
+  -- answers that the object may give on a live list to a resize of the chunk at a place, from an old layout to a new one
+  pub may_grow : List Chunk → ℕ → Layout → Layout → Result Chunk AllocationGrowError → Type 0
+  pub may_shrink : List Chunk → ℕ → Layout → Layout → Result Chunk AllocationShrinkError → Type 0
+
+abbrev pub resizable_object_of :
+    (List Chunk → Layout → Result Chunk AllocationError → Type 0) → (ℕ → ℕ) →
+    (List Chunk → ℕ → Layout → Layout → Result Chunk AllocationGrowError → Type 0) →
+    (List Chunk → ℕ → Layout → Layout → Result Chunk AllocationShrinkError → Type 0) → ResizableObject
+resizable_object_of may_allocate reserved may_grow may_shrink = record {
+  base = object_of false may_allocate;
+  reserved = reserved;
+  may_grow = may_grow;
+  may_shrink = may_shrink;
+}
+
+-- the chunk at the position may be grown from this layout: its place is a multiple of the old alignment
+pub record MayBeGrown (live : List Chunk) (position : ℕ) (old : Layout) (chunk : Chunk) : Type 0 where
+  pub at : slice_get live position ≡ Some chunk
+  pub aligned : chunk.place % old.align ≡ 0
+
+-- to shrink it, the old size is within what is reserved for it, too
+pub record MayBeShrunk (reserved : ℕ → ℕ) (live : List Chunk) (position : ℕ) (old : Layout) (chunk : Chunk) : Type 0 where
+  pub grown : MayBeGrown live position old chunk
+  pub within : old.size ≤ reserved chunk.place
+
+-- a resize keeps the place, and changes that chunk's length alone
+pub record Resizes (live : List Chunk) (position : ℕ) (chunk resized : Chunk) (new : List Chunk) : Type 0 where
+  pub place : resized.place ≡ chunk.place
+  pub leaves : new ≡ slice_set live position resized
+
+-- From `old` the object may give this reply to the command, and goes on to `new`.
+abbrev pub ResizableStep : ResizableObject → List Chunk → Command → Reply → List Chunk → Type 0
+ResizableStep object old (Allocate layout) answer new = Step object.base old (Allocate layout) answer new
+ResizableStep object old (Release position) answer new = Step object.base old (Release position) answer new
+ResizableStep object old (Grow position from to) (reply.Chunk resized) new =
+    (chunk : Chunk) × MayBeGrown old position from chunk × object.may_grow old chunk.place from to (Ok resized)
+    × Resizes old position chunk resized new
+ResizableStep object old (Grow position from to) (reply.GrowRefused error) new =
+    (chunk : Chunk) × MayBeGrown old position from chunk × object.may_grow old chunk.place from to (Err error) × (new ≡ old)
+-- a resize whose condition fails is passed over
+ResizableStep object old (Grow position from to) reply.Passed new =
+    ((chunk : Chunk) → ¬ MayBeGrown old position from chunk) × (new ≡ old)
+ResizableStep object old (Shrink position from to) (reply.Chunk resized) new =
+    (chunk : Chunk) × MayBeShrunk object.reserved old position from chunk × object.may_shrink old chunk.place from to (Ok resized)
+    × Resizes old position chunk resized new
+ResizableStep object old (Shrink position from to) (reply.ShrinkRefused error) new =
+    (chunk : Chunk) × MayBeShrunk object.reserved old position from chunk
+    × object.may_shrink old chunk.place from to (Err error) × (new ≡ old)
+ResizableStep object old (Shrink position from to) reply.Passed new =
+    ((chunk : Chunk) → ¬ MayBeShrunk object.reserved old position from chunk) × (new ≡ old)
+-- no other reply is given
+ResizableStep object old command answer new = ⊥

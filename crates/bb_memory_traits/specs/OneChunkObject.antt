@@ -1,0 +1,60 @@
+-- The one-chunk object: one chunk at a time, which is all of the region from its place on.
+use Rattle.std.specs.Prelude.{◌≡◌, ◌≢◌, ℕ, ◌+◌, ◌-◌, ◌≤◌, ◌<◌, ◌⊎◌, List, [], Result, Ok, Err}
+use Rattle.bb_memory_traits.specs.Chunk.{Region, region_end, Chunk, Layout, AllocationError, SizeIsZero, SizeTooLarge}
+use Rattle.bb_memory_traits.specs.Chunk.{AlignmentFailure, OutOfMemory, first_place}
+use Rattle.bb_memory_traits.specs.Object.{ResizableObject, resizable_object_of}
+use Rattle.bb_memory_traits.specs.declared.allocator.AllocationGrowError.{AllocationGrowError}
+use Rattle.bb_memory_traits.specs.declared.allocator.AllocationGrowError.TheVariants as grow
+use Rattle.bb_memory_traits.specs.declared.allocator.AllocationShrinkError.{AllocationShrinkError}
+use Rattle.bb_memory_traits.specs.declared.allocator.AllocationShrinkError.TheVariants as shrink
+
+-- how much there is from a place to the region's end
+abbrev pub reserved_at : Region → ℕ → ℕ
+reserved_at region place = region_end region - place
+
+-- all of the region from a place on
+abbrev pub rest_from : Region → ℕ → Chunk
+rest_from region place = record { place = place; len = reserved_at region place }
+
+-- there is something at the layout's place, and its size ends inside the region; an exact fit is room enough
+pub record HasRoom (region : Region) (layout : Layout) : Type 0 where
+  pub begins : first_place region layout < region_end region
+  pub ends : first_place region layout + layout.size ≤ region_end region
+
+-- the layout's place is at or behind the region's end, or its size ends behind it
+abbrev pub LacksRoom : Region → Layout → Type 0
+LacksRoom region layout =
+    (region_end region ≤ first_place region layout) ⊎ (region_end region < first_place region layout + layout.size)
+
+-- Answers that the one-chunk object may give to a request, and when.
+abbrev pub MayAllocate : Region → List Chunk → Layout → Result Chunk AllocationError → Type 0
+MayAllocate region live layout (Ok chunk) =
+    (live ≡ []) × HasRoom region layout × (chunk ≡ rest_from region (first_place region layout))
+MayAllocate region live layout (Err OutOfMemory) = (live ≢ []) ⊎ LacksRoom region layout
+-- no call is refused so
+MayAllocate region live layout (Err SizeIsZero) = ⊥
+MayAllocate region live layout (Err SizeTooLarge) = ⊥
+MayAllocate region live layout (Err AlignmentFailure) = ⊥
+
+-- Answers that it may give where the chunk at a place is to grow from an old layout to a new one, and when.
+abbrev pub MayGrow : Region → ℕ → Layout → Layout → Result Chunk AllocationGrowError → Type 0
+MayGrow region place old new (Ok grown) =
+    (old.size < new.size) × (new.align ≤ old.align) × (new.size ≤ reserved_at region place) × (grown ≡ rest_from region place)
+MayGrow region place old new (Err grow.GrowWouldShrink) = new.size ≤ old.size
+MayGrow region place old new (Err grow.AlignmentFailure) = (old.size < new.size) × (old.align < new.align)
+MayGrow region place old new (Err grow.OutOfMemory) =
+    (old.size < new.size) × (new.align ≤ old.align) × (reserved_at region place < new.size)
+
+-- Answers that it may give where that chunk is to shrink, and when: it then has exactly the new size.
+abbrev pub MayShrink : ℕ → Layout → Layout → Result Chunk AllocationShrinkError → Type 0
+MayShrink place old new (Ok shrunk) =
+    (new.size < old.size) × (new.align ≤ old.align) × (shrunk ≡ record { place = place; len = new.size })
+MayShrink place old new (Err shrink.ShrinkWouldGrow) = old.size ≤ new.size
+MayShrink place old new (Err shrink.AlignmentFailure) = (new.size < old.size) × (old.align < new.align)
+-- no call is refused so
+MayShrink place old new (Err shrink.SizeIsZero) = ⊥
+
+-- the list decides nothing for a resize
+abbrev pub one_chunk_object : Region → ResizableObject
+one_chunk_object region =
+    resizable_object_of (MayAllocate region) (reserved_at region) (λ live. MayGrow region) (λ live. MayShrink)

@@ -1,0 +1,114 @@
+-- The geometry of a pool, and the pool object: chunks in buckets, each resized in its bucket and given back alone.
+use Rattle.std.specs.Prelude.{ℕ, ◌≡◌, ◌+◌, ◌*◌, ◌<◌, ◌≤◌, ◌↔◌, min, List, Some, Result, Ok, Err, slice_get}
+use Rattle.bb_memory_traits.specs.Chunk.{Region, region_end, Layout, first_place, Chunk, AllocationError, SizeIsZero, SizeTooLarge}
+use Rattle.bb_memory_traits.specs.Chunk.{AlignmentFailure, OutOfMemory}
+use Rattle.bb_memory_traits.specs.LeastPlace.{least_place}
+use Rattle.bb_memory_traits.specs.Object.{ResizableObject, resizable_object_of}
+use Rattle.bb_memory_traits.specs.declared.allocator.AllocationGrowError.{AllocationGrowError}
+use Rattle.bb_memory_traits.specs.declared.allocator.AllocationGrowError.TheVariants as grow
+use Rattle.bb_memory_traits.specs.declared.allocator.AllocationShrinkError.{AllocationShrinkError}
+use Rattle.bb_memory_traits.specs.declared.allocator.AllocationShrinkError.TheVariants as shrink
+
+-- Where the buckets of a region lie. Buckets are numbered from 0.
+
+-- the region that is cut, the layout of each bucket, and how many buckets there are
+pub record PoolGeometry : Type 0 where
+  pub region : Region
+  pub bucket : Layout
+  pub buckets : ℕ
+
+abbrev pub pool_geometry : Region → Layout → ℕ → PoolGeometry
+pool_geometry region bucket buckets = record { region = region; bucket = bucket; buckets = buckets }
+
+-- how far each bucket is from the next
+abbrev pub stride : Layout → ℕ
+stride bucket = least_place bucket.size bucket.align
+
+-- the place of bucket i: the first place for bucket 0, and a stride more for each further one
+abbrev pub bucket_place : PoolGeometry → ℕ → ℕ
+bucket_place geometry i = first_place geometry.region geometry.bucket + i * stride geometry.bucket
+
+-- bucket i with its whole stride ends inside the region
+abbrev pub HasBucket : Region → Layout → ℕ → Type 0
+HasBucket region bucket i = first_place region bucket + (i + 1) * stride bucket ≤ region_end region
+
+-- the buckets are just those that the region has room for
+abbrev pub FillsRegion : PoolGeometry → Type 0
+FillsRegion geometry = (i : ℕ) → (i < geometry.buckets) ↔ HasBucket geometry.region geometry.bucket i
+
+-- the region is cut into as many of these buckets as it has room for
+pub record IsCut (whole : Region) (layout : Layout) (geometry : PoolGeometry) : Type 0 where
+  pub region : geometry.region ≡ whole
+  pub bucket : geometry.bucket ≡ layout
+  pub filled : FillsRegion geometry
+
+-- a geometry with the smaller of its number of buckets and a fixed pool's constant
+abbrev pub at_most : ℕ → PoolGeometry → PoolGeometry
+at_most constant geometry = pool_geometry geometry.region geometry.bucket (min geometry.buckets constant)
+
+-- a bucket has a byte, and the region has room for each of its buckets
+pub record IsPoolGeometry (geometry : PoolGeometry) : Type 0 where
+  pub filled : 0 < geometry.bucket.size
+  pub room : (i : ℕ) → i < geometry.buckets → HasBucket geometry.region geometry.bucket i
+
+-- the chunk at this position of the list has this place
+pub record IsAt (live : List Chunk) (position place : ℕ) : Type 0 where
+  pub chunk : Chunk
+  pub there : slice_get live position ≡ Some chunk
+  pub placed : chunk.place ≡ place
+
+-- some chunk of the list has the place of bucket i
+abbrev pub IsHeld : PoolGeometry → List Chunk → ℕ → Type 0
+IsHeld geometry live i = (position : ℕ) × IsAt live position (bucket_place geometry i)
+
+-- the size and the alignment are at most the bucket's
+pub record IsWithin (bucket layout : Layout) : Type 0 where
+  pub size : layout.size ≤ bucket.size
+  pub align : layout.align ≤ bucket.align
+
+-- the chunk that a request gets in bucket i
+abbrev pub chunk_in : PoolGeometry → ℕ → Layout → Chunk
+chunk_in geometry i layout = record { place = bucket_place geometry i; len = layout.size }
+
+-- a request for the layout may get bucket i, as its size and alignment are small enough, and the bucket isn't held
+pub record MayGive (geometry : PoolGeometry) (live : List Chunk) (layout : Layout) (i : ℕ) : Type 0 where
+  pub within : IsWithin geometry.bucket layout
+  pub bucket : i < geometry.buckets
+  pub free : ¬ IsHeld geometry live i
+
+-- Answers that the pool object may give, and when.
+abbrev pub MayAllocate : PoolGeometry → List Chunk → Layout → Result Chunk AllocationError → Type 0
+-- any bucket that isn't held
+MayAllocate geometry live layout (Ok chunk) = (i : ℕ) × MayGive geometry live layout i × (chunk ≡ chunk_in geometry i layout)
+MayAllocate geometry live layout (Err SizeTooLarge) = geometry.bucket.size < layout.size
+MayAllocate geometry live layout (Err AlignmentFailure) =
+    (layout.size ≤ geometry.bucket.size) × (geometry.bucket.align < layout.align)
+MayAllocate geometry live layout (Err OutOfMemory) =
+    IsWithin geometry.bucket layout × ((i : ℕ) → i < geometry.buckets → IsHeld geometry live i)
+-- no call is refused so
+MayAllocate geometry live layout (Err SizeIsZero) = ⊥
+
+-- Answers that it may give where the chunk at a place is to grow from an old layout to a new one, and when: it then has exactly
+-- the new size.
+abbrev pub MayGrow : Layout → ℕ → Layout → Layout → Result Chunk AllocationGrowError → Type 0
+MayGrow bucket place old new (Ok grown) =
+    (old.size < new.size) × IsWithin bucket new × (grown ≡ record { place = place; len = new.size })
+MayGrow bucket place old new (Err grow.GrowWouldShrink) = new.size ≤ old.size
+MayGrow bucket place old new (Err grow.AlignmentFailure) = (old.size < new.size) × (bucket.align < new.align)
+MayGrow bucket place old new (Err grow.OutOfMemory) =
+    (old.size < new.size) × (new.align ≤ bucket.align) × (bucket.size < new.size)
+
+-- Answers that it may give where that chunk is to shrink, and when.
+abbrev pub MayShrink : Layout → ℕ → Layout → Layout → Result Chunk AllocationShrinkError → Type 0
+MayShrink bucket place old new (Ok shrunk) =
+    (new.size < old.size) × (new.align ≤ bucket.align) × (shrunk ≡ record { place = place; len = new.size })
+MayShrink bucket place old new (Err shrink.ShrinkWouldGrow) = old.size ≤ new.size
+MayShrink bucket place old new (Err shrink.AlignmentFailure) = (new.size < old.size) × (bucket.align < new.align)
+-- no call is refused so
+MayShrink bucket place old new (Err shrink.SizeIsZero) = ⊥
+
+-- A bucket is reserved for its chunk, whole. The list decides nothing for a resize, and a release closes up.
+abbrev pub pool_object : PoolGeometry → ResizableObject
+pool_object geometry =
+    resizable_object_of (MayAllocate geometry) (λ place. geometry.bucket.size)
+    (λ live. MayGrow geometry.bucket) (λ live. MayShrink geometry.bucket)

@@ -1,0 +1,345 @@
+//! The promises of allocators over a region, and runs of commands over any of them.
+mod places;
+mod run;
+
+use crate::layout::{Chunk, Layout};
+use crate::region::Region;
+pub use places::{deallocate_beside, may_release_law};
+pub use run::{run_base, run_full};
+use thiserror::Error;
+
+/// Why a request was refused.
+#[derive(Debug, Clone, Copy, PartialEq, Eq, Error)]
+pub enum AllocationError {
+    /// The size is 0: of a bump or the heap alone.
+    #[error("the requested size is zero")]
+    SizeIsZero,
+    /// The size is greater than the bucket's: of a pool alone.
+    #[error("the requested size is greater than the bucket size")]
+    SizeTooLarge,
+    /// The alignment is greater than the bucket's: of a pool alone.
+    #[error("the requested alignment is not supported")]
+    AlignmentFailure,
+    /// Of a bump: the chunk would end behind the region. Of the one chunk: a chunk is out, or the region has too little from
+    /// the least place of the alignment on. Of a pool: every bucket is held, or, of a shared one, each was found held at some
+    /// step of the pass. Of the heap and of makers: memory was refused.
+    #[error("there is not enough memory available")]
+    OutOfMemory,
+}
+
+/// Why a chunk wasn't grown.
+#[derive(Debug, Clone, Copy, PartialEq, Eq, Error)]
+pub enum AllocationGrowError {
+    /// The new size isn't greater than the old one.
+    #[error("the new size is not greater than the old size")]
+    GrowWouldShrink,
+    /// The new alignment is greater than the bucket's, of a pool, or than the old one, of the one chunk.
+    #[error("the requested alignment is not supported")]
+    AlignmentFailure,
+    /// The new size is greater than what is reserved for the chunk. Of the heap: memory was refused.
+    #[error("there is not enough memory available")]
+    OutOfMemory,
+}
+
+/// Why a chunk wasn't shrunk.
+#[derive(Debug, Clone, Copy, PartialEq, Eq, Error)]
+pub enum AllocationShrinkError {
+    /// The new size isn't smaller than the old one.
+    #[error("the new size is not smaller than the old size")]
+    ShrinkWouldGrow,
+    /// The new alignment is greater than the bucket's, of a pool, or than the old one, of the one chunk.
+    #[error("the requested alignment is not supported")]
+    AlignmentFailure,
+    /// The new size is 0: of the heap alone.
+    #[error("the requested size is zero")]
+    SizeIsZero,
+}
+
+/// A command to an allocator. The number is a position in the live list, from 0.
+#[derive(Debug, Clone, Copy, PartialEq, Eq)]
+pub enum Command {
+    /// Asks for a chunk.
+    Allocate(Layout),
+    /// Gives back the chunk at a position.
+    Release(usize),
+    /// Gives the chunk at a position a larger size: the old layout, then the new one.
+    Grow(usize, Layout, Layout),
+    /// Gives the chunk at a position a smaller size: the old layout, then the new one.
+    Shrink(usize, Layout, Layout),
+}
+
+/// The reply to a command.
+#[derive(Debug, Clone, Copy, PartialEq, Eq)]
+pub enum Reply {
+    /// The chunk that was given, or the resized one.
+    Chunk(Chunk),
+    /// The chunk at the position was given back, or all chunks where a release gives back all at once.
+    Released,
+    /// The command was passed over: the live list has no such position, or the run makes no such resize.
+    Passed,
+    /// The request was refused: no chunk was given.
+    Refused(AllocationError),
+    /// The chunk at the position wasn't grown.
+    GrowRefused(AllocationGrowError),
+    /// The chunk at the position wasn't shrunk.
+    ShrinkRefused(AllocationShrinkError),
+}
+
+/// An allocator over one region, with one owner.
+///
+/// Its contract speaks of live lists: the chunks that are out, in the order in which they were given. An allocator
+/// *stands for* a live list where its state may be the result of having given exactly those chunks. Every clause holds
+/// for each list that the allocator stands for, and each allocator stands for at least one.
+///
+/// The answers that it may give are stated by an object that holds live chunks alone (`geometry`, `may_allocate`), so that a
+/// crate may bring an allocator with an object of its own.
+pub trait BaseAllocator {
+    ghost use Rattle.std.specs.Prelude.{◌≡◌, ◌∷◌, ◌++◌, ◌≤◌, ◌%◌, ℕ, Some, [], List, Result, Ok, Bool, IfOk, OnErr, slice_get};
+    ghost use Rattle.bb_memory_traits.specs.Chunk.{Region, IsRegion, Chunk, IsInside, Layout, AllocationError, IsSound};
+    ghost use Rattle.bb_memory_traits.specs.Object.{released};
+    ghost use Rattle.bb_memory_traits.specs.Request.{Requested};
+    ghost use Rattle.bb_memory_traits.specs.HeldBytes.{held_region, ZeroesAnswered};
+
+    /// True where a release gives back all chunks at once.
+    const RELEASE_EMPTIES: bool;
+
+    ghost RELEASE_EMPTIES: { Bool };
+
+    /// The facts that are fixed when an allocator is made: its region, and whatever else its answers depend on.
+    ghost Geometry: { Type 0 };
+
+    ghost geometry: { Self → Geometry };
+
+    ghost region_of: { Geometry → Region };
+
+    /// The answers that an allocator of this geometry may give to a request on a live list.
+    ghost may_allocate: { Geometry → List Chunk → Layout → Result Chunk AllocationError → Type 0 };
+
+    /// The allocator stands for this live list.
+    ghost stands_for: { Self → List Chunk → Type 0 };
+
+    /// The chunk at this place may be given back.
+    ghost may_release: { Self → ℕ → Type 0 };
+
+    /// The note that an allocator keeps of the requests that were made of it, beside the chunks that are out. One that promises
+    /// nothing of the kind has `Unit {0}` here.
+    ghost Note: { Type 0 };
+
+    ghost note: { Self → Note };
+
+    /// The note after a request for a layout, whatever is answered to it.
+    ghost note_after: { Geometry → Layout → Note → Note };
+
+    /// The promise of a request by the value alone: of the allocator as it was, the layout, the answer, and the allocator as it
+    /// is then. One that leaves it out says no more than the clauses below.
+    ghost takes: { Self → Layout → Result Chunk AllocationError → Self
+        → Type 0 } = { λ old layout result new. Unit {0} };
+
+    /// The promise of a release by the value alone: of the allocator as it was, the place, the layout, and the allocator as it is
+    /// then.
+    ghost frees: { Self → ℕ → Layout → Self → Type 0 } = { λ old place layout new. Unit {0} };
+
+    /// Asks for a chunk of at least `layout.size()` bytes, at a place that is a multiple of `layout.align()`. After a
+    /// refusal the allocator stands for the lists for which it stood before.
+    fn allocate(&mut self, layout: Layout) -> Result<Chunk, AllocationError>
+        ensures answer { (live : List Chunk) → stands_for self.old live
+            → may_allocate (geometry self.old) live layout result }
+        ensures appended { IfOk result (λ chunk. (live : List Chunk) → stands_for self.old live
+            → stands_for self.new (live ++ chunk ∷ [])) }
+        ensures kept { OnErr result ((live : List Chunk) → stands_for self.old live
+            → stands_for self.new live) }
+        ensures given { IfOk result (λ chunk. may_release self.new chunk.place) }
+        ensures inside { IfOk result (IsInside (region_of (geometry self.old))) }
+        ensures aligned { IfOk result (λ chunk. chunk.place % layout.align ≡ 0) }
+        ensures long_enough { IfOk result (λ chunk. layout.size ≤ chunk.len) }
+        ensures geometry { geometry self.new ≡ geometry self.old }
+        ensures note { note self.new ≡ note_after (geometry self.old) layout (note self.old) }
+        ensures value { takes self.old layout result self.new };
+
+    /// Gives back the chunk at this place, or all chunks where `RELEASE_EMPTIES` is true. A chunk that is out has to begin at
+    /// the place (a bump asks for nothing). The layout decides nothing.
+    fn deallocate(&mut self, place: usize, layout: Layout)
+        requires { may_release self.old place }
+        ensures released { (live : List Chunk) (position : ℕ) (chunk : Chunk)
+            → stands_for self.old live → slice_get live position ≡ Some chunk → chunk.place ≡ place
+            → stands_for self.new (released RELEASE_EMPTIES live position) }
+        ensures geometry { geometry self.new ≡ geometry self.old }
+        ensures note { note self.new ≡ note self.old }
+        ensures value { frees self.old place layout self.new };
+
+    /// Asks for a chunk as `allocate` does, with all that it promises (`Requested`), and makes its bytes zero. Every other byte
+    /// of the region stays, and after a refusal all do. The region's start and size have to be those of the allocator's maker.
+    fn allocate_zeroed(
+        &mut self,
+        layout: Layout,
+        region: &mut Region,
+    ) -> Result<Chunk, AllocationError>
+        requires same_region { held_region region.old ≡ region_of (geometry self.old) }
+        ensures requested { Requested stands_for may_release geometry region_of may_allocate note
+            note_after takes self.old layout result self.new }
+        ensures bytes { ZeroesAnswered (λ chunk. chunk) region.old region.new result }
+    {
+        let chunk = self.allocate(layout)?;
+        region.zero(chunk);
+        Ok(chunk)
+    }
+
+    /// Does nothing. It is the proof that each value stands for some live list, so that no clause holds for want of one.
+    fn stands_for_some_list(&self)
+        ensures { (live : List Chunk) × stands_for self.now live };
+
+    /// Does nothing. It is the proof that whatever may be answered to a request as a chunk is inside the region, at a multiple
+    /// of the asked alignment, and at least as long as asked.
+    fn answers_fit(&self)
+        ensures inside { (live : List Chunk) (layout : Layout) (chunk : Chunk)
+            → stands_for self.now live → may_allocate (geometry self.now) live layout (Ok chunk)
+            → IsInside (region_of (geometry self.now)) chunk }
+        ensures aligned { (live : List Chunk) (layout : Layout) (chunk : Chunk)
+            → stands_for self.now live → may_allocate (geometry self.now) live layout (Ok chunk)
+            → chunk.place % layout.align ≡ 0 }
+        ensures long_enough { (live : List Chunk) (layout : Layout) (chunk : Chunk)
+            → stands_for self.now live → may_allocate (geometry self.now) live layout (Ok chunk)
+            → layout.size ≤ chunk.len };
+
+    /// The chunk at a position of such a list may be given back.
+    ghost releases: { (allocator : Self) (live : List Chunk) (position : ℕ) (chunk : Chunk)
+        → stands_for allocator live → slice_get live position ≡ Some chunk
+        → may_release allocator chunk.place };
+
+    /// Each such list is sound.
+    ghost sound: { (allocator : Self) (live : List Chunk) → stands_for allocator live
+        → IsSound (region_of (geometry allocator)) live };
+}
+
+/// An allocator whose chunks can be resized in place. A release takes out its chunk alone and closes up, and no two
+/// chunks of a list that it stands for have the same place. A resize never changes the allocator: what may be used of
+/// the part that is reserved for a chunk is told by the answer alone.
+pub trait Allocator: BaseAllocator {
+    ghost use Rattle.std.specs.Prelude.{◌≡◌, ◌<◌, ◌≤◌, ◌%◌, ℕ, false, List, Some, Result, IfOk, OnErr, slice_get, slice_set};
+    ghost use Rattle.bb_memory_traits.specs.Chunk.{Chunk, IsInside, Layout};
+    ghost use Rattle.bb_memory_traits.specs.HeldBytes.{held_region, part_behind, ZeroesAnswered};
+    ghost use Rattle.bb_memory_traits.specs.Request.{Grown};
+    ghost use Rattle.bb_memory_traits.specs.Object.{PlacesDiffer};
+    ghost use Rattle.bb_memory_traits.specs.declared.allocator.AllocationGrowError.{AllocationGrowError};
+    ghost use Rattle.bb_memory_traits.specs.declared.allocator.AllocationShrinkError.{AllocationShrinkError};
+
+    /// The figures that the answers to resizes depend on. The geometry fixes it, by the law below.
+    ghost Figures: { Type 0 };
+
+    ghost figures: { Self → Figures };
+
+    /// How many bytes are reserved for the chunk at a place.
+    ghost reserved_at: { Figures → ℕ → ℕ };
+
+    /// The answers that an allocator of these figures may give on a live list to a resize of the chunk at a place, from an old
+    /// layout to a new one.
+    ghost may_grow: { Figures → List Chunk → ℕ → Layout → Layout
+        → Result Chunk AllocationGrowError → Type 0 };
+
+    ghost may_shrink: { Figures → List Chunk → ℕ → Layout → Layout
+        → Result Chunk AllocationShrinkError → Type 0 };
+
+    /// The promise of `grow` by the value alone: of the allocator as it was, the place, the old layout and the new one, the
+    /// answer, and the allocator as it is then. One that leaves it out says no more than the clauses below.
+    ghost grows: { Self → ℕ → Layout → Layout → Result Chunk AllocationGrowError → Self
+        → Type 0 } = { λ one place old new result after. Unit {0} };
+
+    /// The same of `shrink`.
+    ghost shrinks: { Self → ℕ → Layout → Layout → Result Chunk AllocationShrinkError → Self
+        → Type 0 } = { λ one place old new result after. Unit {0} };
+
+    /// How many bytes are reserved for the live chunk at this place.
+    fn reserved(&self, place: usize) -> usize
+        requires { Self.may_release self.now place }
+        ensures { result ≡ reserved_at (figures self.now) place };
+
+    /// Gives the live chunk at this place a larger size. The place has to be a multiple of the old alignment.
+    fn grow(&mut self, place: usize, old: Layout, new: Layout) -> Result<Chunk, AllocationGrowError>
+        requires live { Self.may_release self.old place }
+        requires aligned { place % old.align ≡ 0 }
+        ensures answer { (live : List Chunk) (position : ℕ) (chunk : Chunk)
+            → Self.stands_for self.old live → slice_get live position ≡ Some chunk
+            → chunk.place ≡ place → may_grow (figures self.old) live place old new result }
+        ensures resized { IfOk result (λ grown. (live : List Chunk) (position : ℕ) (chunk : Chunk)
+            → Self.stands_for self.old live → slice_get live position ≡ Some chunk
+            → chunk.place ≡ place → Self.stands_for self.new (slice_set live position grown)) }
+        ensures same_place { IfOk result (λ grown. grown.place ≡ place) }
+        ensures aligned { IfOk result (λ grown. grown.place % new.align ≡ 0) }
+        ensures longer { IfOk result (λ grown. old.size < grown.len) }
+        ensures long_enough { IfOk result (λ grown. new.size ≤ grown.len) }
+        ensures within { IfOk result (λ grown. grown.len ≤ reserved_at (figures self.old) place) }
+        ensures inside { IfOk result (IsInside (Self.region_of (Self.geometry self.old))) }
+        ensures unchanged { self.new ≡ self.old }
+        ensures value { grows self.old place old new result self.new };
+
+    /// Gives the live chunk at this place a smaller size. The place has to be a multiple of the old alignment, and the old
+    /// size at most what is reserved.
+    fn shrink(
+        &mut self,
+        place: usize,
+        old: Layout,
+        new: Layout,
+    ) -> Result<Chunk, AllocationShrinkError>
+        requires live { Self.may_release self.old place }
+        requires aligned { place % old.align ≡ 0 }
+        requires reserved { old.size ≤ reserved_at (figures self.old) place }
+        ensures answer { (live : List Chunk) (position : ℕ) (chunk : Chunk)
+            → Self.stands_for self.old live → slice_get live position ≡ Some chunk
+            → chunk.place ≡ place → may_shrink (figures self.old) live place old new result }
+        ensures resized { IfOk result (λ shrunk. (live : List Chunk) (position : ℕ) (chunk : Chunk)
+            → Self.stands_for self.old live → slice_get live position ≡ Some chunk
+            → chunk.place ≡ place → Self.stands_for self.new (slice_set live position shrunk)) }
+        ensures same_place { IfOk result (λ shrunk. shrunk.place ≡ place) }
+        ensures aligned { IfOk result (λ shrunk. shrunk.place % new.align ≡ 0) }
+        ensures shorter { IfOk result (λ shrunk. shrunk.len < old.size) }
+        ensures long_enough { IfOk result (λ shrunk. new.size ≤ shrunk.len) }
+        ensures within { IfOk result (λ shrunk. shrunk.len ≤ reserved_at (figures self.old) place) }
+        ensures inside { IfOk result (IsInside (Self.region_of (Self.geometry self.old))) }
+        ensures unchanged { self.new ≡ self.old }
+        ensures value { shrinks self.old place old new result self.new };
+
+    /// Grows a chunk as `grow` does, with all that it promises (`Grown`), and makes the bytes behind its old size zero, up to the
+    /// end of what is answered. Every other byte of the region stays, and after a refusal all do. The region's start and size
+    /// have to be those of the allocator's maker.
+    fn grow_zeroed(
+        &mut self,
+        place: usize,
+        old: Layout,
+        new: Layout,
+        region: &mut Region,
+    ) -> Result<Chunk, AllocationGrowError>
+        requires live { Self.may_release self.old place }
+        requires aligned { place % old.align ≡ 0 }
+        requires same_region { held_region region.old ≡ Self.region_of (Self.geometry self.old) }
+        ensures grown { Grown Self.stands_for (Self.region_of (Self.geometry self.old))
+            (reserved_at (figures self.old) place) (may_grow (figures self.old)) grows
+            self.old place old new result self.new }
+        ensures bytes { ZeroesAnswered (part_behind old.size) region.old region.new result }
+    {
+        let grown = self.grow(place, old, new)?;
+        region.zero(grown.behind(old.size()));
+        Ok(grown)
+    }
+
+    /// Allocators of one geometry have the same figures.
+    ghost fixed: { (one other : Self) → Self.geometry one ≡ Self.geometry other
+        → figures one ≡ figures other };
+
+    /// A release takes out the chunk at its place alone.
+    ghost closes_up: { Self.RELEASE_EMPTIES ≡ false };
+
+    /// No two chunks of a list that it stands for have the same place.
+    ghost distinct: { (allocator : Self) (live : List Chunk) → Self.stands_for allocator live
+        → PlacesDiffer live };
+
+    /// No chunk of such a list is longer than what is reserved for it.
+    ghost covered: { (allocator : Self) (live : List Chunk) (position : ℕ) (chunk : Chunk)
+        → Self.stands_for allocator live → slice_get live position ≡ Some chunk
+        → chunk.len ≤ reserved_at (figures allocator) chunk.place };
+
+    /// A chunk that may be given back stands in each such list.
+    ghost only_live: { (allocator : Self) (live : List Chunk) (place : ℕ)
+        → Self.stands_for allocator live → Self.may_release allocator place
+        → (position : ℕ) × (chunk : Chunk)
+        × (slice_get live position ≡ Some chunk) × (chunk.place ≡ place) };
+}

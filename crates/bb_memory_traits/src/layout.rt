@@ -1,0 +1,114 @@
+//! Layouts, which are what is asked for, and chunks, which are what is given. Sizes and lengths are in bytes.
+ghost use Rattle.std.specs.Prelude.{◌≡◌, ◌^◌, ◌%◌, ◌<◌, ◌≤◌, ◌↔◌, ℕ, IsOk, IfOk, IfSome};
+ghost use Rattle.std.specs.Align.{IsLayout};
+ghost use Rattle.std.specs.Int.{IsPowerOfTwo};
+ghost use Rattle.std.specs.Option.{SomeIff};
+ghost use Rattle.bb_memory_traits.specs.LeastPlace.{least_place, IsLeastPlace};
+ghost use Rattle.bb_memory_traits.specs.LeastPlace.{IsUsual};
+
+mod chunk;
+
+pub use chunk::{Chunk, given_law, parts_law};
+use thiserror::Error;
+
+/// A size in bytes and an alignment, as `core::alloc::Layout` has them: the alignment is a power of two, and the size
+/// rounded up to a multiple of it is at most `isize::MAX`.
+///
+/// ```
+/// let layout = Layout::from_size_align(48, 4)?;
+/// let (size, align) = (layout.size(), layout.align());
+/// prove!(size == 48 && align == 4);
+/// ```
+#[derive(Debug, Clone, Copy, PartialEq, Eq)]
+pub struct Layout {
+    pub size: usize,
+    pub align: usize,
+    pub ghost valid: { IsLayout size align },
+}
+
+/// The alignment is no power of two, or the size rounded up to it is too large.
+#[derive(Debug, Clone, Copy, PartialEq, Eq, Error)]
+#[error("the alignment is no power of two or the rounded size is too large")]
+pub struct LayoutError {}
+
+impl Layout {
+    /// The layout of this size and alignment. It is refused exactly where the alignment is no power of two, or the size
+    /// rounded up to a multiple of the alignment exceeds `isize::MAX`.
+    #[inline]
+    pub fn from_size_align(size: usize, align: usize) -> Result<Layout, LayoutError>
+        ensures accepted { IsOk result ↔ IsLayout size align }
+        ensures value { IfOk result (λ layout. (layout.size ≡ size) × (layout.align ≡ align)) }
+        ensures usual { IsUsual size align → IsOk result }
+    {
+        if !align.is_power_of_two() {
+            return Err(LayoutError {});
+        }
+        if size > isize::MAX as usize + 1 - align {
+            return Err(LayoutError {});
+        }
+        Ok(Layout { size, align })
+    }
+
+    /// The layout of no bytes, for a call in which the layout decides nothing.
+    #[inline]
+    pub fn empty() -> Layout
+        ensures size { result.size ≡ 0 }
+        ensures align { result.align ≡ 1 }
+    {
+        Layout { size: 0, align: 1 }
+    }
+
+    /// The size in bytes.
+    #[inline(always)]
+    pub fn size(&self) -> usize
+        ensures { result ≡ self.now.size }
+    {
+        self.size
+    }
+
+    /// The alignment, a power of two.
+    #[inline(always)]
+    pub fn align(&self) -> usize
+        ensures value { result ≡ self.now.align }
+        ensures power_of_two { IsPowerOfTwo self.now.align }
+    {
+        self.align
+    }
+}
+
+/// Which layouts there are, in plain words: the alignment is a power of two, and the size rounded up to a multiple of it
+/// is at most `isize::MAX`. A multiple of an alignment is one of each smaller alignment. The function does nothing: its contract
+/// is the law.
+pub fn layout_law()
+    ensures valid { (size align : ℕ)
+        → IsLayout size align ↔ (IsPowerOfTwo align × (least_place size align < 2 ^ 63)) }
+    ensures multiple { (place : ℕ) (layout wider : Layout) → layout.align ≤ wider.align
+        → place % wider.align ≡ 0 → place % layout.align ≡ 0 }
+{}
+
+/// The least multiple of `align` that isn't below `v`, or `None` where that exceeds `usize::MAX`. The alignment has to be
+/// a power of two, as that of a [`Layout`] is.
+///
+/// ```
+/// let eight = Layout::from_size_align(16, 8)?;
+/// let rounded = round_up(4097, eight.align());
+/// prove!(rounded == Some(4104));
+/// ```
+#[inline(always)]
+pub fn round_up(v: usize, align: usize) -> Option<usize>
+    requires { IsPowerOfTwo align }
+    ensures value { SomeIff result (least_place v align < 2 ^ 64) (least_place v align) }
+    ensures above { IfSome result (λ place. v ≤ place) }
+    ensures aligned { IfSome result (λ place. place % align ≡ 0) }
+{
+    let mask = align - 1;
+    Some(v.checked_add(mask)? & !mask)
+}
+
+/// The least place is what its name says: the least multiple of the alignment that isn't below the number, and there is
+/// one alone. It does nothing: its contract is the law.
+pub fn least_place_law()
+    ensures is_least { (v align : ℕ) → 0 < align → IsLeastPlace v align (least_place v align) }
+    ensures one { (v align place : ℕ) → 0 < align → IsLeastPlace v align place
+        → place ≡ least_place v align }
+{}

@@ -1,0 +1,162 @@
+//! Chunks, which are what is given.
+ghost use Rattle.std.specs.Prelude.{◌≡◌, ◌∷◌, ◌++◌, ◌<◌, ◌≤◌, ◌%◌, ◌↔◌, ℕ, [], List, All, IsTrue, IfSome};
+ghost use Rattle.std.specs.Option.{SomeIff};
+ghost use Rattle.bb_memory_traits.specs.Chunk.{Chunk, IsChunk, IsInside, IsPart, AreApart, chunk_end, Region, IsSound};
+ghost use Rattle.bb_memory_traits.specs.BumpObject.{chunk_at_or_after};
+ghost use Rattle.bb_memory_traits.specs.HeldBytes.{first_part, part_behind};
+
+use super::{Layout, round_up};
+use std::marker::Model;
+
+/// The numbers from a place up to its end, the end excluded. The place isn't 0, and the end is at most `usize::MAX`.
+#[derive(Debug, Clone, Copy, PartialEq, Eq)]
+pub struct Chunk {
+    place: usize,
+    len: usize,
+}
+
+impl Model for Chunk {
+    ghost use Rattle.bb_memory_traits.specs.Chunk.{Chunk, IsChunk};
+
+    ghost Value = { Chunk };
+
+    ghost view = { λ chunk. record { place = chunk.place; len = chunk.len } };
+
+    ghost invariant = { λ chunk. IsChunk (record { place = chunk.place; len = chunk.len }) };
+
+    ghost inverse = { λ chunk. record { place = chunk.place; len = chunk.len } };
+}
+
+impl Chunk {
+    /// The chunk of a place and a length in bytes: `None` exactly where the place is 0 or place plus length exceeds
+    /// `usize::MAX`.
+    #[inline(always)]
+    pub fn new(place: usize, len: usize) -> Option<Chunk>
+        ensures { let chunk : Chunk = record { place = place; len = len } in
+            SomeIff result (IsChunk chunk) chunk }
+    {
+        let _end = place.checked_add(len)?;
+        if place == 0 {
+            return None;
+        }
+        Some(Chunk { place, len })
+    }
+
+    /// The chunk of a place and a length in bytes, without a test. The place isn't 0, and place plus length is at most
+    /// `usize::MAX`: [`Chunk::new`] tests both.
+    #[inline(always)]
+    pub fn new_unchecked(place: usize, len: usize) -> Chunk
+        requires { let chunk : Chunk = record { place = place; len = len } in IsChunk chunk }
+        ensures { let chunk : Chunk = record { place = place; len = len } in result ≡ chunk }
+    {
+        Chunk { place, len }
+    }
+
+    /// The chunk that a layout gets at or after `v`: `layout.size()` bytes at the least multiple of `layout.align()` that
+    /// isn't below `v`, or `None` exactly where that chunk would end behind `end`. `v` isn't 0.
+    #[inline(always)]
+    pub fn at_or_after(v: usize, layout: Layout, end: usize) -> Option<Chunk>
+        requires { 0 < v }
+        ensures value { SomeIff result
+            (chunk_end (chunk_at_or_after v layout) ≤ end) (chunk_at_or_after v layout) }
+        ensures above { IfSome result (λ chunk. v ≤ chunk.place) }
+        ensures aligned { IfSome result (λ chunk. chunk.place % layout.align ≡ 0) }
+    {
+        let place = round_up(v, layout.align())?;
+        if place.checked_add(layout.size())? > end {
+            return None;
+        }
+        Some(Chunk::new_unchecked(place, layout.size()))
+    }
+
+    /// The place, which isn't 0.
+    #[inline(always)]
+    pub fn place(&self) -> usize
+        ensures value { result ≡ self.now.place }
+        ensures not_zero { 0 < result }
+    {
+        self.place
+    }
+
+    /// The length in bytes, which may be 0.
+    #[inline(always)]
+    pub fn len(&self) -> usize
+        ensures { result ≡ self.now.len }
+    {
+        self.len
+    }
+
+    /// Returns true where the chunk has no bytes.
+    #[inline(always)]
+    pub fn is_empty(&self) -> bool
+        ensures { IsTrue result ↔ (self.now.len ≡ 0) }
+    {
+        self.len == 0
+    }
+
+    /// Place plus length.
+    #[inline(always)]
+    pub fn end(&self) -> usize
+        ensures { result ≡ chunk_end self.now }
+    {
+        self.place + self.len
+    }
+
+    /// Its first `size` bytes, of which it has to have so many.
+    ///
+    /// ```
+    /// let Some(chunk) = Chunk::new(4096, 64) else {
+    ///     return;
+    /// };
+    /// let (head, body) = (chunk.first(16), chunk.behind(16));
+    /// let (len, place) = (head.len(), body.place());
+    /// prove!(len == 16 && place == 4112);
+    /// ```
+    #[inline]
+    pub fn first(&self, size: usize) -> Chunk
+        requires { size ≤ self.now.len }
+        ensures { result ≡ first_part size self.now }
+    {
+        Chunk {
+            place: self.place,
+            len: size,
+        }
+    }
+
+    /// Returns the part behind the first `size` bytes, of which the chunk has to have so many.
+    #[inline]
+    pub fn behind(&self, size: usize) -> Chunk
+        requires { size ≤ self.now.len }
+        ensures { result ≡ part_behind size self.now }
+    {
+        Chunk {
+            place: self.place + size,
+            len: self.len - size,
+        }
+    }
+}
+
+/// Says that the last chunks of a sound list are apart from the others. It does nothing: its contract is the law.
+pub fn given_law()
+    ensures given { (region : Region) (live : List Chunk) (chunk : Chunk)
+        → IsSound region (live ++ chunk ∷ []) → All (AreApart chunk) live }
+    ensures last_two { (region : Region) (live : List Chunk) (one other : Chunk)
+        → IsSound region ((live ++ one ∷ []) ++ other ∷ []) → AreApart one other }
+{}
+
+/// Parts of chunks. It does nothing: its contract is the law.
+pub fn parts_law()
+    // The first bytes of a chunk and what lies behind them are its parts, and they are apart.
+    ensures first { (chunk : Chunk) (size : ℕ) → size ≤ chunk.len
+        → IsPart (first_part size chunk) chunk }
+    ensures behind { (chunk : Chunk) (size : ℕ) → size ≤ chunk.len
+        → IsPart (part_behind size chunk) chunk }
+    ensures cut { (chunk : Chunk) (size : ℕ)
+        → AreApart (first_part size chunk) (part_behind size chunk) }
+
+    // Parts of chunks that are apart are apart, and a part lies where the chunk does.
+    ensures apart { (one other part rest : Chunk) → IsPart part one → IsPart rest other
+        → AreApart one other → AreApart part rest }
+    ensures inside { (region : Region) (chunk part : Chunk) → IsPart part chunk
+        → IsInside region chunk → IsInside region part }
+{}

@@ -1,0 +1,20 @@
+//! Layouts, chunks, regions, the traits of allocators, and runs of commands over any allocator: the ground of this workspace.
+//!
+//! The modules, in the order in which to read them:
+//!
+//! - `layout`: what is asked for, a size with an alignment, and the least place. In `layout/chunk` what is given.
+//! - `region`: the bytes of a region, lent chunk by chunk.
+//! - `allocator`: the traits that an allocator meets, why one refuses, and commands with their replies. In `allocator/run` runs
+//!   of commands over any allocator.
+//! - `lists`: laws of lists, for users.
+//!
+//! Crate `bb_memory_base` passes all of it on, and adds the machines of atomic steps.
+//!
+//! The examples in the comments of this crate stand in `crates/examples/src/comments.rt`, where they are proved; its first
+//! lines have the imports, and the attribute that computes least places.
+#![tactic(auto)]
+
+pub mod allocator;
+pub mod layout;
+pub mod lists;
+pub mod region;

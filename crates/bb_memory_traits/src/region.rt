@@ -1,0 +1,188 @@
+//! The bytes of a region, lent chunk by chunk.
+ghost use Rattle.std.specs.Prelude.{◌≡◌, ◌≢◌, ◌+◌, ◌∷◌, ◌++◌, [], ◌<◌, ◌≤◌, ◌↔◌, ℕ, List};
+ghost use Rattle.std.specs.Prelude.{Some, IsTrue, length, map, slice_get, slice_set, vec_len};
+ghost use Rattle.std.specs.Borrow.{sem};
+ghost use Rattle.bb_memory_traits.specs.Chunk.{IsRegion, region_at, Chunk, IsInside, AreApart, IsSound};
+ghost use Rattle.bb_memory_traits.specs.HeldBytes.{HeldBytes, held_region, bytes_in, ChangesOnly, ZeroesOnly};
+ghost use Rattle.bb_memory_traits.specs.Lending.{LendsChunk, written};
+
+use crate::layout::Chunk;
+use std::marker::Model;
+
+/// The memory that an allocator hands out: bytes at places from a start on. It serves one owner.
+///
+/// ```
+/// let mut region = Region::new(4096, vec![in alloc; 7; 1024]?);
+/// let Some(chunk) = Chunk::new(4100, 4) else {
+///     return Ok(());
+/// };
+/// region.chunk_mut(chunk)[0] = 1;
+/// let byte = region.bytes()[4];
+/// prove!(byte == 1);
+/// region.zero(chunk);
+/// let byte = region.chunk(chunk)[0];
+/// prove!(byte == 0);
+/// ```
+#[derive(Drop)]
+pub struct Region {
+    start: usize,
+    bytes: Vec<u8>,
+}
+
+impl Model for Region {
+    ghost use Rattle.std.specs.Prelude.{vec_len};
+    ghost use Rattle.bb_memory_traits.specs.Chunk.{IsRegion, region_at};
+    ghost use Rattle.bb_memory_traits.specs.HeldBytes.{HeldBytes};
+
+    ghost Value = { HeldBytes };
+
+    ghost view = { λ r. record { start = r.start; bytes = r.bytes.items } };
+
+    ghost invariant = { λ r. IsRegion (region_at r.start (vec_len r.bytes)) };
+}
+
+impl Region {
+    /// These bytes, from `start` on. The start has to be greater than 0, and start plus length at most `usize::MAX`;
+    /// [`Region::can_make`] tests both.
+    pub fn new(start: usize, bytes: Vec<u8>) -> Region
+        requires { IsRegion (region_at start (vec_len bytes)) }
+        ensures { result ≡ record { start = start; bytes = bytes.items } }
+    {
+        Region { start, bytes }
+    }
+
+    /// Tests that there is a region of `len` bytes from `start` on: the start is greater than 0, and start plus length at most
+    /// `usize::MAX`.
+    pub fn can_make(start: usize, len: usize) -> bool
+        ensures { IsTrue result ↔ IsRegion (region_at start len) }
+    {
+        start != 0 && start.checked_add(len).is_some()
+    }
+
+    /// The place of the first byte.
+    #[inline]
+    pub fn start_address(&self) -> usize
+        ensures value { result ≡ self.now.start }
+        ensures is_region { IsRegion (held_region self.now) }
+    {
+        self.start
+    }
+
+    /// How many bytes there are.
+    #[inline]
+    pub fn size(&self) -> usize
+        ensures { result ≡ length self.now.bytes }
+    {
+        self.bytes.len()
+    }
+
+    /// All bytes, from the start on.
+    #[inline]
+    pub fn bytes(&self) -> &[u8]
+        ensures { result.now ≡ self.now.bytes }
+    {
+        self.bytes.as_slice()
+    }
+
+    /// The bytes of a chunk, which has to lie inside.
+    #[inline]
+    pub fn chunk(&self, c: Chunk) -> &[u8]
+        requires { IsInside (held_region self.now) c }
+        ensures { result.now ≡ bytes_in self.now c }
+    {
+        let from = c.place() - self.start;
+        &self.bytes.as_slice()[from..from + c.len()]
+    }
+
+    /// Lends the bytes of a chunk, which has to lie inside: what is written there is what the region then holds there,
+    /// and every other byte stays.
+    #[inline]
+    pub fn chunk_mut(&mut self, c: Chunk) -> &mut [u8]
+        requires { IsInside (held_region self.old) c }
+        ensures* writes_back { sem 𝓛 (LendsChunk self.entry c result) }
+        ensures value { result.now ≡ bytes_in self.old c }
+        ensures len { length result.now ≡ c.len }
+    {
+        let from = c.place() - self.start;
+        self.bytes.slice_mut(from..from + c.len())
+    }
+
+    /// Writes a chunk whole, which has to lie inside and to be as long as the bytes. Every other byte stays, and so do the
+    /// bytes of every chunk that is apart from it.
+    pub fn write(&mut self, c: Chunk, bytes: &[u8])
+        requires inside { IsInside (held_region self.old) c }
+        requires len { length bytes.now ≡ c.len }
+        ensures changes { ChangesOnly self.old self.new c bytes.now }
+        ensures written { bytes_in self.new c ≡ bytes.now }
+        ensures apart { (other : Chunk) → IsInside (held_region self.old) other → AreApart c other
+            → bytes_in self.new other ≡ bytes_in self.old other }
+        ensures region { held_region self.new ≡ held_region self.old }
+        ensures others { (live : List Chunk) (i k : ℕ) (other : Chunk)
+            → IsSound (held_region self.old) live → slice_get live i ≡ Some c
+            → i ≢ k → slice_get live k ≡ Some other
+            → bytes_in self.new other ≡ bytes_in self.old other }
+        ensures contents { (live : List Chunk) (i : ℕ) → IsSound (held_region self.old) live
+            → slice_get live i ≡ Some c
+            → map (bytes_in self.new) live ≡ slice_set (map (bytes_in self.old) live) i bytes.now }
+        ensures given { (live : List Chunk) → IsSound (held_region self.old) (live ++ c ∷ [])
+            → map (bytes_in self.new) (live ++ c ∷ [])
+            ≡ map (bytes_in self.old) live ++ bytes.now ∷ [] }
+        ensures extended { (place n : ℕ) → self.old.start ≤ place → place + n ≡ c.place
+            → bytes_in self.new (record { place = place; len = n + c.len })
+            ≡ bytes_in self.old (record { place = place; len = n }) ++ bytes.now }
+    {
+        self.chunk_mut(c).copy_from_slice(bytes);
+    }
+
+    /// Makes the bytes of a chunk zero, which has to lie inside. Every other byte stays.
+    #[inline]
+    pub fn zero(&mut self, c: Chunk)
+        requires { IsInside (held_region self.old) c }
+        ensures { ZeroesOnly self.old self.new c }
+    {
+        self.chunk_mut(c).fill(0);
+    }
+}
+
+/// Says in plain words what [`Region::chunk_mut`] promises of the bytes that it lends: once bytes as many as the chunk's are
+/// written there, the chunk has these, and every other byte is as it was, so each chunk inside that is apart from it keeps its
+/// bytes. It does nothing: its contract is the law.
+pub fn region_law()
+    ensures written { (held : HeldBytes) (chunk : Chunk) (bytes : List ℕ)
+        → IsInside (held_region held) chunk → length bytes ≡ chunk.len
+        → ChangesOnly held (written held chunk bytes) chunk bytes }
+    ensures others { (old new : HeldBytes) (chunk other : Chunk) (bytes : List ℕ)
+        → ChangesOnly old new chunk bytes → IsInside (held_region old) chunk
+        → IsInside (held_region old) other → AreApart chunk other
+        → bytes_in new other ≡ bytes_in old other }
+{}
+
+/// Says what the chunks of a sound list hold, while one of them is written: its contents are set, and those of the others stay.
+/// It does nothing: its contract is the law.
+pub fn live_bytes_law()
+    ensures inside { (held : HeldBytes) (live : List Chunk) (i : ℕ) (chunk : Chunk)
+        → IsSound (held_region held) live → slice_get live i ≡ Some chunk
+        → IsInside (held_region held) chunk }
+    ensures apart { (held : HeldBytes) (live : List Chunk) (i j : ℕ) (one other : Chunk)
+        → IsSound (held_region held) live → slice_get live i ≡ Some one
+        → slice_get live j ≡ Some other → i ≢ j
+        → AreApart one other }
+    ensures others { (old new : HeldBytes) (live : List Chunk) (i k : ℕ)
+        (chunk other : Chunk) (bytes : List ℕ)
+        → IsSound (held_region old) live → slice_get live i ≡ Some chunk
+        → ChangesOnly old new chunk bytes → i ≢ k → slice_get live k ≡ Some other
+        → bytes_in new other ≡ bytes_in old other }
+    ensures contents { (old new : HeldBytes) (live : List Chunk) (i : ℕ)
+        (chunk : Chunk) (bytes : List ℕ)
+        → IsSound (held_region old) live → slice_get live i ≡ Some chunk
+        → ChangesOnly old new chunk bytes
+        → map (bytes_in new) live ≡ slice_set (map (bytes_in old) live) i bytes }
+{}
+
+/// A chunk's bytes are those of its parts, one behind the other. It does nothing: its contract is the law.
+pub fn split_bytes_law()
+    ensures { (held : HeldBytes) (place n m : ℕ) → held.start ≤ place
+        → bytes_in held (record { place = place; len = n + m })
+        ≡ bytes_in held (record { place = place; len = n })
+        ++ bytes_in held (record { place = place + n; len = m }) }
+{}
