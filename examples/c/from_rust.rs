@@ -9,7 +9,6 @@ pub struct Pool {
 pub struct Answer {
     pub code: u32,
     pub place: usize,
-    pub len: usize,
 }
 
 unsafe extern "C" {
