@@ -1,4 +1,5 @@
 // Times the allocators with one owner and their peers, and prints a line for each figure, which `report` reads.
+#include "heaps.h"
 #include "pool_bench.h"
 #include <stdio.h>
 #include <stdlib.h>
@@ -19,6 +20,8 @@ static const struct {
 #define POOL_ENTRY(name, loop) {name, loop},
     POOL_ROWS(POOL_ENTRY)};
 enum { POOLS = sizeof pools / sizeof *pools };
+// Which of them this machine has.
+static int there[POOLS];
 static const uint32_t sizes[SIZES] = {8, 64, 512, 4096, MOST_BUCKETS};
 static const uint32_t fills[FILLS] = {50, 99, 100};
 
@@ -153,7 +156,8 @@ static void time_row(pattern p, size_t row, int round) {
     while (calls < before + CALLS)
         some_calls(p, t.buckets);
     for (int kind = 0; kind < POOLS; kind++)
-        spent[p][row][kind][round] = call_time(pools[kind].run, &t, before, first);
+        if (there[kind])
+            spent[p][row][kind][round] = call_time(pools[kind].run, &t, before, first);
 }
 
 // The lines take turns, so that each has its rounds spread over the whole run.
@@ -166,6 +170,8 @@ static void time_pools(void) {
     for (int p = 0; p < PATTERNS; p++)
         for (size_t row = 0; row < ROWS; row++)
             for (int kind = 0; has_row(p, row) && kind < POOLS; kind++) {
+                if (!there[kind])
+                    continue;
                 printf("pools,%s,%u,%u,%s,", pattern_names[p], sizes[row / FILLS], fills[row % FILLS], pools[kind].name);
                 print_times(spent[p][row][kind]);
             }
@@ -260,6 +266,10 @@ static void time_lines(void) {
 }
 
 int main(void) {
+    open_heaps();
+    task none = task_of(1);
+    for (int kind = 0; kind < POOLS; kind++)
+        there[kind] = pools[kind].run(&none, script, 0) != NOT_THERE;
     count_reads();
     time_lines();
     time_border();

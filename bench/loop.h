@@ -5,15 +5,19 @@
 #define START 4096
 
 // Makes the loop for a kind of pool, of which it calls NAME_make, NAME_take, NAME_give and NAME_drop. A place is never 0. What is
-// kept in the end is given back, for the sake of malloc.
+// kept in the end is given back, for the sake of malloc. A pool that isn't there can't be made, and answers NOT_THERE.
 #define LOOP(NAME, POOL)                                                                                                  \
     uint64_t NAME(const task *t, const uint32_t *script, size_t calls) {                                                  \
         POOL pool;                                                                                                        \
         size_t *places = malloc((t->buckets + 1) * sizeof *places);                                                       \
         size_t count = 0;                                                                                                 \
         uint64_t taken = 0;                                                                                               \
-        if (!places || !NAME##_make(&pool, t))                                                                            \
+        if (!places)                                                                                                      \
             abort();                                                                                                      \
+        if (!NAME##_make(&pool, t)) {                                                                                     \
+            free(places);                                                                                                 \
+            return NOT_THERE;                                                                                             \
+        }                                                                                                                 \
         for (size_t i = 0; i < calls; i++) {                                                                              \
             size_t at = script[i];                                                                                        \
             if (at == TAKE) {                                                                                             \

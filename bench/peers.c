@@ -1,5 +1,6 @@
 // The same loops over other allocators, and over none. Each pool tests a request as the pools in Rattle do, and finds the bucket
 // of a place by a division of 32 bits.
+#include "heaps.h"
 #include "loop.h"
 #include <stdatomic.h>
 
@@ -93,32 +94,36 @@ static void lock_free_list_drop(shared *p) { free((void *)p->next); }
 
 LOOP(lock_free_list, shared)
 
-// The C library's allocator, which knows no last bucket: it is told how many there are.
+// An allocator of the whole process, which knows no last bucket: it is told how many there are.
 typedef struct {
     uint32_t left;
 } heap;
 
-static int malloc_free_make(heap *p, const task *t) {
-    p->left = t->buckets;
-    return 1;
-}
+#define HEAP(NAME, CALLS)                                              \
+    static int NAME##_make(heap *p, const task *t) {                   \
+        p->left = t->buckets;                                          \
+        return CALLS.take != NULL;                                     \
+    }                                                                  \
+    static size_t NAME##_take(heap *p, size_t size, size_t align) {    \
+        (void)align;                                                   \
+        if (!p->left)                                                  \
+            return 0;                                                  \
+        p->left--;                                                     \
+        return (size_t)CALLS.take(size);                               \
+    }                                                                  \
+    static void NAME##_give(heap *p, size_t place) {                   \
+        p->left++;                                                     \
+        CALLS.give((void *)place);                                     \
+    }                                                                  \
+    static void NAME##_drop(heap *p) { (void)p; }                      \
+    LOOP(NAME, heap)
 
-static size_t malloc_free_take(heap *p, size_t size, size_t align) {
-    (void)align;
-    if (!p->left)
-        return 0;
-    p->left--;
-    return (size_t)malloc(size);
-}
+// The C library's own, by a pointer as the others.
+static heap_calls c_calls = {malloc, free};
 
-static void malloc_free_give(heap *p, size_t place) {
-    p->left++;
-    free((void *)place);
-}
-
-static void malloc_free_drop(heap *p) { (void)p; }
-
-LOOP(malloc_free, heap)
+HEAP(malloc_free, c_calls)
+HEAP(mimalloc, mimalloc_calls)
+HEAP(jemalloc, jemalloc_calls)
 
 // No pool: what the loop itself takes. A taking answers the place that was given back last.
 typedef struct {

@@ -19,6 +19,9 @@ typedef struct {
 // that are kept: the last place moves there.
 #define TAKE UINT32_MAX
 
+// The answer where there is no such pool.
+#define NOT_THERE UINT64_MAX
+
 // Makes a pool, and the calls of a script. The answer is how many buckets were taken.
 typedef uint64_t follow(const task *, const uint32_t *script, size_t calls);
 
@@ -30,6 +33,8 @@ typedef uint64_t follow(const task *, const uint32_t *script, size_t calls);
     ROW("plain list", plain_list) \
     ROW("lock-free list", lock_free_list) \
     ROW("malloc and free", malloc_free) \
+    ROW("mimalloc", mimalloc) \
+    ROW("jemalloc", jemalloc) \
     ROW("loop alone", no_pool)
 
 #define DECLARE_POOL(name, loop) extern follow loop;

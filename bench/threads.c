@@ -1,7 +1,8 @@
-// A bump and a list of free buckets in C, and parties of a shared pool of the C library, by several threads at once, as
-// shared_bench times the shared forms, and a queue between two threads whose receiver gives each message's memory back. Its arguments are the
-// number of rounds and the number of calls of each thread in a round.
+// A bump and a list of free buckets in C, allocators of whole processes, and parties of a shared pool of the C library, by several
+// threads at once, as shared_bench times the shared forms, and a queue between two threads whose receiver gives each message's
+// memory back. Its arguments are the number of rounds and the number of calls of each thread in a round.
 #define BB_PLACES_ARE_NUMBERS
+#include "heaps.h"
 #include <bb_memory.h>
 #include <pthread.h>
 #include <stdatomic.h>
@@ -64,14 +65,20 @@ static size_t list_call(void) {
     return taken;
 }
 
-static inline size_t heap_take(void) { return (size_t)malloc(48); }
-static inline void heap_give(size_t taken) { free((void *)taken); }
+static heap_calls c_calls = {malloc, free};
 
-static size_t heap_call(void) {
-    void *volatile block = malloc(48);
-    free(block);
-    return 1;
-}
+#define HEAP(NAME, CALLS)                                                           \
+    static inline size_t NAME##_take(void) { return (size_t)CALLS.take(48); }       \
+    static inline void NAME##_give(size_t taken) { CALLS.give((void *)taken); }     \
+    static size_t NAME##_call(void) {                                               \
+        size_t taken = NAME##_take();                                               \
+        NAME##_give(taken);                                                         \
+        return taken;                                                               \
+    }
+
+HEAP(heap, c_calls)
+HEAP(mimalloc, mimalloc_calls)
+HEAP(jemalloc, jemalloc_calls)
 
 // The parties of a shared pool of as many buckets, which join one after the other, their handles side by side.
 static bb_pool_party parties[MOST_THREADS];
@@ -139,23 +146,34 @@ static inline void spin(void) {
 
 QUEUE(list)
 QUEUE(heap)
+QUEUE(mimalloc)
+QUEUE(jemalloc)
 QUEUE(none)
 
-static size_t (*const kinds[])(void) = {bump_call, list_call, heap_call, party_call};
-static const char *const names[] = {"bump,%u,0,in C", "pool,%u,0,lock-free list", "pool,%u,0,malloc and free",
-                                    "pool,%u,0,party in C"};
-enum { KINDS = 4 };
+// What is timed: its call, the ends of a queue over it, and of which other package it is, if of any.
+static const struct {
+    const char *what, *name;
+    size_t (*call)(void);
+    void (*send)(void), (*receive)(void);
+    const heap_calls *package;
+} kinds[] = {
+    {"bump", "in C", bump_call, NULL, NULL, NULL},
+    {"pool", "lock-free list", list_call, list_send, list_receive, NULL},
+    {"pool", "malloc and free", heap_call, heap_send, heap_receive, NULL},
+    {"pool", "mimalloc", mimalloc_call, mimalloc_send, mimalloc_receive, &mimalloc_calls},
+    {"pool", "jemalloc", jemalloc_call, jemalloc_send, jemalloc_receive, &jemalloc_calls},
+    {"pool", "party in C", party_call, NULL, NULL, NULL},
+    {"pool", "ring alone", NULL, none_send, none_receive, NULL},
+};
+// A kind's figures: of 1, 2 and 4 threads, and of a queue.
+enum { KINDS = sizeof kinds / sizeof *kinds, FIGURES = 4, QUEUE_FIGURE = 3 };
 
 // What a thread calls, and its party.
 typedef struct {
     size_t (*call)(void);
+    void (*send)(void);
     bb_pool_party *party;
 } job;
-
-struct ends { void (*send)(void), (*receive)(void); };
-static const struct ends queues[] = {{list_send, list_receive}, {heap_send, heap_receive}, {none_send, none_receive}};
-static const char *const queue_names[] = {"lock-free list", "malloc and free", "ring alone"};
-enum { QUEUES = 3 };
 
 static void pass_gate(void) {
     atomic_fetch_add(&came, 1);
@@ -187,7 +205,7 @@ static void *work(void *arg) {
 
 static void *send_all(void *arg) {
     pass_gate();
-    ((const struct ends *)arg)->send();
+    ((const job *)arg)->send();
     return NULL;
 }
 
@@ -204,14 +222,15 @@ static void open_all(void) {
 // The nanoseconds of a message: from the gate to the last one, of which the memory is given back.
 static double queue_timed(int kind) {
     pthread_t sender;
+    job sends = {NULL, kinds[kind].send, NULL};
     struct timespec start, end;
     threads = 2;
     open_all();
-    if (pthread_create(&sender, NULL, send_all, (void *)&queues[kind]))
+    if (pthread_create(&sender, NULL, send_all, &sends))
         abort();
     pass_gate();
     clock_gettime(CLOCK_MONOTONIC, &start);
-    queues[kind].receive();
+    kinds[kind].receive();
     clock_gettime(CLOCK_MONOTONIC, &end);
     pthread_join(sender, NULL);
     return nanos(start, end) / calls;
@@ -225,7 +244,7 @@ static double timed(int kind) {
     join_all();
     open_all();
     for (unsigned i = 0; i < threads; i++) {
-        jobs[i] = (job){kinds[kind], &parties[i]};
+        jobs[i] = (job){kinds[kind].call, NULL, &parties[i]};
         if (pthread_create(&all[i], NULL, work, &jobs[i]))
             abort();
     }
@@ -250,31 +269,35 @@ static void print_line(double *found, unsigned rounds) {
     printf(",%.1f,%.1f,%.1f,0\n", found[rounds / 2], found[rounds / 4], found[rounds - 1 - rounds / 4]);
 }
 
+// Whether a kind has a figure here.
+static int has(int kind, int figure) {
+    if (kinds[kind].package && !kinds[kind].package->take)
+        return 0;
+    return figure == QUEUE_FIGURE ? kinds[kind].send != NULL : kinds[kind].call != NULL;
+}
+
 int main(int argc, char **argv) {
     unsigned rounds = argc > 1 ? (unsigned)atoi(argv[1]) : 3;
     calls = argc > 2 ? (unsigned)atoi(argv[2]) : 10000;
-    double *found = calloc((size_t)(KINDS * 3 + QUEUES) * (rounds + 1), sizeof *found);
+    double *found = calloc((size_t)KINDS * FIGURES * (rounds + 1), sizeof *found);
     if (!found || !rounds)
         return 1;
-    double *queue_found = found + (size_t)KINDS * 3 * rounds;
-    for (unsigned round = 0; round < rounds; round++) {
-        for (int kind = 0; kind < KINDS; kind++)
-            for (int at = 0; at < 3; at++) {
-                threads = 1u << at;
-                found[(unsigned)(kind * 3 + at) * rounds + round] = timed(kind);
+    open_heaps();
+    for (unsigned round = 0; round < rounds; round++)
+        for (int at = 0; at < KINDS * FIGURES; at++)
+            if (has(at / FIGURES, at % FIGURES)) {
+                threads = 1u << at % FIGURES;
+                found[(unsigned)at * rounds + round] = at % FIGURES == QUEUE_FIGURE ? queue_timed(at / FIGURES) : timed(at / FIGURES);
             }
-        for (int kind = 0; kind < QUEUES; kind++)
-            queue_found[(unsigned)kind * rounds + round] = queue_timed(kind);
-    }
-    for (int kind = 0; kind < KINDS; kind++)
-        for (int at = 0; at < 3; at++) {
-            printf("shared,");
-            printf(names[kind], 1u << at);
-            print_line(&found[(unsigned)(kind * 3 + at) * rounds], rounds);
-        }
-    for (int kind = 0; kind < QUEUES; kind++) {
-        printf("shared,queue,2,0,%s", queue_names[kind]);
-        print_line(&queue_found[(unsigned)kind * rounds], rounds);
+    for (int at = 0; at < KINDS * FIGURES; at++) {
+        int kind = at / FIGURES, figure = at % FIGURES;
+        if (!has(kind, figure))
+            continue;
+        if (figure == QUEUE_FIGURE)
+            printf("shared,queue,2,0,%s", kinds[kind].name);
+        else
+            printf("shared,%s,%u,0,%s", kinds[kind].what, 1u << figure, kinds[kind].name);
+        print_line(&found[(unsigned)at * rounds], rounds);
     }
     free(found);
 }

@@ -6,7 +6,7 @@ use std::alloc::{AllocError, Global};
 use std::process::Abort;
 
 /// The names of places, in order.
-const NAMES: &str = "PQRSTUVW";
+const NAMES: [&str; 8] = ["P", "Q", "R", "S", "T", "U", "V", "W"];
 
 /// Returns a field as lines.
 pub(super) fn lines(alloc: Global, text: &str) -> Result<String, AllocError> {
@@ -42,11 +42,7 @@ pub(super) fn field_and_rest(row: &str) -> (&str, &str) {
 
 /// Returns the number of a name.
 fn number_of(word: &str) -> Option<usize> {
-    if word.len() == 1 {
-        NAMES.find(word)
-    } else {
-        None
-    }
+    NAMES.iter().position(|name| *name == word)
 }
 
 /// Returns whether a word is one of these.
@@ -93,7 +89,7 @@ fn is_told<'a>(named: &mut [&'a str], places: &str, told: &'a str, wanted: &str)
 fn is_answered(alloc: Global, ends: Status, script: &str, (wanted, places): (&str, &str)) -> bool {
     let (status, told) = answer(alloc, script.as_bytes());
     match str::from_utf8(&told) {
-        Ok(told) => status == ends && is_told(&mut [""; 8], places, told, wanted),
+        Ok(told) => status == ends && is_told(&mut [""; NAMES.len()], places, told, wanted),
         Err(_) => false,
     }
 }
