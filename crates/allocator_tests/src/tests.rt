@@ -5,6 +5,7 @@ mod out_of_memory;
 mod owner;
 mod results;
 mod rows;
+mod scripts;
 mod shared;
 mod texts;
 mod threads;

@@ -1,28 +1,11 @@
 -- The machine values of what a handle holds. Assumes `Logic`.
-use Rattle.std.proofs.Common.{◌≡◌, ℕ, List, [], ◌∷◌, ◌++◌, refl, subst, lit<}
-use mathlib.Core.Bool.{Bool, true, false}
-use seplogic.Ra.Ura.{Ura}
-use lib.Dec.{T}
-use mir.Syntax.{ty_ptr}
+use Rattle.bb_memory_c.proofs.Machine.{◌≡◌, ℕ, List, [], ◌∷◌, ◌++◌, refl, subst, lit<, Bool, true, false, Ura, T, ty_ptr, Val}
+use Rattle.bb_memory_c.proofs.Machine.{vbool, vstruct, vcons, vnil, of_list, has_ty, WT, never, never_e, fst∗, ftrue, Logic}
+use Rattle.bb_memory_c.proofs.Machine.{sem, Item, Goal, Seq, Step, step, ‵, given, ◌$◌, drop, learn, use1, fsplit, fjoin, fpack}
+use Rattle.bb_memory_c.proofs.Machine.{fpick, feq_i, feq_l, RattleType, Valss, RawPtr, bool, lone, layout, Ptr, block_ptr}
+use Rattle.bb_memory_c.proofs.Machine.{null_ptr, ptr_val, in_a_block, nothing, within, shape, Option, Some, None, box_owns}
+use Rattle.bb_memory_c.proofs.Machine.{Global, ghosts, Good}
 use mir.Raw.{raw as bare}
-use mir.Val.{Val, vbool, vstruct, vcons, vnil, of_list, has_ty, WT}
-use base.Logic.{never, never_e, fst∗}
-use base.Fml.{ftrue}
-use types.Logic.{Logic, sem}
-use types.Kit.{Item, Goal, Seq, Step, step, ‵, given, ◌$◌, drop, learn, use1, fsplit, fjoin, fpack, fpick, feq_i, feq_l}
-use denote.RattleType.{RattleType, Valss}
-use denote.Builtin.{RawPtr, bool}
-use denote.Memory.{lone}
-use denote.Param.{layout}
-use denote.RawPtr.{Ptr, block_ptr, null_ptr, ptr_val, in_a_block}
-use denote.Steps.{nothing}
-use denote.Struct.Struct.{within}
-use denote.Struct.Owning.{shape}
-use Rattle.std.specs.Prelude.{Option, Some, None}
-use Rattle.std.specs.Box.Ownership.{box_owns}
-use Rattle.std.specs.declared.alloc.Global.{Global}
-use Rattle.std.specs.contracts.impls.GlobalAllocator.TheImpl.{ghosts}
-use Rattle.std.proofs.cell.Inside.{Good}
 use Rattle.bb_memory_c.specs.Handles.{owns_if}
 use Rattle.bb_memory_c.specs.contracts.held.Held as held
 

@@ -1,3 +1,4 @@
+pub mod Machine
 pub mod Values
 pub mod Holds
 pub mod Passing

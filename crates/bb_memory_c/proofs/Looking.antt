@@ -1,48 +1,23 @@
 -- What is behind a handle is lent where it lies. Assumes `Logic`.
-use Rattle.std.proofs.Common.{◌≡◌, ℕ, List, [], ◌∷◌, refl, sym, ap, ◌∙◌, lit<}
-use mathlib.Core.Bool.{true, false}
-use base.Fraction.{full_share}
-use mir.Syntax.{Fn, Sym, Callee, Ty, Tys, tcons, tnil, ttcons, ttnil, ty_struct, ty_enum, ty_ptr, ty_bool, ty_ref, named}
-use mir.Syntax.{erased, mut, local, value_local, seq, cond, skip, block, assign, return, place, field, deref, rv_opd, op1}
-use mir.Syntax.{bit_not, addr_of, copy, int, w8, aggregate}
+use Rattle.bb_memory_c.proofs.Machine.{◌≡◌, ℕ, List, [], ◌∷◌, refl, sym, ap, ◌∙◌, lit<, true, false, full_share, Fn, Sym}
+use Rattle.bb_memory_c.proofs.Machine.{Callee, Ty, Tys, tcons, tnil, ttcons, ttnil, ty_struct, ty_enum, ty_ptr, ty_bool, ty_ref}
+use Rattle.bb_memory_c.proofs.Machine.{named, erased, mut, local, value_local, seq, cond, skip, block, assign, return, place}
+use Rattle.bb_memory_c.proofs.Machine.{field, deref, rv_opd, op1, bit_not, addr_of, copy, int, w8, aggregate, Val, vptr}
+use Rattle.bb_memory_c.proofs.Machine.{of_list, Ura, SProp, ent, sep, emp, via, fst∗, Fml, Lft, GName, Share, ftrue, fsep, flft}
+use Rattle.bb_memory_c.proofs.Machine.{fobs, fres, Model, Env, Calls, Loops, WpFn, Closed, Logic, sem, ‵, raw, ◌⊛◌, some, later}
+use Rattle.bb_memory_c.proofs.Machine.{at_ret, ◌$◌, ◌∵◌, !, qed, done, by, move, keep, drop, use0, use1, split, join, pick}
+use Rattle.bb_memory_c.proofs.Machine.{group, fsplit, fsplit3, fjoin, fpack, await, rewrite, stop, fld, load, lit, un, addr}
+use Rattle.bb_memory_c.proofs.Machine.{of_opd, no_more, and_then, first, blocks, branches, skips, exec, returns, returns_within}
+use Rattle.bb_memory_c.proofs.Machine.{enter, alloc_all, pass_all, free_all, look_at, get, through, sets, sets_last, env, live}
+use Rattle.bb_memory_c.proofs.Machine.{agg, sub, whole, look_in, fact, fact_i, Running, tables, One, RefMutOf, no, Part}
+use Rattle.bb_memory_c.proofs.Machine.{follows, lends_Part, part_at, mem, cell_at, lone, RattleType, owns, block_ptr, MutRef}
+use Rattle.bb_memory_c.proofs.Machine.{MutBor, mut_vals, mut_Tells, plain, mut_ref_to, nothing, opens, closes, Ended, Clauses}
+use Rattle.bb_memory_c.proofs.Machine.{closing, on_entry, Meets, Stays, stay_dropped, walk_of, Goes-spent_ref, Option, Some}
+use Rattle.bb_memory_c.proofs.Machine.{None, MatchOption, OnSome, LendsSo, ghosts, after, Some-of, none_of, proved, leaves}
+use denote.Memory.{part_of}
+use denote.Follow.{such_by, follows_by}
 use mir.Raw.{raw as bare}
-use mir.Val.{Val, vptr, of_list}
-use seplogic.Ra.Ura.{Ura}
-use base.Logic.{SProp, ent, sep, emp, via, fst∗}
-use base.Fml.{Fml, Lft, GName, Share, ftrue, fsep, flft, fobs, fres}
-use prog.Model.{Model}
-use prog.Wp.{Env, Calls, Loops, WpFn, Closed}
-use types.Logic.{Logic, sem}
-use types.Kit.{‵, raw, ◌⊛◌, some, later, at_ret, ◌$◌, ◌∵◌, !, qed, done, by, move, keep, drop, use0, use1, split, join, pick}
-use types.Kit.{group, fsplit, fsplit3, fjoin, fpack, await, rewrite}
-use types.Run.{stop, fld, load, lit, un, addr, of_opd, no_more, and_then, first, blocks, branches, skips, exec, returns}
-use types.Run.{returns_within, enter}
-use types.ByLocal.{alloc_all, pass_all, free_all, look_at, get, through, sets, sets_last, env}
-use types.Match.{live}
-use types.Part.{agg, sub, whole, look_in}
-use contract.Monad.{fact, fact_i}
-use contract.Running.{Running, tables}
-use denote.Builtin.{One, RefMutOf}
-use denote.Exit.{no}
-use denote.Follow.{Part, follows, follows_by, such_by, lends_Part}
-use denote.Memory.{part_at, part_of, mem, cell_at, lone}
-use denote.RattleType.{RattleType, owns}
-use denote.RawPtr.{block_ptr}
-use denote.Ref.{MutRef, MutBor, mut_vals, mut_Tells}
-use denote.Signature.{plain, mut_ref_to}
-use denote.Steps.{nothing, opens, closes}
-use denote.Triple.Clauses.{Ended, Clauses, closing}
-use denote.Triple.Entry.{on_entry}
-use denote.Triple.Spec.{Meets}
-use denote.Triple.Walked.{Stays, stay_dropped, walk_of, Goes-spent_ref}
-use Rattle.std.specs.Prelude.{Option, Some, None, MatchOption}
-use Rattle.std.specs.Option.{OnSome}
-use Rattle.std.specs.Borrow.{LendsSo}
 use Rattle.std.specs.contracts.option.Option as OP
-use Rattle.std.specs.contracts.impls.GlobalAllocator.TheImpl.{ghosts}
-use Rattle.std.proofs.alloc.Shapes.{after}
-use Rattle.std.proofs.option.Made.{Some-of, none_of}
-use Rattle.std.proofs.raw_atomic.Walks.{proved, leaves}
 use Rattle.bb_memory_c.proofs.Holds.{Held, word, held_out, held_in, owns_either}
 use Rattle.bb_memory_c.proofs.Passing.{Owner}
 

@@ -1,6 +1,5 @@
 -- The handles are what is held, each under a name of its own.
-use Rattle.std.proofs.Common.{refl}
-use denote.RattleType.{RattleType}
+use Rattle.bb_memory_c.proofs.Machine.{refl, RattleType}
 use Rattle.bb_memory_bump.specs.contracts.bump_allocator.BumpAllocator.{the_row as bump_row}
 use Rattle.bb_memory_core.specs.contracts.one_chunk_allocator.OneChunkAllocator.{the_row as one_chunk_row}
 use Rattle.bb_memory_c.specs.contracts.pool.Pool.{the_row as pool_row}

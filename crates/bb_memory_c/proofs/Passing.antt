@@ -1,31 +1,12 @@
 -- What is held is taken apart and put together again under another name. Assumes `Logic`.
-use Rattle.std.proofs.Common.{◌≡◌, List, [], ◌∷◌, ◌++◌, refl, sym, ap, subst}
-use lib.Dec.{T}
-use mir.Syntax.{Fn, Sym, Callee, Tys, tcons, tnil, ty_struct, ty_ptr, ty_bool, local, value_local, seq, assign, return, place}
-use mir.Syntax.{field, rv_opd, copy, aggregate}
-use mir.Val.{Val}
-use seplogic.Ra.Ura.{Ura}
-use base.Logic.{SProp, ent, emp, id⊢}
-use base.Fml.{ftrue}
-use prog.Model.{Model}
-use prog.Wp.{WpFn, Closed}
-use types.Logic.{Logic}
-use types.Kit.{‵, raw, ◌⊛◌, ◌$◌, ◌∵◌, !, qed, by, move, keep, split, fsplit, fjoin, suffices, use0, rewrite}
-use types.Run.{stop, fld, of_opd, no_more, and_then, returns, enter}
-use types.ByLocal.{alloc_all, pass_all, free_all, look_at, get, get_in, sets}
-use types.Part.{agg, sub, whole}
-use contract.Monad.{fact, fact_i}
-use contract.Running.{Running, tables}
-use denote.Exit.{Last, left, yes}
-use denote.Param.Mute.{blank}
-use denote.RattleType.{RattleType, owns}
-use denote.Signature.{types_at, plain}
-use denote.Steps.{nothing}
-use denote.Triple.Clauses.{Ended, Clauses, closing}
-use denote.Triple.Spec.{Meets}
-use denote.Triple.Walked.{Stays, stay_dropped, walk_of}
-use Rattle.std.proofs.alloc.Calls.{Goes-blank}
-use Rattle.std.proofs.raw_atomic.Walks.{proved_at, leaves}
+use Rattle.bb_memory_c.proofs.Machine.{◌≡◌, List, [], ◌∷◌, ◌++◌, refl, sym, ap, subst, T, Fn, Sym, Callee, Tys, tcons, tnil}
+use Rattle.bb_memory_c.proofs.Machine.{ty_struct, ty_ptr, ty_bool, local, value_local, seq, assign, return, place, field}
+use Rattle.bb_memory_c.proofs.Machine.{rv_opd, copy, aggregate, Val, Ura, SProp, ent, emp, id⊢, ftrue, Model, WpFn, Closed}
+use Rattle.bb_memory_c.proofs.Machine.{Logic, ‵, raw, ◌⊛◌, ◌$◌, ◌∵◌, !, qed, by, move, keep, split, fsplit, fjoin, suffices}
+use Rattle.bb_memory_c.proofs.Machine.{use0, rewrite, stop, fld, of_opd, no_more, and_then, returns, enter, alloc_all, pass_all}
+use Rattle.bb_memory_c.proofs.Machine.{free_all, look_at, get, get_in, sets, agg, sub, whole, fact, fact_i, Running, tables}
+use Rattle.bb_memory_c.proofs.Machine.{Last, left, yes, blank, RattleType, owns, types_at, plain, nothing, Ended, Clauses}
+use Rattle.bb_memory_c.proofs.Machine.{closing, Meets, Stays, stay_dropped, walk_of, Goes-blank, proved_at, leaves}
 use Rattle.bb_memory_c.proofs.Holds.{Held, word, word_good, ptr_good, held_out, held_in}
 
 abbrev two : Tys

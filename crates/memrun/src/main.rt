@@ -3,9 +3,6 @@
 //! exit status.
 #![tactic(auto)]
 
-#[cfg(test)]
-mod tests;
-
 use script_runner::{Status, run};
 use std::io;
 use std::io::BufWriter;

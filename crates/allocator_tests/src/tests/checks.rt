@@ -10,6 +10,16 @@ pub(super) fn check(rt: &impl Abort, found: bool) {
     assert!(rt; found);
 }
 
+/// Checks a condition. A failure says the name.
+pub(super) fn check_named(rt: &impl Abort, found: bool, name: &str) {
+    assert!(rt; found, "{name}");
+}
+
+/// Checks a condition. A failure names the number.
+pub(super) fn check_at(rt: &impl Abort, found: bool, at: usize) {
+    assert!(rt; found, "at {at}");
+}
+
 /// Checks that no call of a row was answered otherwise.
 pub(super) fn check_row(rt: &impl Abort, wrong: Option<&str>, row: &str) {
     if let Some(call) = wrong {

@@ -8,4 +8,5 @@ mod layers;
 mod loans;
 mod makers;
 mod runs;
+mod scripts;
 mod worlds;

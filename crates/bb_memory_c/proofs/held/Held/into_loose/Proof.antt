@@ -1,36 +1,15 @@
 -- `into_loose` hands out the box that was owned.
-use Rattle.std.proofs.Common.{◌≡◌, List, [], ◌∷◌, ◌++◌, refl, sym, ◌∙◌, subst, lit<}
-use mathlib.Core.Bool.{true, false}
-use mir.Syntax.{a_type, impl, tnil, dnil}
-use mir.MapTy.{inst_fn}
-use mir.Val.{Val, vptr, vcons, vnil}
-use base.Logic.{SProp, ent, emp, id⊢}
-use base.Fml.{ftrue, flft}
-use prog.Wp.{WpFn}
-use types.Kit.{‵, raw, at_ret, ◌⊛◌, ◌$◌, ◌∵◌, !, qed, by, move, keep, split, fsplit, fjoin, suffices, use0, use1}
-use types.Run.{stop, fld, lit, of_opd, first, branches, exec, no_more, and_then, returns, enter}
-use types.ByLocal.{alloc_all, pass_all, free_all, look_at, get, get_in, sets, sets_last, env}
-use types.Match.{live}
-use types.Part.{agg, sub, whole}
-use contract.Monad.{fact, fact_i}
-use contract.Running.{tables}
-use denote.Exit.{yes, no}
-use denote.RattleType.{RattleType, owns}
-use denote.Param.{param, layout, layouts}
-use denote.Signature.{types_at, type_at, plain}
-use denote.RawPtr.{block_ptr}
-use denote.Steps.{nothing}
-use denote.Triple.Walked.{Stays, stay_dropped, walk_of, Goes-dropped}
-use Rattle.std.proofs.alloc.Calls.{Al, Goes-blank, handle_tells}
-use Rattle.std.proofs.alloc.Shapes.{after}
-use Rattle.std.proofs.cell.Inside.{Good}
-use Rattle.std.proofs.option.Made.{Some-of, none_of}
-use Rattle.std.proofs.ResultValues.{and_tt}
-use Rattle.std.proofs.raw_atomic.Walks.{proved_at, leaves}
-use Rattle.std.specs.Prelude.{Some, None}
+use Rattle.bb_memory_c.proofs.Machine.{◌≡◌, List, [], ◌∷◌, ◌++◌, refl, sym, ◌∙◌, subst, lit<, true, false, a_type, impl, tnil}
+use Rattle.bb_memory_c.proofs.Machine.{dnil, inst_fn, Val, vptr, vcons, vnil, SProp, ent, emp, id⊢, ftrue, flft, WpFn, ‵, raw}
+use Rattle.bb_memory_c.proofs.Machine.{at_ret, ◌⊛◌, ◌$◌, ◌∵◌, !, qed, by, move, keep, split, fsplit, fjoin, suffices, use0}
+use Rattle.bb_memory_c.proofs.Machine.{use1, stop, fld, lit, of_opd, first, branches, exec, no_more, and_then, returns, enter}
+use Rattle.bb_memory_c.proofs.Machine.{alloc_all, pass_all, free_all, look_at, get, get_in, sets, sets_last, env, live, agg}
+use Rattle.bb_memory_c.proofs.Machine.{sub, whole, fact, fact_i, tables, yes, no, RattleType, owns, param, layout, layouts}
+use Rattle.bb_memory_c.proofs.Machine.{types_at, type_at, plain, block_ptr, nothing, Stays, stay_dropped, walk_of, Goes-dropped}
+use Rattle.bb_memory_c.proofs.Machine.{Al, Goes-blank, handle_tells, after, Good, Some-of, none_of, and_tt, proved_at, leaves}
+use Rattle.bb_memory_c.proofs.Machine.{Some, None, ghosts}
 use Rattle.std.specs.contracts.alloc.Global as heap
 use Rattle.std.proofs.alloc.Global.TheLaws as heap_laws
-use Rattle.std.specs.contracts.impls.GlobalAllocator.TheImpl.{ghosts}
 use Rattle.bb_memory_c.proofs.Values.{both, Loose, loose_good, loose_in}
 use Rattle.bb_memory_c.proofs.Holds.{Held, word, word_good, ptr_good, held_out, owns_either}
 use Rattle.bb_memory_c.specs.contracts.held.Held.into_loose.{ended, clauses}

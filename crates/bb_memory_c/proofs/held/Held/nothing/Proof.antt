@@ -1,32 +1,13 @@
 -- `nothing` owns nothing.
-use Rattle.std.proofs.Common.{◌≡◌, List, [], ◌∷◌, ◌++◌, refl, sym, subst}
-use mathlib.Core.Bool.{false}
-use mir.Syntax.{a_type, impl, tnil, dnil}
-use mir.MapTy.{inst_fn}
-use mir.Val.{Val}
-use base.Logic.{SProp, ent, emp, id⊢}
-use base.Fml.{ftrue, flft}
-use prog.Wp.{WpFn}
-use types.Kit.{‵, raw, ◌⊛◌, ◌$◌, ◌∵◌, !, qed, by, move, keep, drop, split, fsplit, fjoin, suffices, use0}
-use types.Run.{lit, no_more, and_then, returns, enter}
+use Rattle.bb_memory_c.proofs.Machine.{◌≡◌, List, [], ◌∷◌, ◌++◌, refl, sym, subst, false, a_type, impl, tnil, dnil, inst_fn}
+use Rattle.bb_memory_c.proofs.Machine.{Val, SProp, ent, emp, id⊢, ftrue, flft, WpFn, ‵, raw, ◌⊛◌, ◌$◌, ◌∵◌, !, qed, by, move}
+use Rattle.bb_memory_c.proofs.Machine.{keep, drop, split, fsplit, fjoin, suffices, use0, lit, no_more, and_then, returns, enter}
+use Rattle.bb_memory_c.proofs.Machine.{alloc_all, pass_all, free_all, look_at, sets, agg, fact, fact_i, tables, yes, param}
+use Rattle.bb_memory_c.proofs.Machine.{layouts, RattleType, owns, types_at, plain, null_ptr, nothing, Stays, stay_dropped}
+use Rattle.bb_memory_c.proofs.Machine.{walk_of, Goes-dropped, Al, handle_tells, proved_at, leaves, Option, None, ghosts}
 use types.Run as run
-use types.ByLocal.{alloc_all, pass_all, free_all, look_at, sets}
-use types.Part.{agg}
-use contract.Monad.{fact, fact_i}
-use contract.Running.{tables}
-use denote.Exit.{yes}
-use denote.Param.{param, layouts}
-use denote.RattleType.{RattleType, owns}
-use denote.Signature.{types_at, plain}
-use denote.RawPtr.{null_ptr}
-use denote.Steps.{nothing}
-use denote.Triple.Walked.{Stays, stay_dropped, walk_of, Goes-dropped}
-use Rattle.std.proofs.alloc.Calls.{Al, handle_tells}
-use Rattle.std.proofs.raw_atomic.Walks.{proved_at, leaves}
-use Rattle.std.specs.Prelude.{Option, None}
 use Rattle.std.specs.contracts.alloc.Global as heap
 use Rattle.std.proofs.alloc.Global.TheLaws as heap_laws
-use Rattle.std.specs.contracts.impls.GlobalAllocator.TheImpl.{ghosts}
 use Rattle.bb_memory_c.proofs.Holds.{Held, word, word_good, held_in}
 use Rattle.bb_memory_c.specs.contracts.held.Held.nothing.{ended, clauses}
 use Rattle.bb_memory_c.specs.contracts.held.Held.nothing.Key.{name as #self}

@@ -1,31 +1,12 @@
 -- `of_loose` keeps what the loose box owned.
-use Rattle.std.proofs.Common.{◌≡◌, List, [], ◌∷◌, ◌++◌, refl, sym, subst}
-use mathlib.Core.Bool.{true}
-use mir.Syntax.{a_type}
-use mir.MapTy.{inst_fn}
-use mir.Val.{Val, vptr}
-use base.Logic.{SProp, ent, emp, id⊢}
-use base.Fml.{ftrue, flft}
-use prog.Wp.{WpFn}
-use types.Kit.{‵, raw, ◌⊛◌, ◌$◌, ◌∵◌, !, qed, by, move, keep, split, fsplit, fjoin, suffices, use0}
-use types.Run.{stop, fld, of_opd, true_lit, no_more, and_then, returns, enter}
-use types.ByLocal.{alloc_all, pass_all, free_all, look_at, get, get_in, sets}
-use types.Part.{agg, sub, whole}
-use contract.Monad.{fact, fact_i}
-use contract.Running.{tables}
-use denote.Exit.{no}
-use denote.Param.{param, layouts}
-use denote.RattleType.{RattleType, owns}
-use denote.Signature.{types_at, plain}
-use denote.RawPtr.{block_ptr}
-use denote.Steps.{nothing}
-use denote.Triple.Walked.{Stays, stay_dropped, walk_of}
-use Rattle.std.proofs.alloc.Calls.{Goes-blank}
-use Rattle.std.proofs.raw_atomic.Walks.{proved_at, leaves}
-use Rattle.std.specs.Prelude.{Some}
+use Rattle.bb_memory_c.proofs.Machine.{◌≡◌, List, [], ◌∷◌, ◌++◌, refl, sym, subst, true, a_type, inst_fn, Val, vptr, SProp, ent}
+use Rattle.bb_memory_c.proofs.Machine.{emp, id⊢, ftrue, flft, WpFn, ‵, raw, ◌⊛◌, ◌$◌, ◌∵◌, !, qed, by, move, keep, split}
+use Rattle.bb_memory_c.proofs.Machine.{fsplit, fjoin, suffices, use0, stop, fld, of_opd, true_lit, no_more, and_then, returns}
+use Rattle.bb_memory_c.proofs.Machine.{enter, alloc_all, pass_all, free_all, look_at, get, get_in, sets, agg, sub, whole, fact}
+use Rattle.bb_memory_c.proofs.Machine.{fact_i, tables, no, param, layouts, RattleType, owns, types_at, plain, block_ptr}
+use Rattle.bb_memory_c.proofs.Machine.{nothing, Stays, stay_dropped, walk_of, Goes-blank, proved_at, leaves, Some, ghosts}
 use Rattle.std.specs.contracts.alloc.Global as heap
 use Rattle.std.proofs.alloc.Global.TheLaws as heap_laws
-use Rattle.std.specs.contracts.impls.GlobalAllocator.TheImpl.{ghosts}
 use Rattle.bb_memory_c.proofs.Values.{both, Loose, loose_good, loose_out}
 use Rattle.bb_memory_c.proofs.Holds.{Held, word, held_in}
 use Rattle.bb_memory_c.specs.contracts.held.Held.of_loose.{ended, clauses}

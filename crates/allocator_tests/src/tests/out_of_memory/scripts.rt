@@ -1,19 +1,13 @@
-//! Scripts that hold with any one request for memory refused: the program ends with status 4, and what it wrote begins what
+//! Scripts that hold with any one request for memory refused: a run ends with status 4, and what it wrote begins what
 //! it writes where none is refused. `.ci/out-of-memory` runs each test with its first request refused, then its second, and
 //! so on, until none is left to refuse.
-use super::table::{add_answer, field_and_rest, lines};
-use super::{check, check_named};
+use crate::tests::checks::{check, check_named};
+use crate::tests::marks::some_was_refused;
+use crate::tests::rows::field_and_rest;
+use crate::tests::scripts::table::{add_answer, lines};
 use script_runner::Status;
 use std::alloc::Global;
 use std::process::Abort;
-
-/// A request of a size that no other has: `.ci/out-of-memory` refuses it exactly where it has refused another one before.
-const REFUSED_MARK: usize = 100_049;
-
-/// Returns whether a request for memory was refused since the test began.
-fn some_was_refused(alloc: Global) -> bool {
-    Vec::<u8>::with_capacity(alloc, REFUSED_MARK).is_err()
-}
 
 /// Checks that memory was refused, and that the status says so.
 fn was_refused(rt: &impl Abort, alloc: Global, status: Status) {

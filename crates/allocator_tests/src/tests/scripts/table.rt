@@ -1,6 +1,7 @@
 //! Tables of scripts. Each line is a row: `NAME | SCRIPT | OUTPUT`, where `; ` stands for a line feed. Where a pool may give any
 //! bucket, a fourth field has the places of all, and `P`, `Q` to `W` in the output stand for different ones of these.
-use super::check_named;
+use crate::tests::checks::check_named;
+use crate::tests::rows::field_and_rest;
 use script_runner::{Status, run};
 use std::alloc::{AllocError, Global};
 use std::process::Abort;
@@ -9,7 +10,7 @@ use std::process::Abort;
 const NAMES: [&str; 8] = ["P", "Q", "R", "S", "T", "U", "V", "W"];
 
 /// Returns a field as lines.
-pub(super) fn lines(alloc: Global, text: &str) -> Result<String, AllocError> {
+pub(crate) fn lines(alloc: Global, text: &str) -> Result<String, AllocError> {
     let mut lines = text.replace(alloc, "; ", "\n")?;
     if !text.is_empty() {
         lines.push('\n')?;
@@ -18,7 +19,7 @@ pub(super) fn lines(alloc: Global, text: &str) -> Result<String, AllocError> {
 }
 
 /// Runs a script, and adds its output. Returns its status.
-pub(super) fn add_answer(alloc: Global, script: &[u8], told: &mut Vec<u8>) -> Status {
+pub(crate) fn add_answer(alloc: Global, script: &[u8], told: &mut Vec<u8>) -> Status {
     run(alloc, script, told)
 }
 
@@ -33,11 +34,6 @@ fn answer(alloc: Global, script: &[u8]) -> (Status, Vec<u8>) {
 pub(super) fn ends(alloc: Global, script: &[u8], status: Status, lines: &[u8]) -> bool {
     let (ended, told) = answer(alloc, script);
     ended == status && told.as_slice() == lines
-}
-
-/// Splits a row behind its first field.
-pub(super) fn field_and_rest(row: &str) -> (&str, &str) {
-    row.split_once(" | ").unwrap_or((row, ""))
 }
 
 /// Returns the number of a name.

@@ -1,6 +1,6 @@
 //! Readers and writers that fail at each of their calls in turn, and a script that is cut at every byte.
-use super::check_at;
 use super::table::ends;
+use crate::tests::checks::check_at;
 use script_runner::{Status, run};
 use std::alloc::Global;
 use std::io;

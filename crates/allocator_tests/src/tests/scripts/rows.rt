@@ -1,6 +1,6 @@
 //! Scripts with what they write, each row by its name. Scripts of thousands of lines and of many buckets, `.ci/run-memrun` has.
 use super::table::{check_rows, ends};
-use super::{check, check_named};
+use crate::tests::checks::{check, check_named};
 use script_runner::{Status, equality_law, lines_law};
 use std::alloc::Global;
 

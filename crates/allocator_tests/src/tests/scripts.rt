@@ -1,0 +1,4 @@
+//! Scripts with what they write, and faults of readers and writers.
+mod faults;
+mod rows;
+pub(super) mod table;
