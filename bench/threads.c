@@ -1,6 +1,6 @@
-// A bump and a list of free buckets in C, allocators of whole processes, and parties of a shared pool of the C library, by several
-// threads at once, as shared_bench times the shared forms, and a queue between two threads whose receiver gives each message's
-// memory back. Its arguments are the number of rounds and the number of calls of each thread in a round.
+// A bump and a list of free buckets in C, allocators of whole processes, and parties of a shared pool of the C library, by
+// several threads at once, as shared_bench times the shared forms, and a queue between two threads whose receiver gives each
+// message's memory back. Its arguments are the number of rounds and the number of calls of each thread in a round.
 #define BB_PLACES_ARE_NUMBERS
 #include "heaps.h"
 #include <bb_memory.h>
@@ -286,8 +286,9 @@ int main(int argc, char **argv) {
     for (unsigned round = 0; round < rounds; round++)
         for (int at = 0; at < KINDS * FIGURES; at++)
             if (has(at / FIGURES, at % FIGURES)) {
-                threads = 1u << at % FIGURES;
-                found[(unsigned)at * rounds + round] = at % FIGURES == QUEUE_FIGURE ? queue_timed(at / FIGURES) : timed(at / FIGURES);
+                int kind = at / FIGURES, figure = at % FIGURES;
+                threads = 1u << figure;
+                found[(unsigned)at * rounds + round] = figure == QUEUE_FIGURE ? queue_timed(kind) : timed(kind);
             }
     for (int at = 0; at < KINDS * FIGURES; at++) {
         int kind = at / FIGURES, figure = at % FIGURES;
