@@ -103,8 +103,8 @@ static inline size_t none_take(void) { return 1; }
 static inline void none_give(size_t taken) { (void)taken; }
 
 // The ring of rtrb, which shared_bench has: each end owns a position, which it stores in one sequentially consistent step, and
-// keeps a copy of the other's, which it loads anew where the copy says that the ring is full or empty. The positions are 128 bytes
-// apart.
+// keeps a copy of the other's, which it loads anew where the copy says that the ring is full or empty. The positions are 128
+// bytes apart.
 static _Alignas(128) _Atomic uint64_t ring_head;
 static _Alignas(128) _Atomic uint64_t ring_tail;
 static _Alignas(128) size_t ring[ROOM];

@@ -10,7 +10,8 @@ use Rattle.std.proofs.lemmas.List.Elements.{recursion_from_All}
 use Rattle.bb_memory_traits.specs.Chunk.{Chunk, IsSound}
 use Rattle.bb_memory_traits.specs.declared.layout.Layout.{Layout}
 use Rattle.bb_memory_traits.specs.Object.{IsRun}
-use Rattle.bb_memory_traits.specs.PoolObject.{PoolGeometry, bucket_place, IsPoolGeometry, IsAt, IsHeld, IsWithin, MayGive, chunk_in}
+use Rattle.bb_memory_traits.specs.PoolObject.{PoolGeometry, bucket_place, IsPoolGeometry, IsAt, IsHeld, IsWithin}
+use Rattle.bb_memory_traits.specs.PoolObject.{MayGive, chunk_in}
 use Rattle.bb_memory_base.specs.PoolMachine.{PoolScene, PoolState, PoolMove, IsFlag, IsHolder, IsTaken, pool_step, pool_after}
 use Rattle.bb_memory_base.specs.PoolMachine.{opening_state, left_by, Flag, Free, HeldBy, Detached, PoolStep, PoolOutcome}
 use Rattle.bb_memory_base.specs.PoolLogs.{PoolLog, history_of, pool_history, outcomes_of, is_taken, IsCallRun, PoolCall, AreAsked}

@@ -43,7 +43,8 @@ apart_in numbers aside number has = (
 -- where none is aside, each number whose bit is set is in the set
 pub less_none : (bound : ℕ) (words : List ℕ) (aside : ℕ) → bound ≤ aside →
     less_aside (numbers_of bound words) aside ≡ numbers_of bound words
-less_none bound words aside past = set_past (numbers_of bound words) aside false (omega (arith, length-numbers_of bound words, past))
+less_none bound words aside past =
+    set_past (numbers_of bound words) aside false (omega (arith, length-numbers_of bound words, past))
 
 -- THE SET `held`: THE NUMBERS WHOSE BIT IS SET, LESS THE ONE THAT IS ASIDE
 

@@ -76,7 +76,8 @@ set_left bound words listed hand top left is are some not =
 
 -- the same, and it is full then: the word that is listed last is in hand, if one is listed
 pub set_filled : (bound : ℕ) (words listed : List ℕ) (hand top left next : ℕ) → IsWordSet bound words listed hand top →
-    AreIndexWords bound (set words hand left) → 0 < top → left ≡ 2 ^ 64 - 1 → (0 < top - 1 → next ≡ get_or listed (top - 1 - 1) 0) → IsWordSet bound (set words hand left) listed next (top - 1)
+    AreIndexWords bound (set words hand left) → 0 < top → left ≡ 2 ^ 64 - 1 →
+    (0 < top - 1 → next ≡ get_or listed (top - 1 - 1) 0) → IsWordSet bound (set words hand left) listed next (top - 1)
 set_filled bound words listed hand top left next is are some full last_listed =
     let listing = is.listing in
     let named = open_word listed hand top in

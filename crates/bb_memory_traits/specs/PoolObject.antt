@@ -1,7 +1,7 @@
 -- The geometry of a pool, and the pool object: chunks in buckets, each resized in its bucket and given back alone.
 use Rattle.std.specs.Prelude.{ℕ, ◌≡◌, ◌+◌, ◌*◌, ◌<◌, ◌≤◌, ◌↔◌, min, List, Some, Result, Ok, Err, slice_get}
-use Rattle.bb_memory_traits.specs.Chunk.{Region, region_end, Layout, first_place, Chunk, AllocationError, SizeIsZero, SizeTooLarge}
-use Rattle.bb_memory_traits.specs.Chunk.{AlignmentFailure, OutOfMemory}
+use Rattle.bb_memory_traits.specs.Chunk.{Region, region_end, Layout, first_place, Chunk, AllocationError, SizeIsZero}
+use Rattle.bb_memory_traits.specs.Chunk.{SizeTooLarge, AlignmentFailure, OutOfMemory}
 use Rattle.bb_memory_traits.specs.LeastPlace.{least_place}
 use Rattle.bb_memory_traits.specs.Object.{ResizableObject, resizable_object_of}
 use Rattle.bb_memory_traits.specs.declared.allocator.AllocationGrowError.{AllocationGrowError}

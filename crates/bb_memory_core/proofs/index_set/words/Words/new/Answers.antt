@@ -61,8 +61,10 @@ returns g c =
           let words : c.if-used-ne0.words.words ≡ set (zeros count) (count - 1) (last_word bound) =
           ap (λ (s : Slots). s.words) w.words-is ∙ w.put.ensures.words
           ∙ ap (λ (ws : List ℕ). set ws (count - 1) (last_word bound)) inv.words in
-          less_none bound c.if-used-ne0.words.words _ (omega arith) ∙ ap (numbers_of bound) words ∙ (fresh_part bound count is (omega arith)).2
+          less_none bound c.if-used-ne0.words.words _ (omega arith) ∙ ap (numbers_of bound) words
+          ∙ (fresh_part bound count is (omega arith)).2
       | else-used-ne0 w ↦
           let words : c.if-used-ne0.words.words ≡ zeros count = ap (λ (s : Slots). s.words) w.words-is ∙ inv.words in
-          less_none bound c.if-used-ne0.words.words _ (omega arith) ∙ ap (numbers_of bound) words ∙ (fresh_whole bound count is (omega arith)).2
+          less_none bound c.if-used-ne0.words.words _ (omega arith) ∙ ap (numbers_of bound) words
+          ∙ (fresh_whole bound count is (omega arith)).2
     ]

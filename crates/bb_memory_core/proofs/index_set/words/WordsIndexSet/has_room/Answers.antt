@@ -37,6 +37,6 @@ returns-else-self-gt0 g c =
     let inside = c.self.inside in
     let view = sym (less_none inside.bound inside.words.words inside.aside (omega (arith, c.if-self.false))) ∙ c.self.view_is in (
       λ told. absurd (omega (arith, ltb-true 0 inside.top told, c.if-self-gt0.false)),
-      λ free. absurd (full_lacks_none c.args.self.now free.0 (rw (← view) (none_open inside.bound inside.words.words _ inside.hand inside.top
-          c.self.invariant.0 (omega (arith, c.if-self-gt0.false)))) free.1),
+      λ free. absurd (full_lacks_none c.args.self.now free.0 (rw (← view) (none_open inside.bound inside.words.words _ inside.hand
+          inside.top c.self.invariant.0 (omega (arith, c.if-self-gt0.false)))) free.1),
     )

@@ -15,10 +15,9 @@ returns-then-number-clause-taken g c =
 
 pub returns-then-self-eq0-clause-full : goal.returns-then-self-eq0-clause-full
 returns-then-self-eq0-clause-full g c =
-    let view = sym (less_none c.self.inside.bound c.self.inside.words.words c.self.inside.aside (omega (arith, c.if-number.false)))
-    ∙ c.self.view_is in
-    rw (← view) (none_open c.self.inside.bound c.self.inside.words.words _ c.self.inside.hand c.self.inside.top c.self.invariant.0
-    c.if-self-eq0.true)
+    let inside = c.self.inside in
+    let view = sym (less_none inside.bound inside.words.words inside.aside (omega (arith, c.if-number.false))) ∙ c.self.view_is in
+    rw (← view) (none_open inside.bound inside.words.words _ inside.hand inside.top c.self.invariant.0 c.if-self-eq0.true)
 
 pub overflow_add-result : goal.overflow_add-result
 overflow_add-result g c =
@@ -50,8 +49,10 @@ invariant_of-self-2 g c =
             λ is. absurd (is c.if-number.false),
           )
       | else-left w ↦
-          rw (c.put.ensures.words, c.put.ensures.listed, w.self-inside-is)
-          (set_left inside.bound words listed inside.hand inside.top _ is are some w.if-left.false, λ is. absurd (is c.if-number.false))
+          rw (c.put.ensures.words, c.put.ensures.listed, w.self-inside-is) (
+            set_left inside.bound words listed inside.hand inside.top _ is are some w.if-left.false,
+            λ is. absurd (is c.if-number.false),
+          )
     ]
 
 pub returns-clause-lacked : goal.returns-clause-lacked
