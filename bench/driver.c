@@ -13,15 +13,17 @@ enum { GROUP = 64 };
 typedef enum { ONE, TWO, LAST, OLDEST, RANDOM, REFUSED } pattern;
 
 static const char *const pattern_names[PATTERNS] = {"one", "two", "last", "oldest", "random", "refused"};
-static const struct {
+
+// A loop over an allocator, and whether this machine has that one.
+typedef struct {
     const char *name;
     follow *run;
-} pools[] = {
-#define POOL_ENTRY(name, loop) {name, loop},
-    POOL_ROWS(POOL_ENTRY)};
-enum { POOLS = sizeof pools / sizeof *pools };
-// Which of them this machine has.
-static int there[POOLS];
+    int is_there;
+} loop;
+
+#define LOOP_ENTRY(name, loop) {name, loop, 0},
+static loop pools[] = {POOL_ROWS(LOOP_ENTRY)}, written[] = {WRITTEN_ROWS(LOOP_ENTRY)}, border[] = {BORDER_ROWS(LOOP_ENTRY)};
+enum { POOLS = sizeof pools / sizeof *pools, WRITTEN = sizeof written / sizeof *written, WAYS = sizeof border / sizeof *border };
 static const uint32_t sizes[SIZES] = {8, 64, 512, 4096, MOST_BUCKETS};
 static const uint32_t fills[FILLS] = {50, 99, 100};
 
@@ -144,21 +146,32 @@ static double call_time(follow *run, const task *t, size_t before, uint32_t firs
     return (timed(run, t, calls, born) - made) * 1e9 / (double)(calls - before);
 }
 
-// The nanoseconds for a call, in each round.
-static double spent[PATTERNS][ROWS][POOLS][ROUNDS];
-
-// One round of one line: each pool in turn. The time that making and filling the pool takes is subtracted.
-static void time_row(pattern p, size_t row, int round) {
-    task t = task_of(sizes[row / FILLS]);
-    fill(t.buckets, part(t.buckets, fills[row % FILLS]));
+// One round of some loops over pools of so many buckets, of which so many per cent are held, each in turn. The time that making
+// and filling the pool takes is subtracted.
+static void time_each(const loop *loops, int many, pattern p, uint32_t buckets, uint32_t percent, int round,
+                      double (*spent)[ROUNDS]) {
+    task t = task_of(buckets);
+    fill(buckets, part(buckets, percent));
     size_t before = calls;
     uint32_t first = born;
     while (calls < before + CALLS)
-        some_calls(p, t.buckets);
-    for (int kind = 0; kind < POOLS; kind++)
-        if (there[kind])
-            spent[p][row][kind][round] = call_time(pools[kind].run, &t, before, first);
+        some_calls(p, buckets);
+    for (int i = 0; i < many; i++)
+        if (loops[i].is_there)
+            spent[i][round] = call_time(loops[i].run, &t, before, first);
 }
+
+static void print_each(const char *what, const char *calls_of, uint32_t buckets, uint32_t percent, const loop *loops, int many,
+                       double (*spent)[ROUNDS]) {
+    for (int i = 0; i < many; i++)
+        if (loops[i].is_there) {
+            printf("%s,%s,%u,%u,%s,", what, calls_of, buckets, percent, loops[i].name);
+            print_times(spent[i]);
+        }
+}
+
+// The nanoseconds for a call, in each round.
+static double spent[PATTERNS][ROWS][POOLS][ROUNDS];
 
 // The lines take turns, so that each has its rounds spread over the whole run.
 static void time_pools(void) {
@@ -166,49 +179,38 @@ static void time_pools(void) {
         for (int p = 0; p < PATTERNS; p++)
             for (size_t row = 0; row < ROWS; row++)
                 if (has_row(p, row))
-                    time_row(p, row, round);
+                    time_each(pools, POOLS, p, sizes[row / FILLS], fills[row % FILLS], round, spent[p][row]);
     for (int p = 0; p < PATTERNS; p++)
         for (size_t row = 0; row < ROWS; row++)
-            for (int kind = 0; has_row(p, row) && kind < POOLS; kind++) {
-                if (!there[kind])
-                    continue;
-                printf("pools,%s,%u,%u,%s,", pattern_names[p], sizes[row / FILLS], fills[row % FILLS], pools[kind].name);
-                print_times(spent[p][row][kind]);
-            }
+            if (has_row(p, row))
+                print_each("pools", pattern_names[p], sizes[row / FILLS], fills[row % FILLS], pools, POOLS, spent[p][row]);
 }
 
-// The pool that C has, by its calls themselves and by those through C: half of the buckets are held, and one is given back
-// and one taken.
-static const struct {
-    const char *name;
-    follow *run[2];
-} borders[] = {
-#define BORDER_ENTRY(name, direct, through) {name, {direct, through}},
-    BORDER_ROWS(BORDER_ENTRY)};
-enum { BORDERS = sizeof borders / sizeof *borders, BORDER_SIZES = 2 };
-static const uint32_t border_sizes[BORDER_SIZES] = {64, 512};
-
-static double border_spent[BORDERS][BORDER_SIZES][2][ROUNDS];
-
+// Half of the buckets are held, and one is given back and one taken: by the calls themselves and by those through C.
 static void time_border(void) {
-    static const char *const ways[2] = {"directly", "through C"};
+    enum { BORDER_SIZES = 2 };
+    static const uint32_t of[BORDER_SIZES] = {64, 512};
+    static double border_spent[BORDER_SIZES][WAYS][ROUNDS];
     for (int round = 0; round < ROUNDS; round++)
-        for (size_t i = 0; i < BORDERS * BORDER_SIZES; i++) {
-            task t = task_of(border_sizes[i % BORDER_SIZES]);
-            fill(t.buckets, part(t.buckets, 50));
-            size_t before = calls;
-            uint32_t first = born;
-            while (calls < before + CALLS)
-                some_calls(ONE, t.buckets);
-            for (int way = 0; way < 2; way++)
-                border_spent[i / BORDER_SIZES][i % BORDER_SIZES][way][round] =
-                    call_time(borders[i / BORDER_SIZES].run[way], &t, before, first);
-        }
-    for (size_t i = 0; i < BORDERS * BORDER_SIZES; i++)
-        for (int way = 0; way < 2; way++) {
-            printf("border,%s,%u,50,%s,", borders[i / BORDER_SIZES].name, border_sizes[i % BORDER_SIZES], ways[way]);
-            print_times(border_spent[i / BORDER_SIZES][i % BORDER_SIZES][way]);
-        }
+        for (int i = 0; i < BORDER_SIZES; i++)
+            time_each(border, WAYS, ONE, of[i], 50, round, border_spent[i]);
+    for (int i = 0; i < BORDER_SIZES; i++)
+        print_each("border", "pool", of[i], 50, border, WAYS, border_spent[i]);
+}
+
+// What is taken is written, and read before it goes back: in 512 KiB, and in 8 MiB.
+static void time_written(void) {
+    enum { WRITTEN_SIZES = 2, WRITTEN_PATTERNS = 3 };
+    static const uint32_t of[WRITTEN_SIZES] = {4096, MOST_BUCKETS};
+    static const pattern by[WRITTEN_PATTERNS] = {ONE, OLDEST, RANDOM};
+    static double written_spent[WRITTEN_PATTERNS][WRITTEN_SIZES][WRITTEN][ROUNDS];
+    for (int round = 0; round < ROUNDS; round++)
+        for (int p = 0; p < WRITTEN_PATTERNS; p++)
+            for (int i = 0; i < WRITTEN_SIZES; i++)
+                time_each(written, WRITTEN, by[p], of[i], 50, round, written_spent[p][i]);
+    for (int p = 0; p < WRITTEN_PATTERNS; p++)
+        for (int i = 0; i < WRITTEN_SIZES; i++)
+            print_each("written", pattern_names[by[p]], of[i], 50, written, WRITTEN, written_spent[p][i]);
 }
 
 static void count_reads(void) {
@@ -232,19 +234,19 @@ static void count_reads(void) {
         }
 }
 
-// What is asked of an allocator, the loop here and its peer in C, and whether the sizes are mixed.
+// What is asked of an allocator, the loops of each kind, and whether the sizes are mixed.
+enum { KINDS = 4 };
+static const char *const kinds[KINDS] = {"ours", "in C", "through C", "std::pmr"};
 static const struct {
     const char *name;
-    rounds_of *run[2];
+    rounds_of *run[KINDS];
     int mixed;
 } lines[] = {
-#define OTHER_ENTRY(name, loop, peer, mixed) {name, {loop, peer}, mixed},
+#define OTHER_ENTRY(name, loop, peer, through, pmr, mixed) {name, {loop, peer, through, pmr}, mixed},
     OTHER_ROWS(OTHER_ENTRY)};
 enum { LINES = sizeof lines / sizeof *lines };
 
-static const char *const kinds[2] = {"ours", "in C"};
-
-static double line_spent[LINES][2][ROUNDS];
+static double line_spent[LINES][KINDS][ROUNDS];
 
 // The others: for each request its nanoseconds, together with those of giving back what it took.
 static void time_lines(void) {
@@ -252,26 +254,42 @@ static void time_lines(void) {
     for (size_t i = 0; i < GROUP; i++)
         same[i] = 48, mixed[i] = 1 + below(256);
     for (int round = 0; round < ROUNDS; round++)
-        for (size_t i = 0; i < LINES; i++)
-            for (int kind = 0; kind < 2 && lines[i].run[kind]; kind++) {
-                double start = seconds();
-                lines[i].run[kind](lines[i].mixed ? mixed : same, GROUP, 8, rounds);
-                line_spent[i][kind][round] = (seconds() - start) * 1e9 / (rounds * GROUP);
-            }
-    for (size_t i = 0; i < LINES; i++)
-        for (int kind = 0; kind < 2 && lines[i].run[kind]; kind++) {
-            printf("others,%s,0,0,%s,", lines[i].name, kinds[kind]);
-            print_times(line_spent[i][kind]);
+        for (size_t at = 0; at < LINES * KINDS; at++) {
+            size_t i = at / KINDS, kind = at % KINDS;
+            if (!lines[i].run[kind])
+                continue;
+            double start = seconds();
+            lines[i].run[kind](lines[i].mixed ? mixed : same, GROUP, 8, rounds);
+            line_spent[i][kind][round] = (seconds() - start) * 1e9 / (rounds * GROUP);
         }
+    for (size_t at = 0; at < LINES * KINDS; at++) {
+        size_t i = at / KINDS, kind = at % KINDS;
+        if (!lines[i].run[kind])
+            continue;
+        printf("others,%s,0,0,%s,", lines[i].name, kinds[kind]);
+        print_times(line_spent[i][kind]);
+    }
+}
+
+unsigned char *memory;
+
+static void look_for(loop *loops, int many) {
+    task one = task_of(1);
+    for (int i = 0; i < many; i++)
+        loops[i].is_there = loops[i].run(&one, script, 0) != NOT_THERE;
 }
 
 int main(void) {
+    memory = aligned_alloc(4096, (size_t)MOST_BUCKETS * 128);
+    if (!memory)
+        return 1;
     open_heaps();
-    task none = task_of(1);
-    for (int kind = 0; kind < POOLS; kind++)
-        there[kind] = pools[kind].run(&none, script, 0) != NOT_THERE;
+    look_for(pools, POOLS);
+    look_for(written, WRITTEN);
+    look_for(border, WAYS);
     count_reads();
     time_lines();
     time_border();
+    time_written();
     time_pools();
 }

@@ -44,7 +44,7 @@ static void plain_list_give(plain *p, size_t place) {
 
 static void plain_list_drop(plain *p) { free(p->next); }
 
-LOOP(plain_list, plain)
+POOL_LOOPS(plain_list, plain)
 
 // The same list for several threads: its head is exchanged together with a count of the exchanges. Here one thread uses it.
 typedef struct {
@@ -116,7 +116,7 @@ typedef struct {
         CALLS.give((void *)place);                                     \
     }                                                                  \
     static void NAME##_drop(heap *p) { (void)p; }                      \
-    LOOP(NAME, heap)
+    HEAP_LOOPS(NAME, heap)
 
 // The C library's own, by a pointer as the others.
 static heap_calls c_calls = {malloc, free};
@@ -124,6 +124,28 @@ static heap_calls c_calls = {malloc, free};
 HEAP(malloc_free, c_calls)
 HEAP(mimalloc, mimalloc_calls)
 HEAP(jemalloc, jemalloc_calls)
+
+static int dpdk_make(heap *p, const task *t) {
+    p->left = t->buckets;
+    return dpdk_pool_open(t->buckets, t->bucket_size, 64);
+}
+
+static size_t dpdk_take(heap *p, size_t size, size_t align) {
+    (void)p, (void)size, (void)align;
+    return dpdk_pool_take();
+}
+
+static void dpdk_give(heap *p, size_t place) {
+    (void)p;
+    dpdk_pool_give(place);
+}
+
+static void dpdk_drop(heap *p) {
+    (void)p;
+    dpdk_pool_close();
+}
+
+HEAP_LOOPS(dpdk, heap)
 
 // No pool: what the loop itself takes. A taking answers the place that was given back last.
 typedef struct {

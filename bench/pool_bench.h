@@ -35,15 +35,26 @@ typedef uint64_t follow(const task *, const uint32_t *script, size_t calls);
     ROW("malloc and free", malloc_free) \
     ROW("mimalloc", mimalloc) \
     ROW("jemalloc", jemalloc) \
+    ROW("DPDK", dpdk) \
     ROW("loop alone", no_pool)
 
-#define DECLARE_POOL(name, loop) extern follow loop;
-POOL_ROWS(DECLARE_POOL)
+// The pools of loops that write what they take.
+#define WRITTEN_ROWS(ROW) \
+    ROW("through C", c_pool_written) \
+    ROW("plain list", plain_list_written) \
+    ROW("malloc and free", malloc_free_written) \
+    ROW("mimalloc", mimalloc_written) \
+    ROW("jemalloc", jemalloc_written) \
+    ROW("DPDK", dpdk_written)
 
 // The pool that C has, too: the loop of the calls themselves, and that of the calls through C.
 #define BORDER_ROWS(ROW) \
-    ROW("pool", bench_words, c_pool)
+    ROW("directly", bench_words) \
+    ROW("through C", c_pool)
 
+#define DECLARE_POOL(name, loop) extern follow loop;
+POOL_ROWS(DECLARE_POOL)
+WRITTEN_ROWS(DECLARE_POOL)
 extern follow c_pool;
 
 void bench_reads(const task *, const uint32_t *script, size_t calls, reads *);
@@ -51,18 +62,17 @@ void bench_reads(const task *, const uint32_t *script, size_t calls, reads *);
 // In each round makes a request for each size, and gives back what it took.
 typedef uint64_t rounds_of(const uint32_t *sizes, size_t count, size_t align, uint32_t rounds);
 
-// The other allocators that are timed, likewise: what is asked, the loop here and its peer's in C, and whether the requests are
-// of mixed sizes.
+// The other allocators that are timed, likewise: what is asked, the loops here, in C, through C, and of the C++ library, and
+// whether the requests are of mixed sizes.
 #define OTHER_ROWS(ROW) \
-    ROW("bump, 48 bytes", bench_bump, plain_bump, 0) \
-    ROW("bump, mixed sizes", bench_bump, plain_bump, 1) \
-    ROW("one chunk", bench_one_chunk, plain_chunk, 0) \
-    ROW("heap, 48 bytes", bench_heap, calloc_free, 0) \
-    ROW("heap, mixed sizes", bench_heap, calloc_free, 1) \
-    ROW("loop alone", no_allocator, NO_PEER, 0)
+    ROW("bump, 48 bytes", bench_bump, plain_bump, c_bump, pmr_bump, 0) \
+    ROW("bump, mixed sizes", bench_bump, plain_bump, c_bump, pmr_bump, 1) \
+    ROW("one chunk", bench_one_chunk, plain_chunk, c_one_chunk, NO_PEER, 0) \
+    ROW("heap, 48 bytes", bench_heap, calloc_free, NO_PEER, NO_PEER, 0) \
+    ROW("heap, mixed sizes", bench_heap, calloc_free, NO_PEER, NO_PEER, 1) \
+    ROW("loop alone", no_allocator, NO_PEER, NO_PEER, NO_PEER, 0)
 
 #define NO_PEER ((rounds_of *)0)
-#define DECLARE_OTHER(what, loop, peer, mixed) extern rounds_of loop;
-OTHER_ROWS(DECLARE_OTHER)
 
-extern rounds_of plain_bump, plain_chunk, calloc_free;
+extern rounds_of bench_bump, bench_one_chunk, bench_heap, no_allocator, plain_bump, plain_chunk, calloc_free, c_bump, c_one_chunk;
+extern rounds_of pmr_bump;

@@ -1,17 +1,19 @@
-// A bump and a list of free buckets in C, allocators of whole processes, and parties of a shared pool of the C library, by
-// several threads at once, as shared_bench times the shared forms, and a queue between two threads whose receiver gives each
-// message's memory back. Its arguments are the number of rounds and the number of calls of each thread in a round.
+// A bump and a list of free buckets in C, allocators of other packages, and parties of a shared pool of the C library, by several
+// threads at once, as shared_bench times the shared forms; bursts, and how long the slowest takings are; and a queue between two
+// threads whose receiver gives each message's memory back. Its arguments are the number of rounds and the number of calls of each
+// thread in a round.
 #define BB_PLACES_ARE_NUMBERS
 #include "heaps.h"
 #include <bb_memory.h>
 #include <pthread.h>
 #include <stdatomic.h>
-#include <stdint.h>
 #include <stdio.h>
 #include <stdlib.h>
+#include <string.h>
 #include <time.h>
+#include <x86intrin.h>
 
-enum { MOST_THREADS = 4, BUCKETS = 64, START = 4096, ROOM = 32 };
+enum { MOST_THREADS = 4, BUCKETS = 64, START = 4096, ROOM = 32, BURST = 8, MOST_CYCLES = 1 << 18 };
 #define NONE UINT32_MAX
 #define SIZE ((size_t)1 << 50)
 
@@ -24,7 +26,7 @@ static _Alignas(128) unsigned threads;
 static _Alignas(128) unsigned calls;
 
 // A request for 48 bytes at 8: the place is rounded up, and the position exchanged.
-static size_t bump_call(void) {
+static size_t bump_pair(void) {
     size_t seen = atomic_load(&used), place;
     do {
         place = (START + seen + 7) & ~(size_t)7;
@@ -58,36 +60,25 @@ static inline void list_give(size_t taken) {
     while (!atomic_compare_exchange_weak(&head, &old, headed(old, i)));
 }
 
-static size_t list_call(void) {
-    size_t taken = list_take();
-    if (taken)
-        list_give(taken);
-    return taken;
-}
-
 static heap_calls c_calls = {malloc, free};
 
-#define HEAP(NAME, CALLS)                                                           \
-    static inline size_t NAME##_take(void) { return (size_t)CALLS.take(48); }       \
-    static inline void NAME##_give(size_t taken) { CALLS.give((void *)taken); }     \
-    static size_t NAME##_call(void) {                                               \
-        size_t taken = NAME##_take();                                               \
-        NAME##_give(taken);                                                         \
-        return taken;                                                               \
-    }
+#define HEAP(NAME, CALLS)                                                       \
+    static inline size_t NAME##_take(void) { return (size_t)CALLS.take(48); }   \
+    static inline void NAME##_give(size_t taken) { CALLS.give((void *)taken); }
 
 HEAP(heap, c_calls)
 HEAP(mimalloc, mimalloc_calls)
 HEAP(jemalloc, jemalloc_calls)
 
+static inline size_t dpdk_take(void) { return dpdk_pool_take(); }
+static inline void dpdk_give(size_t taken) { dpdk_pool_give(taken); }
+
 // The parties of a shared pool of as many buckets, which join one after the other, their handles side by side.
 static bb_pool_party parties[MOST_THREADS];
 static _Thread_local bb_pool_party *party;
 
-static size_t party_call(void) {
-    bb_answer given = bb_pool_party_allocate(party, 48, 8);
-    return given.code == BB_OK && bb_pool_party_deallocate(party, given.place) == BB_OK ? given.place : 0;
-}
+static inline size_t party_take(void) { return bb_pool_party_allocate(party, 48, 8).place; }
+static inline void party_give(size_t taken) { (void)bb_pool_party_deallocate(party, taken); }
 
 static void join_all(void) {
     bb_shared_pool pool = BB_EMPTY;
@@ -102,18 +93,63 @@ static void join_all(void) {
 static inline size_t none_take(void) { return 1; }
 static inline void none_give(size_t taken) { (void)taken; }
 
+// How many takings of a thread took so many cycles of the processor's clock; the last counts all longer ones.
+static _Thread_local uint32_t *counts;
+
+static inline uint64_t cycles(void) {
+    unsigned processor;
+    return __rdtscp(&processor);
+}
+
+static inline void count_since(uint64_t start) {
+    uint64_t spent = cycles() - start;
+    counts[spent < MOST_CYCLES ? spent : MOST_CYCLES - 1]++;
+}
+
+// A taking and its return; eight takings, and then their returns. The answer is 0 where a taking was refused.
+#define PAIR_AND_BURST(PAIR_NAME, BURST_NAME, TAKE, GIVE) \
+    static size_t PAIR_NAME(void) {                       \
+        size_t taken = TAKE();                            \
+        if (taken)                                        \
+            GIVE(taken);                                  \
+        return taken;                                     \
+    }                                                     \
+    static size_t BURST_NAME(void) {                      \
+        size_t taken[BURST], all = 1;                     \
+        for (int i = 0; i < BURST; i++)                   \
+            taken[i] = TAKE();                            \
+        for (int i = 0; i < BURST; i++)                   \
+            if (taken[i])                                 \
+                GIVE(taken[i]);                           \
+            else                                          \
+                all = 0;                                  \
+        return all;                                       \
+    }
+
+// The same, and with each taking timed by itself.
+#define CALLS_OF(NAME)                                                  \
+    static inline size_t NAME##_timed(void) {                           \
+        uint64_t start = cycles();                                      \
+        size_t taken = NAME##_take();                                   \
+        count_since(start);                                             \
+        return taken;                                                   \
+    }                                                                   \
+    PAIR_AND_BURST(NAME##_pair, NAME##_burst, NAME##_take, NAME##_give) \
+    PAIR_AND_BURST(NAME##_pair_tail, NAME##_burst_tail, NAME##_timed, NAME##_give)
+
+CALLS_OF(list)
+CALLS_OF(heap)
+CALLS_OF(mimalloc)
+CALLS_OF(jemalloc)
+CALLS_OF(dpdk)
+CALLS_OF(party)
+
 // The ring of rtrb, which shared_bench has: each end owns a position, which it stores in one sequentially consistent step, and
 // keeps a copy of the other's, which it loads anew where the copy says that the ring is full or empty. The positions are 128
 // bytes apart.
 static _Alignas(128) _Atomic uint64_t ring_head;
 static _Alignas(128) _Atomic uint64_t ring_tail;
 static _Alignas(128) size_t ring[ROOM];
-
-static inline void spin(void) {
-#if defined(__x86_64__)
-    __builtin_ia32_pause();
-#endif
-}
 
 // The two ends of a queue: the sender takes memory for each message, and the receiver gives it back.
 #define QUEUE(NAME)                                                         \
@@ -124,7 +160,7 @@ static inline void spin(void) {
                 seen = atomic_load(&ring_head);                             \
             size_t taken = tail - seen < ROOM ? NAME##_take() : 0;          \
             if (!taken) {                                                   \
-                spin();                                                     \
+                _mm_pause();                                                \
                 continue;                                                   \
             }                                                               \
             ring[tail % ROOM] = taken;                                      \
@@ -135,7 +171,7 @@ static inline void spin(void) {
         uint64_t head = 0, seen = 0;                                        \
         while (head < calls) {                                              \
             if (head == seen && head == (seen = atomic_load(&ring_tail))) { \
-                spin();                                                     \
+                _mm_pause();                                                \
                 continue;                                                   \
             }                                                               \
             size_t taken = ring[head % ROOM];                               \
@@ -148,31 +184,63 @@ QUEUE(list)
 QUEUE(heap)
 QUEUE(mimalloc)
 QUEUE(jemalloc)
+QUEUE(dpdk)
 QUEUE(none)
 
-// What is timed: its call, the ends of a queue over it, and of which other package it is, if of any.
-static const struct {
-    const char *what, *name;
-    size_t (*call)(void);
-    void (*send)(void), (*receive)(void);
-    const heap_calls *package;
-} kinds[] = {
-    {"bump", "in C", bump_call, NULL, NULL, NULL},
-    {"pool", "lock-free list", list_call, list_send, list_receive, NULL},
-    {"pool", "malloc and free", heap_call, heap_send, heap_receive, NULL},
-    {"pool", "mimalloc", mimalloc_call, mimalloc_send, mimalloc_receive, &mimalloc_calls},
-    {"pool", "jemalloc", jemalloc_call, jemalloc_send, jemalloc_receive, &jemalloc_calls},
-    {"pool", "party in C", party_call, NULL, NULL, NULL},
-    {"pool", "ring alone", NULL, none_send, none_receive, NULL},
-};
-// A kind's figures: of 1, 2 and 4 threads, and of a queue.
-enum { KINDS = sizeof kinds / sizeof *kinds, FIGURES = 4, QUEUE_FIGURE = 3 };
+static int mimalloc_is_there(void) { return mimalloc_calls.take != NULL; }
+static int jemalloc_is_there(void) { return jemalloc_calls.take != NULL; }
 
-// What a thread calls, and its party.
+static int dpdk_is_there(void) {
+    if (!dpdk_pool_open(BUCKETS, 128, BURST))
+        return 0;
+    dpdk_pool_close();
+    return 1;
+}
+
+typedef enum { PAIR_CALL, BURST_CALL, PAIR_TAIL, BURST_TAIL, CALL_KINDS, ENDS = CALL_KINDS } what_of;
+
+// The calls of a kind, the two ends of a queue over it, and whether this machine has it, which it has where nothing tells.
+typedef struct {
+    const char *name;
+    size_t (*call[CALL_KINDS])(void);
+    void (*send)(void), (*receive)(void);
+    int (*is_there)(void);
+} kind;
+
+#define ALL_CALLS(NAME) {NAME##_pair, NAME##_burst, NAME##_pair_tail, NAME##_burst_tail}
+static const kind kinds[] = {
+    {"in C", {bump_pair, NULL, NULL, NULL}, NULL, NULL, NULL},
+    {"lock-free list", ALL_CALLS(list), list_send, list_receive, NULL},
+    {"malloc and free", ALL_CALLS(heap), heap_send, heap_receive, NULL},
+    {"mimalloc", ALL_CALLS(mimalloc), mimalloc_send, mimalloc_receive, mimalloc_is_there},
+    {"jemalloc", ALL_CALLS(jemalloc), jemalloc_send, jemalloc_receive, jemalloc_is_there},
+    {"DPDK", ALL_CALLS(dpdk), dpdk_send, dpdk_receive, dpdk_is_there},
+    {"party in C", ALL_CALLS(party), NULL, NULL, NULL},
+    {"ring alone", {NULL, NULL, NULL, NULL}, none_send, none_receive, NULL},
+};
+
+// What is timed of a kind, by so many threads.
+static const struct {
+    const char *name;
+    what_of what;
+    unsigned threads;
+} figures[] = {
+    {"pool", PAIR_CALL, 1},     {"pool", PAIR_CALL, 2},   {"pool", PAIR_CALL, 4},
+    {"burst", BURST_CALL, 1},   {"burst", BURST_CALL, 2}, {"burst", BURST_CALL, 4},
+    {"pair tail", PAIR_TAIL, 4}, {"burst tail", BURST_TAIL, 4}, {"queue", ENDS, 2},
+};
+enum { KINDS = sizeof kinds / sizeof *kinds, FIGURES = sizeof figures / sizeof *figures, BUMP = 0 };
+
+// A thread's calls and its party, and what it found: its nanoseconds, its refused calls, and how long its takings were.
 typedef struct {
     size_t (*call)(void);
-    void (*send)(void);
+    unsigned calls;
     bb_pool_party *party;
+    void (*send)(void);
+    int is_dpdk;
+    double spent;
+    unsigned refused;
+    uint32_t *counts;
 } job;
 
 static void pass_gate(void) {
@@ -186,30 +254,29 @@ static double nanos(struct timespec start, struct timespec end) {
 }
 
 static void *work(void *arg) {
-    size_t (*call)(void) = ((job *)arg)->call;
-    party = ((job *)arg)->party;
+    job *own = arg;
+    size_t (*call)(void) = own->call;
+    unsigned times = own->calls, refused = 0;
     struct timespec start, end;
-    volatile size_t kept = 0;
+    party = own->party;
+    counts = own->counts;
+    if (own->is_dpdk)
+        dpdk_enter();
     pass_gate();
     clock_gettime(CLOCK_MONOTONIC, &start);
-    for (unsigned i = 0; i < calls; i++)
-        kept = call();
+    if (own->send)
+        own->send();
+    for (unsigned i = 0; i < times; i++)
+        refused += !call();
     clock_gettime(CLOCK_MONOTONIC, &end);
-    (void)kept;
-    double *spent = malloc(sizeof *spent);
-    if (!spent)
-        abort();
-    *spent = nanos(start, end);
-    return spent;
-}
-
-static void *send_all(void *arg) {
-    pass_gate();
-    ((const job *)arg)->send();
+    if (own->is_dpdk)
+        dpdk_leave();
+    own->spent = nanos(start, end);
+    own->refused = refused;
     return NULL;
 }
 
-static void open_all(void) {
+static void open_all(int is_dpdk) {
     atomic_store(&used, 0);
     atomic_store(&head, 0);
     atomic_store(&came, 0);
@@ -217,45 +284,78 @@ static void open_all(void) {
     atomic_store(&ring_tail, 0);
     for (uint32_t i = 0; i < BUCKETS; i++)
         atomic_store(&next[i], i + 1 < BUCKETS ? i + 1 : NONE);
+    if (is_dpdk && !dpdk_pool_open(BUCKETS, 128, BURST))
+        abort();
 }
 
 // The nanoseconds of a message: from the gate to the last one, of which the memory is given back.
-static double queue_timed(int kind) {
+static double queue_timed(const kind *of, int is_dpdk) {
     pthread_t sender;
-    job sends = {NULL, kinds[kind].send, NULL};
+    job sends = {.send = of->send, .is_dpdk = is_dpdk};
     struct timespec start, end;
-    threads = 2;
-    open_all();
-    if (pthread_create(&sender, NULL, send_all, &sends))
+    open_all(is_dpdk);
+    if (pthread_create(&sender, NULL, work, &sends))
         abort();
     pass_gate();
     clock_gettime(CLOCK_MONOTONIC, &start);
-    kinds[kind].receive();
+    of->receive();
     clock_gettime(CLOCK_MONOTONIC, &end);
     pthread_join(sender, NULL);
     return nanos(start, end) / calls;
 }
 
-// The nanoseconds of a thread's call.
-static double timed(int kind) {
+// The cycles that 99.9% of the counted takings take at most.
+static unsigned most_cycles(const uint32_t *found) {
+    uint64_t all = 0, below = 0;
+    for (unsigned i = 0; i < MOST_CYCLES; i++)
+        all += found[i];
+    for (unsigned i = 0; i < MOST_CYCLES; i++)
+        if ((below += found[i]) * 1000 >= all * 999)
+            return i;
+    return MOST_CYCLES;
+}
+
+static double cycles_in_a_nanosecond;
+
+static void time_the_clock(void) {
+    struct timespec start, end;
+    clock_gettime(CLOCK_MONOTONIC, &start);
+    uint64_t first = cycles();
+    do
+        clock_gettime(CLOCK_MONOTONIC, &end);
+    while (nanos(start, end) < 5e7);
+    cycles_in_a_nanosecond = (double)(cycles() - first) / nanos(start, end);
+}
+
+// Runs the threads, and returns the nanoseconds of a thread's taking and its return, or those that 99.9% of the takings take at
+// most. Adds the refused calls.
+static double timed(const kind *of, what_of what, int is_dpdk, unsigned *refused) {
+    static uint32_t found[MOST_THREADS][MOST_CYCLES];
     pthread_t all[MOST_THREADS];
     job jobs[MOST_THREADS];
     double sum = 0;
+    unsigned in_a_call = what == BURST_CALL || what == BURST_TAIL ? BURST : 1;
     join_all();
-    open_all();
+    open_all(is_dpdk);
+    memset(found, 0, sizeof found);
     for (unsigned i = 0; i < threads; i++) {
-        jobs[i] = (job){kinds[kind].call, NULL, &parties[i]};
+        jobs[i] = (job){.call = of->call[what], .calls = calls / in_a_call, .party = &parties[i], .counts = found[i]};
+        jobs[i].is_dpdk = is_dpdk;
         if (pthread_create(&all[i], NULL, work, &jobs[i]))
             abort();
     }
     for (unsigned i = 0; i < threads; i++) {
-        void *spent;
-        pthread_join(all[i], &spent);
-        sum += *(double *)spent;
-        free(spent);
+        pthread_join(all[i], NULL);
+        sum += jobs[i].spent;
+        *refused += jobs[i].refused;
         bb_pool_party_destroy(&parties[i]);
     }
-    return sum / ((double)threads * calls);
+    if (what == PAIR_CALL || what == BURST_CALL)
+        return sum / ((double)threads * (calls / in_a_call) * in_a_call);
+    for (unsigned i = 1; i < threads; i++)
+        for (unsigned at = 0; at < MOST_CYCLES; at++)
+            found[0][at] += found[i][at];
+    return most_cycles(found[0]) / cycles_in_a_nanosecond;
 }
 
 static int by_size(const void *one, const void *other) {
@@ -263,42 +363,42 @@ static int by_size(const void *one, const void *other) {
     return (x > y) - (x < y);
 }
 
-// Sorts the figures of a line, and prints it.
-static void print_line(double *found, unsigned rounds) {
-    qsort(found, rounds, sizeof *found, by_size);
-    printf(",%.1f,%.1f,%.1f,0\n", found[rounds / 2], found[rounds / 4], found[rounds - 1 - rounds / 4]);
-}
-
-// Whether a kind has a figure here.
 static int has(int kind, int figure) {
-    if (kinds[kind].package && !kinds[kind].package->take)
-        return 0;
-    return figure == QUEUE_FIGURE ? kinds[kind].send != NULL : kinds[kind].call != NULL;
+    return figures[figure].what == ENDS ? kinds[kind].send != NULL : kinds[kind].call[figures[figure].what] != NULL;
 }
 
 int main(int argc, char **argv) {
     unsigned rounds = argc > 1 ? (unsigned)atoi(argv[1]) : 3;
     calls = argc > 2 ? (unsigned)atoi(argv[2]) : 10000;
     double *found = calloc((size_t)KINDS * FIGURES * (rounds + 1), sizeof *found);
+    static unsigned refused[KINDS * FIGURES];
+    int there[KINDS];
     if (!found || !rounds)
         return 1;
     open_heaps();
+    time_the_clock();
+    for (int kind = 0; kind < KINDS; kind++)
+        there[kind] = !kinds[kind].is_there || kinds[kind].is_there();
     for (unsigned round = 0; round < rounds; round++)
-        for (int at = 0; at < KINDS * FIGURES; at++)
-            if (has(at / FIGURES, at % FIGURES)) {
-                int kind = at / FIGURES, figure = at % FIGURES;
-                threads = 1u << figure;
-                found[(unsigned)at * rounds + round] = figure == QUEUE_FIGURE ? queue_timed(kind) : timed(kind);
-            }
+        for (int at = 0; at < KINDS * FIGURES; at++) {
+            int kind = at / FIGURES, figure = at % FIGURES, is_dpdk = kinds[kind].is_there == dpdk_is_there;
+            if (!there[kind] || !has(kind, figure))
+                continue;
+            threads = figures[figure].threads;
+            found[(unsigned)at * rounds + round] = figures[figure].what == ENDS
+                                                       ? queue_timed(&kinds[kind], is_dpdk)
+                                                       : timed(&kinds[kind], figures[figure].what, is_dpdk, &refused[at]);
+            if (is_dpdk)
+                dpdk_pool_close();
+        }
     for (int at = 0; at < KINDS * FIGURES; at++) {
         int kind = at / FIGURES, figure = at % FIGURES;
-        if (!has(kind, figure))
+        double *of = &found[(unsigned)at * rounds];
+        if (!there[kind] || !has(kind, figure))
             continue;
-        if (figure == QUEUE_FIGURE)
-            printf("shared,queue,2,0,%s", kinds[kind].name);
-        else
-            printf("shared,%s,%u,0,%s", kinds[kind].what, 1u << figure, kinds[kind].name);
-        print_line(&found[(unsigned)at * rounds], rounds);
+        qsort(of, rounds, sizeof *of, by_size);
+        printf("shared,%s,%u,0,%s,%.1f,%.1f,%.1f,%u\n", kind == BUMP ? "bump" : figures[figure].name, figures[figure].threads,
+               kinds[kind].name, of[rounds / 2], of[rounds / 4], of[rounds - 1 - rounds / 4], refused[at]);
     }
     free(found);
 }
