@@ -30,8 +30,7 @@ longer_interleaved scene flags logs party log entry at agree =
 
 -- DETACHING
 
-detaches_one : (scene : PoolScene) (slots seat party bucket : ℕ) (log : PoolLog) → 1 < scene.parties →
-    IsHeldAfter log bucket →
+detaches_one : (scene : PoolScene) (slots seat party bucket : ℕ) (log : PoolLog) → 1 < scene.parties → IsHeldAfter log bucket →
     Allows (WordsAndLogsAgree scene) slots seat (alone scene party log, []) (word_of bucket) (λ found. found)
     (λ _. TellsDetach scene party log bucket)
 detaches_one scene slots seat party bucket log others held state rule homes at fits =

@@ -13,6 +13,7 @@ use Rattle.bb_memory_base.proofs.PoolFlags.{flag_from_taken}
 use Rattle.bb_memory_base.proofs.PoolLogFacts.{held_is_taken, taken_is_held_whole}
 use Rattle.bb_memory_base.proofs.PoolLogSteps.{opening_agrees}
 use Rattle.bb_memory_bump.specs.Seats.{both_of, standing_for, times_in}
+use Rattle.bb_memory.specs.declared.shared_pool.party.Hint.{Hint}
 use Rattle.bb_memory.specs.SharedPool.{HaveMet, IsHeldByOne, IsSharedScene, PoolParty, SharedPool}
 use Rattle.bb_memory.specs.SharedPoolRule.{IsPartySeat, NumberedLog, SeatView, numbered_of, party_in}
 use Rattle.bb_memory.specs.SharedPoolRule.{TellsMeeting}
@@ -22,13 +23,13 @@ use Rattle.bb_memory_bump.proofs.Contained.{any_contained}
 -- GATHERING
 
 -- a party's seat stands for it alone
-pub parties_of : (table : TableId) (number hint : ℕ) (me : Me ℕ SeatView) (party : PoolParty) →
+pub parties_of : (table : TableId) (number : ℕ) (hint : Hint) (me : Me ℕ SeatView) (party : PoolParty) →
     IsPartySeat number hint me → party_in table number me.0 ≡ party → me.0.parties ≡ numbered_of party ∷ []
 parties_of table number hint me party fields view_is =
     ap (λ (m : Me ℕ SeatView). m.0.parties) fields.seat.seat.is ∙ ap (λ (p : PoolParty). numbered_of p ∷ []) view_is
 
 -- the last of a list comes to the seat
-pub all_gathered : (table : TableId) (number hint : ℕ) (me : Me ℕ SeatView) (party : PoolParty)
+pub all_gathered : (table : TableId) (number : ℕ) (hint : Hint) (me : Me ℕ SeatView) (party : PoolParty)
     (items rest : List PoolParty) →
     IsPartySeat number hint me → party_in table number me.0 ≡ party → items ≡ rest ++ party ∷ [] →
     map numbered_of rest ++ me.0.parties ≡ map numbered_of items
@@ -115,11 +116,10 @@ none_met scene items shared none =
 -- the party that goes back after the meeting
 pub met_party : (table was : TableId) (number : ℕ) (me new : Me ℕ SeatView) (party : PoolParty) →
     party_in was number me.0 ≡ party → table ≡ was → new ≡ me → party_in table number new.0 ≡ party
-met_party table was number me new party view_is same is =
-    (λ i. party_in (same i) number (is i).0) ∙ view_is
+met_party table was number me new party view_is same is = (λ i. party_in (same i) number (is i).0) ∙ view_is
 
 -- It is as it was where its seat stands for it alone again.
-module _ (pool : SharedPool) (table : TableId) (number hint : ℕ) (me new : Me ℕ SeatView) (party : PoolParty)
+module _ (pool : SharedPool) (table : TableId) (number : ℕ) (hint : Hint) (me new : Me ℕ SeatView) (party : PoolParty)
     (is : IsPartySeat number hint me) (view_is : party_in table number me.0 ≡ party) (its : party.allocator ≡ pool)
     (back : new ≡ (standing_for pool.scene (numbered_of party ∷ []), [])) where
   same_seat : new ≡ me
@@ -138,7 +138,7 @@ module _ (pool : SharedPool) (table : TableId) (number hint : ℕ) (me new : Me 
       met_party new_table table number me new party view_is (same ∙ sym own) same_seat
 
 -- the seat of parties to which one more comes
-pub comes : (scene : PoolScene) (seat guest there : Me ℕ SeatView) (table : TableId) (number hint : ℕ)
+pub comes : (scene : PoolScene) (seat guest there : Me ℕ SeatView) (table : TableId) (number : ℕ) (hint : Hint)
     (party : PoolParty) →
     IsPartySeat number hint guest → party_in table number guest.0 ≡ party → seat ≡ (standing_for scene seat.0.parties, []) →
     there ≡ (both_of seat.0 guest.0, seat.1) → there ≡ (standing_for scene (numbered_of party ∷ seat.0.parties), [])

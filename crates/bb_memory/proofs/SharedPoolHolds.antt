@@ -12,12 +12,10 @@ either_less false held is = is
 
 pub was_held : (party : PoolParty) (bucket other : ℕ) → IsHeldAfter (party.log ++ return_entry party.number bucket) other →
     IsHeldAfter party.log other
-was_held party bucket other held =
-    either_less (bucket == other) (held_through other false party.log)
+was_held party bucket other held = either_less (bucket == other) (held_through other false party.log)
     (sym (held-append other false party.log (return_entry party.number bucket)) ∙ held)
 
 pub was_held_too : (party : PoolParty) (bucket other : ℕ) →
     IsHeldAfter (party.log ++ detach_entry party.number bucket) other → IsHeldAfter party.log other
-was_held_too party bucket other held =
-    either_less (bucket == other) (held_through other false party.log)
+was_held_too party bucket other held = either_less (bucket == other) (held_through other false party.log)
     (sym (held-append other false party.log (detach_entry party.number bucket)) ∙ held)

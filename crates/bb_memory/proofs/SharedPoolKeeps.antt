@@ -105,8 +105,7 @@ tells_of tells me bucket found new = tells me.0.scene (number_of me.0) (view_log
 
 -- what a step may do that found a word, which then becomes another
 abbrev Allowed : (ℕ → ℕ) → Telling → PoolScene → State ℕ SeatView → ℕ → ℕ → Me ℕ SeatView → ℕ → Type 0
-Allowed becomes tells scene state seat bucket me found =
-    (new : SeatView) × (act : Act ℕ) × Valid state.homes me.1 act
+Allowed becomes tells scene state seat bucket me found = (new : SeatView) × (act : Act ℕ) × Valid state.homes me.1 act
     × WordsAndLogsAgree scene (stepped state (word_of bucket) (becomes found) seat me.1 new act)
     × tells_of tells me bucket found (new, carried_after me.1 act)
 
@@ -119,8 +118,7 @@ module _ (tells : Telling) (scene : PoolScene) (seat party bucket : ℕ) (log : 
       Allowed becomes tells scene state seat bucket (alone scene party log, []) (as_word flag)
 
   -- where the flag is free, and becomes taken
-  takes_free : (entry : PoolEntry) →
-      ((b : ℕ) → bucket ≢ b → held_after b false entry.outcome ≡ false) →
+  takes_free : (entry : PoolEntry) → ((b : ℕ) → bucket ≢ b → held_after b false entry.outcome ≡ false) →
       ((flags : List Bool) (logs : List PoolLog) → LogsAgree scene flags logs → party < scene.parties →
       HasLog logs party log → slice_get flags bucket ≡ Some false →
       LogsAgree scene (slice_set flags bucket true) (with_entry logs party log entry)) →
@@ -202,8 +200,7 @@ module _ (becomes : ℕ → ℕ) (tells : Telling) (scene : PoolScene) (slots se
         (by_flag flag.0 state rule at flag.1)
 
     steps_as : Allows (WordsAndLogsAgree scene) slots seat me word becomes (tells_of tells me (bucket_of word))
-    steps_as =
-        at_word (WordsAndLogsAgree scene) slots seat bucket word me becomes (tells_of tells me) there
+    steps_as = at_word (WordsAndLogsAgree scene) slots seat bucket word me becomes (tells_of tells me) there
         (subst (λ (m : Me ℕ SeatView). Allows (WordsAndLogsAgree scene) slots seat m (word_of bucket) becomes
         (tells_of tells m bucket)) (sym is) at_bucket)
 
@@ -230,8 +227,7 @@ module _ (scene : PoolScene) (slots seat word party bucket : ℕ) (log : PoolLog
     -- the party may try the bucket that is next
     pub tries_as : next_bucket log ≡ bucket →
         Allows (WordsAndLogsAgree scene) slots seat me word exchanged (tries (step slots word 0 1 none) me)
-    tries_as next =
-        steps_as exchanged TellsTry scene slots seat word party bucket log me there is below
+    tries_as next = steps_as exchanged TellsTry scene slots seat word party bucket log me there is below
         (takes_free TellsTry scene seat party bucket log (entry_of (Try party) (Takes bucket)) (no_hold_other bucket)
         (λ flags logs agree made at free. take_agrees scene flags logs party log bucket agree made at next free)
         (λ new free. (λ _. record { seat = new; free = free }, λ not_free. absurd (not_free refl))))
@@ -258,8 +254,7 @@ module _ (scene : PoolScene) (slots seat word party bucket : ℕ) (log : PoolLog
     -- and look at it before
     pub looks_at_as : pass_in log ≡ None →
         Allows (WordsAndLogsAgree scene) slots seat me word (λ found. found) (looks_at (step slots word 0 0 none) me)
-    looks_at_as idle =
-        steps_as (λ found. found) TellsLookAt scene slots seat word party bucket log me there is below
+    looks_at_as idle = steps_as (λ found. found) TellsLookAt scene slots seat word party bucket log me there is below
         (stays_free TellsLookAt scene seat party bucket log (λ interleaved. (
           λ _. record { seat = record { is = refl; interleaved = interleaved }; idle = idle },
           λ not_free. absurd (not_free refl),

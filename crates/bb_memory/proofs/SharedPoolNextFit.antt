@@ -14,6 +14,7 @@ use Rattle.bb_memory.specs.SharedPoolRule.{IsSeatOfIdle, SeatView}
 use Rattle.bb_memory.specs.SharedPoolRule.{HasMissedAt, HasRefusedFrom, HasTakenAt, HasTakenFrom, IsInSearch}
 use Rattle.bb_memory.proofs.SharedPoolRequests.{HasAsked}
 use Rattle.bb_memory_base.proofs.PoolHolders.{held_through}
+use Rattle.bb_memory.specs.declared.shared_pool.party.Hint.{Hint}
 use Rattle.bb_memory.proofs.SharedPoolTries.{held-append, hint-append, hint_through, test_below, test_not_below}
 
 -- PROBES
@@ -34,13 +35,11 @@ start_below buckets first some = elim (cases_lt first buckets) [
 -- a probe before the search goes on from bucket 0, and one after
 pub probe_ahead : (buckets first start probe : ℕ) → start_of buckets first ≡ start → start + probe < buckets →
     probed buckets first probe ≡ start + probe
-probe_ahead buckets first start probe is below =
-    ap (λ (s : ℕ). (s + probe) % buckets) is ∙ mod-eq_of_lt below
+probe_ahead buckets first start probe is below = ap (λ (s : ℕ). (s + probe) % buckets) is ∙ mod-eq_of_lt below
 
 pub probe_behind : (buckets first start probe rest : ℕ) → start_of buckets first ≡ start → start + probe ≡ buckets + rest →
     rest < buckets → probed buckets first probe ≡ rest
-probe_behind buckets first start probe rest is same below =
-    ap (λ (s : ℕ). (s + probe) % buckets) is
+probe_behind buckets first start probe rest is same below = ap (λ (s : ℕ). (s + probe) % buckets) is
     ∙ ap (λ (n : ℕ). n % buckets) same
     ∙ add-mod_left buckets rest
     ∙ mod-eq_of_lt below
@@ -97,26 +96,23 @@ held-misses buckets party first (suc probe) bucket held =
 
 pub missed_same : (buckets party first probe bucket : ℕ) (log : PoolLog) →
     held_through bucket false (log ++ misses buckets party first probe) ≡ held_through bucket false log
-missed_same buckets party first probe bucket log =
-    held-append bucket false log (misses buckets party first probe)
+missed_same buckets party first probe bucket log = held-append bucket false log (misses buckets party first probe)
     ∙ held-misses buckets party first probe bucket (held_through bucket false log)
 
-held-taking_at : (party taken bucket : ℕ) (log : PoolLog) →
-    held_through bucket false (log ++ taking_at party taken)
+held-taking_at : (party taken bucket : ℕ) (log : PoolLog) → held_through bucket false (log ++ taking_at party taken)
     ≡ (if taken == bucket then true else held_through bucket false log)
 held-taking_at party taken bucket log = held-append bucket false log (taking_at party taken)
 
 -- nor of a hint
-pub hint-misses : (buckets party first probe hint : ℕ) → hint ≡ hint_through hint (misses buckets party first probe)
+pub hint-misses : (buckets party first probe : ℕ) (hint : Hint) → hint ≡ hint_through hint (misses buckets party first probe)
 hint-misses buckets party first zero hint = refl
-hint-misses buckets party first (suc probe) hint =
-    hint-misses buckets party first probe hint
+hint-misses buckets party first (suc probe) hint = hint-misses buckets party first probe hint
     ∙ sym (hint-append hint (misses buckets party first probe) (miss_at party (probed buckets first probe)))
 
-pub hint_by_search : (buckets party first probe taken hint : ℕ) → probed buckets first probe ≡ taken →
-    taken + 1 ≡ hint_through hint (taking_search buckets party first probe)
+pub hint_by_search : (buckets party first probe taken : ℕ) (hint : Hint) → probed buckets first probe ≡ taken →
+    record { bucket = taken + 1; came_back = false } ≡ hint_through hint (taking_search buckets party first probe)
 hint_by_search buckets party first probe taken hint there =
-    ap (λ (n : ℕ). n + 1) (sym there)
+    ap (λ (n : ℕ). record { bucket = n + 1; came_back = false }) (sym there)
     ∙ sym (hint-append hint (misses buckets party first probe) (taking_at party (probed buckets first probe)))
 
 -- a search that takes a bucket leaves that one held, and the others as they were

@@ -9,12 +9,13 @@ use Rattle.bb_memory_base.specs.declared.steps.pool.PoolStep.TheVariants.{Detach
 use Rattle.bb_memory_base.specs.declared.steps.pool.PoolOutcome.TheVariants.{Detaches}
 use Rattle.bb_memory_bump.specs.Seats.{alone, number_of, view_log}
 use Rattle.bb_memory.specs.SharedPool.{IsParty, IsSharedScene, PoolParty, SharedPool, detach_entry, return_entry, with_entries}
-use Rattle.bb_memory.specs.SharedPoolNextFit.{hint_in, part_of}
+use Rattle.bb_memory.specs.declared.shared_pool.party.Hint.{Hint}
+use Rattle.bb_memory.specs.SharedPoolNextFit.{first_hint, hint_in}
 use Rattle.bb_memory.specs.SharedPoolRule.{IsDetachedAt, IsPartySeat, IsSeatOfIdle, SeatView, party_in, pool_in}
 use Rattle.bb_memory.specs.SharedPoolRule.{HasEnded, HasDetachedAt, TellsReturn}
 use Rattle.bb_memory.proofs.SharedPoolTries.{hint-append, hint_through, idle_after_one, idle_after_return}
 
-pub party_seat : (scene : PoolScene) (number hint : ℕ) (log : PoolLog) (me : Me ℕ SeatView) →
+pub party_seat : (scene : PoolScene) (number : ℕ) (hint : Hint) (log : PoolLog) (me : Me ℕ SeatView) →
     IsSeatOfIdle scene number log me → number < scene.parties → IsSharedScene scene → hint ≡ hint_in scene number log →
     IsPartySeat number hint me
 party_seat scene number hint log me of below shared next_fit =
@@ -37,8 +38,8 @@ no_step scene number me is = record {
 }
 
 -- a seat of a party of this pool
-module _ (pool : SharedPool) (table : TableId) (me : Me ℕ SeatView) (number hint : ℕ) (is : IsPartySeat number hint me)
-    (own : (party_in table number me.0).allocator ≡ pool) where
+module _ (pool : SharedPool) (table : TableId) (me : Me ℕ SeatView) (number : ℕ) (hint : Hint)
+    (is : IsPartySeat number hint me) (own : (party_in table number me.0).allocator ≡ pool) where
   own_scene : me.0.scene ≡ pool.scene
   own_scene = ap (λ (p : SharedPool). p.scene) own
 
@@ -58,20 +59,18 @@ module _ (pool : SharedPool) (table : TableId) (me : Me ℕ SeatView) (number hi
     log = ap (λ (m : Me ℕ SeatView). view_log m.0) ended.seat.is i;
   }
 
-  pub seated_then : (new : Me ℕ SeatView) (added : PoolLog) (next : ℕ) → next ≡ hint_through hint added →
+  pub seated_then : (new : Me ℕ SeatView) (added : PoolLog) (next : Hint) → next ≡ hint_through hint added →
       HasEnded pool.scene (number_of me.0) (view_log me.0) added new → IsPartySeat number next new
-  seated_then new added next next_fit ended =
-      party_seat pool.scene number next (view_log me.0 ++ added) new
+  seated_then new added next next_fit ended = party_seat pool.scene number next (view_log me.0 ++ added) new
       (subst (λ (n : ℕ). IsSeatOfIdle pool.scene n (view_log me.0 ++ added) new) same_number ended)
       (subst (λ (s : PoolScene). number < s.parties) own_scene is.below)
       (subst IsSharedScene own_scene is.shared)
-      (next_fit ∙ ap (λ (h : ℕ). hint_through h added)
+      (next_fit ∙ ap (λ (h : Hint). hint_through h added)
       (is.next_fit ∙ ap (λ (s : PoolScene). hint_in s number (view_log me.0)) own_scene)
-      ∙ sym (hint-append (part_of pool.scene number) (view_log me.0) added))
+      ∙ sym (hint-append (first_hint pool.scene number) (view_log me.0) added))
 
   -- a detaching has ended with its load
-  pub was_detached : (bucket : ℕ) (new : Me ℕ SeatView) →
-      HasDetachedAt pool.scene (number_of me.0) (view_log me.0) bucket new →
+  pub was_detached : (bucket : ℕ) (new : Me ℕ SeatView) → HasDetachedAt pool.scene (number_of me.0) (view_log me.0) bucket new →
       HasEnded pool.scene (number_of me.0) (view_log me.0) (detach_entry (number_of me.0) bucket) new
   was_detached bucket new tells = record {
     seat = tells;
@@ -101,7 +100,7 @@ module _ (pool : SharedPool) (table : TableId) (me : Me ℕ SeatView) (number hi
       party_with (λ n. return_entry n bucket) new_table new party view_is kept (returned bucket new tells)
 
 -- what holds of every party
-pub is_party : (table : TableId) (number hint : ℕ) (me : Me ℕ SeatView) → IsPartySeat number hint me →
+pub is_party : (table : TableId) (number : ℕ) (hint : Hint) (me : Me ℕ SeatView) → IsPartySeat number hint me →
     IsParty (party_in table number me.0)
 is_party table number hint me is = record {
   scene = is.shared;

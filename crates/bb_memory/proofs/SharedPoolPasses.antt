@@ -41,8 +41,7 @@ module _ (scene : PoolScene) (number : ℕ) (log : PoolLog) where
 
   pub passing_next : (me : Me ℕ SeatView) (bucket : ℕ) → pass_in log ≡ None → bucket < scene.geometry.buckets →
       IsPassing scene number log bucket me → next_bucket (view_log me.0) ≡ bucket
-  passing_next me bucket idle below passing =
-      ap (λ (m : Me ℕ SeatView). next_bucket (view_log m.0)) passing.seat.is
+  passing_next me bucket idle below passing = ap (λ (m : Me ℕ SeatView). next_bucket (view_log m.0)) passing.seat.is
       ∙ next_after_losses scene.geometry.buckets number bucket log idle below
 
   module _ (me new : Me ℕ SeatView) (bucket : ℕ) (passing : IsPassing scene number log bucket me) where

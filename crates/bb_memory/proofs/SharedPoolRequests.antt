@@ -16,6 +16,7 @@ use Rattle.bb_memory_base.proofs.PoolSteps.{test_apart}
 use Rattle.bb_memory_bump.specs.Seats.{number_of, view_log}
 use Rattle.bb_memory_core.proofs.Measures.{bucket-inside}
 use Rattle.bb_memory_core.proofs.PoolCalls.{bucket_place-multiple}
+use Rattle.bb_memory.specs.declared.shared_pool.party.Hint.{Hint}
 use Rattle.bb_memory.specs.SharedPool.{AreAllHeldAfter, PoolParty, ServesNextFit, SharedPool, chunk_of, taken_bucket}
 use Rattle.bb_memory.specs.SharedPoolRule.{IsPartySeat, SeatView, party_in, pool_in}
 use Rattle.bb_memory.specs.SharedPoolRule.{HasEnded}
@@ -44,13 +45,12 @@ other_with (Some taken) bucket held apart is =
 pub record HasAsked (scene : PoolScene) (number : ℕ) (log added : PoolLog) (result : Option ℕ) (new : Me ℕ SeatView)
     : Type 0 where
   pub ended : HasEnded scene number log added new
-  pub leaves : (bucket : ℕ) →
-      held_through bucket false (log ++ added) ≡ held_with result bucket (held_through bucket false log)
+  pub leaves : (bucket : ℕ) → held_through bucket false (log ++ added) ≡ held_with result bucket (held_through bucket false log)
   pub found : MatchOption result (scene.parties ≡ 1 → AreAllHeldAfter log scene.geometry.buckets)
       (λ bucket. (bucket < scene.geometry.buckets) × (¬ IsHeldAfter log bucket))
 
 -- a party of this pool, before its tries and behind them
-module _ (pool : SharedPool) (table new_table : TableId) (me new : Me ℕ SeatView) (number hint next : ℕ) (added : PoolLog)
+module _ (pool : SharedPool) (table new_table : TableId) (me new : Me ℕ SeatView) (number : ℕ) (hint next : Hint) (added : PoolLog)
     (party : PoolParty) (layout : Layout) (is : IsPartySeat number hint me) (now : IsPartySeat number next new)
     (view_is : party_in table number me.0 ≡ party) (own : party.allocator ≡ pool) where
   abbrev Asked : Option ℕ → Type 0

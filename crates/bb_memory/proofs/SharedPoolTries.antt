@@ -8,14 +8,14 @@ use Rattle.bb_memory_base.specs.PoolLogs.{loss_at}
 use Rattle.bb_memory_base.specs.declared.steps.pool.PoolStep.TheVariants.{Try}
 use Rattle.bb_memory_base.specs.declared.steps.pool.PoolOutcome.TheVariants.{Takes, Loses, RefusedAtLoss}
 use Rattle.bb_memory_base.proofs.PoolHolders.{held_through}
+use Rattle.bb_memory.specs.declared.shared_pool.party.Hint.{Hint}
 use Rattle.bb_memory.specs.SharedPoolNextFit.{hint_after}
 use Rattle.bb_memory.specs.SharedPool.{detach_entry, losses, taking_pass, refused_pass, return_entry}
 
 abbrev pass_through : Option ℕ → PoolLog → Option ℕ
 pass_through pass log = fold (λ pass entry. pass_after pass entry.outcome) pass log
 
-pass-append : (pass : Option ℕ) (log more : PoolLog) →
-    pass_through pass (log ++ more) ≡ pass_through (pass_through pass log) more
+pass-append : (pass : Option ℕ) (log more : PoolLog) → pass_through pass (log ++ more) ≡ pass_through (pass_through pass log) more
 pass-append pass [] more = refl
 pass-append pass (entry ∷ log) more = pass-append (pass_after pass entry.outcome) log more
 
@@ -24,24 +24,21 @@ pub held-append : (bucket : ℕ) (held : Bool) (log more : PoolLog) →
 held-append bucket held [] more = refl
 held-append bucket held (entry ∷ log) more = held-append bucket (held_after bucket held entry.outcome) log more
 
-abbrev pub hint_through : ℕ → PoolLog → ℕ
+abbrev pub hint_through : Hint → PoolLog → Hint
 hint_through hint log = fold (λ hint entry. hint_after hint entry.outcome) hint log
 
-pub hint-append : (hint : ℕ) (log more : PoolLog) →
-    hint_through hint (log ++ more) ≡ hint_through (hint_through hint log) more
+pub hint-append : (hint : Hint) (log more : PoolLog) → hint_through hint (log ++ more) ≡ hint_through (hint_through hint log) more
 hint-append hint [] more = refl
 hint-append hint (entry ∷ log) more = hint-append (hint_after hint entry.outcome) log more
 
 -- LOSSES
 
-held-loss : (bucket lost : ℕ) (held more : Bool) →
-    held_after bucket held (if more then Loses lost else RefusedAtLoss lost) ≡ held
+held-loss : (bucket lost : ℕ) (held more : Bool) → held_after bucket held (if more then Loses lost else RefusedAtLoss lost) ≡ held
 held-loss bucket lost held true = refl
 held-loss bucket lost held false = refl
 
 -- losses change nothing of what is held
-pub held-losses : (buckets party lost bucket : ℕ) (held : Bool) →
-    held_through bucket held (losses buckets party lost) ≡ held
+pub held-losses : (buckets party lost bucket : ℕ) (held : Bool) → held_through bucket held (losses buckets party lost) ≡ held
 held-losses buckets party zero bucket held = refl
 held-losses buckets party (suc lost) bucket held =
     held-append bucket held (losses buckets party lost) (entry_of (Try party) (loss_at buckets lost) ∷ [])
@@ -49,27 +46,27 @@ held-losses buckets party (suc lost) bucket held =
     ∙ held-losses buckets party lost bucket held
 
 -- nor of a hint
-hint-loss : (lost hint : ℕ) (more : Bool) → hint_after hint (if more then Loses lost else RefusedAtLoss lost) ≡ hint
+hint-loss : (lost : ℕ) (hint : Hint) (more : Bool) → hint_after hint (if more then Loses lost else RefusedAtLoss lost) ≡ hint
 hint-loss lost hint true = refl
 hint-loss lost hint false = refl
 
-pub hint-losses : (buckets party lost hint : ℕ) → hint ≡ hint_through hint (losses buckets party lost)
+pub hint-losses : (buckets party lost : ℕ) (hint : Hint) → hint ≡ hint_through hint (losses buckets party lost)
 hint-losses buckets party zero hint = refl
 hint-losses buckets party (suc lost) hint =
-    let before : ℕ = hint_through hint (losses buckets party lost) in
+    let before : Hint = hint_through hint (losses buckets party lost) in
     hint-losses buckets party lost hint
     ∙ sym (hint-append hint (losses buckets party lost) (entry_of (Try party) (loss_at buckets lost) ∷ [])
     ∙ hint-loss lost before (nat_lt (lost + 1) buckets))
 
-pub hint-taking : (buckets party taken hint : ℕ) → taken + 1 ≡ hint_through hint (taking_pass buckets party taken)
+pub hint-taking : (buckets party taken : ℕ) (hint : Hint) →
+    record { bucket = taken + 1; came_back = false } ≡ hint_through hint (taking_pass buckets party taken)
 hint-taking buckets party taken hint =
     sym (hint-append hint (losses buckets party taken) (entry_of (Try party) (Takes taken) ∷ []))
 
 -- so a log holds what it held before them
 pub same_held : (buckets party lost bucket : ℕ) (log : PoolLog) →
     held_through bucket false (log ++ losses buckets party lost) ≡ held_through bucket false log
-same_held buckets party lost bucket log =
-    held-append bucket false log (losses buckets party lost)
+same_held buckets party lost bucket log = held-append bucket false log (losses buckets party lost)
     ∙ held-losses buckets party lost bucket (held_through bucket false log)
 
 pub test_below : (m n : ℕ) → m < n → nat_lt m n ≡ true
@@ -91,8 +88,7 @@ next-losses buckets party (suc lost) below =
 
 pub next_after_losses : (buckets party lost : ℕ) (log : PoolLog) → pass_in log ≡ None → lost < buckets →
     next_bucket (log ++ losses buckets party lost) ≡ lost
-next_after_losses buckets party lost log idle below =
-    ap (λ (pass : Option ℕ). unwrap_or pass 0) (
+next_after_losses buckets party lost log idle below = ap (λ (pass : Option ℕ). unwrap_or pass 0) (
     pass-append None log (losses buckets party lost)
     ∙ ap (λ (pass : Option ℕ). pass_through pass (losses buckets party lost)) idle)
     ∙ next-losses buckets party lost below
@@ -110,14 +106,12 @@ idle-losses (suc buckets) party =
 
 pub idle_after_refusal : (buckets party : ℕ) (log : PoolLog) → pass_in log ≡ None →
     pass_in (log ++ refused_pass buckets party) ≡ None
-idle_after_refusal buckets party log idle =
-    pass-append None log (losses buckets party buckets)
+idle_after_refusal buckets party log idle = pass-append None log (losses buckets party buckets)
     ∙ ap (λ (pass : Option ℕ). pass_through pass (losses buckets party buckets)) idle
     ∙ idle-losses buckets party
 
 pub idle_after_taking : (buckets party bucket : ℕ) (log : PoolLog) → pass_in (log ++ taking_pass buckets party bucket) ≡ None
-idle_after_taking buckets party bucket log =
-    pass-append None log (taking_pass buckets party bucket)
+idle_after_taking buckets party bucket log = pass-append None log (taking_pass buckets party bucket)
     ∙ pass-append (pass_in log) (losses buckets party bucket) (entry_of (Try party) (Takes bucket) ∷ [])
 
 -- a pass that takes a bucket leaves it held, and the others as they were

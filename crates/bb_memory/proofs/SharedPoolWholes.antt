@@ -53,8 +53,7 @@ module _ (scene : PoolScene) (parties : List PoolParty) (met : HaveMet scene par
       (λ held. whole.0 (flags.1 held), λ out. flags.0 (whole.1 out))
 
   pub met_logged : All (λ party. log_of scene steps party.number ≡ party.log) parties
-  met_logged k d below =
-      met.1.agree.each _ _ (met.1.theirs k d below)
+  met_logged k d below = met.1.agree.each _ _ (met.1.theirs k d below)
 
   -- no bucket is held by two of them
   pub met_apart : (i j : ℕ) (one other : PoolParty) (bucket : ℕ) → slice_get parties i ≡ Some one →
@@ -89,8 +88,7 @@ module _ (scene : PoolScene) (parties : List PoolParty) (met : HaveMet scene par
 
   -- each step is in the log of one that met
   pub met_nobody_else : length parties ≡ scene.parties → All (λ entry. Any (λ party. Contains party.log entry) parties) history
-  met_nobody_else all =
-      All-weaker (Contains history) (λ entry. Any (λ party. Contains party.log entry) parties)
+  met_nobody_else all = All-weaker (Contains history) (λ entry. Any (λ party. Contains party.log entry) parties)
       (λ entry there. owned entry.step entry.outcome all there) history (All-contains_itself history)
 
   -- DETACHED BUCKETS

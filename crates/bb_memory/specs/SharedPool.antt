@@ -82,13 +82,11 @@ AreAllHeldAfter log buckets = (bucket : ℕ) → bucket < buckets → IsHeldAfte
 -- a party's losses at so many of the buckets, from bucket 0 up
 abbrev pub losses : ℕ → ℕ → ℕ → PoolLog
 losses buckets party zero = []
-losses buckets party (suc bucket) =
-    losses buckets party bucket ++ entry_of (Try party) (loss_at buckets bucket) ∷ []
+losses buckets party (suc bucket) = losses buckets party bucket ++ entry_of (Try party) (loss_at buckets bucket) ∷ []
 
 -- a pass that takes a bucket: losses at those below it, and its taking
 abbrev pub taking_pass : ℕ → ℕ → ℕ → PoolLog
-taking_pass buckets party bucket =
-    losses buckets party bucket ++ entry_of (Try party) (Takes bucket) ∷ []
+taking_pass buckets party bucket = losses buckets party bucket ++ entry_of (Try party) (Takes bucket) ∷ []
 
 -- a pass that is refused: losses at all
 abbrev pub refused_pass : ℕ → ℕ → PoolLog
@@ -122,8 +120,7 @@ MayTake party layout (Ok bucket) new =
     MayTakeBucket party layout bucket.number × (bucket ≡ taken_bucket party.allocator bucket.number layout.size)
     × (new ≡ with_entries party (taking_pass buckets party.number bucket.number))
 -- no step
-MayTake party layout (Err SizeTooLarge) new =
-    (party.allocator.scene.geometry.bucket.size < layout.size) × (new ≡ party)
+MayTake party layout (Err SizeTooLarge) new = (party.allocator.scene.geometry.bucket.size < layout.size) × (new ≡ party)
 MayTake party layout (Err AlignmentFailure) new =
     (layout.size ≤ party.allocator.scene.geometry.bucket.size) × (party.allocator.scene.geometry.bucket.align < layout.align)
     × (new ≡ party)
@@ -161,8 +158,7 @@ pub record Serves (pool : SharedPool) (old : PoolParty) (layout : Layout) (answe
   pub is_party : IsParty new
   pub held : IfOk answer (λ bucket. IsHeldAfter new.log bucket.number)
   pub others_kept : (other : ℕ) → IsHeldAfter old.log other → IsHeldAfter new.log other
-  pub others : (other : ℕ) → IfOk answer (λ bucket. other ≢ bucket.number) → IsHeldAfter new.log other →
-      IsHeldAfter old.log other
+  pub others : (other : ℕ) → IfOk answer (λ bucket. other ≢ bucket.number) → IsHeldAfter new.log other → IsHeldAfter old.log other
   pub inside : IfOk answer (λ bucket. IsInside pool.scene.geometry.region (chunk_of bucket))
   pub aligned : IfOk answer (λ bucket. (chunk_of bucket).place % layout.align ≡ 0)
   pub exact_size : IfOk answer (λ bucket. (chunk_of bucket).len ≡ layout.size)
@@ -189,8 +185,7 @@ pub record IsResizedTo {E : Type 0} (pool : SharedPool) (old : TakenBucket) (ans
 
 -- The pass with which this beginning of the party's log ends was refused, and has found each bucket held in the run, each at a
 -- step of its own. Its last step is the one after which the party's entries are that beginning.
-pub record HasFoundAllHeld (party : PoolParty) (is : IsParty party) (beginning : PoolLog)
-    : Type 0 where
+pub record HasFoundAllHeld (party : PoolParty) (is : IsParty party) (beginning : PoolLog) : Type 0 where
   pub last : ℕ
   pub its_last : let history = history_of party.allocator.scene is.interleaved.steps in
       entries_by party.number (take (last + 1) history) ≡ beginning
@@ -212,8 +207,7 @@ AreInterleaved a b = CommonInterleaving a.allocator.scene a.number a.log b.numbe
 
 -- each of so many numbers is that of one of these parties
 abbrev pub HaveAllNumbers : ℕ → List PoolParty → Type 0
-HaveAllNumbers count parties =
-    (number : ℕ) → number < count → Contains (map (λ party. party.number) parties) number
+HaveAllNumbers count parties = (number : ℕ) → number < count → Contains (map (λ party. party.number) parties) number
 
 -- some party of these holds the bucket
 abbrev pub IsHeldByOne : List PoolParty → ℕ → Type 0
@@ -230,8 +224,7 @@ WasDetachedByOne parties bucket = Any (λ party. WasDetached party.log bucket) p
 
 -- some party of these holds the bucket, or it is detached after these steps
 abbrev pub IsHeldOrDetached : PoolScene → List PoolStep → List PoolParty → ℕ → Type 0
-IsHeldOrDetached scene steps parties bucket =
-    IsHeldByOne parties bucket ⊎ IsDetached (left_by scene steps) bucket
+IsHeldOrDetached scene steps parties bucket = IsHeldByOne parties bucket ⊎ IsDetached (left_by scene steps) bucket
 
 -- the step took a bucket
 abbrev pub IsTaking : PoolOutcome → Type 0
@@ -252,8 +245,7 @@ pub record HasTaker (scene : PoolScene) (parties : List PoolParty) : Type 0 wher
 -- There is a log for each of the pool's parties, with which these flags agree, and these parties' logs are among them. Where
 -- these are all parties, each log is one of theirs, and a flag is taken exactly where one of them holds the bucket, or it is
 -- detached.
-pub record AgreeWith (scene : PoolScene) (flags : List Bool) (parties : List PoolParty)
-    : Type 0 where
+pub record AgreeWith (scene : PoolScene) (flags : List Bool) (parties : List PoolParty) : Type 0 where
   pub logs : List PoolLog
   pub agree : LogsAgree scene flags logs
   pub one_a_party : length logs ≡ scene.parties
@@ -271,8 +263,7 @@ HaveMet scene parties = (flags : List Bool) × AgreeWith scene flags parties
 
 -- the takings and returns of the party's interleaving are a run of the pool object, from the empty list to this one
 abbrev pub IsHistoryRun : (party : PoolParty) → IsParty party → List Layout → List Chunk → Type 0
-IsHistoryRun party is layouts live =
-    IsPoolRun party.allocator.scene is.interleaved.steps layouts live
+IsHistoryRun party is layouts live = IsPoolRun party.allocator.scene is.interleaved.steps layouts live
 
 -- DETACHED BUCKETS
 

@@ -1,7 +1,7 @@
 -- Next fit: requests of a shared pool's party that probe each bucket from the party's hint on, what they add to the party's log,
 -- and what they may be answered.
 use Rattle.std.specs.Prelude.{◌≡◌, ℕ, zero, suc, ◌+◌, ◌*◌, ◌/◌, ◌%◌, ◌<◌, ◌≤◌, nat_lt, if◌then◌else◌, [], ◌∷◌, ◌++◌, Result, Ok}
-use Rattle.std.specs.Prelude.{Err, fold, take}
+use Rattle.std.specs.Prelude.{Err, fold, take, true, false, ◌&&◌}
 use Rattle.bb_memory_traits.specs.PoolObject.{IsWithin}
 use Rattle.bb_memory_base.specs.PoolMachine.{PoolScene}
 use Rattle.bb_memory_base.specs.PoolLogs.{PoolLog, entries_by, entry_of, history_of, IsHeldInRun, MissesAt}
@@ -12,6 +12,7 @@ use Rattle.bb_memory_traits.specs.declared.allocator.AllocationError.TheVariants
 use Rattle.bb_memory_base.specs.declared.steps.pool.PoolStep.TheVariants.{TryAt}
 use Rattle.bb_memory_base.specs.declared.steps.pool.PoolOutcome.{PoolOutcome}
 use Rattle.bb_memory_base.specs.declared.steps.pool.PoolOutcome.TheVariants.{Takes, Misses, Gives}
+use Rattle.bb_memory.specs.declared.shared_pool.party.Hint.{Hint}
 use Rattle.bb_memory.specs.SharedPool.{IsParty, MayTakeBucket, PoolParty, TakenBucket, taken_bucket, with_entries}
 
 -- WHERE A SEARCH BEGINS
@@ -20,19 +21,27 @@ use Rattle.bb_memory.specs.SharedPool.{IsParty, MayTakeBucket, PoolParty, TakenB
 abbrev pub part_of : PoolScene → ℕ → ℕ
 part_of scene number = number * scene.geometry.buckets / scene.parties
 
--- a hint after one more step: behind the bucket that the party took, or at the one that it gave back
-abbrev pub hint_after : ℕ → PoolOutcome → ℕ
-hint_after hint (Takes bucket) = bucket + 1
-hint_after hint (Gives bucket) = bucket
+-- a hint after one more step: behind the bucket that the party took, and from its next return on at the least bucket that it
+-- gave back since
+abbrev pub hint_after : Hint → PoolOutcome → Hint
+hint_after hint (Takes bucket) = record { bucket = bucket + 1; came_back = false }
+hint_after hint (Gives bucket) = record {
+  bucket = if hint.came_back && nat_lt hint.bucket bucket then hint.bucket else bucket;
+  came_back = true;
+}
 hint_after hint _ = hint
 
--- Next fit: the hint of a party with this log, the bucket at which its next search begins. Before the party has taken or given
--- back a bucket, that is the first bucket of its own part.
-abbrev pub hint_in : PoolScene → ℕ → PoolLog → ℕ
-hint_in scene number log = fold (λ hint entry. hint_after hint entry.outcome) (part_of scene number) log
+-- the hint of a party that has made no step: the first bucket of its own part
+abbrev pub first_hint : PoolScene → ℕ → Hint
+first_hint scene number = record { bucket = part_of scene number; came_back = false }
 
+-- the hint of a party with this log
+abbrev pub hint_in : PoolScene → ℕ → PoolLog → Hint
+hint_in scene number log = fold (λ hint entry. hint_after hint entry.outcome) (first_hint scene number) log
+
+-- Next fit: the bucket at which the party's next search begins
 abbrev pub hint_of : PoolParty → ℕ
-hint_of party = hint_in party.allocator.scene party.number party.log
+hint_of party = (hint_in party.allocator.scene party.number party.log).bucket
 
 -- WHAT CALLS ADD TO A LOG
 
@@ -55,13 +64,11 @@ probed buckets first probe = (start_of buckets first + probe) % buckets
 -- a party's misses at so many probes of a search, from probe 0 up
 abbrev pub misses : ℕ → ℕ → ℕ → ℕ → PoolLog
 misses buckets party first zero = []
-misses buckets party first (suc probe) =
-    misses buckets party first probe ++ miss_at party (probed buckets first probe)
+misses buckets party first (suc probe) = misses buckets party first probe ++ miss_at party (probed buckets first probe)
 
 -- a search that takes a bucket at a probe: misses at the probes before, and the taking
 abbrev pub taking_search : ℕ → ℕ → ℕ → ℕ → PoolLog
-taking_search buckets party first probe =
-    misses buckets party first probe ++ taking_at party (probed buckets first probe)
+taking_search buckets party first probe = misses buckets party first probe ++ taking_at party (probed buckets first probe)
 
 -- a search that is refused: a miss at each bucket
 abbrev pub refused_search : ℕ → ℕ → ℕ → PoolLog
@@ -78,15 +85,13 @@ pub record TakesBySearch (party : PoolParty) (first bucket : ℕ) (new : PoolPar
       new ≡ with_entries party (taking_search buckets party.number first probe)
 
 -- What a party's request may be answered whose search begins at this bucket, and what the party is then.
-abbrev pub MayTakeFrom : ℕ → PoolParty → Layout → Result TakenBucket AllocationError → PoolParty
-    → Type 0
+abbrev pub MayTakeFrom : ℕ → PoolParty → Layout → Result TakenBucket AllocationError → PoolParty → Type 0
 -- a search, which took some bucket
 MayTakeFrom first party layout (Ok bucket) new =
     MayTakeBucket party layout bucket.number × (bucket ≡ taken_bucket party.allocator bucket.number layout.size)
     × TakesBySearch party first bucket.number new
 -- no step
-MayTakeFrom first party layout (Err SizeTooLarge) new =
-    (party.allocator.scene.geometry.bucket.size < layout.size) × (new ≡ party)
+MayTakeFrom first party layout (Err SizeTooLarge) new = (party.allocator.scene.geometry.bucket.size < layout.size) × (new ≡ party)
 MayTakeFrom first party layout (Err AlignmentFailure) new =
     (layout.size ≤ party.allocator.scene.geometry.bucket.size) × (party.allocator.scene.geometry.bucket.align < layout.align)
     × (new ≡ party)

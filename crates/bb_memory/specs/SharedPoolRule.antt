@@ -15,6 +15,7 @@ use Rattle.bb_memory_base.specs.PoolLogs.{next_bucket, pass_in, entry_of, Common
 use Rattle.bb_memory_traits.specs.declared.layout.Layout.{Layout}
 use Rattle.bb_memory.specs.SharedPool.{PoolParty, IsSharedScene, SharedPool, scene_at, AreAllHeldAfter, detach_entry}
 use Rattle.bb_memory.specs.SharedPool.{refused_pass, return_entry, attach_entry, taking_pass}
+use Rattle.bb_memory.specs.declared.shared_pool.party.Hint.{Hint}
 use Rattle.bb_memory.specs.SharedPoolNextFit.{hint_in, probed, miss_at, misses, refused_search, taking_at, taking_search}
 use Rattle.bb_memory_bump.specs.Seats.{AreSeated, HasRoomFor, IsAt, Numbered, Seat, alone, carrying, fresh_from, number_of}
 use Rattle.bb_memory_bump.specs.Seats.{numbered, standing_for, times_detached, view_log, HaveLogs, alone_with, times_in}
@@ -70,19 +71,17 @@ party_in table number view = record {
 }
 
 -- the seat stands for this party alone, whose log some interleaving has
-pub record IsSeatOf (scene : PoolScene) (number : ℕ) (log : PoolLog) (me : Me ℕ SeatView)
-    : Type 0 where
+pub record IsSeatOf (scene : PoolScene) (number : ℕ) (log : PoolLog) (me : Me ℕ SeatView) : Type 0 where
   pub is : me ≡ (alone scene number log, [])
   pub interleaved : Interleaving scene number log
 
 -- the seat of an idle party
-pub record IsSeatOfIdle (scene : PoolScene) (number : ℕ) (log : PoolLog) (me : Me ℕ SeatView)
-    : Type 0 where
+pub record IsSeatOfIdle (scene : PoolScene) (number : ℕ) (log : PoolLog) (me : Me ℕ SeatView) : Type 0 where
   pub seat : IsSeatOf scene number log me
   pub idle : pass_in log ≡ None
 
 -- the seat of an idle party with this number and this hint
-pub record IsPartySeat (number hint : ℕ) (me : Me ℕ SeatView) : Type 0 where
+pub record IsPartySeat (number : ℕ) (hint : Hint) (me : Me ℕ SeatView) : Type 0 where
   pub seat : IsSeatOfIdle me.0.scene number (view_log me.0) me
   pub below : number < me.0.scene.parties
   pub shared : IsSharedScene me.0.scene
@@ -259,8 +258,7 @@ TellsLookAt scene number log bucket found new =
 
 -- a store of free
 abbrev pub TellsReturn : PoolScene → ℕ → PoolLog → ℕ → Me ℕ SeatView → Type 0
-TellsReturn scene number log bucket new =
-    IsSeatOf scene number (log ++ return_entry number bucket) new
+TellsReturn scene number log bucket new = IsSeatOf scene number (log ++ return_entry number bucket) new
 
 -- A party detached this bucket: its log then has the step, and the bucket is detached at its seat.
 pub record TellsDetach (scene : PoolScene) (number : ℕ) (log : PoolLog) (bucket : ℕ)
@@ -271,8 +269,7 @@ pub record TellsDetach (scene : PoolScene) (number : ℕ) (log : PoolLog) (bucke
 
 -- a party detached this bucket, which has gone to a seat of its own
 abbrev pub HasDetachedAt : PoolScene → ℕ → PoolLog → ℕ → Me ℕ SeatView → Type 0
-HasDetachedAt scene number log bucket new =
-    IsSeatOf scene number (log ++ detach_entry number bucket) new
+HasDetachedAt scene number log bucket new = IsSeatOf scene number (log ++ detach_entry number bucket) new
 
 -- An idle party attached this bucket, which wasn't held after its log. The log then has the step.
 pub record HasAttachedAt (scene : PoolScene) (number : ℕ) (log : PoolLog) (bucket : ℕ)
@@ -302,20 +299,16 @@ pub record TellsTwo (scene : PoolScene) (number : ℕ) (log : PoolLog) (other : 
 -- each is of the bucket whose flag is the word
 
 abbrev pub tries : Step ℕ → Me ℕ SeatView → ℕ → Me ℕ SeatView → Type 0
-tries step old found new =
-    TellsTry old.0.scene (number_of old.0) (view_log old.0) (bucket_of step.word) found new
+tries step old found new = TellsTry old.0.scene (number_of old.0) (view_log old.0) (bucket_of step.word) found new
 
 abbrev pub tries_at : Step ℕ → Me ℕ SeatView → ℕ → Me ℕ SeatView → Type 0
-tries_at step old found new =
-    TellsTryAt old.0.scene (number_of old.0) (view_log old.0) (bucket_of step.word) found new
+tries_at step old found new = TellsTryAt old.0.scene (number_of old.0) (view_log old.0) (bucket_of step.word) found new
 
 abbrev pub looks_at : Step ℕ → Me ℕ SeatView → ℕ → Me ℕ SeatView → Type 0
-looks_at step old found new =
-    TellsLookAt old.0.scene (number_of old.0) (view_log old.0) (bucket_of step.word) found new
+looks_at step old found new = TellsLookAt old.0.scene (number_of old.0) (view_log old.0) (bucket_of step.word) found new
 
 abbrev pub returns : Step ℕ → Me ℕ SeatView → ℕ → Me ℕ SeatView → Type 0
-returns step old found new =
-    TellsReturn old.0.scene (number_of old.0) (view_log old.0) (bucket_of step.word) new
+returns step old found new = TellsReturn old.0.scene (number_of old.0) (view_log old.0) (bucket_of step.word) new
 
 -- a load that changes nothing, by a seat that stands for any number of parties
 abbrev pub meets : Step ℕ → Me ℕ SeatView → ℕ → Me ℕ SeatView → Type 0
@@ -323,13 +316,11 @@ meets step old found new = (new ≡ old) × TellsMeeting old.0.scene old.0.parti
 
 -- a load of its word by the party that detaches a bucket
 abbrev pub detaches : Step ℕ → Me ℕ SeatView → ℕ → Me ℕ SeatView → Type 0
-detaches step old found new =
-    TellsDetach old.0.scene (number_of old.0) (view_log old.0) (bucket_of step.word) new
+detaches step old found new = TellsDetach old.0.scene (number_of old.0) (view_log old.0) (bucket_of step.word) new
 
 -- a load of its word by an idle party at whose seat the bucket is detached, and which attaches it
 abbrev pub attaches : Step ℕ → Me ℕ SeatView → ℕ → Me ℕ SeatView → Type 0
-attaches step old found new =
-    HasAttachedAt old.0.scene (number_of old.0) (view_log old.0) (bucket_of step.word) new
+attaches step old found new = HasAttachedAt old.0.scene (number_of old.0) (view_log old.0) (bucket_of step.word) new
 
 -- A load by a seat, where these parties have met. The seat stays as it is.
 pub record HasFound (scene : PoolScene) (parties : List NumberedLog) (was : TableId) (old : Me ℕ SeatView)
@@ -348,8 +339,7 @@ pub record HasTaken (scene : PoolScene) (number : ℕ) (log : PoolLog) (new : Me
   pub free : ¬ IsHeldAfter log bucket
 
 -- a refused request: where the party is the only one, all buckets were held after its log
-pub record HasRefused (scene : PoolScene) (number : ℕ) (log : PoolLog) (new : Me ℕ SeatView)
-    : Type 0 where
+pub record HasRefused (scene : PoolScene) (number : ℕ) (log : PoolLog) (new : Me ℕ SeatView) : Type 0 where
   pub ended : HasEnded scene number log (refused_pass scene.geometry.buckets number) new
   pub held : scene.parties ≡ 1 → AreAllHeldAfter log scene.geometry.buckets
 

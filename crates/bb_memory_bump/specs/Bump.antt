@@ -22,8 +22,7 @@ pub record IsBump (bump : Bump) : Type 0 where
   pub used : bump.used ≤ bump.region.size
 
 -- What a request is answered by the value alone, and what the bump is then.
-pub record Takes (old : Bump) (layout : Layout) (answer : Result Chunk AllocationError) (new : Bump)
-    : Type 0 where
+pub record Takes (old : Bump) (layout : Layout) (answer : Result Chunk AllocationError) (new : Bump) : Type 0 where
   -- each outcome, both ways
   pub accepted : IsOk answer ↔ ((0 < layout.size) × (chunk_end (chunk_at_or_after (old.region.start + old.used) layout)
       ≤ region_end old.region))

@@ -83,8 +83,7 @@ abbrev pub times_in_views : {S E : Type 0} → ℕ → List (Seat S E) → ℕ
 times_in_views number views = total (λ view. times_in number view.parties) views
 
 -- each party of a view has this log, and each party that was made stands in exactly one view; a dropped party's view stays
-pub record AreSeated {S E : Type 0} (made : ℕ) (logs : List (List E)) (views : List (Seat S E))
-    : Type 0 where
+pub record AreSeated {S E : Type 0} (made : ℕ) (logs : List (List E)) (views : List (Seat S E)) : Type 0 where
   pub known : (seat : ℕ) (view : Seat S E) → get_elem? views seat ≡ some view → HaveLogs made logs view.parties
   pub once : (number : ℕ) → number < made → times_in_views number views ≡ 1
 
@@ -132,8 +131,7 @@ abbrev pub others_detached : {S E : Type 0} → Seat S E → Seat S E
 others_detached view = seat_of view.scene view.parties (tail_of view.detached)
 
 abbrev pub both_detached : {S E : Type 0} → Seat S E → Seat S E → Seat S E
-both_detached view other =
-    seat_of view.scene (other.parties ++ view.parties) (other.detached ++ view.detached)
+both_detached view other = seat_of view.scene (other.parties ++ view.parties) (other.detached ++ view.detached)
 
 -- SEATS AT A TABLE
 

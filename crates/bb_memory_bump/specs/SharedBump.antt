@@ -94,8 +94,7 @@ pub data Tries (region : Region) (party : ℕ) (layout : Layout) : BumpLog → �
       fits region position layout ≡ true → Tries region party layout tried position
 
 -- A request that has won this chunk, which is the one that the layout gets at the position that it had seen.
-pub record IsWon (region : Region) (party : ℕ) (layout : Layout) (added : BumpLog) (chunk : Chunk)
-    : Type 0 where
+pub record IsWon (region : Region) (party : ℕ) (layout : Layout) (added : BumpLog) (chunk : Chunk) : Type 0 where
   pub seen : ℕ
   pub tried : BumpLog
   pub tries : Tries region party layout tried seen
@@ -135,8 +134,7 @@ MayTake party layout (Err AlignmentFailure) new = ⊥
 
 -- the answer is the bump object's where this much of the region is used
 abbrev pub IsAnsweredAt : Region → ℕ → Layout → Result Chunk AllocationError → Type 0
-IsAnsweredAt region used layout answer =
-    (live : List Chunk) → StandsFor region used live → MayAllocate region live layout answer
+IsAnsweredAt region used layout answer = (live : List Chunk) → StandsFor region used live → MayAllocate region live layout answer
 
 -- INTERLEAVINGS
 
@@ -177,8 +175,7 @@ pub record AreBothOf (allocator : SharedBump) (one other : BumpParty) : Type 0 w
 
 -- an interleaving that has the logs of both parties
 abbrev pub AreInterleaved : BumpParty → BumpParty → Type 0
-AreInterleaved a b =
-    (position : ℕ) × CommonInterleaving a.allocator.scene a.number a.log b.number b.log position
+AreInterleaved a b = (position : ℕ) × CommonInterleaving a.allocator.scene a.number a.log b.number b.log position
 
 -- Two parties met where this position was found: it is at least what either knew, at most the size, and what an interleaving of
 -- both logs leaves.
@@ -191,20 +188,17 @@ pub record MeetAt (bump : SharedBump) (a b : BumpParty) (found : ℕ) : Type 0 w
 
 -- no chunk that was won in the one log overlaps one of the other
 abbrev pub HaveChunksApart : BumpLog → BumpLog → Type 0
-HaveChunksApart log other_log =
-    All (λ chunk. All (AreApart chunk) (chunks_won other_log)) (chunks_won log)
+HaveChunksApart log other_log = All (λ chunk. All (AreApart chunk) (chunks_won other_log)) (chunks_won log)
 
 -- each chunk that was won in the log ends at or before this much of the region
 abbrev pub HasChunksWithin : Region → BumpLog → ℕ → Type 0
-HasChunksWithin region log used =
-    All (λ chunk. chunk_end chunk ≤ region.start + used) (chunks_won log)
+HasChunksWithin region log used = All (λ chunk. chunk_end chunk ≤ region.start + used) (chunks_won log)
 
 -- ALL PARTIES
 
 -- each of so many numbers is that of one of these parties
 abbrev pub HaveAllNumbers : ℕ → List BumpParty → Type 0
-HaveAllNumbers count parties =
-    (number : ℕ) → number < count → Contains (map (λ party. party.number) parties) number
+HaveAllNumbers count parties = (number : ℕ) → number < count → Contains (map (λ party. party.number) parties) number
 
 -- There is a log for each of the bump's parties, with which this position agrees, and these parties' logs are among them. Where
 -- these are all parties, each log is one of theirs, and the position is the greatest that one of them has seen.

@@ -58,15 +58,13 @@ party_in table number view = record {
 
 -- The seat stands for this party alone. Some interleaving has its log and leaves what the party has seen, and some one leaves its
 -- floor.
-pub record IsSeatOf (scene : BumpScene) (number : ℕ) (log : BumpLog) (me : Me ℕ SeatView)
-    : Type 0 where
+pub record IsSeatOf (scene : BumpScene) (number : ℕ) (log : BumpLog) (me : Me ℕ SeatView) : Type 0 where
   pub is : me ≡ (alone (sight scene (met_by me.0)) number log, [])
   pub interleaved : Interleaving scene number log (seen_in scene log)
   pub reached : Interleaving scene number log (max (seen_in scene log) (met_by me.0))
 
 -- the seat of an idle party
-pub record IsSeatOfIdle (scene : BumpScene) (number : ℕ) (log : BumpLog) (me : Me ℕ SeatView)
-    : Type 0 where
+pub record IsSeatOfIdle (scene : BumpScene) (number : ℕ) (log : BumpLog) (me : Me ℕ SeatView) : Type 0 where
   pub seat : IsSeatOf scene number log me
   pub idle : call_in log ≡ None
 
@@ -95,8 +93,7 @@ pub record AreTwoAt (bump : SharedBump) (here : TableId) (me : Me ℕ SeatView) 
 
 -- a seat of any number of parties
 abbrev pub StandsAt : SharedBump → TableId → Me ℕ SeatView → Type 0
-StandsAt bump here me =
-    IsAt bump.table here (me ≡ (standing_for (sight bump.scene (met_by me.0)) me.0.parties, []))
+StandsAt bump here me = IsAt bump.table here (me ≡ (standing_for (sight bump.scene (met_by me.0)) me.0.parties, []))
 
 -- such a seat, at which these parties may meet, too
 pub record MayMeet (bump : SharedBump) (here : TableId) (me : Me ℕ SeatView) (guests : List BumpParty) : Type 0 where
@@ -156,8 +153,7 @@ nobody = standing_for (sight (scene_at (region_at 0 0) 0 0) 0) []
 
 -- the view of the parties of a guest and of a view, which knows what the last meeting of either found
 abbrev pub gathered : SeatView → SeatView → SeatView
-gathered view guest =
-    standing_for (sight (scene_of view) (max (met_by view) (met_by guest))) (guest.parties ++ view.parties)
+gathered view guest = standing_for (sight (scene_of view) (max (met_by view) (met_by guest))) (guest.parties ++ view.parties)
 
 -- the view after a meeting that found this position
 abbrev pub meeting_of : ℕ → SeatView → SeatView
@@ -187,13 +183,11 @@ TellsExchange scene number log met found new =
     (Exchange number) (exchange_move scene.region found call).outcome found new
 
 abbrev pub TellsLoad : BumpScene → ℕ → BumpLog → ℕ → ℕ → Me ℕ SeatView → Type 0
-TellsLoad scene number log met found new =
-    Tells scene number log met (Load number) (Loaded found) found new
+TellsLoad scene number log met found new = Tells scene number log met (Load number) (Loaded found) found new
 
 -- A load by a seat that stands for these parties found this position: at least what the last meetings had found, and at most the
 -- size. There is a log for each of the bump's parties, with which it agrees, and theirs are among them; no two are one.
-pub record TellsMeeting (scene : BumpScene) (parties : List NumberedLog) (met found : ℕ)
-    : Type 0 where
+pub record TellsMeeting (scene : BumpScene) (parties : List NumberedLog) (met found : ℕ) : Type 0 where
   pub above : met ≤ found
   pub within : found ≤ scene.region.size
   pub opened : scene.opening ≤ scene.region.size
@@ -222,12 +216,10 @@ reads (Some layout) step old found new =
 reads None step old found new = Unit {0}
 
 abbrev pub exchanges : Step ℕ → Me ℕ SeatView → ℕ → Me ℕ SeatView → Type 0
-exchanges step old found new =
-    TellsExchange (scene_of old.0) (number_of old.0) (view_log old.0) (met_by old.0) found new
+exchanges step old found new = TellsExchange (scene_of old.0) (number_of old.0) (view_log old.0) (met_by old.0) found new
 
 abbrev pub loads : Step ℕ → Me ℕ SeatView → ℕ → Me ℕ SeatView → Type 0
-loads step old found new =
-    TellsLoad (scene_of old.0) (number_of old.0) (view_log old.0) (met_by old.0) found new
+loads step old found new = TellsLoad (scene_of old.0) (number_of old.0) (view_log old.0) (met_by old.0) found new
 
 -- a load by a seat that stands for any number of parties
 abbrev pub meets : Step ℕ → Me ℕ SeatView → ℕ → Me ℕ SeatView → Type 0
@@ -259,8 +251,7 @@ pub record IsFor (region : Region) (position : ℕ) (layout : Layout) (chunk : C
   pub above : region.start + position ≤ chunk.place
 
 -- what is known of the positions and losses in what was added to a log
-pub record IsCounted (scene : BumpScene) (log : BumpLog) (met : ℕ) (added : BumpLog)
-    : Type 0 where
+pub record IsCounted (scene : BumpScene) (log : BumpLog) (met : ℕ) (added : BumpLog) : Type 0 where
   pub seen : All (HasPositionFrom (max (seen_in scene log) met) scene.region) added
   pub within : All (HasPositionUpTo scene.region.size scene.region) added
   pub losses : losses_in added ≤ scene.region.size

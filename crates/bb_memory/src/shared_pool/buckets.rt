@@ -14,7 +14,7 @@ ghost use Rattle.bb_memory.specs.SharedPoolRule.{HasRefused, HasTaken};
 
 use super::bucket::Bucket;
 use super::flags::Flags;
-use super::party::PoolParty;
+use super::party::{Hint, PoolParty};
 use super::rule::{Scene, View};
 use crate::allocator::{AllocationError, AllocationGrowError, AllocationShrinkError};
 use crate::layout::{Chunk, Layout};
@@ -77,7 +77,11 @@ impl<const CAPPED: usize, const MOST: usize> SharedBucketPool<CAPPED, MOST> {
     {
         for number in 0..parties {
             let seat = self.flags.deal(&mut rest);
-            let hint = self.part_of(number);
+            let bucket = self.part_of(number);
+            let hint = Hint {
+                bucket,
+                came_back: false,
+            };
             all.push_reserved(PoolParty { number, seat, hint });
         }
     }
@@ -142,7 +146,10 @@ impl<const CAPPED: usize, const MOST: usize> SharedBucketPool<CAPPED, MOST> {
         }
         match self.pass(&mut party.seat) {
             Some(number) => {
-                party.hint = number + 1;
+                party.hint = Hint {
+                    bucket: number + 1,
+                    came_back: false,
+                };
                 Ok(Bucket {
                     flags: &self.flags,
                     number,
@@ -170,7 +177,7 @@ impl<const CAPPED: usize, const MOST: usize> SharedBucketPool<CAPPED, MOST> {
             → IsHeldAfter party.old.log other }
     {
         self.flags.give_back(&mut party.seat, bucket.number);
-        party.hint = bucket.number;
+        party.hint = party.hint.with_return(bucket.number);
     }
 
     /// Two parties meet: no bucket is held by both. It loads a word four times, which is in no log, and changes nothing. The

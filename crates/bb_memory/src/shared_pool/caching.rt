@@ -2,12 +2,14 @@
 ghost use Rattle.std.specs.Prelude.{◌≡◌, ◌≢◌, ◌<◌, ◌≤◌, ◌∷◌, ◌++◌, [], ℕ, List, Contains, IfErr, IfOk, Ok, length, vec_capacity};
 ghost use Rattle.bb_memory_traits.specs.PoolObject.{IsWithin};
 ghost use Rattle.bb_memory_base.specs.PoolLogs.{IsHeldAfter};
-ghost use Rattle.bb_memory.specs.SharedPool.{IsSameParty, Serves, return_entry, taken_bucket, with_entries};
+ghost use Rattle.bb_memory.specs.SharedPool.{IsSameParty, Serves, attach_entry, detach_entry, return_entry, taken_bucket};
+ghost use Rattle.bb_memory.specs.SharedPool.{with_entries};
 ghost use Rattle.bb_memory.specs.SharedPoolCaching.{AreCached, IsOut, RefusesCaching, SearchesPool, returns_of};
 
 use super::bucket::Bucket;
 use super::buckets::SharedBucketPool;
 use super::by_number;
+use super::detached::DetachedBucket;
 use super::party::PoolParty;
 use crate::allocator::AllocationError;
 use crate::layout::Layout;
@@ -84,6 +86,13 @@ impl CachingParty {
         ensures cached { AreCached self.now.party self.now.cached }
     {
         self.cached.len() as u32
+    }
+
+    /// Returns the party. It holds the buckets that are out and those that are cached.
+    pub fn party(&self) -> &PoolParty
+        ensures { result.now ≡ self.now.party }
+    {
+        &self.party
     }
 
     /// Takes a bucket, with a chunk of `layout.size()` bytes: the one that was cached last, without a step. Where none is cached,
@@ -165,6 +174,84 @@ impl CachingParty {
         } else {
             pool.deallocate_bucket(&mut self.party, bucket);
         }
+    }
+
+    /// Detaches a bucket that is out, as [`SharedPoolAllocator::detach`](super::SharedPoolAllocator::detach) does. The pool needs
+    /// two parties at least. The party and the bucket have to be this pool's.
+    #[tactic(auto, unfolding(crate::specs::SharedPoolCaching::IsOut))]
+    pub fn detach<const CAPPED: usize, const MOST: usize>(
+        &mut self,
+        pool: &SharedBucketPool<CAPPED, MOST>,
+        bucket: Bucket<'_>,
+    ) -> DetachedBucket
+        requires others { 1 < pool.now.scene.parties }
+        requires party { self.old.party.allocator ≡ pool.now }
+        requires bucket { bucket.allocator ≡ pool.now }
+        requires out { IsOut self.old bucket.number }
+        ensures bucket { result ≡ bucket.entry }
+        ensures logged { self.new ≡ record self.old {
+          party = with_entries self.old.party
+              (detach_entry self.old.party.number bucket.entry.number);
+        } }
+        ensures was_detached { ¬ IsOut self.new bucket.entry.number }
+        ensures others_kept { (other : ℕ) → other ≢ bucket.entry.number
+            → IsOut self.old other → IsOut self.new other }
+        ensures others { (other : ℕ) → IsOut self.new other → IsOut self.old other }
+    {
+        pool.detach(&mut self.party, bucket)
+    }
+
+    /// Attaches a detached bucket, as [`SharedPoolAllocator::attach`](super::SharedPoolAllocator::attach) does. It is out then. The
+    /// party and the bucket have to be this pool's.
+    #[tactic(auto, unfolding(crate::specs::SharedPoolCaching::IsOut))]
+    pub fn attach<'p, const CAPPED: usize, const MOST: usize>(
+        &mut self,
+        pool: &'p SharedBucketPool<CAPPED, MOST>,
+        detached: DetachedBucket,
+    ) -> Bucket<'p>
+        requires party { self.old.party.allocator ≡ pool.now }
+        requires bucket { detached.allocator ≡ pool.now }
+        ensures bucket { result ≡ detached }
+        ensures logged { self.new ≡ record self.old {
+          party = with_entries self.old.party
+              (attach_entry self.old.party.number detached.number);
+        } }
+        ensures attached { IsOut self.new detached.number }
+        ensures others_kept { (other : ℕ) → IsOut self.old other → IsOut self.new other }
+        ensures others { (other : ℕ) → other ≢ detached.number
+            → IsOut self.new other → IsOut self.old other }
+    {
+        pool.attach(&mut self.party, detached)
+    }
+
+    /// Gives all cached buckets back to the pool, as `flush` does, and caches at most `most` from then on. It takes memory for their
+    /// list. A refusal, with `OutOfMemory`, changes nothing. The party has to be this pool's.
+    #[tactic(auto, unfolding(crate::specs::SharedPoolCaching::IsOut))]
+    pub fn cache_at_most<const CAPPED: usize, const MOST: usize>(
+        &mut self,
+        alloc: Global,
+        pool: &SharedBucketPool<CAPPED, MOST>,
+        most: u32,
+    ) -> Result<(), AllocationError>
+        requires party { self.old.party.allocator ≡ pool.now }
+        ensures empty { IfOk result (λ done. self.new ≡ record {
+          party = with_entries self.old.party
+              (returns_of self.old.party.number self.old.cached);
+          cached = [];
+          most = most;
+        }) }
+        ensures others_kept { (other : ℕ) → IsOut self.old other → IsOut self.new other }
+        ensures others { (other : ℕ) → IsOut self.new other → IsOut self.old other }
+        ensures refused { IfErr result (λ error. (error ≡ AllocationError.OutOfMemory)
+            × (self.new ≡ self.old)) }
+    {
+        let Ok(room) = Vec::with_capacity(alloc, most as usize) else {
+            return Err(AllocationError::OutOfMemory);
+        };
+        self.flush(pool);
+        self.cached = room;
+        self.most = most;
+        Ok(())
     }
 
     /// Gives all cached buckets back to the pool, each by one store, from the one that was cached last. Then the party holds just

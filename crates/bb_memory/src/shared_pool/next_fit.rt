@@ -9,7 +9,7 @@ ghost use Rattle.bb_memory.specs.SharedPoolRule.{HasRefusedFrom, HasTakenFrom, I
 
 use super::bucket::Bucket;
 use super::buckets::SharedBucketPool;
-use super::party::PoolParty;
+use super::party::{Hint, PoolParty};
 use super::rule::View;
 use crate::allocator::AllocationError;
 use crate::layout::Layout;
@@ -85,9 +85,9 @@ impl<const CAPPED: usize, const MOST: usize> SharedBucketPool<CAPPED, MOST> {
 
     /// Takes a bucket for the party, as `allocate` does, but tries the buckets in another order: after the same tests of size and
     /// alignment it probes each bucket once, until one is taken. A probe loads the flag, and makes an exchange only where the
-    /// flag is free, so held buckets cost no exchange. The search begins at the party's hint: at the bucket that the party gave
-    /// back last, or behind the one that it took last, whichever came later; before both, at the first bucket of a part of the
-    /// pool of its own. The search goes on to the last bucket, and then from bucket 0 up. It is refused with `OutOfMemory` where
+    /// flag is free, so held buckets cost no exchange. The search begins at the party's hint: at the least bucket that
+    /// it gave back since it took its last one, or else behind that one; before both, at the first bucket of a part of the pool
+    /// of its own. The search goes on to the last bucket, and then from bucket 0 up. It is refused with `OutOfMemory` where
     /// each probe misses. Where other parties step meanwhile, that doesn't mean that all buckets were held at one moment. The
     /// party has to be this pool's.
     pub fn allocate_next_fit(
@@ -109,9 +109,12 @@ impl<const CAPPED: usize, const MOST: usize> SharedBucketPool<CAPPED, MOST> {
         if layout.align() > bucket.align() {
             return Err(AllocationError::AlignmentFailure);
         }
-        match self.next_fit(&mut party.seat, party.hint) {
+        match self.next_fit(&mut party.seat, party.hint.bucket) {
             Some(number) => {
-                party.hint = number + 1;
+                party.hint = Hint {
+                    bucket: number + 1,
+                    came_back: false,
+                };
                 Ok(Bucket {
                     flags: &self.flags,
                     number,

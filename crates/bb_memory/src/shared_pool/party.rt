@@ -1,10 +1,32 @@
 //! Parties, each of which is one user's right to step on a shared pool.
 ghost use Rattle.std.specs.Prelude.{◌≡◌};
+ghost use Rattle.bb_memory_base.specs.declared.steps.pool.PoolOutcome.TheVariants.{Gives};
 ghost use Rattle.bb_memory.specs.SharedPool.{IsParty};
+ghost use Rattle.bb_memory.specs.SharedPoolNextFit.{hint_after};
 
 use super::rule::View;
 use atomic_table::Seat;
 use std::marker::Model;
+
+/// A party's hint: the bucket at which its next search begins, and whether it gave back a bucket since it took its last one.
+#[derive(Clone, Copy)]
+pub(super) struct Hint {
+    pub(super) bucket: u32,
+    pub(super) came_back: bool,
+}
+
+impl Hint {
+    /// The hint after a return of this bucket: the least of those that came back since the last taking.
+    pub(super) fn with_return(self, bucket: u32) -> Hint
+        ensures { result ≡ hint_after self (Gives bucket) }
+    {
+        let is_least = !self.came_back || bucket <= self.bucket;
+        Hint {
+            bucket: if is_least { bucket } else { self.bucket },
+            came_back: true,
+        }
+    }
+}
 
 /// One user of a shared pool. It goes with its thread, and each call that takes or gives back a bucket asks for it. The list
 /// of its steps, its log, is known to contracts alone.
@@ -12,8 +34,7 @@ use std::marker::Model;
 pub struct PoolParty {
     pub(super) number: u32,
     pub(super) seat: Seat<u8, View>,
-    /// The bucket at which the party's next search begins.
-    pub(super) hint: u32,
+    pub(super) hint: Hint,
 }
 
 impl Model for PoolParty {

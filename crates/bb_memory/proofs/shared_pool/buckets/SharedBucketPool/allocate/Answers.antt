@@ -1,4 +1,4 @@
-use Rattle.std.proofs.Common.{◌+◌, Some, None, ap, ◌∙◌, arith}
+use Rattle.std.proofs.Common.{◌+◌, false, Some, None, ap, ◌∙◌, arith}
 use Rattle.std.specs.Prelude.{Ok, Err}
 use Rattle.bb_memory_traits.specs.PoolObject.{PoolGeometry}
 use Rattle.bb_memory_traits.specs.declared.layout.Layout.{Layout}
@@ -18,7 +18,7 @@ invariant_of-party g c =
     let own = ap (λ (p : PoolParty). p.allocator) c.party.view_is ∙ c.requires.party in
     let me = party.seat.me in
     seated_then c.args.self.now party.seat.table_id me party.number party.hint c.party.invariant own
-    c.pass.new.seat.me _ (c.in-Some.number + 1)
+    c.pass.new.seat.me _ (record { bucket = c.in-Some.number + 1; came_back = false })
     (hint-taking c.args.self.now.scene.geometry.buckets (number_of me.0) c.in-Some.number party.hint)
     c.in-Some.ensures.told.step.ended
 

@@ -1,4 +1,4 @@
-use Rattle.std.proofs.Common.{ℕ, ◌<◌, refl, sym, ap, ◌∙◌, subst}
+use Rattle.std.proofs.Common.{ℕ, ◌<◌, sym, ap, ◌∙◌, subst}
 use Rattle.bb_memory_base.specs.PoolLogs.{IsHeldAfter}
 use Rattle.bb_memory.specs.SharedPool.{PoolParty, SharedPool, TakenBucket, return_entry, with_entries}
 use Rattle.bb_memory.proofs.SharedPoolHolds.{was_held}
@@ -20,7 +20,7 @@ invariant_of-party g c =
     let party = c.party.inside in
     let own = ap (λ (p : PoolParty). p.allocator) c.party.view_is ∙ c.requires.party ∙ sym c.self.view_is in
     seated_then c.self.inside.flags party.seat.table_id party.seat.me party.number party.hint c.party.invariant own
-    c.give_back.new.seat.me _ c.bucket.inside.number refl
+    c.give_back.new.seat.me _ c.with_return-party-inside.result c.with_return-party-inside.ensures
     (returned c.self.inside.flags party.seat.table_id party.seat.me party.number party.hint c.party.invariant own
     c.bucket.inside.number c.give_back.new.seat.me c.give_back.ensures.step)
 
@@ -44,8 +44,7 @@ returns-clause-is_party g c = record {
 }
 
 pub returns-clause-given_back : goal.returns-clause-given_back
-returns-clause-given_back g c held =
-    not_held_after_return c.args.party.now.number c.args.bucket.number c.args.party.now.log
+returns-clause-given_back g c held = not_held_after_return c.args.party.now.number c.args.bucket.number c.args.party.now.log
     (subst (λ (p : PoolParty). IsHeldAfter p.log c.args.bucket.number) (returns-clause-logged g c) held)
 
 pub returns-clause-others_kept : goal.returns-clause-others_kept
@@ -54,6 +53,5 @@ returns-clause-others_kept g c other apart held =
     (held_after_return c.args.party.now.number c.args.bucket.number other c.args.party.now.log apart held)
 
 pub returns-clause-others : goal.returns-clause-others
-returns-clause-others g c other held =
-    was_held c.args.party.now c.args.bucket.number other
+returns-clause-others g c other held = was_held c.args.party.now c.args.bucket.number other
     (subst (λ (p : PoolParty). IsHeldAfter p.log other) (returns-clause-logged g c) held)

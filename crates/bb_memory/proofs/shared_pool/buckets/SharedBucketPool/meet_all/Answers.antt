@@ -48,14 +48,12 @@ invariant_of-push_reserved g c =
     subst (IsPartySeat c.party.inside.number c.party.inside.hint) (sym c.meet_rest.ensures.found.seat) c.party.invariant
 
 pub returns-in-Some-clause-one_took : goal.returns-in-Some-clause-one_took
-returns-in-Some-clause-one_took g c all stepped =
-    one_served c.args.self.now.scene c.args.parties.now.items
+returns-in-Some-clause-one_took g c all stepped = one_served c.args.self.now.scene c.args.parties.now.items
     (subst IsSharedScene (ap (λ (b : SharedPool). b.scene) c.self.view_is) c.self.invariant.shared)
     (returns-in-Some-clause-met g c) all stepped
 
 pub returns-in_default-clause-one_took : goal.returns-in_default-clause-one_took
-returns-in_default-clause-one_took g c all stepped =
-    one_served c.args.self.now.scene c.args.parties.now.items
+returns-in_default-clause-one_took g c all stepped = one_served c.args.self.now.scene c.args.parties.now.items
     (subst IsSharedScene (ap (λ (b : SharedPool). b.scene) c.self.view_is) c.self.invariant.shared)
     (returns-in_default-clause-met g c) all stepped
 
@@ -63,5 +61,4 @@ pub returns-in-Some-clause-apart : goal.returns-in-Some-clause-apart
 returns-in-Some-clause-apart g c = met_apart c.args.self.now.scene c.args.parties.now.items (returns-in-Some-clause-met g c)
 
 pub returns-in_default-clause-apart : goal.returns-in_default-clause-apart
-returns-in_default-clause-apart g c =
-    met_apart c.args.self.now.scene c.args.parties.now.items (returns-in_default-clause-met g c)
+returns-in_default-clause-apart g c = met_apart c.args.self.now.scene c.args.parties.now.items (returns-in_default-clause-met g c)

@@ -1,4 +1,4 @@
-use Rattle.std.proofs.Common.{◌≡◌, ℕ, ◌+◌, ◌≤◌, [], ◌∷◌, List, Some, length, length-append, arith, sym, ap, ◌∙◌, subst}
+use Rattle.std.proofs.Common.{◌≡◌, ℕ, ◌+◌, ◌≤◌, false, [], ◌∷◌, List, Some, length, length-append, arith, sym, ap, ◌∙◌, subst}
 use Rattle.std.specs.Prelude.{All, slice_get}
 use Rattle.std.proofs.lemmas.List.Elements.{All-push}
 use Rattle.atomic_table.specs.Table.{Me}
@@ -19,9 +19,10 @@ invariant_of-push_reserved g c =
     let is = c.loop-number.invariant.rest
     ∙ ap (λ (parties : List NumberedLog). (standing_for scene parties, [])) (fresh_more number c.args.parties (omega arith)) in
     let seated = c.deal-seat.ensures.first ∙ ap (λ (m : Me ℕ SeatView). (first_of m.0, [])) is in
-    party_seat scene number c.part_of-hint.result [] c.deal-seat.result.me (no_step scene number c.deal-seat.result.me seated)
+    party_seat scene number (record { bucket = c.part_of-bucket.result; came_back = false }) []
+    c.deal-seat.result.me (no_step scene number c.deal-seat.result.me seated)
     (let made = c.requires.parties in omega arith)
-    (subst (λ (p : SharedPool). IsSharedScene p.scene) c.self.view_is c.self.invariant.shared) c.part_of-hint.ensures
+    (subst (λ (p : SharedPool). IsSharedScene p.scene) c.self.view_is c.self.invariant.shared) (λ i. record { bucket = c.part_of-bucket.ensures i; came_back = false })
 
 pub loop-number-preserved : goal.loop-number-preserved
 loop-number-preserved g c =
