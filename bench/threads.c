@@ -80,12 +80,12 @@ static _Thread_local bb_pool_party *party;
 static inline size_t party_take(void) { return bb_pool_party_allocate(party, 48, 8).place; }
 static inline void party_give(size_t taken) { (void)bb_pool_party_deallocate(party, taken); }
 
-static void join_all(void) {
+static void join_all(unsigned cached) {
     bb_shared_pool pool = BB_EMPTY;
     if (bb_shared_pool_init(&pool, 128, 8, START, BUCKETS * 128, threads) != BB_OK)
         abort();
     for (unsigned i = 0; i < threads; i++)
-        if (bb_shared_pool_join(&pool, &parties[i]) != BB_OK)
+        if (bb_shared_pool_join(&pool, &parties[i]) != BB_OK || bb_pool_party_cache(&parties[i], cached) != BB_OK)
             abort();
     bb_shared_pool_destroy(&pool);
 }
@@ -199,24 +199,27 @@ static int dpdk_is_there(void) {
 
 typedef enum { PAIR_CALL, BURST_CALL, PAIR_TAIL, BURST_TAIL, CALL_KINDS, ENDS = CALL_KINDS } what_of;
 
-// The calls of a kind, the two ends of a queue over it, and whether this machine has it, which it has where nothing tells.
+// The calls of a kind, the two ends of a queue over it, whether this machine has it, which it has where nothing tells, and how
+// many buckets a party of it caches.
 typedef struct {
     const char *name;
     size_t (*call[CALL_KINDS])(void);
     void (*send)(void), (*receive)(void);
     int (*is_there)(void);
+    unsigned cached;
 } kind;
 
 #define ALL_CALLS(NAME) {NAME##_pair, NAME##_burst, NAME##_pair_tail, NAME##_burst_tail}
 static const kind kinds[] = {
-    {"in C", {bump_pair, NULL, NULL, NULL}, NULL, NULL, NULL},
-    {"lock-free list", ALL_CALLS(list), list_send, list_receive, NULL},
-    {"malloc and free", ALL_CALLS(heap), heap_send, heap_receive, NULL},
-    {"mimalloc", ALL_CALLS(mimalloc), mimalloc_send, mimalloc_receive, mimalloc_is_there},
-    {"jemalloc", ALL_CALLS(jemalloc), jemalloc_send, jemalloc_receive, jemalloc_is_there},
-    {"DPDK", ALL_CALLS(dpdk), dpdk_send, dpdk_receive, dpdk_is_there},
-    {"party in C", ALL_CALLS(party), NULL, NULL, NULL},
-    {"ring alone", {NULL, NULL, NULL, NULL}, none_send, none_receive, NULL},
+    {"in C", {bump_pair, NULL, NULL, NULL}, NULL, NULL, NULL, 0},
+    {"lock-free list", ALL_CALLS(list), list_send, list_receive, NULL, 0},
+    {"malloc and free", ALL_CALLS(heap), heap_send, heap_receive, NULL, 0},
+    {"mimalloc", ALL_CALLS(mimalloc), mimalloc_send, mimalloc_receive, mimalloc_is_there, 0},
+    {"jemalloc", ALL_CALLS(jemalloc), jemalloc_send, jemalloc_receive, jemalloc_is_there, 0},
+    {"DPDK", ALL_CALLS(dpdk), dpdk_send, dpdk_receive, dpdk_is_there, 0},
+    {"party in C", ALL_CALLS(party), NULL, NULL, NULL, 0},
+    {"caching in C", ALL_CALLS(party), NULL, NULL, NULL, 8},
+    {"ring alone", {NULL, NULL, NULL, NULL}, none_send, none_receive, NULL, 0},
 };
 
 // What is timed of a kind, by so many threads.
@@ -335,7 +338,7 @@ static double timed(const kind *of, what_of what, int is_dpdk, unsigned *refused
     job jobs[MOST_THREADS];
     double sum = 0;
     unsigned in_a_call = what == BURST_CALL || what == BURST_TAIL ? BURST : 1;
-    join_all();
+    join_all(of->cached);
     open_all(is_dpdk);
     memset(found, 0, sizeof found);
     for (unsigned i = 0; i < threads; i++) {

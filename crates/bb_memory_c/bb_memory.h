@@ -100,12 +100,12 @@ enum {
     BB_SHRINK_WOULD_GROW = 6,     // the new size isn't smaller than the old one
     BB_INVALID_LAYOUT = 7,        // the alignment is no power of two, or the size rounded up to it is greater than PTRDIFF_MAX
     BB_UNINITIALIZED = 8,         // the handle is empty
-    BB_NOT_HELD = 9,              // no chunk that is out begins at the place; of a party, no bucket that it holds
+    BB_NOT_HELD = 9,              // no chunk that is out begins at the place; of a party, no bucket that it holds for its host
     BB_ALREADY_INITIALIZED = 10,  // the handle isn't empty
     BB_INVALID_ARGUMENT = 11,     // the region, the buckets or the parties can't be; each `init` says when
     BB_NO_PARTY = 12,             // each party has joined, or was destroyed
     BB_LAYOUT_MISMATCH = 13,      // the place isn't a multiple of the old alignment, or more bytes are to be shrunk than reserved
-    BB_MALLOC_REFUSED = 14,       // of `init`, `join` and `reset` alone
+    BB_MALLOC_REFUSED = 14,       // of `init`, `join`, `cache` and `reset` alone
     BB_MORE_THAN_RESERVED = 15,   // of a grow alone: the new size is greater than what is reserved for the chunk
     BB_NO_BUCKET = 16,            // of a pool's `init` alone: the region has no room for one bucket
     BB_PARTIES_JOINED = 18,       // of `bb_shared_bump_reset` alone: not each party has left
@@ -122,25 +122,21 @@ enum {
 // Returns what a code says, for a log.
 static inline const char *bb_text(uint32_t code) {
     switch (code) {
-    case BB_OK: return "done"; case BB_SIZE_IS_ZERO: return "the size is zero";
-    case BB_SIZE_TOO_LARGE: return "the size is greater than a bucket's";
-    case BB_ALIGNMENT_FAILURE: return "the alignment is greater than can be had";
-    case BB_OUT_OF_MEMORY: return "no room is left in the region";
+    case BB_OK: return "done"; case BB_ALIGNMENT_FAILURE: return "the alignment is greater than can be had";
+    case BB_SIZE_IS_ZERO: return "the size is zero"; case BB_SIZE_TOO_LARGE: return "the size is greater than a bucket's";
+    case BB_OUT_OF_MEMORY: return "no room is left in the region"; case BB_NOT_HELD: return "nothing is held at the place";
     case BB_GROW_WOULD_SHRINK: return "the new size is not greater than the old one";
     case BB_SHRINK_WOULD_GROW: return "the new size is not smaller than the old one";
     case BB_INVALID_LAYOUT: return "size and alignment make no layout"; case BB_UNINITIALIZED: return "the handle is empty";
-    case BB_NOT_HELD: return "nothing is held at the place"; case BB_ALREADY_INITIALIZED: return "the handle is not empty";
     case BB_INVALID_ARGUMENT: return "the region, the buckets or the parties cannot be";
-    case BB_NO_PARTY: return "no party is left to join";
-    case BB_LAYOUT_MISMATCH: return "the chunk cannot have the old layout"; case BB_MALLOC_REFUSED: return "malloc refused";
+    case BB_ALREADY_INITIALIZED: return "the handle is not empty"; case BB_OTHER_POOL: return "it is of another pool or bump";
+    case BB_NO_PARTY: return "no party is left to join"; case BB_MALLOC_REFUSED: return "malloc refused";
+    case BB_LAYOUT_MISMATCH: return "the chunk cannot have the old layout"; case BB_NO_READER: return "it waits for no reader";
     case BB_MORE_THAN_RESERVED: return "the new size is greater than what is reserved";
-    case BB_NO_BUCKET: return "the region has no room for one bucket";
-    case BB_PARTIES_JOINED: return "not each party has left"; case BB_ONE_PARTY: return "the pool has no other party";
-    case BB_DETACHED_FULL: return "a detached bucket is there already";
-    case BB_DETACHED_EMPTY: return "no detached bucket is there";
+    case BB_NO_BUCKET: return "the region has no room for one bucket"; case BB_PARTIES_JOINED: return "not each party has left";
+    case BB_ONE_PARTY: return "the pool has no other party"; case BB_DETACHED_EMPTY: return "no detached bucket is there";
+    case BB_READERS_LEFT: return "a reader has not released it"; case BB_DETACHED_FULL: return "a bucket is in it already";
     case BB_NOT_A_BUCKET: return "no bucket has the number, or begins at the place";
-    case BB_OTHER_POOL: return "it is of another pool or bump"; case BB_READERS_LEFT: return "a reader has not released it";
-    case BB_NO_READER: return "it waits for no reader";
     default: return "not a code of bb_memory";
     }
 }
@@ -178,11 +174,11 @@ typedef struct bb_figure { uint32_t code; size_t number; } bb_figure;
 // that was empty is BB_UNINITIALIZED. The bytes of chunks that are out stay the host's. Each `info` fills a struct with the
 // figures of what is behind the handle; where that is empty, it is BB_UNINITIALIZED, and the struct stays as it was.
 //
-// Only `init`, `join` and `reset` take memory, outside the region. They ask `malloc` for at most so many bytes in all:
+// Only `init`, `join`, `cache` and `reset` take memory, outside the region. They ask `malloc` for at most so many bytes in all:
 //     bb_bump, bb_one_chunk, bb_detached    64
 //     bb_pool                               256, and 16 for each 64 buckets
 //     bb_shared_bump                        256, and 16 for each party (as many to reset, before it frees those); 64 to join
-//     bb_shared_pool                        1648, and 16 for each bucket and each party; 128, and 1 for each bucket, to join
+//     bb_shared_pool                        1648, and 16 for each bucket and party; 192, and 1 a bucket, to join; 4 a cached one
 
 // BUMP, over the region of `size` bytes at `start`: BB_INVALID_ARGUMENT where start is 0, or start plus size exceeds SIZE_MAX.
 BB_MUST_USE uint32_t bb_bump_init(bb_bump *, bb_place start, size_t size);
@@ -221,10 +217,8 @@ struct bb_one_chunk_info { size_t start_address, size; bool has_chunk_available;
 uint32_t bb_one_chunk_info(bb_one_chunk *, struct bb_one_chunk_info *);
 
 // POOL: the region is cut into buckets of one layout, and each request gets a bucket. Each bucket is a stride behind the one
-// before it: the bucket's size rounded up to its alignment.
-
-// The stride, and how many bytes have room for so many buckets where the region starts at a multiple of the alignment; anywhere
-// else add the alignment less 1. Both are constants of constants, and test nothing.
+// before it: the size of a bucket rounded up to its alignment. The stride, and the bytes for so many buckets where the
+// region starts at a multiple of the alignment; elsewhere add the alignment less 1. Of constants both are constants, untested.
 #define BB_STRIDE(size, align) (((size_t)(size) + ((size_t)(align) - 1)) / (size_t)(align) * (size_t)(align))
 #define BB_BYTES_FOR(size, align, buckets) (BB_STRIDE(size, align) * (size_t)(buckets))
 
@@ -297,19 +291,24 @@ uint32_t bb_bump_party_info(bb_bump_party *, struct bb_bump_info *);
 BB_MUST_USE uint32_t bb_shared_pool_init(bb_shared_pool *, size_t bucket_size, size_t bucket_align, bb_place start, size_t size,
                                          uint32_t parties);
 uint32_t bb_shared_pool_destroy(bb_shared_pool *);
-// As of the shared bump. `leave` also gives back each bucket that the party holds, so the host uses no chunk in it any more.
+// As of the shared bump. `leave` also gives back what the party holds or caches, so the host uses no chunk in it any more.
 BB_MUST_USE uint32_t bb_shared_pool_join(bb_shared_pool *, bb_pool_party *);
 uint32_t bb_shared_pool_leave(bb_shared_pool *, bb_pool_party *);
 uint32_t bb_pool_party_destroy(bb_pool_party *);
 // A chunk of `size` bytes in a bucket that isn't held, by next fit: one search from where the party's last one ended, at first in
 // a part of the pool that is its own. BB_OUT_OF_MEMORY where each bucket was held when the search came to it, not at one moment.
 BB_MUST_USE bb_answer bb_pool_party_allocate(bb_pool_party *, size_t size, size_t align);
-// As of a pool, where only the buckets count as held which this party holds: as many as `bb_shared_pool_leave` gives back.
+// As of a pool, where only the buckets count as held that this party holds, and doesn't cache.
 uint32_t bb_pool_party_deallocate(bb_pool_party *, bb_address place);
 bb_figure bb_pool_party_holds(bb_pool_party *, bb_address place);
 uint32_t bb_pool_party_info(bb_pool_party *, struct bb_pool_info *);
 bb_figure bb_pool_party_place_at(const bb_pool_party *, uint32_t number);
 bb_figure bb_pool_party_number_at(const bb_pool_party *, bb_address place);
+// The party caches at most `most` of the buckets that it gives back from now on. Its next requests take the one that was cached
+// last, without an atomic step. To other parties a cached bucket is held, so give the pool more buckets than all its parties may
+// cache. What was cached before is given back first; refused, all stays. `flush` gives back what is cached.
+BB_MUST_USE uint32_t bb_pool_party_cache(bb_pool_party *, uint32_t most);
+uint32_t bb_pool_party_flush(bb_pool_party *);
 // As `bb_pool_init_at_least`. A party joins and leaves, which tells the number of buckets.
 BB_MUST_USE static inline uint32_t bb_shared_pool_init_at_least(bb_shared_pool *pool, size_t bucket_size, size_t bucket_align,
                                                                 bb_place start, size_t size, uint32_t parties, uint32_t buckets) {

@@ -298,7 +298,8 @@ static void run_memory(void) {
             WITHIN(256 + 16 * parties, bb_shared_bump_init(&shared_bump, 4096, 8 * buckets, parties));
             WITHIN(64, bb_shared_bump_join(&shared_bump, &bump_party));
             WITHIN(1648 + 16 * (buckets + parties), bb_shared_pool_init(&shared_pool, 8, 8, 4096, 8 * buckets, parties));
-            WITHIN(128 + buckets, bb_shared_pool_join(&shared_pool, &pool_party));
+            WITHIN(192 + buckets, bb_shared_pool_join(&shared_pool, &pool_party));
+            WITHIN(4 * parties, bb_pool_party_cache(&pool_party, parties));
             EXPECT(bb_pool_destroy(&pool) == BB_OK);
             EXPECT(bb_shared_bump_destroy(&shared_bump) == BB_OK && bb_bump_party_destroy(&bump_party) == BB_OK);
             EXPECT(bb_shared_pool_destroy(&shared_pool) == BB_OK && bb_pool_party_destroy(&pool_party) == BB_OK);
@@ -481,7 +482,7 @@ static void run_parties_come_and_go(void) {
         requests = 0;
         EXPECT(bb_shared_pool_leave(&pool, &one) == BB_OK && requests == 0);
         EXPECT(bb_shared_pool_leave(&pool, &one) == BB_UNINITIALIZED && bb_pool_party_destroy(&one) == BB_UNINITIALIZED);
-        WITHIN(128 + 5, bb_shared_pool_join(&pool, &one));
+        WITHIN(192 + 5, bb_shared_pool_join(&pool, &one));
         EXPECT(is(bb_pool_party_holds(&one, place), 0));
         EXPECT(same(of_pool_party(&one).held_buckets, 0) && is(bb_pool_party_holds(&other, kept.place), 1));
     }
@@ -491,6 +492,49 @@ static void run_parties_come_and_go(void) {
     EXPECT(same(of_pool_party(&other).held_buckets, 5) && refused(bb_pool_party_allocate(&other, 1, 1), BB_OUT_OF_MEMORY));
     EXPECT(bb_shared_pool_destroy(&pool) == BB_OK && bb_shared_pool_leave(&pool, &other) == BB_UNINITIALIZED);
     EXPECT(bb_pool_party_destroy(&other) == BB_OK);
+}
+
+// A party that caches two of its buckets takes these again, the one that came back last first. To the other party they are held,
+// until they are flushed, or the party is to cache others, or leaves.
+static void run_caching(void) {
+    bb_shared_pool pool = BB_EMPTY;
+    bb_pool_party one = BB_EMPTY, other = BB_EMPTY;
+    bb_detached detached = BB_EMPTY;
+    EXPECT(bb_pool_party_cache(&one, 2) == BB_UNINITIALIZED && bb_pool_party_flush(&one) == BB_UNINITIALIZED);
+    EXPECT(bb_shared_pool_init(&pool, 64, 8, 4096, 64 * 4, 2) == BB_OK && bb_detached_init(&detached) == BB_OK);
+    EXPECT(bb_shared_pool_join(&pool, &one) == BB_OK && bb_shared_pool_join(&pool, &other) == BB_OK);
+    EXPECT(bb_pool_party_cache(&one, 2) == BB_OK && bb_pool_party_flush(&one) == BB_OK);
+    size_t places[3];
+    for (size_t at = 0; at < 3; at++) places[at] = bb_pool_party_allocate(&one, 64, 8).place;
+    for (size_t at = 0; at < 3; at++) EXPECT(bb_pool_party_deallocate(&one, places[at]) == BB_OK);
+    // The third one went back to the pool.
+    EXPECT(same(of_pool_party(&one).held_buckets, 0) && is(bb_pool_party_holds(&one, places[1]), 0));
+    EXPECT(bb_pool_party_deallocate(&one, places[1]) == BB_NOT_HELD);
+    EXPECT(bb_pool_party_detach(&one, places[1], 8, &detached) == BB_NOT_HELD);
+    for (size_t at = 0; at < 2; at++) {
+        size_t place = bb_pool_party_allocate(&other, 64, 8).place;
+        EXPECT(place != 0 && place != places[0] && place != places[1]);
+    }
+    EXPECT(refused(bb_pool_party_allocate(&other, 8, 8), BB_OUT_OF_MEMORY));
+    // A refused request for memory leaves all as it is.
+    requests = 0;
+    to_refuse = 1;
+    EXPECT(bb_pool_party_cache(&one, 3) == BB_MALLOC_REFUSED);
+    to_refuse = 0;
+    EXPECT(refused(bb_pool_party_allocate(&one, 65, 8), BB_SIZE_TOO_LARGE));
+    EXPECT(refused(bb_pool_party_allocate(&one, 64, 16), BB_ALIGNMENT_FAILURE));
+    EXPECT(given(bb_pool_party_allocate(&one, 8, 8), places[1]) && given(bb_pool_party_allocate(&one, 8, 8), places[0]));
+    EXPECT(refused(bb_pool_party_allocate(&one, 8, 8), BB_OUT_OF_MEMORY) && same(of_pool_party(&one).held_buckets, 2));
+    EXPECT(bb_pool_party_deallocate(&one, places[0]) == BB_OK && bb_pool_party_flush(&one) == BB_OK);
+    EXPECT(given(bb_pool_party_allocate(&other, 8, 8), places[0]) && bb_pool_party_deallocate(&other, places[0]) == BB_OK);
+    EXPECT(bb_pool_party_deallocate(&one, places[1]) == BB_OK && bb_pool_party_cache(&one, 0) == BB_OK);
+    for (size_t at = 0; at < 2; at++) EXPECT(bb_pool_party_allocate(&other, 8, 8).code == BB_OK);
+    EXPECT(bb_pool_party_deallocate(&other, places[1]) == BB_OK && bb_pool_party_cache(&one, 2) == BB_OK);
+    EXPECT(given(bb_pool_party_allocate(&one, 8, 8), places[1]) && bb_pool_party_deallocate(&one, places[1]) == BB_OK);
+    EXPECT(refused(bb_pool_party_allocate(&other, 8, 8), BB_OUT_OF_MEMORY) && bb_shared_pool_leave(&pool, &one) == BB_OK);
+    EXPECT(given(bb_pool_party_allocate(&other, 8, 8), places[1]));
+    EXPECT(bb_shared_pool_destroy(&pool) == BB_OK && bb_pool_party_destroy(&other) == BB_OK);
+    EXPECT(bb_detached_destroy(&detached) == BB_OK);
 }
 
 // A party of another pool or bump, and a bucket of another pool or one that is read, are refused by codes, and stay as they are.
@@ -627,6 +671,7 @@ int main(void) {
     run_refused_memory();
     run_reset();
     run_parties_come_and_go();
+    run_caching();
     run_others();
     run_detached();
     run_one_party();

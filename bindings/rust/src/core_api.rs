@@ -20,11 +20,8 @@ macro_rules! in_buckets {
             }
 
             unsafe fn grow(&self, ptr: NonNull<u8>, _old: Layout, new: Layout) -> Chunk {
-                fits(
-                    ptr,
-                    new,
-                    new.size() <= self.bucket.size() && new.align() <= self.bucket.align(),
-                )
+                let is_less = new.size() <= self.bucket.size();
+                fits(ptr, new, is_less && new.align() <= self.bucket.align())
             }
 
             unsafe fn grow_zeroed(&self, ptr: NonNull<u8>, old: Layout, new: Layout) -> Chunk {

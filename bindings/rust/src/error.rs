@@ -126,7 +126,7 @@ error! {
         /// The length is greater than the bucket's size.
         SizeTooLarge = SIZE_TOO_LARGE: "the size is greater than a bucket's",
         /// A detached bucket is there already.
-        DetachedFull = DETACHED_FULL: "a detached bucket is there already",
+        DetachedFull = DETACHED_FULL: "a bucket is in it already",
     }
 }
 

@@ -149,6 +149,8 @@ functions! {
     bb_pool_party_info(*mut PoolInfo) -> u32;
     bb_pool_party_place_at(u32) -> Figure;
     bb_pool_party_number_at(*const c_void) -> Figure;
+    bb_pool_party_cache(u32) -> u32;
+    bb_pool_party_flush() -> u32;
     bb_detached_init() -> u32;
     bb_detached_destroy() -> u32;
     bb_pool_party_detach(*const c_void, usize, *mut Handle) -> u32;

@@ -271,6 +271,20 @@ impl Drop for DetachedBucket<'_> {
 }
 
 impl<'region> PoolParty<'region> {
+    /// Has the party cache at most `most` of the buckets that it gives back from now on: its next requests take the one that was
+    /// cached last, without an atomic step. To other parties a cached bucket is held. What was cached before is given back.
+    /// `MallocRefused` changes nothing.
+    pub fn cache(&self, most: u32) -> Result<(), InitError> {
+        // SAFETY: the function is of this kind, and no other call has the handle.
+        InitError::unless_ok(unsafe { ffi::bb_pool_party_cache(self.owned.handle(), most) })
+    }
+
+    /// Gives back what is cached.
+    pub fn flush(&self) {
+        // SAFETY: as above.
+        expect_ok(unsafe { ffi::bb_pool_party_flush(self.owned.handle()) });
+    }
+
     /// Detaches the bucket at this place, which this party holds, with a chunk of `len` bytes. It is then in `detached`, which
     /// has to have none. Whoever has that attaches it. Meanwhile several threads may read the chunk.
     ///

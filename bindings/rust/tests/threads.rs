@@ -252,3 +252,30 @@ fn nothing_is_made_for_no_party() {
     refuses(SharedPoolAllocator::with_buckets(bucket(), 0, 1), InitError::InvalidArgument);
     refuses(SharedBumpAllocator::with_bytes(0, 1), InitError::InvalidArgument);
 }
+
+#[test]
+fn a_party_takes_what_it_cached_and_gives_it_back_when_it_ends() {
+    let pool = SharedPoolAllocator::with_buckets(bucket(), 2, 2).unwrap();
+    let (one, other) = (pool.join().unwrap(), pool.join().unwrap());
+    one.cache(1).unwrap();
+    let chunks = [0; 2].map(|_| one.allocate(bucket()).unwrap().cast());
+    for chunk in chunks {
+        // SAFETY: the chunk isn't used any more.
+        unsafe { one.try_deallocate(chunk).unwrap() };
+    }
+    // The first one is cached, and the second one is back.
+    assert_eq!(other.allocate(bucket()).unwrap().cast(), chunks[1]);
+    refuses(other.allocate(bucket()), AllocationError::OutOfMemory);
+    assert_eq!(one.allocate(bucket()).unwrap().cast(), chunks[0]);
+    // SAFETY: the chunk isn't used any more.
+    unsafe { one.try_deallocate(chunks[0]).unwrap() };
+    one.flush();
+    assert_eq!(other.allocate(bucket()).unwrap().cast(), chunks[0]);
+    // SAFETY: the chunk isn't used any more.
+    unsafe { other.try_deallocate(chunks[0]).unwrap() };
+    assert_eq!(one.allocate(bucket()).unwrap().cast(), chunks[0]);
+    // SAFETY: the chunk isn't used any more.
+    unsafe { one.try_deallocate(chunks[0]).unwrap() };
+    drop(one);
+    assert_eq!(other.allocate(bucket()).unwrap().cast(), chunks[0]);
+}

@@ -1,26 +1,27 @@
 -- What is answered where a party is to detach a bucket, by the first cause of a refusal, or where there is none.
 use Rattle.std.proofs.Common.{◌≡◌, ◌≢◌, ◌<◌, ◌≤◌, ◌∙◌, ℕ, Bool, List, None, ap, arith, refl, sym}
-use Rattle.bb_memory.specs.SharedPool.{PoolParty, SharedPool, TakenBucket}
+use Rattle.bb_memory.specs.SharedPool.{SharedPool, TakenBucket}
+use Rattle.bb_memory.specs.SharedPoolCaching.{CachingParty}
 use Rattle.bb_memory_c.specs.Answers.{detached_full, not_held, ok, one_party, size_too_large}
 use Rattle.bb_memory_c.specs.SharedPools.{Detached, HasDetached, HasOthers, HoldsAt, HoldsPlace, IsJoinedAt, MayDetachAt}
 use Rattle.bb_memory_c.specs.SharedPools.{MayDetachBucket, MayDetachChunk, TellsDetach, holding}
 
 -- what is seen of a joined party's pool is that of the party
-pub its-pool : {pool seen : SharedPool} {party now : PoolParty} {flags : List Bool} → IsJoinedAt pool party flags → party ≡ now →
-    seen ≡ pool → seen ≡ now.allocator
-its-pool is viewed same = same ∙ sym is.theirs ∙ ap (λ (p : PoolParty). p.allocator) viewed
+pub its-pool : {pool seen : SharedPool} {party now : CachingParty} {flags : List Bool} → IsJoinedAt pool party flags →
+    party ≡ now → seen ≡ pool → seen ≡ now.party.allocator
+its-pool is viewed same = same ∙ sym is.theirs ∙ ap (λ (p : CachingParty). p.party.allocator) viewed
 
-module _ (party : PoolParty) {seen : SharedPool} (its : seen ≡ party.allocator) where
+module _ (party : CachingParty) {seen : SharedPool} (its : seen ≡ party.party.allocator) where
   pub not-two : {count : ℕ} → count ≡ seen.scene.parties → count < 2 → ¬ HasOthers party
   not-two is below two = omega (arith, ap (λ (p : SharedPool). p.scene.parties) its)
 
   pub two-at-least : {count : ℕ} → count ≡ seen.scene.parties → 2 ≤ count → HasOthers party
   two-at-least is two = omega (arith, ap (λ (p : SharedPool). p.scene.parties) its)
 
-  pub in-size : {size : ℕ} → size ≡ seen.scene.geometry.bucket.size → size ≡ party.allocator.scene.geometry.bucket.size
+  pub in-size : {size : ℕ} → size ≡ seen.scene.geometry.bucket.size → size ≡ party.party.allocator.scene.geometry.bucket.size
   in-size is = is ∙ ap (λ (p : SharedPool). p.scene.geometry.bucket.size) its
 
-module _ {party : PoolParty} {before : Detached} {place len : ℕ} where
+module _ {party : CachingParty} {before : Detached} {place len : ℕ} where
   pub alone : ¬ HasOthers party → (one_party ≢ ok) × TellsDetach party before place len one_party party before
   alone not = (
     λ wrong. cc,
@@ -48,7 +49,7 @@ module _ {party : PoolParty} {before : Detached} {place len : ℕ} where
     },
   )
 
-  pub too-large : MayDetachAt party place → party.allocator.scene.geometry.bucket.size < len → (size_too_large ≢ ok) ×
+  pub too-large : MayDetachAt party place → party.party.allocator.scene.geometry.bucket.size < len → (size_too_large ≢ ok) ×
       TellsDetach party before place len size_too_large party before
   too-large may large = (
     λ wrong. cc,
@@ -76,7 +77,7 @@ module _ {party : PoolParty} {before : Detached} {place len : ℕ} where
     },
   )
 
-  pub detaches : {after : PoolParty} {filled : Detached} (number : ℕ) (token : TakenBucket) → HoldsAt party place number
+  pub detaches : {after : CachingParty} {filled : Detached} (number : ℕ) (token : TakenBucket) → HoldsAt party place number
       → MayDetachBucket party number len → before.inside ≡ None → filled ≡ holding token
       → HasDetached party number len after token → TellsDetach party before place len ok after filled
   detaches number token holds may none is did = record {

@@ -48,8 +48,7 @@ module _ (R : RattleType) where
         → ((b o : ℕ) (x : R.Denot) → at ≡ block_ptr b o → made ≡ true → value ≡ Some x
         → Seq K 𝓛 (‵ (box_owns (ghosts.dealloc_token heap) R (block_ptr b o) x) ∷ Γ) G)
         → Seq K 𝓛 (‵ (owns_if R heap made at value) ∷ Γ) G
-    owns_either t heap true at (Some x) none some =
-        in_a_block t at (λ p. box_owns (ghosts.dealloc_token heap) R p x)
+    owns_either t heap true at (Some x) none some = in_a_block t at (λ p. box_owns (ghosts.dealloc_token heap) R p x)
         (fst∗ 𝓤 (never 𝓤) (sem 𝓛 (ghosts.dealloc_token heap (bare (lone R.mir)) null_ptr))) (λ b o e. some b o x e refl refl)
     owns_either t heap true at None none some = use1 𝓛 (given ⊥ (‵ ftrue)) (never_e 𝓤 _) $ learn t (λ z. absurd z)
     owns_either t heap false at (Some x) none some = use1 𝓛 (given ⊥ (‵ ftrue)) (never_e 𝓤 _) $ learn t (λ z. absurd z)

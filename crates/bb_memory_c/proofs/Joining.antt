@@ -33,10 +33,10 @@ pub put-back : {P : Type 0} {all again : List P} {last back : P} (left : List P)
 put-back left was same is = is ∙ ap (λ p. left ++ p ∷ []) same ∙ sym was
 
 -- memory for it is refused
-pub no-memory : {S P Z : Type 0} (at : Parties S P → P → Type 0) (value : Z → P) {old : Parties S P} {shared : S}
+pub no-memory : {S P Z : Type 0} (at : Parties S P → Z → Type 0) (value : Z → P) {old : Parties S P} {shared : S}
     {all again : List P} (left : List P) (last : P) → record { shared = shared; parties = all } ≡ old → all ≡ left ++ last ∷ [] →
     again ≡ all → TakesParty old (record { shared = shared; parties = again }) (Err malloc_refused) left_at
-    (λ x (z : Z). with_party x (value z)) (λ x z. at x (value z))
+    (λ x (z : Z). with_party x (value z)) at
 no-memory {S} {P} at value {old} {shared} {all} {again} left last was is same = record {
   joins = tt;
   none_left = (
@@ -50,11 +50,10 @@ no-memory {S} {P} at value {old} {shared} {all} {again} left last was is same = 
 }
 
 -- the last party that hasn't joined is taken
-pub takes-last : {S P Z : Type 0} (at : Parties S P → P → Type 0) (value : Z → P) {old : Parties S P} {shared : S}
+pub takes-last : {S P Z : Type 0} (at : Parties S P → Z → Type 0) (value : Z → P) {old : Parties S P} {shared : S}
     {all left : List P} {last : P} {joined : Z} → record { shared = shared; parties = all } ≡ old → all ≡ left ++ last ∷ [] →
-    value joined ≡ last → at (record { shared = shared; parties = left }) (value joined) →
-    TakesParty old (record { shared = shared; parties = left }) (Ok joined) left_at (λ x z. with_party x (value z))
-    (λ x z. at x (value z))
+    value joined ≡ last → at (record { shared = shared; parties = left }) joined →
+    TakesParty old (record { shared = shared; parties = left }) (Ok joined) left_at (λ x z. with_party x (value z)) at
 takes-last {S} {P} at value {old} {shared} {all} {left} {last} {joined} was is same here = record {
   joins = (
     sym was ∙ ap (λ (ps : List P). record { shared = shared; parties = ps }) (is ∙ ap (λ (p : P). left ++ p ∷ []) (sym same)),

@@ -1,61 +1,15 @@
--- All that a party holds: how many buckets that are; and when it leaves, each of them is given back, one after another,
--- and then it holds nothing.
+-- A party that leaves gives back each bucket that it holds, one after another, and holds nothing then.
 use Rattle.std.proofs.Common.{◌≡◌, ℕ, zero, suc, ◌+◌, ◌<◌, ◌≤◌, Bool, true, false, List, [], ◌++◌, length, refl, sym, ap, ◌∙◌}
 use Rattle.std.proofs.Common.{inl, inr, arith, append-nil, append_assoc}
-use Rattle.std.specs.Prelude.{◌==◌, Some, count_by, get_or, take, if◌then◌else◌}
+use Rattle.std.specs.Prelude.{◌==◌, if◌then◌else◌}
 use Rattle.std.proofs.lemmas.Bool.{cases_Bool, cases_eq, cases_lt, false≢true}
-use Rattle.std.proofs.lemmas.List.{take_all}
-use Rattle.std.proofs.lemmas.List.Sums.{count_by_more_no, count_by_more_yes}
-use Rattle.std.proofs.lemmas.Option.{same_Some, slice_get-get_or, slice_get_within}
+use Rattle.std.proofs.lemmas.Option.{slice_get_within}
 use Rattle.bb_memory_base.specs.PoolLogs.{IsHeldAfter, PoolLog}
 use Rattle.bb_memory_base.proofs.PoolHolders.{held_through}
 use Rattle.bb_memory_base.proofs.PoolSteps.{test_same, test_apart}
-use Rattle.bb_memory.specs.SharedPool.{PoolParty, SharedPool, return_entry, with_entries}
+use Rattle.bb_memory.specs.SharedPool.{PoolParty, return_entry, with_entries}
 use Rattle.bb_memory.proofs.SharedPoolTries.{held-append}
-use Rattle.bb_memory_c.specs.SharedPools.{GivesAllBack, IsJoinedAt, held_among, held_by, holds_bucket, return_of, returns_of}
-
--- HOW MANY
-
--- a flag is set exactly where its bucket is held
-flag-is : (pool : SharedPool) (party : PoolParty) (flags : List Bool) (number : ℕ) → IsJoinedAt pool party flags →
-    number < length flags → get_or flags number false ≡ holds_bucket party number
-flag-is pool party flags number is below =
-    let there = slice_get-get_or flags number false below in
-    elim (cases_Bool (holds_bucket party number)) [
-      | inl held ↦ same_Some _ _ (sym there ∙ (is.exact number).1 held) ∙ sym held
-      | inr free ↦ elim (cases_Bool (get_or flags number false)) [
-        | inl set ↦ absurd (false≢true (sym free ∙ (is.exact number).0 (there ∙ ap Some set)))
-        | inr unset ↦ unset ∙ sym free
-      ]
-    ]
-
-held-among : (pool : SharedPool) (party : PoolParty) (flags : List Bool) (number : ℕ) → IsJoinedAt pool party flags →
-    number ≤ length flags → count_by (λ flag. flag) (take number flags) ≡ held_among party number
-held-among pool party flags zero is within = refl
-held-among pool party flags (suc number) is within =
-    let next : suc number ≡ number + 1 = omega arith in
-    let below : number < length flags = omega arith in
-    let before = held-among pool party flags number is (omega arith) in
-    let flag = flag-is pool party flags number is below in
-    ap (λ (n : ℕ). count_by (λ (flag : Bool). flag) (take n flags)) next
-    ∙ elim (cases_Bool (holds_bucket party number)) [
-      | inl held ↦ count_by_more_yes (λ flag. flag) flags number false below (flag ∙ held)
-          ∙ ap (λ (n : ℕ). n + 1) before
-          ∙ ap (λ (b : Bool). held_among party number + (if b then 1 else 0)) (sym held)
-      | inr free ↦ count_by_more_no (λ flag. flag) flags number false below (flag ∙ free) ∙ before
-          ∙ (let none : held_among party number ≡ held_among party number + 0 = omega arith in none)
-          ∙ ap (λ (b : Bool). held_among party number + (if b then 1 else 0)) (sym free)
-    ]
-
--- as many buckets are held as flags are set
-pub held-flags : (pool : SharedPool) (party : PoolParty) (flags : List Bool) → IsJoinedAt pool party flags →
-    count_by (λ flag. flag) flags ≡ held_by party
-held-flags pool party flags is =
-    let as_many : length flags ≡ party.allocator.scene.geometry.buckets =
-    is.as_many ∙ ap (λ (p : SharedPool). p.scene.geometry.buckets) (sym is.theirs) in
-    ap (count_by (λ (flag : Bool). flag)) (sym (take_all (length flags) flags (omega arith)))
-    ∙ held-among pool party flags (length flags) is (omega arith)
-    ∙ ap (held_among party) as_many
+use Rattle.bb_memory_c.specs.SharedPools.{AreFlagged, GivesAllBack, holds_bucket, return_of, returns_of}
 
 -- ONE RETURN
 
@@ -86,8 +40,7 @@ one-more : (party : PoolParty) (number bucket : ℕ) (held before : Bool) →
     held_through bucket held (returns_of party number) ≡ before →
     held_through bucket held (returns_of party (suc number))
     ≡ (if holds_bucket party number then (if number == bucket then false else before) else before)
-one-more party number bucket held before is =
-    held-append bucket held (returns_of party number) (return_of party number)
+one-more party number bucket held before is = held-append bucket held (returns_of party number) (return_of party number)
     ∙ ap (λ (b : Bool). held_through bucket b (return_of party number)) is
     ∙ through-return party.number number bucket (holds_bucket party number) before
 
@@ -131,10 +84,9 @@ none-returned party number not_held =
     ∙ ap (λ (b : Bool). party.log ++ (if b then return_entry party.number number else [])) (sym free))
 
 -- the next bucket is held after the returns of those in front of it exactly as before them
-next-held : (party : PoolParty) (number : ℕ) →
+pub next-held : (party : PoolParty) (number : ℕ) →
     holds_bucket (with_entries party (returns_of party number)) number ≡ holds_bucket party number
-next-held party number =
-    held-append number false party.log (returns_of party number)
+next-held party number = held-append number false party.log (returns_of party number)
     ∙ past-returns party number number (holds_bucket party number) (omega arith)
 
 pub next-returned : (party : PoolParty) (number : ℕ) → with_entries (with_entries party (returns_of party number))
@@ -149,23 +101,19 @@ next-returned party number =
     ∙ ap (λ (n : ℕ). with_entries party (returns_of party n)) next
 
 -- with all returned, nothing is held
-pub all-returned : (pool : SharedPool) (party : PoolParty) (flags : List Bool) → IsJoinedAt pool party flags →
+pub all-returned : (party : PoolParty) (flags : List Bool) → AreFlagged party.allocator (IsHeldAfter party.log) flags →
     GivesAllBack party (with_entries party (returns_of party party.allocator.scene.geometry.buckets))
-all-returned pool party flags is =
-    let buckets = party.allocator.scene.geometry.buckets in
-    let as_many : length flags ≡ buckets =
-    is.as_many ∙ ap (λ (p : SharedPool). p.scene.geometry.buckets) (sym is.theirs) in
-    record {
-      returned = refl;
-      idle = λ some.
-          let bucket = some.0 in
-          let after = sym (held-append bucket false party.log (returns_of party buckets)) ∙ some.1 in
-          elim (cases_lt bucket buckets) [
-            | inl below ↦ false≢true (sym (among-returns party buckets bucket below) ∙ after)
-            | inr past ↦
-                let held : holds_bucket party bucket ≡ true =
-                sym (past-returns party buckets bucket (holds_bucket party bucket) past) ∙ after in
-                let below : bucket < length flags = slice_get_within flags bucket true ((is.exact bucket).1 held) in
-                omega arith
-          ];
-    }
+all-returned party flags are = let buckets = party.allocator.scene.geometry.buckets in record {
+  returned = refl;
+  idle = λ some.
+      let bucket = some.0 in
+      let after = sym (held-append bucket false party.log (returns_of party buckets)) ∙ some.1 in
+      elim (cases_lt bucket buckets) [
+        | inl below ↦ false≢true (sym (among-returns party buckets bucket below) ∙ after)
+        | inr past ↦
+            let held : holds_bucket party bucket ≡ true =
+            sym (past-returns party buckets bucket (holds_bucket party bucket) past) ∙ after in
+            let below : bucket < length flags = slice_get_within flags bucket true ((are.exact bucket).1 held) in
+            omega (arith, are.as_many)
+      ];
+}

@@ -159,8 +159,7 @@ module _ {R X : RattleType} (I : Owner R X) (one : One X.mir) where
 
       walk : ent 𝓤 (on_entry 𝓛 lending.signature (κ, tt) (q, tt) (self, tt) (vptr rb ro ∷ [], tt))
           (WpFn 𝓤 H C Λ fn (vptr rb ro ∷ []) Post)
-      walk =
-          qed 𝓛 ((‵ (flft κ q) ⊛ ‵ ftrue) ∷ ‵ (owns (MutRef (named 0) κ X ∷ []) (self, tt) (vptr rb ro ∷ [], tt)) ∷ []) ∵
+      walk = qed 𝓛 ((‵ (flft κ q) ⊛ ‵ ftrue) ∷ ‵ (owns (MutRef (named 0) κ X ∷ []) (self, tt) (vptr rb ro ∷ [], tt)) ∷ []) ∵
           enter ! C Λ fn (vptr rb ro ∷ []) Post $ alloc_all ! (λ l. pass_all ! refl ((tt, tt), tt) $
           let En : Env 𝓤 H = env fn.locals l in
           move ! (1 ∷ []) $ fsplit ! $ fsplit3 ! $ drop ! $ move ! (3 ∷ []) $ split ! $ move ! (2 ∷ 3 ∷ 0 ∷ []) $

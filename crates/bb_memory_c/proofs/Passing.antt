@@ -52,8 +52,7 @@ module _ {R In Out : RattleType} (I : Owner R In) (O : Owner R Out) where
     ensures = λ _ r _. fact 𝓤 ((O.held r).value ≡ (I.held a.0).value);
   }
 
-  pub passes : {M : Type 1} (𝓤 : Ura M) (𝓛 : Logic 𝓤) (𝓜 : Model 𝓤 𝓛.H) (𝓡 : Running 𝓤 𝓛.H 𝓜)
-      → (k : Callee) (from to : Sym)
+  pub passes : {M : Type 1} (𝓤 : Ura M) (𝓛 : Logic 𝓤) (𝓜 : Model 𝓤 𝓛.H) (𝓡 : Running 𝓤 𝓛.H 𝓜) → (k : Callee) (from to : Sym)
       → Closed 𝓤 𝓛.H (tables 𝓤 𝓛.H 𝓜 𝓡 𝓡.env).C (tables 𝓤 𝓛.H 𝓜 𝓡 𝓡.env).Λ k (passing from to)
       → Meets 𝓛 passed.signature ((tables 𝓤 𝓛.H 𝓜 𝓡 𝓡.env).C k) (closing 𝓛 passed (same 𝓤))
   passes 𝓤 𝓛 𝓜 𝓡 k from to closed =

@@ -25,8 +25,7 @@ module _ (R Z : RattleType) (L : Laws Z) (g : Ghosts Z.Denot) where
         → ((b o : ℕ) (h : Val) → d.at ≡ block_ptr b o → vs ≡ both (vptr b o) h ∷ [] → Good (layout Z) h → Seq K 𝓛
         (‵ (box_owns (g.dealloc_token d.alloc) R (block_ptr b o) d.value) ∷ ‵ (Z.own_val d.alloc (h ∷ [])) ∷ Γ) G)
         → Seq K 𝓛 (‵ (Loose.own_val d vs) ∷ Γ) G
-    loose_out t d vs k =
-        fsplit t $ fpick t (λ vss. fsplit t $
+    loose_out t d vs k = fsplit t $ fpick t (λ vss. fsplit t $
         feq_l t (λ ev. fsplit t $ feq_l t (λ ep. fsplit t $
         handle_tells al t d.alloc vss.1.0 (λ h ea fits. move t (1 ∷ []) $ drop t $ move t (1 ∷ []) $
         in_a_block t d.at (λ p. box_owns (g.dealloc_token d.alloc) R p d.value)

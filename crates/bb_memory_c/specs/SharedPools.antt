@@ -1,36 +1,54 @@
 -- A shared pool, its parties, and detached buckets that go from party to party, behind handles: what their calls are answered.
-use Rattle.std.specs.Prelude.{◌≡◌, ◌≢◌, ◌+◌, ◌-◌, ◌<◌, ◌≤◌, ◌↔◌, ◌++◌, [], ℕ, zero, suc, All, Bool, false, List, Result, Ok}
-use Rattle.std.specs.Prelude.{Option, Some, None, IfSome, MatchOption, fold, length, if◌then◌else◌}
+use Rattle.std.specs.Prelude.{◌≡◌, ◌≢◌, ◌-◌, ◌<◌, ◌≤◌, ◌↔◌, ◌++◌, ◌∷◌, [], ℕ, zero, suc, All, Bool, false, List, Result, Ok}
+use Rattle.std.specs.Prelude.{IfErr, Option, Some, None, IfSome, MatchOption, count_by, fold, length, if◌then◌else◌}
 use Rattle.std.specs.Result.{result_map_both}
 use Rattle.bb_memory_traits.specs.Chunk.{Region, Chunk, IsInside, first_place}
-use Rattle.bb_memory_traits.specs.PoolObject.{IsCut, bucket_place}
+use Rattle.bb_memory_traits.specs.PoolObject.{IsCut, IsWithin, PoolGeometry, bucket_place}
 use Rattle.bb_memory_base.specs.PoolLogs.{PoolLog, IsHeldAfter, held_after}
 use Rattle.bb_memory_traits.specs.declared.layout.Layout.{Layout}
 use Rattle.bb_memory_traits.specs.declared.allocator.AllocationError.{AllocationError}
 use Rattle.bb_memory.specs.IndexSets.{Has}
 use Rattle.bb_memory.specs.SharedPool.{AreFresh, PoolParty, SharedPool, TakenBucket, attach_entry, chunk_of, detach_entry}
 use Rattle.bb_memory.specs.SharedPool.{return_entry, taken_bucket, with_entries}
-use Rattle.bb_memory.specs.SharedPoolNextFit.{MayTakeFrom, hint_of}
+use Rattle.bb_memory.specs.SharedPoolCaching.{CachingParty, IsOut, RefusesCaching, SearchesPool}
+use Rattle.bb_memory.specs.SharedPoolCaching as caching
 use Rattle.bb_memory_c.specs.Answers.{answer_of, refused, detached_empty, detached_full, ok, not_held, one_party, other_pool}
-use Rattle.bb_memory_c.specs.Answers.{figure_of, invalid_argument, no_figure, no_reader, readers_left, size_too_large}
-use Rattle.bb_memory_c.specs.Calls.{AreKnown, IsOneOf, Parties}
+use Rattle.bb_memory_c.specs.Answers.{figure_of, invalid_argument, malloc_refused, no_figure, no_reader, readers_left, size_too_large}
+use Rattle.bb_memory_c.specs.Calls.{AreKnown, IsOneOf, Parties, with_party}
 use Rattle.bb_memory_c.specs.declared.answer.Answer.{Answer}
+use Rattle.bb_memory_c.specs.OneOwner.{pool_info}
 use Rattle.bb_memory_c.specs.declared.answer.Figure.{Figure}
+use Rattle.bb_memory_c.specs.declared.answer.PoolInfo.{PoolInfo}
 
 abbrev pub PoolParties : Type 0
 PoolParties = Parties SharedPool PoolParty
 
+-- a party as it joins: the buckets that it gives back go to the pool, until it is to cache some
+abbrev pub as_joined : PoolParty → CachingParty
+as_joined party = record { party = party; cached = []; most = 0 }
+
+-- the shared pool with one more party that hasn't joined, behind the others
+abbrev pub with_left : PoolParties → CachingParty → PoolParties
+with_left all joined = with_party all joined.party
+
 -- the party is this pool's, and one of its parties has joined
-abbrev pub IsAt : PoolParties → PoolParty → Type 0
-IsAt all party = IsOneOf all party.allocator all.shared.scene.parties
+abbrev pub IsAt : PoolParties → CachingParty → Type 0
+IsAt all joined = IsOneOf all joined.party.allocator all.shared.scene.parties
+
+-- the party is this pool's, and has just joined
+abbrev pub JoinsAt : PoolParties → CachingParty → Type 0
+JoinsAt all joined = IsAt all joined × (joined ≡ as_joined joined.party)
+
+abbrev pub geometry_of : CachingParty → PoolGeometry
+geometry_of joined = joined.party.allocator.scene.geometry
 
 -- the place of a pool's first bucket
 abbrev pub start_of : SharedPool → ℕ
 start_of pool = first_place pool.scene.geometry.region pool.scene.geometry.bucket
 
 -- a party of a pool that begins where this one does is this one's
-abbrev pub Knows : PoolParties → PoolParty → Type 0
-Knows all party = AreKnown start_of party.allocator all.shared
+abbrev pub Knows : PoolParties → CachingParty → Type 0
+Knows all joined = AreKnown start_of joined.party.allocator all.shared
 
 abbrev pub HoldsSome : PoolParty → Type 0
 HoldsSome party = (bucket : ℕ) × IsHeldAfter party.log bucket
@@ -46,50 +64,77 @@ pub record AreUnjoined (pool : SharedPool) (capacity : ℕ) (parties : List Pool
   pub room : pool.scene.parties ≤ capacity
   pub idle : All (IsIdleAt pool) parties
 
--- the party is this pool's, and the flags say which buckets it holds
-pub record IsJoinedAt (pool : SharedPool) (party : PoolParty) (flags : List Bool) : Type 0 where
-  pub theirs : party.allocator ≡ pool
+-- the flags say which of the pool's buckets are so
+pub record AreFlagged (pool : SharedPool) (are_so : ℕ → Type 0) (flags : List Bool) : Type 0 where
   pub as_many : length flags ≡ pool.scene.geometry.buckets
-  pub exact : (bucket : ℕ) → Has flags bucket ↔ IsHeldAfter party.log bucket
+  pub exact : (bucket : ℕ) → Has flags bucket ↔ are_so bucket
+
+-- the party is this pool's, and the flags say which buckets are out: held, and not cached
+pub record IsJoinedAt (pool : SharedPool) (joined : CachingParty) (flags : List Bool) : Type 0 where
+  pub theirs : joined.party.allocator ≡ pool
+  pub out : AreFlagged pool (IsOut joined) flags
 
 -- a pool over the region, cut into buckets of the layout, of so many parties, none of which has joined or made a step
 pub record AreFreshOver (region : Region) (bucket : Layout) (count : ℕ) (all : PoolParties) : Type 0 where
   pub cut : IsCut region bucket all.shared.scene.geometry
   pub parties : AreFresh all.shared count all.parties
 
--- the party holds the bucket of this number, which is at this place
-pub record HoldsAt (party : PoolParty) (place number : ℕ) : Type 0 where
-  pub held : IsHeldAfter party.log number
-  pub placed : place ≡ bucket_place party.allocator.scene.geometry number
+-- figures of a party: of its pool's buckets those that are out are counted
+abbrev pub ShowsParty : CachingParty → PoolInfo → CachingParty → Type 0
+ShowsParty joined info after = (flags : List Bool) × AreFlagged joined.party.allocator (IsOut joined) flags
+    × (info ≡ pool_info (geometry_of joined) (count_by (λ flag. flag) flags)) × (after ≡ joined)
 
--- the place is that of a bucket that the party holds
-abbrev pub HoldsPlace : PoolParty → ℕ → Type 0
-HoldsPlace party place = (number : ℕ) × HoldsAt party place number
+-- the bucket of this number is out, and is at this place
+pub record HoldsAt (joined : CachingParty) (place number : ℕ) : Type 0 where
+  pub out : IsOut joined number
+  pub placed : place ≡ bucket_place (geometry_of joined) number
 
--- a request is answered the chunk in the bucket that the party took by a search from its hint, or why it took none
-abbrev pub GivesChunk : PoolParty → Layout → Result Chunk AllocationError → PoolParty → Type 0
-GivesChunk party layout answer after =
+-- the place is that of a bucket that is out
+abbrev pub HoldsPlace : CachingParty → ℕ → Type 0
+HoldsPlace joined place = (number : ℕ) × HoldsAt joined place number
+
+-- A request takes the bucket that was cached last, without a step. Where none is cached, it searches the pool from the party's
+-- hint on, and is answered what the search found, or why it took none.
+pub record Takes (joined : CachingParty) (layout : Layout) (taken : Result TakenBucket AllocationError) (after : CachingParty)
+    : Type 0 where
+  pub cached : (before : List ℕ) (last : ℕ) → IsWithin (geometry_of joined).bucket layout → joined.cached ≡ before ++ last ∷ [] →
+      (taken ≡ Ok (taken_bucket joined.party.allocator last layout.size)) × (after ≡ record joined { cached = before })
+  pub searched : joined.cached ≡ [] → SearchesPool joined layout taken after
+  pub refused : IfErr taken (λ error. RefusesCaching joined layout error after)
+
+-- a request is answered the chunk in the bucket that it took, or why it took none
+abbrev pub GivesChunk : CachingParty → Layout → Result Chunk AllocationError → CachingParty → Type 0
+GivesChunk joined layout answer after =
     (taken : Result TakenBucket AllocationError) × (answer ≡ result_map_both chunk_of (λ error. error) taken)
-    × MayTakeFrom (hint_of party) party layout taken after
+    × Takes joined layout taken after
 
--- the bucket at the place was given back, by one step
-abbrev pub GivesBack : PoolParty → ℕ → PoolParty → Type 0
-GivesBack party place after =
-    (number : ℕ) × HoldsAt party place number × (after ≡ with_entries party (return_entry party.number number))
+-- a return: the bucket is cached while fewer than the most are, and else goes back to the pool by one step
+pub record Returns (joined : CachingParty) (number : ℕ) (after : CachingParty) : Type 0 where
+  pub cached : length joined.cached < joined.most → after ≡ record joined { cached = joined.cached ++ number ∷ [] }
+  pub returned : joined.most ≤ length joined.cached
+      → after ≡ record joined { party = with_entries joined.party (return_entry joined.party.number number) }
+
+-- the bucket at the place was given back
+abbrev pub GivesBack : CachingParty → ℕ → CachingParty → Type 0
+GivesBack joined place after = (number : ℕ) × HoldsAt joined place number × Returns joined number after
+
+-- the party once it has given back what it cached, by a step each
+abbrev pub flushed : CachingParty → PoolParty
+flushed joined = with_entries joined.party (caching.returns_of joined.party.number joined.cached)
+
+-- the party caches nothing then, and at most so many buckets from then on
+abbrev pub emptied : CachingParty → ℕ → CachingParty
+emptied joined most = record { party = flushed joined; cached = []; most = most }
+
+-- What is answered where the party is to cache at most so many: memory for their list may be refused, and then all stays.
+pub record TellsCache (joined : CachingParty) (most code : ℕ) (after : CachingParty) : Type 0 where
+  pub done : code ≡ ok → after ≡ emptied joined most
+  pub else_memory : code ≢ ok → (code ≡ malloc_refused) × (after ≡ joined)
 
 -- ALL THAT A PARTY HOLDS
 
 abbrev pub holds_bucket : PoolParty → ℕ → Bool
 holds_bucket party bucket = fold (λ held entry. held_after bucket held entry.outcome) false party.log
-
--- how many of so many buckets it holds
-abbrev pub held_among : PoolParty → ℕ → ℕ
-held_among party zero = 0
-held_among party (suc bucket) = held_among party bucket + (if holds_bucket party bucket then 1 else 0)
-
--- how many of the pool's
-abbrev pub held_by : PoolParty → ℕ
-held_by party = held_among party party.allocator.scene.geometry.buckets
 
 -- the party's return of the bucket, if it holds it
 abbrev pub return_of : PoolParty → ℕ → PoolLog
@@ -104,6 +149,10 @@ returns_of party (suc bucket) = returns_of party bucket ++ return_of party bucke
 pub record GivesAllBack (party after : PoolParty) : Type 0 where
   pub returned : after ≡ with_entries party (returns_of party party.allocator.scene.geometry.buckets)
   pub idle : ¬ HoldsSome after
+
+-- a party that leaves gives back first what it caches, and then what is out
+abbrev pub Leaves : CachingParty → CachingParty → Type 0
+Leaves joined after = GivesAllBack (flushed joined) after.party
 
 -- DETACHED BUCKETS
 
@@ -141,35 +190,36 @@ pub record TellsRelease (before : Detached) (told : Figure) (after : Detached) :
 -- DETACHING
 
 -- the party's pool has another party
-abbrev pub HasOthers : PoolParty → Type 0
-HasOthers party = 1 < party.allocator.scene.parties
+abbrev pub HasOthers : CachingParty → Type 0
+HasOthers joined = 1 < joined.party.allocator.scene.parties
 
--- a party, which isn't the only one, holds the bucket at the place
-abbrev pub MayDetachAt : PoolParty → ℕ → Type 0
-MayDetachAt party place = HasOthers party × HoldsPlace party place
+-- a party, which isn't the only one, has the bucket at the place
+abbrev pub MayDetachAt : CachingParty → ℕ → Type 0
+MayDetachAt joined place = HasOthers joined × HoldsPlace joined place
 
 -- a party may detach the bucket at the place, and a chunk of so many bytes has room there
-abbrev pub MayDetachChunk : PoolParty → ℕ → ℕ → Type 0
-MayDetachChunk party place len = MayDetachAt party place × (len ≤ party.allocator.scene.geometry.bucket.size)
+abbrev pub MayDetachChunk : CachingParty → ℕ → ℕ → Type 0
+MayDetachChunk joined place len = MayDetachAt joined place × (len ≤ (geometry_of joined).bucket.size)
 
 -- a party may detach the bucket of a number, with a chunk of so many bytes
-pub record MayDetachBucket (party : PoolParty) (number len : ℕ) : Type 0 where
-  pub others : HasOthers party
-  pub held : IsHeldAfter party.log number
-  pub short : len ≤ party.allocator.scene.geometry.bucket.size
+pub record MayDetachBucket (joined : CachingParty) (number len : ℕ) : Type 0 where
+  pub others : HasOthers joined
+  pub out : IsOut joined number
+  pub short : len ≤ (geometry_of joined).bucket.size
 
 -- the party detached the bucket of a number, by one step; the token of the detached bucket has a chunk of so many bytes
-pub record HasDetached (party : PoolParty) (number len : ℕ) (after : PoolParty) (token : TakenBucket) : Type 0 where
-  pub detached : after ≡ with_entries party (detach_entry party.number number)
-  pub its : token ≡ taken_bucket party.allocator number len
+pub record HasDetached (joined : CachingParty) (number len : ℕ) (after : CachingParty) (token : TakenBucket) : Type 0 where
+  pub detached : after
+      ≡ record joined { party = with_entries joined.party (detach_entry joined.party.number number) }
+  pub its : token ≡ taken_bucket joined.party.allocator number len
 
 -- What is answered where a party is to detach the bucket at a place, with a chunk of so many bytes: each cause of a refusal where
 -- none before it is one, and then all stays.
-pub record TellsDetach (party : PoolParty) (before : Detached) (place len code : ℕ) (after : PoolParty) (filled : Detached)
+pub record TellsDetach (party : CachingParty) (before : Detached) (place len code : ℕ) (after : CachingParty) (filled : Detached)
     : Type 0 where
   pub one_party : ¬ HasOthers party → code ≡ one_party
   pub not_held : HasOthers party → ¬ HoldsPlace party place → code ≡ not_held
-  pub too_large : MayDetachAt party place → party.allocator.scene.geometry.bucket.size < len → code ≡ size_too_large
+  pub too_large : MayDetachAt party place → (geometry_of party).bucket.size < len → code ≡ size_too_large
   pub full : MayDetachChunk party place len → before.inside ≢ None → code ≡ detached_full
   pub detached : MayDetachChunk party place len → before.inside ≡ None →
       (code ≡ ok) × ((number : ℕ) × (token : TakenBucket) × HoldsAt party place number × (filled ≡ holding token)
@@ -179,21 +229,23 @@ pub record TellsDetach (party : PoolParty) (before : Detached) (place len code :
 -- ATTACHING
 
 -- a detached bucket, where there is one, of a pool that begins where the party's does is of that one
-abbrev pub KnowsInside : PoolParty → Detached → Type 0
-KnowsInside party detached = IfSome detached.inside (λ token. AreKnown start_of token.allocator party.allocator)
+abbrev pub KnowsInside : CachingParty → Detached → Type 0
+KnowsInside joined detached = IfSome detached.inside (λ token. AreKnown start_of token.allocator joined.party.allocator)
 
 -- the party attached the detached bucket, by one step; the chunk in it lies in the region
-pub record HasAttached (party : PoolParty) (token : TakenBucket) (after : PoolParty) : Type 0 where
-  pub attached : after ≡ with_entries party (attach_entry party.number token.number)
-  pub inside : IsInside party.allocator.scene.geometry.region (chunk_of token)
+pub record HasAttached (joined : CachingParty) (token : TakenBucket) (after : CachingParty) : Type 0 where
+  pub attached : after
+      ≡ record joined { party = with_entries joined.party (attach_entry joined.party.number token.number) }
+  pub inside : IsInside (geometry_of joined).region (chunk_of token)
 
 -- What is answered where a party is to attach the detached bucket: the chunk in that bucket, and none is behind the handle then.
 -- Refused, where the bucket is of another pool or waits for a reader, all stays.
-pub record TellsAttach (party : PoolParty) (before : Detached) (told : Answer) (after : PoolParty) (emptied : Detached)
+pub record TellsAttach (joined : CachingParty) (before : Detached) (told : Answer) (after : CachingParty) (left : Detached)
     : Type 0 where
   pub empty : before.inside ≡ None → told ≡ refused detached_empty
-  pub others : IfSome before.inside (λ token. token.allocator ≢ party.allocator → told ≡ refused other_pool)
-  pub read : 0 < before.readers → IfSome before.inside (λ token. token.allocator ≡ party.allocator → told ≡ refused readers_left)
-  pub attached : before.readers ≡ 0 → IfSome before.inside (λ token. token.allocator ≡ party.allocator →
-      (told ≡ answer_of (Ok (chunk_of token))) × HasAttached party token after × (emptied ≡ nothing))
-  pub unchanged : told.code ≢ ok → (after ≡ party) × (emptied ≡ before)
+  pub others : IfSome before.inside (λ token. token.allocator ≢ joined.party.allocator → told ≡ refused other_pool)
+  pub read : 0 < before.readers →
+      IfSome before.inside (λ token. token.allocator ≡ joined.party.allocator → told ≡ refused readers_left)
+  pub attached : before.readers ≡ 0 → IfSome before.inside (λ token. token.allocator ≡ joined.party.allocator →
+      (told ≡ answer_of (Ok (chunk_of token))) × HasAttached joined token after × (left ≡ nothing))
+  pub unchanged : told.code ≢ ok → (after ≡ joined) × (left ≡ before)

@@ -161,7 +161,7 @@ pub(crate) fn join<H: Handle, S: Handle>(handle: &mut H, alloc: Global, joined: 
 where
     H::Made: Shares<S::Made>,
     ensures { AnswersJoin (H.made handle.old) (H.made handle.new) (S.made joined.old) (S.made joined.new)
-        result H.Made.left H.Made.with_party H.Made.is_at }
+        result H.Made.left H.Made.with_party H.Made.joins }
 {
     if is_made(joined) {
         return code::ALREADY_INITIALIZED;

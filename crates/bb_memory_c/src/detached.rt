@@ -127,28 +127,29 @@ impl Detached {
 }
 
 impl JoinedPool {
-    /// Detaches the bucket of this number, which the party holds, with a chunk of `len` bytes.
+    /// Detaches the bucket of this number, which is out, with a chunk of `len` bytes.
+    #[tactic(auto, unfolding(bb_memory::specs::SharedPoolCaching::IsOut))]
     fn detach_bucket(&mut self, number: u32, len: usize) -> DetachedBucket
         requires { MayDetachBucket self.old number len }
         ensures { HasDetached self.old number len self.new result }
     {
         let pool = &*self.pool;
-        let bucket = by_number::bucket(pool, &self.party, number, len);
-        let token = pool.detach(&mut self.party, bucket);
-        self.held[number as usize] = false;
+        let bucket = by_number::bucket(pool, self.party.party(), number, len);
+        let token = self.party.detach(pool, bucket);
+        self.out[number as usize] = false;
         token
     }
 
     /// Attaches a detached bucket, and answers its chunk.
     fn attach_bucket(&mut self, token: DetachedBucket) -> Chunk
-        requires { token.allocator ≡ self.old.allocator }
+        requires { token.allocator ≡ self.old.party.allocator }
         ensures chunk { result ≡ chunk_of token }
         ensures party { HasAttached self.old token self.new }
     {
-        let bucket = self.pool.attach(&mut self.party, token);
+        let bucket = self.party.attach(&*self.pool, token);
         let number = bucket.number();
         let chunk = bucket.chunk();
-        self.held[number as usize] = true;
+        self.out[number as usize] = true;
         chunk
     }
 

@@ -9,7 +9,7 @@ ghost use Rattle.bb_memory.specs.Bump.{Bump};
 ghost use Rattle.bb_memory.specs.OneChunk.{OneChunk};
 ghost use Rattle.bb_memory.specs.Pool.{CountedPool};
 ghost use Rattle.bb_memory.specs.SharedBump.{BumpParty};
-ghost use Rattle.bb_memory.specs.SharedPool.{PoolParty};
+ghost use Rattle.bb_memory.specs.SharedPoolCaching.{CachingParty};
 ghost use Rattle.bb_memory_c.specs.Handles.{owns_if};
 ghost use Rattle.bb_memory_c.specs.SharedPools.{Detached as Inside, PoolParties as SharedPool};
 ghost use Rattle.bb_memory_bump.specs.contracts.bump_allocator.BumpAllocator.{the_row as bump_row};
@@ -307,7 +307,7 @@ pub struct PoolPartyHandle {
     at: *mut u8,
     made: bool,
     pub ghost heap: { Heap },
-    pub ghost value: { Option PoolParty },
+    pub ghost value: { Option CachingParty },
 }
 
 impl Model for PoolPartyHandle {

@@ -72,6 +72,9 @@ pub(crate) trait Shares<S: Drop>: Drop {
     /// The shared value with a further party that hasn't joined, behind the others.
     ghost with_party: { Self → S → Self };
 
+    /// The party is one of its own that has just joined.
+    ghost joins: { Self → S → Type 0 };
+
     /// The party is one of its own that has joined.
     ghost is_at: { Self → S → Type 0 };
 
@@ -84,7 +87,7 @@ pub(crate) trait Shares<S: Drop>: Drop {
     /// Makes the last party that hasn't joined join, in memory of its own.
     fn deal(&mut self, alloc: Global) -> Result<Box<S>, u32>
         ensures { TakesParty self.old self.new result left (λ shared joined. with_party shared joined.value)
-            (λ shared joined. is_at shared joined.value) };
+            (λ shared joined. joins shared joined.value) };
 
     /// Returns whether a party is one of its own that has joined.
     fn has_joined(&self, party: &S) -> bool

@@ -154,6 +154,8 @@ impl Shares<JoinedBump> for BumpParties {
 
     ghost with_party = { with_party };
 
+    ghost joins = { IsAt };
+
     ghost is_at = { IsAt };
 
     ghost knows = { Knows };

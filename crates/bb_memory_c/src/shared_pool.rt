@@ -1,50 +1,51 @@
 //! A shared pool behind handles: one for the pool and the parties that haven't joined, and one for each party that has, with the
 //! buckets that it holds.
-ghost use Rattle.std.specs.Prelude.{◌≡◌, ◌<◌, IfErr, IfNone, IfOk, IfSome, count_by};
+ghost use Rattle.std.specs.Prelude.{◌≡◌, IfErr, IfNone, IfOk, IfSome, count_by};
 ghost use Rattle.std.specs.Arc.{arc_value};
 ghost use Rattle.bb_memory_traits.specs.Chunk.{region_at};
 ghost use Rattle.bb_memory_base.specs.PoolLogs.{IsHeldAfter};
-ghost use Rattle.bb_memory.specs.SharedPool.{return_entry, with_entries};
-ghost use Rattle.bb_memory_c.specs.Calls.{AnswersFree, AnswersInfo, AnswersJoin, AnswersLeave, AnswersNumber, AnswersPlace};
-ghost use Rattle.bb_memory_c.specs.Calls.{AnswersPoolMake, AnswersRequest, AnswersReturn, AnswersWhether, HasRoom, IfBoth};
-ghost use Rattle.bb_memory_c.specs.Calls.{IsThere, MayBeShared, left_at, with_party};
-ghost use Rattle.bb_memory_c.specs.OneOwner.{pool_info};
-ghost use Rattle.bb_memory_c.specs.SharedPools.{AreFreshOver, GivesAllBack, GivesBack, GivesChunk, HoldsAt, HoldsPlace, IsAt};
-ghost use Rattle.bb_memory_c.specs.SharedPools.{IsIdleAt, Knows, held_by, return_of};
+ghost use Rattle.bb_memory.specs.SharedPoolCaching.{IsOut};
+ghost use Rattle.bb_memory_c.specs.Answers.{ok, uninitialized};
+ghost use Rattle.bb_memory_c.specs.Calls.{Answers, AnswersFree, AnswersInfo, AnswersJoin, AnswersLeave, AnswersNumber};
+ghost use Rattle.bb_memory_c.specs.Calls.{AnswersPlace, AnswersPoolMake, AnswersRequest, AnswersReturn, AnswersWhether, HasRoom};
+ghost use Rattle.bb_memory_c.specs.Calls.{IfBoth, IsThere, MayBeShared, left_at};
+ghost use Rattle.bb_memory_c.specs.SharedPools.{AreFlagged, AreFreshOver, GivesAllBack, GivesBack, GivesChunk, HoldsAt};
+ghost use Rattle.bb_memory_c.specs.SharedPools.{HoldsPlace, IsAt, IsIdleAt, JoinsAt, Knows, Leaves, Returns, ShowsParty, TellsCache};
+ghost use Rattle.bb_memory_c.specs.SharedPools.{as_joined, emptied, geometry_of, with_left};
 
 use crate::answer::{Answer, Figure, PoolInfo};
 use crate::call::{
     free, give_back, holds, info, is_made, join, keep, leave, number, place, request,
 };
 use crate::code;
-use crate::handle::{PoolPartyHandle, SharedPoolHandle};
+use crate::handle::{Handle, PoolPartyHandle, SharedPoolHandle};
 use crate::kind::{Bucketed, Gives, Keeps, Shares, Shows};
 use crate::layout::{cut_into, has_room};
 use bb_memory::layout::{Chunk, Layout};
 use bb_memory::pool_allocator::AllocationError;
-use bb_memory::shared_pool::{PoolParty, SharedPoolAllocator, by_number};
+use bb_memory::shared_pool::{CachingParty, PoolParty, SharedPoolAllocator, by_number};
 use std::alloc::Global;
 use std::marker::Model;
 use std::sync::Arc;
 
-/// One party of a shared pool, and for each bucket whether the party holds it.
+/// One party of a shared pool, and for each bucket whether it is out: held by the party, and not cached.
 #[derive(Drop)]
 pub struct JoinedPool {
     pub(crate) pool: Arc<SharedPoolAllocator, Global>,
-    pub(crate) party: PoolParty,
-    pub(crate) held: Vec<bool>,
+    pub(crate) party: CachingParty,
+    pub(crate) out: Vec<bool>,
 }
 
 impl Model for JoinedPool {
     ghost use Rattle.std.specs.Arc.{arc_value};
-    ghost use Rattle.bb_memory.specs.SharedPool.{PoolParty};
+    ghost use Rattle.bb_memory.specs.SharedPoolCaching.{CachingParty};
     ghost use Rattle.bb_memory_c.specs.SharedPools.{IsJoinedAt};
 
-    ghost Value = { PoolParty };
+    ghost Value = { CachingParty };
 
     ghost view = { λ s. s.party };
 
-    ghost invariant = { λ s. IsJoinedAt (arc_value s.pool) s.party s.held.items };
+    ghost invariant = { λ s. IsJoinedAt (arc_value s.pool) s.party s.out.items };
 }
 
 /// How many of the flags are set.
@@ -52,6 +53,20 @@ fn count_set(flags: &[bool]) -> usize
     ensures { result ≡ count_by (λ flag. flag) flags.now }
 {
     flags.iter().filter(|flag| **flag).count()
+}
+
+/// Gives back each bucket that the party holds, in order of their numbers. The flags say which those are.
+fn give_all_back(pool: &SharedPoolAllocator, party: &mut PoolParty, held: &[bool])
+    requires party { party.old.allocator ≡ pool.now }
+    requires held { AreFlagged pool.now (IsHeldAfter party.old.log) held.now }
+    ensures { GivesAllBack party.old party.new }
+{
+    for number in 0..pool.number_of_buckets() {
+        if held[number as usize] {
+            let bucket = by_number::bucket(pool, party, number, 0);
+            pool.deallocate_bucket(party, bucket);
+        }
+    }
 }
 
 impl JoinedPool {
@@ -62,29 +77,30 @@ impl JoinedPool {
         party: PoolParty,
     ) -> Result<Box<JoinedPool>, PoolParty>
         requires { IsIdleAt (arc_value pool.now) party }
-        ensures joined { IfOk result (λ joined. joined.value ≡ party) }
+        ensures joined { IfOk result (λ joined. joined.value ≡ as_joined party) }
         ensures refused { IfErr result (λ back. back ≡ party) }
     {
         let Ok(pool) = Arc::try_clone(pool) else {
             return Err(party);
         };
-        let Ok(held) = Vec::from_elem(alloc, false, pool.number_of_buckets() as usize) else {
+        let Ok(out) = Vec::from_elem(alloc, false, pool.number_of_buckets() as usize) else {
             return Err(party);
         };
-        match Box::new(alloc, JoinedPool { pool, party, held }) {
+        let party = CachingParty::new(alloc, party, 0)?;
+        match Box::new(alloc, JoinedPool { pool, party, out }) {
             Ok(joined) => Ok(joined),
             Err(refused) => {
                 let JoinedPool {
-                    pool: _pool,
+                    pool,
                     party,
-                    held: _held,
+                    out: _out,
                 } = refused.value;
-                Err(party)
+                Err(party.into_party(&*pool))
             }
         }
     }
 
-    /// The number of the bucket at this place, if the party holds it.
+    /// The number of the bucket at this place, if it is out.
     pub(crate) fn held_at(&self, place: usize) -> Option<u32>
         ensures held { IfSome result (HoldsAt self.now place) }
         ensures none { IfNone result (¬ HoldsPlace self.now place) }
@@ -92,55 +108,45 @@ impl JoinedPool {
         let Some(number) = self.pool.number_at(place) else {
             return None;
         };
-        if self.held[number as usize] {
+        if self.out[number as usize] {
             Some(number)
         } else {
             None
         }
     }
 
-    /// How many buckets the party holds.
-    pub(crate) fn held_buckets(&self) -> usize
-        ensures { result ≡ held_by self.now }
-    {
-        count_set(&self.held)
-    }
-
-    /// Gives back the bucket of this number, which the party holds.
+    /// Gives back the bucket of this number, which is out.
+    #[tactic(auto, unfolding(bb_memory::specs::SharedPoolCaching::IsOut))]
     fn give_back_bucket(&mut self, number: u32)
-        requires { IsHeldAfter self.old.log number }
-        ensures { self.new ≡ with_entries self.old (return_entry self.old.number number) }
+        requires { IsOut self.old number }
+        ensures { Returns self.old number self.new }
     {
         let pool = &*self.pool;
-        let bucket = by_number::bucket(pool, &self.party, number, 0);
-        pool.deallocate_bucket(&mut self.party, bucket);
-        self.held[number as usize] = false;
+        let bucket = by_number::bucket(pool, self.party.party(), number, 0);
+        self.party.deallocate(pool, bucket);
+        self.out[number as usize] = false;
     }
 
-    /// Gives back the bucket of this number, if the party holds it.
-    fn give_back_if_held(&mut self, number: u32)
-        requires { number < self.old.allocator.scene.geometry.buckets }
-        ensures { self.new ≡ with_entries self.old (return_of self.old number) }
+    /// Has the party cache at most so many buckets.
+    fn cache(&mut self, alloc: Global, most: u32) -> u32
+        ensures { TellsCache self.old most result self.new }
     {
-        let is_held = self.held[number as usize];
-        if is_held {
-            self.give_back_bucket(number);
+        match self.party.cache_at_most(alloc, &*self.pool, most) {
+            Ok(()) => code::OK,
+            Err(_) => code::MALLOC_REFUSED,
         }
     }
 
-    /// Gives back each bucket that the party holds.
-    fn give_all_back(&mut self)
-        ensures { GivesAllBack self.old self.new }
+    /// Gives back what is cached.
+    fn flush(&mut self)
+        ensures { self.new ≡ emptied self.old self.old.most }
     {
-        for number in 0..self.pool.number_of_buckets() {
-            self.give_back_if_held(number);
-        }
+        self.party.flush(&*self.pool);
     }
 }
 
 impl Shows<PoolInfo> for JoinedPool {
-    ghost may_show = { λ party info after.
-        (info ≡ pool_info party.allocator.scene.geometry (held_by party)) × (after ≡ party) };
+    ghost may_show = { ShowsParty };
 
     fn show(&mut self) -> PoolInfo {
         let pool = &*self.pool;
@@ -150,7 +156,7 @@ impl Shows<PoolInfo> for JoinedPool {
             bucket_size: pool.bucket_size(),
             max_alignment: pool.max_alignment(),
             number_of_buckets: pool.number_of_buckets() as usize,
-            held_buckets: self.held_buckets(),
+            held_buckets: count_set(&self.out),
         }
     }
 }
@@ -159,11 +165,11 @@ impl Gives for JoinedPool {
     ghost may_give = { GivesChunk };
 
     fn give(&mut self, layout: Layout) -> Result<Chunk, AllocationError> {
-        match self.pool.allocate_next_fit(&mut self.party, layout) {
+        match self.party.allocate(&*self.pool, layout) {
             Ok(bucket) => {
                 let number = bucket.number();
                 let chunk = bucket.chunk();
-                self.held[number as usize] = true;
+                self.out[number as usize] = true;
                 Ok(chunk)
             }
             Err(error) => Err(error),
@@ -190,7 +196,7 @@ impl Keeps for JoinedPool {
 }
 
 impl Bucketed for JoinedPool {
-    ghost geometry = { λ party. party.allocator.scene.geometry };
+    ghost geometry = { geometry_of };
 
     fn place_of(&self, number: u32) -> Option<usize> {
         self.pool.place_at(number)
@@ -246,13 +252,15 @@ impl PoolParties {
 impl Shares<JoinedPool> for PoolParties {
     ghost left = { left_at };
 
-    ghost with_party = { with_party };
+    ghost with_party = { with_left };
+
+    ghost joins = { JoinsAt };
 
     ghost is_at = { IsAt };
 
     ghost knows = { Knows };
 
-    ghost leaves = { GivesAllBack };
+    ghost leaves = { Leaves };
 
     fn deal(&mut self, alloc: Global) -> Result<Box<JoinedPool>, u32> {
         let Some(party) = self.parties.pop() else {
@@ -273,13 +281,10 @@ impl Shares<JoinedPool> for PoolParties {
             && self.parties.len() < pool.number_of_parties() as usize
     }
 
-    fn take_back(&mut self, mut joined: JoinedPool) {
-        joined.give_all_back();
-        let JoinedPool {
-            pool: _pool,
-            party,
-            held: _held,
-        } = joined;
+    fn take_back(&mut self, joined: JoinedPool) {
+        let JoinedPool { pool, party, out } = joined;
+        let mut party = party.into_party(&*pool);
+        give_all_back(&*pool, &mut party, &out);
         self.parties.push_reserved(party);
     }
 }
@@ -336,7 +341,7 @@ pub extern "C" fn bb_shared_pool_join(
     party: &mut PoolPartyHandle,
 ) -> u32
     ensures { AnswersJoin handle.old.value handle.new.value party.old.value party.new.value result
-        left_at with_party IsAt }
+        left_at with_left JoinsAt }
 {
     join(handle, alloc, party)
 }
@@ -351,7 +356,7 @@ pub extern "C" fn bb_shared_pool_leave(
 ) -> u32
     requires { IfBoth handle.old.value party.old.value Knows }
     ensures { AnswersLeave handle.old.value handle.new.value party.old.value party.new.value result
-        IsAt GivesAllBack with_party }
+        IsAt Leaves with_left }
 {
     leave(handle, alloc, party)
 }
@@ -364,8 +369,36 @@ pub extern "C" fn bb_pool_party_destroy(alloc: Global, handle: &mut PoolPartyHan
     free(handle, alloc)
 }
 
-/// Asks for a chunk of `size` bytes at a multiple of `align`, in a bucket that isn't held, by one search of the buckets that
-/// begins at the hint: behind the bucket that the party had last.
+/// Has the party cache at most `most` of the buckets that it gives back, for its next requests. What it caches already is given
+/// back first. A cached bucket stays held, so other parties are refused where each bucket is cached or out.
+#[unsafe(no_mangle)]
+pub extern "C" fn bb_pool_party_cache(alloc: Global, handle: &mut PoolPartyHandle, most: u32) -> u32
+    ensures { Answers handle.old.value handle.new.value (result ≡ uninitialized)
+        (λ joined after. TellsCache joined most result after) }
+{
+    match handle.made_mut() {
+        Some(joined) => joined.cache(alloc, most),
+        None => code::UNINITIALIZED,
+    }
+}
+
+/// Gives back what the party caches.
+#[unsafe(no_mangle)]
+pub extern "C" fn bb_pool_party_flush(handle: &mut PoolPartyHandle) -> u32
+    ensures { Answers handle.old.value handle.new.value (result ≡ uninitialized)
+        (λ joined after. (result ≡ ok) × (after ≡ emptied joined joined.most)) }
+{
+    match handle.made_mut() {
+        Some(joined) => {
+            joined.flush();
+            code::OK
+        }
+        None => code::UNINITIALIZED,
+    }
+}
+
+/// Asks for a chunk of `size` bytes at a multiple of `align`, in the bucket that was cached last, or else in one that isn't held,
+/// by one search of the buckets from the party's hint on.
 #[unsafe(no_mangle)]
 pub extern "C" fn bb_pool_party_allocate(
     handle: &mut PoolPartyHandle,
@@ -397,12 +430,11 @@ pub extern "C" fn bb_pool_party_holds(handle: &mut PoolPartyHandle, place: usize
     holds(handle, place)
 }
 
-/// Fills the struct with the pool's figures, and with how many buckets this party holds: as many as it gives back by leaving.
+/// Fills the struct with the pool's figures, and with how many buckets this party holds, without those that it caches.
 #[unsafe(no_mangle)]
 pub extern "C" fn bb_pool_party_info(handle: &mut PoolPartyHandle, to: &mut PoolInfo) -> u32
     ensures { AnswersInfo handle.old.value handle.new.value to.old to.new result
-        (λ party info after. (info ≡ pool_info party.allocator.scene.geometry (held_by party))
-        × (after ≡ party)) }
+        ShowsParty }
 {
     info(handle, to)
 }
@@ -411,7 +443,7 @@ pub extern "C" fn bb_pool_party_info(handle: &mut PoolPartyHandle, to: &mut Pool
 #[unsafe(no_mangle)]
 pub extern "C" fn bb_pool_party_place_at(handle: &mut PoolPartyHandle, number: u32) -> Figure
     ensures { AnswersPlace handle.old.value handle.new.value result number
-        (λ party. party.allocator.scene.geometry) }
+        geometry_of }
 {
     place(handle, number)
 }
@@ -420,7 +452,7 @@ pub extern "C" fn bb_pool_party_place_at(handle: &mut PoolPartyHandle, number: u
 #[unsafe(no_mangle)]
 pub extern "C" fn bb_pool_party_number_at(handle: &mut PoolPartyHandle, place: usize) -> Figure
     ensures { AnswersNumber handle.old.value handle.new.value result place
-        (λ party. party.allocator.scene.geometry) }
+        geometry_of }
 {
     number(handle, place)
 }

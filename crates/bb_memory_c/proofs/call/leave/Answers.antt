@@ -24,8 +24,7 @@ returns-then-not-has_joined g c = let is = c.in-Some.ensures.value in let party_
     }
 
 pub take_back-requires : goal.take_back-requires
-take_back-requires g c =
-    subst (g.H.Made.Shares.is_at c.in-Some.shared.now) (c.deref.ensures ∙ sym c.into_inner.ensures)
+take_back-requires g c = subst (g.H.Made.Shares.is_at c.in-Some.shared.now) (c.deref.ensures ∙ sym c.into_inner.ensures)
     (c.if-not-has_joined.ensures.0 refl)
 
 pub returns : goal.returns

@@ -3,11 +3,9 @@ use Rattle.bb_memory_c.proofs.Made.{at_lent, answers}
 use Rattle.bb_memory_c.proofs.call.number.Goals as goal
 
 pub returns-in-Some-number_of : goal.returns-in-Some-number_of
-returns-in-Some-number_of g c =
-    answers _ c.in-Some.ensures.value _ (at_lent _ _ c.in-Some.is (c.made_mut.follows.holds _))
+returns-in-Some-number_of g c = answers _ c.in-Some.ensures.value _ (at_lent _ _ c.in-Some.is (c.made_mut.follows.holds _))
     (record { there = search rules; none = search rules }, refl)
 
 pub returns-in-None : goal.returns-in-None
-returns-in-None g c =
-    answers _ c.in-Some.ensures.value _ (at_lent _ _ c.in-Some.is (c.made_mut.follows.holds _))
+returns-in-None g c = answers _ c.in-Some.ensures.value _ (at_lent _ _ c.in-Some.is (c.made_mut.follows.holds _))
     (record { there = search rules; none = search rules }, refl)

@@ -7,8 +7,7 @@ pub returns-then-is_made : goal.returns-then-is_made
 returns-then-is_made c = held-already (c.is_made.ensures.value.0 c.if-is_made.true) c.is_made.ensures.unchanged
 
 pub returns-then-not-can_make : goal.returns-then-not-can_make
-returns-then-not-can_make c =
-    not-made-of (is_empty _ _ c.is_made.ensures.value c.if-is_made.false)
+returns-then-not-can_make c = not-made-of (is_empty _ _ c.is_made.ensures.value c.if-is_made.false)
     (λ may. false≢true (c.if-not-can_make.ensures.1 may)) c.is_made.ensures.unchanged
 
 pub keep-requires : goal.keep-requires

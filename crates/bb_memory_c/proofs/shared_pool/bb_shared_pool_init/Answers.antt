@@ -14,8 +14,7 @@ pub returns-then-is_made : goal.returns-then-is_made
 returns-then-is_made c = made-already (c.is_made.ensures.value.0 c.if-is_made.true) c.is_made.ensures.unchanged
 
 pub returns-in-Err : goal.returns-in-Err
-returns-in-Err c =
-    not-cut (is_empty _ _ c.is_made.ensures.value c.if-is_made.false) (region_at c.args.start c.args.size)
+returns-in-Err c = not-cut (is_empty _ _ c.is_made.ensures.value c.if-is_made.false) (region_at c.args.start c.args.size)
     c.cut_into.result c.in-Err.code c.is_made.ensures.unchanged c.in-Err.is c.cut_into.ensures.invalid_layout
     c.cut_into.ensures.invalid_argument c.in-Err.ensures.others (λ _ may. may.1)
 
@@ -31,8 +30,7 @@ returns-then-not-has_room c =
     (λ has. false≢true (c.if-not-has_room.ensures.1 has))
 
 pub returns-in_default : goal.returns-in_default
-returns-in_default c =
-    tried (is_empty _ _ c.is_made.ensures.value c.if-is_made.false) c.in-Ok.bucket c.in-Ok.ensures.cut.layout
+returns-in_default c = tried (is_empty _ _ c.is_made.ensures.value c.if-is_made.false) c.in-Ok.bucket c.in-Ok.ensures.cut.layout
     (some_party _ c.if-parties-eq0.false, c.in-Ok.ensures.cut.may) _
     (c.has_room.ensures.0 c.if-not-has_room.false)
     (λ wrong. absurd (cc)) (λ _. refl) (λ _. c.is_made.ensures.unchanged)

@@ -1,11 +1,13 @@
 use Rattle.std.proofs.Common.{◌∙◌, ap, sym}
 use Rattle.bb_memory.specs.SharedPool.{TakenBucket}
+use Rattle.bb_memory.specs.SharedPoolCaching.{CachingParty, IsOut}
 use Rattle.bb_memory_c.proofs.Flags.{flag-unset}
 use Rattle.bb_memory_c.proofs.shared_pool.JoinedPool.detach_bucket.Goals as goal
 
 pub invariant_of-self : goal.invariant_of-self
-invariant_of-self c =
-    let did = c.detach-token.ensures.party in
-    flag-unset c.self.invariant (did.party ∙ c.deref-pool.ensures)
-    (ap (λ (b : TakenBucket). b.number) (sym c.bucket-bucket.ensures.value))
-    (rw (← c.self.view_is) at c.requires.held) did.was_detached did.others_kept did.others
+invariant_of-self c = let did = c.detach-token.ensures in record {
+  theirs = ap (λ (p : CachingParty). p.party.allocator) did.logged ∙ c.self.invariant.theirs;
+  out = flag-unset (IsOut c.detach-token.new.self) c.self.invariant.out
+      (ap (λ (b : TakenBucket). b.number) (sym c.bucket-bucket.ensures.value))
+      (rw (← c.self.view_is) at c.requires.out) did.was_detached did.others_kept did.others;
+}

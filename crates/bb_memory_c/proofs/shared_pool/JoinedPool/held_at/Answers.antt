@@ -15,5 +15,5 @@ returns-then-index-clause-held c =
 pub returns-else-index-clause-none : goal.returns-else-index-clause-none
 returns-else-index-clause-none c =
     let at = rw c.deref.ensures at c.in-Some.ensures in
-    let none = holds-unset c.self.invariant at.below c.index.ensures at.there at.one c.if-index.false in
+    let none = holds-unset c.self.invariant at.below c.index.ensures at.one c.if-index.false in
     rw c.self.view_is at none

@@ -1,6 +1,8 @@
-use Rattle.std.proofs.Common.{◌<◌, ap, arith, length, rules}
+use Rattle.std.proofs.Common.{◌<◌, ◌∙◌, ap, arith, length, rules, subst, sym}
 use Rattle.std.specs.Arc.{arc_value}
-use Rattle.bb_memory_c.specs.SharedPools.{IsIdleAt, PoolParties}
+use Rattle.bb_memory.specs.SharedPool.{PoolParty}
+use Rattle.bb_memory.specs.SharedPoolCaching.{CachingParty}
+use Rattle.bb_memory_c.specs.SharedPools.{GivesAllBack, IsIdleAt, PoolParties, as_joined, flushed}
 use Rattle.bb_memory_c.proofs.Unjoined.{one-more}
 use Rattle.bb_memory_c.proofs.shared_pool.PoolPartiesSharesJoinedPool.take_back.Goals as goal
 
@@ -10,8 +12,18 @@ invariant_of-self c =
     let parties = ap (λ (s : PoolParties). length s.parties) c.self.view_is in
     let scene = ap (λ (s : PoolParties). s.shared.scene.parties) c.self.view_is in
     let out : length c.self.inside.parties.items < pool.scene.parties = omega (arith, parties, scene, c.requires.out) in
-    let back : IsIdleAt pool c.joined.inside.party = record { theirs = search rules; idle = search rules } in
+    let back : IsIdleAt pool c.give_all_back.new.party = record {
+      theirs = ap (λ (p : PoolParty). p.allocator) c.give_all_back.ensures.returned
+          ∙ ap (λ (p : PoolParty). p.allocator) c.into_party-party.ensures.logged
+          ∙ ap (λ (p : CachingParty). p.party.allocator) c.joined.view_is ∙ c.requires.theirs ∙ ap (λ (s : PoolParties). s.shared) (sym c.self.view_is);
+      idle = c.give_all_back.ensures.idle;
+    } in
     one-more c.push_reserved.ensures.capacity c.self.invariant out back c.push_reserved.ensures.items
 
 pub returns : goal.returns
-returns c = (c.give_all_back.new.self, c.give_all_back.ensures, search rules)
+returns c = (
+  as_joined c.give_all_back.new.party,
+  subst (λ (p : PoolParty). GivesAllBack p c.give_all_back.new.party)
+      (c.into_party-party.ensures.logged ∙ ap flushed c.joined.view_is) c.give_all_back.ensures,
+  search rules,
+)
