@@ -1,6 +1,6 @@
 -- A shared pool, its parties, and detached buckets that go from party to party, behind handles: what their calls are answered.
 use Rattle.std.specs.Prelude.{◌≡◌, ◌≢◌, ◌-◌, ◌<◌, ◌≤◌, ◌↔◌, ◌++◌, ◌∷◌, [], ℕ, zero, suc, All, Bool, false, List, Result, Ok}
-use Rattle.std.specs.Prelude.{IfErr, Option, Some, None, IfSome, MatchOption, count_by, fold, length, if◌then◌else◌}
+use Rattle.std.specs.Prelude.{IfErr, IfOk, Option, Some, None, IfSome, MatchOption, count_by, fold, length, if◌then◌else◌}
 use Rattle.std.specs.Result.{result_map_both}
 use Rattle.bb_memory_traits.specs.Chunk.{Region, Chunk, IsInside, first_place}
 use Rattle.bb_memory_traits.specs.PoolObject.{IsCut, IsWithin, PoolGeometry, bucket_place}
@@ -100,6 +100,7 @@ pub record Takes (joined : CachingParty) (layout : Layout) (taken : Result Taken
   pub cached : (before : List ℕ) (last : ℕ) → IsWithin (geometry_of joined).bucket layout → joined.cached ≡ before ++ last ∷ [] →
       (taken ≡ Ok (taken_bucket joined.party.allocator last layout.size)) × (after ≡ record joined { cached = before })
   pub searched : joined.cached ≡ [] → SearchesPool joined layout taken after
+  pub within : IfOk taken (λ bucket. IsWithin (geometry_of joined).bucket layout)
   pub refused : IfErr taken (λ error. RefusesCaching joined layout error after)
 
 -- a request is answered the chunk in the bucket that it took, or why it took none

@@ -27,13 +27,16 @@ returns-in-Ok c =
     let given : GivesChunk c.self.inside.party c.args.layout (Ok c.chunk-chunk.result) c.allocate.new.self = (
       Ok c.in-Ok.bucket,
       ap Ok c.chunk-chunk.ensures.value,
-      record { cached = did.cached; searched = did.searched; refused = did.refused },
+      record { cached = did.cached; searched = did.searched; within = did.within; refused = did.refused },
     ) in
     rw c.self.view_is at given
 
 pub returns-in-Err : goal.returns-in-Err
 returns-in-Err c =
     let did = c.in-Err.ensures in
-    let given : GivesChunk c.self.inside.party c.args.layout (Err c.in-Err.error) c.allocate.new.self =
-    (Err c.in-Err.error, refl, record { cached = did.cached; searched = did.searched; refused = did.refused }) in
+    let given : GivesChunk c.self.inside.party c.args.layout (Err c.in-Err.error) c.allocate.new.self = (
+      Err c.in-Err.error,
+      refl,
+      record { cached = did.cached; searched = did.searched; within = did.within; refused = did.refused },
+    ) in
     rw c.self.view_is at given
