@@ -50,8 +50,8 @@ pub record HasAsked (scene : PoolScene) (number : ℕ) (log added : PoolLog) (re
       (λ bucket. (bucket < scene.geometry.buckets) × (¬ IsHeldAfter log bucket))
 
 -- a party of this pool, before its tries and behind them
-module _ (pool : SharedPool) (table new_table : TableId) (me new : Me ℕ SeatView) (number : ℕ) (hint next : Hint) (added : PoolLog)
-    (party : PoolParty) (layout : Layout) (is : IsPartySeat number hint me) (now : IsPartySeat number next new)
+module _ (pool : SharedPool) (table new_table : TableId) (me new : Me ℕ SeatView) (number : ℕ) (hint next : Hint)
+    (added : PoolLog) (party : PoolParty) (layout : Layout) (is : IsPartySeat number hint me) (now : IsPartySeat number next new)
     (view_is : party_in table number me.0 ≡ party) (own : party.allocator ≡ pool) where
   abbrev Asked : Option ℕ → Type 0
   Asked result = HasAsked pool.scene (number_of me.0) (view_log me.0) added result new

@@ -43,7 +43,10 @@ module _ {pool : SharedPool} {so : ℕ → Type 0} {flags : List Bool} (are : Ar
 module _ {pool : SharedPool} {joined : CachingParty} {flags : List Bool} {place : ℕ} (is : IsJoinedAt pool joined flags) where
   pub holds-set : {number : ℕ} → number < pool.scene.geometry.buckets → {flag : Bool} → flag ≡ get_or flags number flag →
       place ≡ bucket_place pool.scene.geometry number → flag ≡ true → HoldsAt joined place number
-  holds-set {number} below reads placed set = record { out = is-set is.out below reads set; placed = placed ∙ ap (λ (p : SharedPool). bucket_place p.scene.geometry number) (sym is.theirs) }
+  holds-set {number} below reads placed set = record {
+    out = is-set is.out below reads set;
+    placed = placed ∙ ap (λ (p : SharedPool). bucket_place p.scene.geometry number) (sym is.theirs);
+  }
 
   -- a bucket that is out at the place is one of the pool's
   its-place : (holds : HoldsPlace joined place) → place ≡ bucket_place pool.scene.geometry holds.0

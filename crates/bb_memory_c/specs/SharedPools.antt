@@ -13,7 +13,8 @@ use Rattle.bb_memory.specs.SharedPool.{return_entry, taken_bucket, with_entries}
 use Rattle.bb_memory.specs.SharedPoolCaching.{CachingParty, IsOut, RefusesCaching, SearchesPool}
 use Rattle.bb_memory.specs.SharedPoolCaching as caching
 use Rattle.bb_memory_c.specs.Answers.{answer_of, refused, detached_empty, detached_full, ok, not_held, one_party, other_pool}
-use Rattle.bb_memory_c.specs.Answers.{figure_of, invalid_argument, malloc_refused, no_figure, no_reader, readers_left, size_too_large}
+use Rattle.bb_memory_c.specs.Answers.{figure_of, invalid_argument, malloc_refused, no_figure, no_reader, readers_left}
+use Rattle.bb_memory_c.specs.Answers.{size_too_large}
 use Rattle.bb_memory_c.specs.Calls.{AreKnown, IsOneOf, Parties, with_party}
 use Rattle.bb_memory_c.specs.declared.answer.Answer.{Answer}
 use Rattle.bb_memory_c.specs.OneOwner.{pool_info}

@@ -10,8 +10,8 @@ ghost use Rattle.bb_memory_c.specs.Calls.{Answers, AnswersFree, AnswersInfo, Ans
 ghost use Rattle.bb_memory_c.specs.Calls.{AnswersPlace, AnswersPoolMake, AnswersRequest, AnswersReturn, AnswersWhether, HasRoom};
 ghost use Rattle.bb_memory_c.specs.Calls.{IfBoth, IsThere, MayBeShared, left_at};
 ghost use Rattle.bb_memory_c.specs.SharedPools.{AreFlagged, AreFreshOver, GivesAllBack, GivesBack, GivesChunk, HoldsAt};
-ghost use Rattle.bb_memory_c.specs.SharedPools.{HoldsPlace, IsAt, IsIdleAt, JoinsAt, Knows, Leaves, Returns, ShowsParty, TellsCache};
-ghost use Rattle.bb_memory_c.specs.SharedPools.{as_joined, emptied, geometry_of, with_left};
+ghost use Rattle.bb_memory_c.specs.SharedPools.{HoldsPlace, IsAt, IsIdleAt, JoinsAt, Knows, Leaves, Returns, ShowsParty};
+ghost use Rattle.bb_memory_c.specs.SharedPools.{TellsCache, as_joined, emptied, geometry_of, with_left};
 
 use crate::answer::{Answer, Figure, PoolInfo};
 use crate::call::{

@@ -201,8 +201,8 @@ impl CachingParty {
         pool.detach(&mut self.party, bucket)
     }
 
-    /// Attaches a detached bucket, as [`SharedPoolAllocator::attach`](super::SharedPoolAllocator::attach) does. It is out then. The
-    /// party and the bucket have to be this pool's.
+    /// Attaches a detached bucket, as [`SharedPoolAllocator::attach`](super::SharedPoolAllocator::attach) does. It is out then.
+    /// The party and the bucket have to be this pool's.
     #[tactic(auto, unfolding(crate::specs::SharedPoolCaching::IsOut))]
     pub fn attach<'p, const CAPPED: usize, const MOST: usize>(
         &mut self,
@@ -224,8 +224,8 @@ impl CachingParty {
         pool.attach(&mut self.party, detached)
     }
 
-    /// Gives all cached buckets back to the pool, as `flush` does, and caches at most `most` from then on. It takes memory for their
-    /// list. A refusal, with `OutOfMemory`, changes nothing. The party has to be this pool's.
+    /// Gives all cached buckets back to the pool, as `flush` does, and caches at most `most` from then on. It takes memory for
+    /// their list. A refusal, with `OutOfMemory`, changes nothing. The party has to be this pool's.
     #[tactic(auto, unfolding(crate::specs::SharedPoolCaching::IsOut))]
     pub fn cache_at_most<const CAPPED: usize, const MOST: usize>(
         &mut self,

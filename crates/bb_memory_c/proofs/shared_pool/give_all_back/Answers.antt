@@ -74,7 +74,8 @@ loop-number-preserved c =
             ∙ then_all;
       }
       | else-held-number w ↦ record {
-        returned = w.party-is ∙ none-returned party number (free-here c.args.party.now c.requires.held below returned w.if-held-number.false)
+        returned = w.party-is
+            ∙ none-returned party number (free-here c.args.party.now c.requires.held below returned w.if-held-number.false)
             ∙ then_all;
       }
     ]

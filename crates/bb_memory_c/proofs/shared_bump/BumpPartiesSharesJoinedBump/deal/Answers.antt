@@ -43,7 +43,8 @@ returns-in-Ok c =
     let parties = c.self.inside.parties in
     let theirs = All-pop (λ (p : BumpParty). p.allocator ≡ arc_value c.self.inside.bump) parties.items c.pop.new.self.items
     (Some c.in-Some.party) c.in-Some.ensures.items is.theirs in
-    takes-last (λ all joined. IsAt all joined.value) (λ joined. joined.value) c.self.view_is c.in-Some.ensures.items c.in-Ok.ensures.joined
+    takes-last (λ all joined. IsAt all joined.value) (λ joined. joined.value) c.self.view_is c.in-Some.ensures.items
+    c.in-Ok.ensures.joined
     record {
       theirs = ap (λ (p : BumpParty). p.allocator) c.in-Ok.ensures.joined ∙ theirs.1;
       out = omega (
@@ -57,5 +58,6 @@ returns-in-Ok c =
 
 pub returns-in-Err : goal.returns-in-Err
 returns-in-Err c =
-    no-memory (λ all joined. IsAt all joined.value) (λ joined. joined.value) c.pop.new.self.items c.in-Some.party c.self.view_is c.in-Some.ensures.items
+    no-memory (λ all joined. IsAt all joined.value) (λ joined. joined.value) c.pop.new.self.items c.in-Some.party
+    c.self.view_is c.in-Some.ensures.items
     (put-back c.pop.new.self.items c.in-Some.ensures.items c.in-Err.ensures.refused c.push_reserved.ensures.items)

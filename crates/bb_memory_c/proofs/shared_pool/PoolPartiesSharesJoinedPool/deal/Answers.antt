@@ -36,5 +36,6 @@ returns-in-Ok c =
 
 pub returns-in-Err : goal.returns-in-Err
 returns-in-Err c =
-    no-memory (λ all joined. JoinsAt all joined.value) (λ joined. joined.value.party) c.pop.new.self.items c.in-Some.party c.self.view_is c.in-Some.ensures.items
+    no-memory (λ all joined. JoinsAt all joined.value) (λ joined. joined.value.party) c.pop.new.self.items c.in-Some.party
+    c.self.view_is c.in-Some.ensures.items
     (put-back c.pop.new.self.items c.in-Some.ensures.items c.in-Err.ensures.refused c.push_reserved.ensures.items)

@@ -15,7 +15,8 @@ invariant_of-self c =
     let back : IsIdleAt pool c.give_all_back.new.party = record {
       theirs = ap (λ (p : PoolParty). p.allocator) c.give_all_back.ensures.returned
           ∙ ap (λ (p : PoolParty). p.allocator) c.into_party-party.ensures.logged
-          ∙ ap (λ (p : CachingParty). p.party.allocator) c.joined.view_is ∙ c.requires.theirs ∙ ap (λ (s : PoolParties). s.shared) (sym c.self.view_is);
+          ∙ ap (λ (p : CachingParty). p.party.allocator) c.joined.view_is ∙ c.requires.theirs
+          ∙ ap (λ (s : PoolParties). s.shared) (sym c.self.view_is);
       idle = c.give_all_back.ensures.idle;
     } in
     one-more c.push_reserved.ensures.capacity c.self.invariant out back c.push_reserved.ensures.items

@@ -38,7 +38,8 @@ returns-in-Some-clause-party g c =
     stays c.args.self.now old.seat.table_id new.table_id old.seat.me new.me old.number old.hint _ _ c.args.party.now c.args.layout
     c.party.invariant (invariant_of-party g c) c.party.view_is c.requires.party (Some c.in-Some.number)
     c.next_fit.ensures.told.table
-    (search_took c.args.self.now.scene (number_of old.seat.me.0) (view_log old.seat.me.0) old.hint.bucket new.me c.in-Some.number took)
+    (search_took c.args.self.now.scene (number_of old.seat.me.0) (view_log old.seat.me.0) old.hint.bucket new.me c.in-Some.number
+    took)
 
 pub returns-in-None-clause-party : goal.returns-in-None-clause-party
 returns-in-None-clause-party g c =
@@ -62,7 +63,8 @@ returns-in-Some-clause-serves g c =
     served c.args.self.now old.seat.table_id new.table_id old.seat.me new.me old.number old.hint _ _ c.args.party.now
     c.args.layout c.party.invariant (invariant_of-party g c) c.party.view_is c.requires.party c.self.inside.flags
     c.in-Some.number c.size-in-Some.result
-    (search_took c.args.self.now.scene (number_of old.seat.me.0) (view_log old.seat.me.0) old.hint.bucket new.me c.in-Some.number took)
+    (search_took c.args.self.now.scene (number_of old.seat.me.0) (view_log old.seat.me.0) old.hint.bucket new.me c.in-Some.number
+    took)
     c.self.view_is c.size-in-Some.ensures (omega arith) (omega arith)
 
 pub returns-in-None-clause-serves : goal.returns-in-None-clause-serves

@@ -22,7 +22,8 @@ invariant_of-push_reserved g c =
     party_seat scene number (record { bucket = c.part_of-bucket.result; came_back = false }) []
     c.deal-seat.result.me (no_step scene number c.deal-seat.result.me seated)
     (let made = c.requires.parties in omega arith)
-    (subst (λ (p : SharedPool). IsSharedScene p.scene) c.self.view_is c.self.invariant.shared) (λ i. record { bucket = c.part_of-bucket.ensures i; came_back = false })
+    (subst (λ (p : SharedPool). IsSharedScene p.scene) c.self.view_is c.self.invariant.shared)
+    (λ i. record { bucket = c.part_of-bucket.ensures i; came_back = false })
 
 pub loop-number-preserved : goal.loop-number-preserved
 loop-number-preserved g c =
