@@ -100,7 +100,7 @@ enum {
     BB_SHRINK_WOULD_GROW = 6,     // the new size isn't smaller than the old one
     BB_INVALID_LAYOUT = 7,        // the alignment is no power of two, or the size rounded up to it is greater than PTRDIFF_MAX
     BB_UNINITIALIZED = 8,         // the handle is empty
-    BB_NOT_HELD = 9,              // no chunk that is out begins at the place; of a party, no bucket that it holds for its host
+    BB_NOT_HELD = 9,              // no chunk that is out begins at the place; of a party, none that it holds and doesn't cache
     BB_ALREADY_INITIALIZED = 10,  // the handle isn't empty
     BB_INVALID_ARGUMENT = 11,     // the region, the buckets or the parties can't be; each `init` says when
     BB_NO_PARTY = 12,             // each party has joined, or was destroyed
@@ -217,8 +217,8 @@ struct bb_one_chunk_info { size_t start_address, size; bool has_chunk_available;
 uint32_t bb_one_chunk_info(bb_one_chunk *, struct bb_one_chunk_info *);
 
 // POOL: the region is cut into buckets of one layout, and each request gets a bucket. Each bucket is a stride behind the one
-// before it: the size of a bucket rounded up to its alignment. The stride, and the bytes for so many buckets where the
-// region starts at a multiple of the alignment; elsewhere add the alignment less 1. Of constants both are constants, untested.
+// before it: the size of a bucket rounded up to its alignment. The stride, and how many bytes so many buckets need where the
+// region starts at a multiple of the alignment; anywhere else add the alignment less 1. Both are constants, and test nothing.
 #define BB_STRIDE(size, align) (((size_t)(size) + ((size_t)(align) - 1)) / (size_t)(align) * (size_t)(align))
 #define BB_BYTES_FOR(size, align, buckets) (BB_STRIDE(size, align) * (size_t)(buckets))
 
@@ -295,8 +295,9 @@ uint32_t bb_shared_pool_destroy(bb_shared_pool *);
 BB_MUST_USE uint32_t bb_shared_pool_join(bb_shared_pool *, bb_pool_party *);
 uint32_t bb_shared_pool_leave(bb_shared_pool *, bb_pool_party *);
 uint32_t bb_pool_party_destroy(bb_pool_party *);
-// A chunk of `size` bytes in a bucket that isn't held, by next fit: one search from where the party's last one ended, at first in
-// a part of the pool that is its own. BB_OUT_OF_MEMORY where each bucket was held when the search came to it, not at one moment.
+// A chunk of `size` bytes in a bucket that isn't held, by next fit: one search from the least bucket that the party gave back
+// since it took its last one, or else behind that one; at first in a part of the pool that is its own. BB_OUT_OF_MEMORY where
+// each bucket was held when the search came to it, not at one moment.
 BB_MUST_USE bb_answer bb_pool_party_allocate(bb_pool_party *, size_t size, size_t align);
 // As of a pool, where only the buckets count as held that this party holds, and doesn't cache.
 uint32_t bb_pool_party_deallocate(bb_pool_party *, bb_address place);
