@@ -81,6 +81,23 @@ multiple place layout wider le is =
     ) in
     ap (λ m. m % layout.align) whole ∙ mod-mul-add (place / wider.align * divides.0) layout.align 0 layout.valid.positive
 
+-- a size and a power of two that are at most those of a layout make one
+pub within-valid : (size align : ℕ) (limit : Layout) → size ≤ limit.size → align ≤ limit.align → IsPowerOfTwo align
+    → IsLayout size align
+within-valid size align limit less low power =
+    let high = (layout-plain limit.size limit.align).0 limit.valid in
+    let divides = power-divides align limit.align power high.0 low in
+    let above = least_place-is limit.size limit.align (power_of_two-positive limit.align high.0) in
+    let k = above.multiple.0 * divides.0 in
+    let whole : least_place limit.size limit.align ≡ k * align = omega (
+      arith,
+      above.multiple.1,
+      ap (λ a. above.multiple.0 * a) divides.1,
+      mul_assoc above.multiple.0 divides.0 align,
+    ) in
+    let least = (least_place-is size align (power_of_two-positive align power)).least k (omega (arith, above.above, whole)) in
+    (layout-plain size align).1 (power, omega (arith, high.1, whole, least))
+
 -- no bytes have a layout
 pub empty-valid : IsLayout 0 1
 unfolding lib.Count.ones

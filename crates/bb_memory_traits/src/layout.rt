@@ -1,5 +1,5 @@
 //! Layouts, which are what is asked for, and chunks, which are what is given. Sizes and lengths are in bytes.
-ghost use Rattle.std.specs.Prelude.{◌≡◌, ◌^◌, ◌%◌, ◌<◌, ◌≤◌, ◌↔◌, ℕ, IsOk, IfOk, IfSome};
+ghost use Rattle.std.specs.Prelude.{◌≡◌, ◌^◌, ◌%◌, ◌<◌, ◌≤◌, ◌↔◌, ℕ, IsOk, IsSome, IfOk, IfSome};
 ghost use Rattle.std.specs.Align.{IsLayout};
 ghost use Rattle.std.specs.Int.{IsPowerOfTwo};
 ghost use Rattle.std.specs.Option.{SomeIff};
@@ -47,6 +47,23 @@ impl Layout {
             return Err(LayoutError {});
         }
         Ok(Layout { size, align })
+    }
+
+    /// The layout of this size and alignment where both are at most this layout's. That leaves to test that the alignment is a
+    /// power of two. It is `None` where it isn't, or where one of them is greater.
+    #[inline(always)]
+    pub fn within(self, size: usize, align: usize) -> Option<Layout>
+        ensures some { IsSome result
+            ↔ ((size ≤ self.size) × (align ≤ self.align) × IsPowerOfTwo align) }
+        ensures value { IfSome result (λ layout. (layout.size ≡ size) × (layout.align ≡ align)) }
+    {
+        if size > self.size || align > self.align {
+            return None;
+        }
+        if !align.is_power_of_two() {
+            return None;
+        }
+        Some(Layout { size, align })
     }
 
     /// The layout of no bytes, for a call in which the layout decides nothing.

@@ -146,17 +146,18 @@ impl<const CAPPED: usize, const MOST: usize> SharedBucketPool<CAPPED, MOST> {
         }
         match self.pass(&mut party.seat) {
             Some(number) => {
-                party.hint = Hint {
-                    bucket: number + 1,
-                    came_back: false,
-                };
+                party.hint.bucket = number + 1;
+                party.hint.came_back = false;
                 Ok(Bucket {
                     flags: &self.flags,
                     number,
                     len: layout.size(),
                 })
             }
-            None => Err(AllocationError::OutOfMemory),
+            None => {
+                self.count_refusal();
+                Err(AllocationError::OutOfMemory)
+            }
         }
     }
 
@@ -177,7 +178,7 @@ impl<const CAPPED: usize, const MOST: usize> SharedBucketPool<CAPPED, MOST> {
             → IsHeldAfter party.old.log other }
     {
         self.flags.give_back(&mut party.seat, bucket.number);
-        party.hint = party.hint.with_return(bucket.number);
+        party.hint.follow_return(bucket.number);
     }
 
     /// Two parties meet: no bucket is held by both. It loads a word four times, which is in no log, and changes nothing. The
@@ -283,6 +284,13 @@ impl<const CAPPED: usize, const MOST: usize> SharedBucketPool<CAPPED, MOST> {
         ensures value { result ≡ self.now.scene.parties }
     {
         self.flags.scene.parties
+    }
+
+    /// The layout of each bucket, as it was asked for.
+    pub fn bucket_layout(&self) -> Layout
+        ensures { result ≡ self.now.scene.geometry.bucket }
+    {
+        self.flags.geometry().bucket()
     }
 
     /// The size of a bucket in bytes, as it was asked for. The buckets are at least that far apart.

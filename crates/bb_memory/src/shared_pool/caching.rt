@@ -4,7 +4,7 @@ ghost use Rattle.bb_memory_traits.specs.PoolObject.{IsWithin};
 ghost use Rattle.bb_memory_base.specs.PoolLogs.{IsHeldAfter};
 ghost use Rattle.bb_memory.specs.SharedPool.{IsSameParty, Serves, attach_entry, detach_entry, return_entry, taken_bucket};
 ghost use Rattle.bb_memory.specs.SharedPool.{with_entries};
-ghost use Rattle.bb_memory.specs.SharedPoolCaching.{AreCached, IsOut, RefusesCaching, SearchesPool, returns_of};
+ghost use Rattle.bb_memory.specs.SharedPoolCaching.{AreCached, IsOut, ReturnsCaching, TakesCaching, returns_of};
 
 use super::bucket::Bucket;
 use super::buckets::SharedBucketPool;
@@ -13,8 +13,21 @@ use super::detached::DetachedBucket;
 use super::party::PoolParty;
 use crate::allocator::AllocationError;
 use crate::layout::Layout;
-use std::alloc::Global;
+use std::alloc::{AllocError, Global};
 use std::marker::Model;
+
+/// How many numbers of four bytes fill two cache lines.
+const GAP: usize = 32;
+
+/// An empty list with room for so many numbers, and for a gap behind them: each call writes its party's list, which shares no cache
+/// line with what another thread's calls write. For no numbers it takes no memory.
+fn list_of(alloc: Global, most: u32) -> Result<Vec<u32>, AllocError>
+    ensures items { IfOk result (λ list. list.items ≡ []) }
+    ensures room { IfOk result (λ list. most ≤ vec_capacity list) }
+{
+    let gap = if most == 0 { 0 } else { GAP };
+    Vec::with_capacity(alloc, most as usize + gap)
+}
 
 /// A party of a shared pool that caches at most `most` of the buckets that it gave back last. Its next requests take the cached
 /// buckets first, without a step. Each call takes the party's pool by `&`: a [`SharedPoolAllocator`](super::SharedPoolAllocator)
@@ -69,7 +82,7 @@ impl CachingParty {
             → IsOut made bucket) }
         ensures refused { IfErr result (λ handed_back. handed_back ≡ party) }
     {
-        let Ok(cached) = Vec::with_capacity(alloc, most as usize) else {
+        let Ok(cached) = list_of(alloc, most) else {
             return Err(party);
         };
         Ok(CachingParty {
@@ -99,6 +112,7 @@ impl CachingParty {
     /// it searches the pool as `allocate_next_fit` does. It is refused in this order: with `SizeTooLarge` where the size is
     /// greater than the bucket's, and with `AlignmentFailure` where the alignment is greater than the bucket's, both without a
     /// step; and with `OutOfMemory` where none is cached and each probe of the search misses. The party has to be this pool's.
+    #[inline(always)]
     #[tactic(auto, unfolding(crate::specs::SharedPoolCaching::IsOut))]
     pub fn allocate<'p, const CAPPED: usize, const MOST: usize>(
         &mut self,
@@ -106,15 +120,7 @@ impl CachingParty {
         layout: Layout,
     ) -> Result<Bucket<'p>, AllocationError>
         requires party { self.old.party.allocator ≡ pool.now }
-        ensures cached { (before : List ℕ) (last : ℕ)
-            → IsWithin self.old.party.allocator.scene.geometry.bucket layout
-            → self.old.cached ≡ before ++ last ∷ []
-            → (result ≡ Ok (taken_bucket self.old.party.allocator last layout.size))
-            × (self.new ≡ record self.old { cached = before }) }
-        ensures searched { self.old.cached ≡ [] → SearchesPool self.old layout result self.new }
-        ensures refused { IfErr result (λ error. RefusesCaching self.old layout error self.new) }
-        ensures within { IfOk result (λ bucket.
-            IsWithin self.old.party.allocator.scene.geometry.bucket layout) }
+        ensures answer { TakesCaching self.old layout result self.new }
         ensures serves { Serves self.old.party.allocator self.old.party layout
             result self.new.party }
         ensures taken { IfOk result (λ bucket. IsOut self.new bucket.number) }
@@ -155,13 +161,7 @@ impl CachingParty {
         requires party { self.old.party.allocator ≡ pool.now }
         requires bucket { bucket.allocator ≡ pool.now }
         requires out { IsOut self.old bucket.number }
-        ensures cached { length self.old.cached < self.old.most
-            → self.new ≡ record self.old { cached = self.old.cached ++ bucket.entry.number ∷ [] } }
-        ensures returned { self.old.most ≤ length self.old.cached
-            → self.new ≡ record self.old {
-              party = with_entries self.old.party
-                  (return_entry self.old.party.number bucket.entry.number);
-            } }
+        ensures answer { ReturnsCaching self.old bucket.entry.number self.new }
         ensures given_back { ¬ IsOut self.new bucket.entry.number }
         ensures others_kept { (other : ℕ) → other ≢ bucket.entry.number
             → IsOut self.old other → IsOut self.new other }
@@ -245,7 +245,7 @@ impl CachingParty {
         ensures refused { IfErr result (λ error. (error ≡ AllocationError.OutOfMemory)
             × (self.new ≡ self.old)) }
     {
-        let Ok(room) = Vec::with_capacity(alloc, most as usize) else {
+        let Ok(room) = list_of(alloc, most) else {
             return Err(AllocationError::OutOfMemory);
         };
         self.flush(pool);

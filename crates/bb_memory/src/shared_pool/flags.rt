@@ -22,6 +22,7 @@ use crate::pool_allocator::geometry::Geometry;
 use atomic_table::{Seat, Table};
 use std::alloc::{AllocError, Global};
 use std::marker::Model;
+use std::sync::atomic::AtomicU64;
 
 const FREE: u64 = 0;
 
@@ -44,6 +45,8 @@ fn word_of(bucket: u32) -> usize
 pub(super) struct Flags {
     table: Table<u8, View, Scene, Agreement, Global>,
     pub(super) scene: Scene,
+    /// How many requests were refused, of which contracts say nothing.
+    pub(super) refused: AtomicU64,
 }
 
 impl Model for Flags {
@@ -72,7 +75,12 @@ impl Flags {
     {
         let words = Vec::from_elem(alloc, FREE, FIRST + scene.geometry.count() as usize)?;
         let (table, seat) = Table::of_words(alloc, words.as_slice(), &scene)?;
-        Ok((Flags { table, scene }, seat))
+        let flags = Flags {
+            table,
+            scene,
+            refused: AtomicU64::new(0),
+        };
+        Ok((flags, seat))
     }
 
     /// A seat of its own for the first party that a seat stands for.
@@ -189,6 +197,12 @@ impl Flags {
         self.gather(a, guest);
         self.find(a);
         *b = self.deal(a);
+    }
+
+    /// How many flags are found taken, by one load each, which is in no log.
+    pub(super) fn count_taken(&self) -> u32 {
+        let is_taken = |bucket: &u32| self.table.shared.peek(word_of(*bucket)) != FREE;
+        (0..self.scene.geometry.count()).filter(is_taken).count() as u32
     }
 
     /// The buckets that the flags are of.

@@ -9,7 +9,7 @@ ghost use Rattle.bb_memory.specs.SharedPoolRule.{HasRefusedFrom, HasTakenFrom, I
 
 use super::bucket::Bucket;
 use super::buckets::SharedBucketPool;
-use super::party::{Hint, PoolParty};
+use super::party::PoolParty;
 use super::rule::View;
 use crate::allocator::AllocationError;
 use crate::layout::Layout;
@@ -90,6 +90,7 @@ impl<const CAPPED: usize, const MOST: usize> SharedBucketPool<CAPPED, MOST> {
     /// own. The search goes on to the last bucket, and then from bucket 0 up. It is refused with `OutOfMemory` where each probe
     /// misses. Where other parties step meanwhile, that doesn't mean that all buckets were held at one moment. The party has to
     /// be this pool's.
+    #[inline(always)]
     pub fn allocate_next_fit(
         &self,
         party: &mut PoolParty,
@@ -111,17 +112,18 @@ impl<const CAPPED: usize, const MOST: usize> SharedBucketPool<CAPPED, MOST> {
         }
         match self.next_fit(&mut party.seat, party.hint.bucket) {
             Some(number) => {
-                party.hint = Hint {
-                    bucket: number + 1,
-                    came_back: false,
-                };
+                party.hint.bucket = number + 1;
+                party.hint.came_back = false;
                 Ok(Bucket {
                     flags: &self.flags,
                     number,
                     len: layout.size(),
                 })
             }
-            None => Err(AllocationError::OutOfMemory),
+            None => {
+                self.count_refusal();
+                Err(AllocationError::OutOfMemory)
+            }
         }
     }
 }

@@ -16,15 +16,14 @@ pub(super) struct Hint {
 }
 
 impl Hint {
-    /// The hint after a return of this bucket: the least of those that came back since the last taking.
-    pub(super) fn with_return(self, bucket: u32) -> Hint
-        ensures { result ≡ hint_after self (Gives bucket) }
+    /// Follows a return of this bucket: the hint is the least of those that came back since the last taking.
+    pub(super) fn follow_return(&mut self, bucket: u32)
+        ensures { self.new ≡ hint_after self.old (Gives bucket) }
     {
-        let is_least = !self.came_back || bucket <= self.bucket;
-        Hint {
-            bucket: if is_least { bucket } else { self.bucket },
-            came_back: true,
+        if !self.came_back || bucket <= self.bucket {
+            self.bucket = bucket;
         }
+        self.came_back = true;
     }
 }
 

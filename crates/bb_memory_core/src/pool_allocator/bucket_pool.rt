@@ -50,6 +50,14 @@ impl<S: IndexSet> BucketPool<S> {
         self.geometry.count()
     }
 
+    /// The layout of each bucket, as it was asked for.
+    #[inline]
+    pub fn bucket_layout(&self) -> Layout
+        ensures { result ≡ self.now.pool.geometry.bucket }
+    {
+        self.geometry.bucket()
+    }
+
     /// The size of a bucket in bytes, as it was asked for. The buckets are at least that far apart.
     #[inline]
     pub fn bucket_size(&self) -> usize

@@ -150,7 +150,11 @@ impl Geometry {
             → place ≡ bucket_place self.now other → other ≡ number) }
         ensures none { IfNone result (¬ IsPlaceOfBucket self.now place) }
     {
-        let distance = place.checked_sub(self.first())?;
+        let first = self.first();
+        if place < first {
+            return None;
+        }
+        let distance = place - first;
         if !self.is_multiple(distance) {
             return None;
         }

@@ -120,6 +120,15 @@ impl Pool {
         ]
     }
 
+    /// Returns how many buckets are held, and how many requests were refused for want of one.
+    pub(crate) fn counts(&self) -> [usize; 6] {
+        let figures = match &self.form {
+            Form::Whole(pool) => pool.figures(),
+            Form::Four(pool) => pool.figures(),
+        };
+        [figures.held as usize, figures.refused as usize, 0, 0, 0, 0]
+    }
+
     pub(crate) fn number_at(&self, place: usize) -> Option<u32> {
         match &self.form {
             Form::Whole(pool) => pool.number_at(place),

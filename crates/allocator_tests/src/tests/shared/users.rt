@@ -393,6 +393,7 @@ impl<'a> Answers for Users<'a> {
         let at = call.1[0];
         match call.0 {
             "figures" => ("are", self.pool.figures()),
+            "counts" => ("are", self.pool.counts()),
             "number-at" => short_or_none(self.pool.number_at(at)),
             "place-at" => number_or_none(self.pool.place_at(short(at))),
             "meet" => self.meet(at),

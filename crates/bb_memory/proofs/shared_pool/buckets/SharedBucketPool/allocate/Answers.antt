@@ -66,7 +66,7 @@ took g c =
     c.in-Some.ensures.told.step)
     c.self.view_is c.size-in-Some.ensures (omega arith) (omega arith)
 
-lost : (g : _) (c : goal.In-None g) → ServesNextFit c.args.self.now c.args.party.now c.args.layout (Err OutOfMemory)
+lost : (g : _) (c : goal.After-count_refusal g) → ServesNextFit c.args.self.now c.args.party.now c.args.layout (Err OutOfMemory)
     (party_in c.pass.new.seat.table_id c.party.inside.number c.pass.new.seat.me.0)
 lost g c =
     let old = c.party.inside in

@@ -20,7 +20,7 @@ invariant_of-party g c =
     let party = c.party.inside in
     let own = ap (λ (p : PoolParty). p.allocator) c.party.view_is ∙ c.requires.party ∙ sym c.self.view_is in
     seated_then c.self.inside.flags party.seat.table_id party.seat.me party.number party.hint c.party.invariant own
-    c.give_back.new.seat.me _ c.with_return-party-inside.result c.with_return-party-inside.ensures
+    c.give_back.new.seat.me _ c.follow_return.new.self c.follow_return.ensures
     (returned c.self.inside.flags party.seat.table_id party.seat.me party.number party.hint c.party.invariant own
     c.bucket.inside.number c.give_back.new.seat.me c.give_back.ensures.step)
 

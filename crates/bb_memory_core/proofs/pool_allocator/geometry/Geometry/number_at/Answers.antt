@@ -1,4 +1,4 @@
-use Rattle.std.proofs.Common.{◌≡◌, ◌-◌, ◌/◌, ◌%◌, ◌<◌, ℕ, ap, sym, ◌∙◌}
+use Rattle.std.proofs.Common.{◌≡◌, ◌-◌, ◌/◌, ◌%◌, ◌<◌, ℕ, ap, refl, sym, ◌∙◌}
 use Rattle.std.proofs.lemmas.Bool.{false≢true}
 use Rattle.bb_memory_traits.specs.Chunk.{first_place}
 use Rattle.bb_memory_traits.specs.PoolObject.{PoolGeometry, bucket_place, stride}
@@ -18,12 +18,11 @@ computed geometry i place first distance number begins far divided some at =
 pub returns-then-not-is_multiple-clause-none : goal.returns-then-not-is_multiple-clause-none
 returns-then-not-is_multiple-clause-none c at =
     let geometry : PoolGeometry = c.args.self.now in
-    let far = (c.in_ok-distance.ensures {u = tt}).1 ∙ ap (λ n. c.args.place - n) c.first.ensures in
+    let far = ap (λ n. c.args.place - n) c.first-first.ensures in
     let whole = ap (λ n. n % stride geometry.bucket) far ∙ whole-at geometry at.0 c.args.place at.2 in
     false≢true (sym c.if-not-is_multiple.true ∙ c.is_multiple.ensures.1 whole)
 
 pub returns-clause-one : goal.returns-clause-one
 returns-clause-one c j at =
     let told = c.strides-number.ensures in
-    computed c.args.self.now j c.args.place c.first.result _ _ c.first.ensures
-    ((c.in_ok-distance.ensures {u = tt}).1) told.value told.some at
+    computed c.args.self.now j c.args.place c.first-first.result _ _ c.first-first.ensures refl told.value told.some at
