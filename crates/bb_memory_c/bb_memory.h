@@ -41,7 +41,7 @@
 //  3. One call at a time has a handle. A data race on one is undefined behaviour, and may give a chunk twice.
 //  4. Threads that call at once use a party each, or share a handle under a lock. A handle goes to another thread where a lock,
 //     an atomic, or a thread's start or join orders the calls.
-//  5. `place_at` and `number_at` may run beside other calls with their handle but `destroy` and `leave` (examples/c/places.c).
+//  5. `place_at`, `number_at` and `bb_shared_pool_info` may run beside other calls with their handle but those that empty it.
 //  6. A call that takes two handles gets two. Two shared pools, or bumps, of which a party or a detached bucket is left begin at
 //     different places: by its place another's party or bucket is refused (BB_OTHER_POOL).
 //  7. Call nothing in a signal handler, nor in a child that a process of several threads forked. After any other fork either
@@ -178,7 +178,7 @@ typedef struct bb_figure { uint32_t code; size_t number; } bb_figure;
 //     bb_bump, bb_one_chunk, bb_detached    64
 //     bb_pool                               256, and 16 for each 64 buckets
 //     bb_shared_bump                        256, and 16 for each party (as many to reset, before it frees those); 64 to join
-//     bb_shared_pool                        1648, and 16 for each bucket and party; 192, and 1 a bucket, to join; 4 a cached one
+//     bb_shared_pool                        320, 16 a bucket, 12 a party; to join 352, 1 a bucket; to cache 128, 4 a bucket
 
 // BUMP, over the region of `size` bytes at `start`: BB_INVALID_ARGUMENT where start is 0, or start plus size exceeds SIZE_MAX.
 BB_MUST_USE uint32_t bb_bump_init(bb_bump *, bb_place start, size_t size);
@@ -250,8 +250,7 @@ uint32_t bb_pool_info(bb_pool *, struct bb_pool_info *);
 // greater than a page, bucket 0 is as far behind the mapping's start as in the first process (examples/c/processes.c).
 bb_figure bb_pool_place_at(const bb_pool *, uint32_t number);
 bb_figure bb_pool_number_at(const bb_pool *, bb_address place);
-// As `bb_pool_init`, and BB_NO_BUCKET also where there is room for less than `buckets`: a start that isn't a multiple of the
-// alignment costs a bucket. Refused, the handle is empty.
+// As `bb_pool_init`, and BB_NO_BUCKET also where there is room for less than `buckets`. Refused, the handle is empty.
 BB_MUST_USE static inline uint32_t bb_pool_init_at_least(bb_pool *pool, size_t bucket_size, size_t bucket_align, bb_place start,
                                                          size_t size, uint32_t buckets) {
     struct bb_pool_info info;
@@ -291,6 +290,10 @@ uint32_t bb_bump_party_info(bb_bump_party *, struct bb_bump_info *);
 BB_MUST_USE uint32_t bb_shared_pool_init(bb_shared_pool *, size_t bucket_size, size_t bucket_align, bb_place start, size_t size,
                                          uint32_t parties);
 uint32_t bb_shared_pool_destroy(bb_shared_pool *);
+// For any thread, while parties call: each bucket is looked at, at a moment of its own. A cached or a detached one is held, too.
+// `refused` counts the requests that were answered BB_OUT_OF_MEMORY.
+struct bb_shared_pool_info { struct bb_pool_info pool; size_t refused; };
+uint32_t bb_shared_pool_info(const bb_shared_pool *, struct bb_shared_pool_info *);
 // As of the shared bump. `leave` also gives back what the party holds or caches, so the host uses no chunk in it any more.
 BB_MUST_USE uint32_t bb_shared_pool_join(bb_shared_pool *, bb_pool_party *);
 uint32_t bb_shared_pool_leave(bb_shared_pool *, bb_pool_party *);
@@ -310,18 +313,15 @@ bb_figure bb_pool_party_number_at(const bb_pool_party *, bb_address place);
 // cache. What was cached before is given back first; refused, all stays. `flush` gives back what is cached.
 BB_MUST_USE uint32_t bb_pool_party_cache(bb_pool_party *, uint32_t most);
 uint32_t bb_pool_party_flush(bb_pool_party *);
-// As `bb_pool_init_at_least`. A party joins and leaves, which tells the number of buckets.
+// As `bb_pool_init_at_least`.
 BB_MUST_USE static inline uint32_t bb_shared_pool_init_at_least(bb_shared_pool *pool, size_t bucket_size, size_t bucket_align,
                                                                 bb_place start, size_t size, uint32_t parties, uint32_t buckets) {
-    bb_pool_party party = BB_EMPTY;
-    struct bb_pool_info info;
+    struct bb_shared_pool_info info;
     uint32_t code = bb_shared_pool_init(pool, bucket_size, bucket_align, start, size, parties);
     if (code != BB_OK) return code;
-    code = bb_shared_pool_join(pool, &party);
-    if (code == BB_OK && (bb_pool_party_info(&party, &info) != BB_OK || info.number_of_buckets < buckets)) code = BB_NO_BUCKET;
-    bb_shared_pool_leave(pool, &party);
-    if (code != BB_OK) bb_shared_pool_destroy(pool);
-    return code;
+    if (bb_shared_pool_info(pool, &info) == BB_OK && info.pool.number_of_buckets >= buckets) return BB_OK;
+    bb_shared_pool_destroy(pool);
+    return BB_NO_BUCKET;
 }
 
 // DETACHED BUCKETS: in a pool of two parties or more a party detaches a bucket that it holds into a `bb_detached`. No party

@@ -297,13 +297,49 @@ static void run_memory(void) {
             WITHIN(256 + 16 * ((buckets + 63) / 64), bb_pool_init(&pool, 8, 8, 4096, 8 * buckets));
             WITHIN(256 + 16 * parties, bb_shared_bump_init(&shared_bump, 4096, 8 * buckets, parties));
             WITHIN(64, bb_shared_bump_join(&shared_bump, &bump_party));
-            WITHIN(1648 + 16 * (buckets + parties), bb_shared_pool_init(&shared_pool, 8, 8, 4096, 8 * buckets, parties));
-            WITHIN(192 + buckets, bb_shared_pool_join(&shared_pool, &pool_party));
-            WITHIN(4 * parties, bb_pool_party_cache(&pool_party, parties));
+            WITHIN(320 + 16 * buckets + 12 * parties, bb_shared_pool_init(&shared_pool, 8, 8, 4096, 8 * buckets, parties));
+            WITHIN(352 + buckets, bb_shared_pool_join(&shared_pool, &pool_party));
+            WITHIN(128 + 4 * parties, bb_pool_party_cache(&pool_party, parties));
             EXPECT(bb_pool_destroy(&pool) == BB_OK);
             EXPECT(bb_shared_bump_destroy(&shared_bump) == BB_OK && bb_bump_party_destroy(&bump_party) == BB_OK);
             EXPECT(bb_shared_pool_destroy(&shared_pool) == BB_OK && bb_pool_party_destroy(&pool_party) == BB_OK);
         }
+}
+
+// What any thread is told of a shared pool: how many buckets are held, and how many requests were refused.
+static int counts(const bb_shared_pool *pool, size_t held, size_t refusals) {
+    struct bb_shared_pool_info info;
+    EXPECT(bb_shared_pool_info(pool, &info) == BB_OK);
+    EXPECT(info.pool.start_address == 4104 && info.pool.size == 1100 && info.pool.bucket_size == 128);
+    EXPECT(info.pool.max_alignment == 8 && info.pool.number_of_buckets == 8);
+    return info.pool.held_buckets == held && info.refused == refusals;
+}
+
+static void run_counts(void) {
+    bb_shared_pool pool = BB_EMPTY;
+    bb_pool_party one = BB_EMPTY, other = BB_EMPTY;
+    struct bb_shared_pool_info info, before;
+    memset(&info, 0xa5, sizeof info);
+    before = info;
+    EXPECT(bb_shared_pool_info(&pool, &info) == BB_UNINITIALIZED && memcmp(&info, &before, sizeof info) == 0);
+    EXPECT(bb_shared_pool_init(&pool, 128, 8, 4097, 1100, 2) == BB_OK && counts(&pool, 0, 0));
+    EXPECT(bb_shared_pool_join(&pool, &one) == BB_OK && bb_pool_party_cache(&one, 1) == BB_OK);
+    EXPECT(bb_shared_pool_join(&pool, &other) == BB_OK && counts(&pool, 0, 0));
+    bb_answer first = bb_pool_party_allocate(&one, 48, 8), second = bb_pool_party_allocate(&one, 48, 8);
+    EXPECT(first.code == BB_OK && second.code == BB_OK && bb_pool_party_allocate(&other, 48, 8).code == BB_OK);
+    EXPECT(counts(&pool, 3, 0));
+    EXPECT(bb_pool_party_deallocate(&one, first.place) == BB_OK && counts(&pool, 3, 0));
+    EXPECT(bb_pool_party_deallocate(&one, second.place) == BB_OK && counts(&pool, 2, 0));
+    for (size_t at = 1; at < 7; at++) {
+        EXPECT(bb_pool_party_allocate(&other, 48, 8).code == BB_OK && counts(&pool, 2 + at, 0));
+    }
+    EXPECT(refused(bb_pool_party_allocate(&other, 48, 8), BB_OUT_OF_MEMORY) && counts(&pool, 8, 1));
+    EXPECT(refused(bb_pool_party_allocate(&other, 129, 8), BB_SIZE_TOO_LARGE) && counts(&pool, 8, 1));
+    EXPECT(given(bb_pool_party_allocate(&one, 48, 8), first.place) && counts(&pool, 8, 1));
+    EXPECT(refused(bb_pool_party_allocate(&one, 48, 8), BB_OUT_OF_MEMORY) && counts(&pool, 8, 2));
+    EXPECT(bb_shared_pool_leave(&pool, &other) == BB_OK && counts(&pool, 1, 2));
+    EXPECT(bb_shared_pool_leave(&pool, &one) == BB_OK && counts(&pool, 0, 2));
+    EXPECT(bb_shared_pool_destroy(&pool) == BB_OK && bb_shared_pool_info(&pool, &info) == BB_UNINITIALIZED);
 }
 
 // The buckets of a destroyed party stay held, and it joins no more.
@@ -482,7 +518,7 @@ static void run_parties_come_and_go(void) {
         requests = 0;
         EXPECT(bb_shared_pool_leave(&pool, &one) == BB_OK && requests == 0);
         EXPECT(bb_shared_pool_leave(&pool, &one) == BB_UNINITIALIZED && bb_pool_party_destroy(&one) == BB_UNINITIALIZED);
-        WITHIN(192 + 5, bb_shared_pool_join(&pool, &one));
+        WITHIN(352 + 5, bb_shared_pool_join(&pool, &one));
         EXPECT(is(bb_pool_party_holds(&one, place), 0));
         EXPECT(same(of_pool_party(&one).held_buckets, 0) && is(bb_pool_party_holds(&other, kept.place), 1));
     }
@@ -664,6 +700,7 @@ int main(void) {
     run_no_bucket();
     run_at_least();
     run_memory();
+    run_counts();
     run_freed_pool_party();
     run_freed_bump_party();
     run_large();

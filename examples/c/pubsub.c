@@ -1,6 +1,6 @@
 // Publish and subscribe over one pool, without a copy: each message goes to each of several readers, who read its bucket where it
 // lies, and the last of them gives the bucket back by a party of its own. A publisher that finds no bucket waits for a return. A
-// thread of statistics reads what the host counts. One lock orders queues and figures; the parties' calls need none.
+// thread of statistics reads the pool's figures meanwhile. One lock orders what the host counts; the pool's calls need none.
 #define _POSIX_C_SOURCE 200809L
 #include <pthread.h>
 #include <stdint.h>
@@ -22,7 +22,7 @@ typedef struct slot {
 } slot;
 
 typedef struct { slot *at[BUCKETS]; size_t first, count; } queue;
-typedef struct { size_t held, most_held, published, delivered; } figures;
+typedef struct { size_t held, published, delivered; } figures;
 
 static uint64_t region[BB_BYTES_FOR(sizeof(message), 8, BUCKETS) / 8];
 static bb_shared_pool pool = BB_EMPTY;
@@ -36,7 +36,7 @@ static struct {
     queue to[SUBSCRIBERS];
     figures count;
     bool closed;
-} hub = {PTHREAD_MUTEX_INITIALIZER, PTHREAD_COND_INITIALIZER, NULL, {{{NULL}, 0, 0}}, {0, 0, 0, 0}, false};
+} hub = {PTHREAD_MUTEX_INITIALIZER, PTHREAD_COND_INITIALIZER, NULL, {{{NULL}, 0, 0}}, {0, 0, 0}, false};
 
 static void expect(int holds, const char *what) {
     if (!holds) {
@@ -67,7 +67,6 @@ static message *take(bb_pool_party *party) {
         lock();
         if (given.code == BB_OK) {
             hub.count.held++;
-            if (hub.count.held > hub.count.most_held) hub.count.most_held = hub.count.held;
             unlock();
             return (message *)given.place;
         }
@@ -151,14 +150,21 @@ static void *subscriber(void *argument) {
     return NULL;
 }
 
+static struct bb_shared_pool_info figures_of_pool(void) {
+    struct bb_shared_pool_info now;
+    expect(bb_shared_pool_info(&pool, &now) == BB_OK, "figures are told while parties call");
+    return now;
+}
+
 static void *statistics(void *argument) {
     struct timespec pause = {0, 1000000};
     for (bool ends = false; !ends; nanosleep(&pause, NULL)) {
+        struct bb_shared_pool_info pools = figures_of_pool();
+        expect(pools.pool.held_buckets <= BUCKETS && pools.pool.number_of_buckets == BUCKETS, "no more is held than there is");
         lock();
         figures now = hub.count;
         ends = hub.closed && now.held == 0;
         unlock();
-        expect(now.held <= now.most_held && now.most_held <= BUCKETS, "no more is held than there is");
         expect(now.delivered <= now.published * SUBSCRIBERS, "no message came that wasn't sent");
     }
     return argument;
@@ -187,6 +193,7 @@ int main(void) {
         end_and_leave(&subscribing[at], subscribers[at]);
     expect(pthread_join(of_statistics, NULL) == 0, "statistics end when nothing is held");
     expect(hub.count.delivered == (size_t)PUBLISHERS * MESSAGES * SUBSCRIBERS, "each message came to each");
+    expect(figures_of_pool().pool.held_buckets == 0, "each bucket is back");
 
     bb_pool_party last = BB_EMPTY;
     expect(bb_shared_pool_join(&pool, &last) == BB_OK, "a party joins");

@@ -8,7 +8,8 @@ use denote.Memory.{lone}
 use denote.RattleType.{RattleType}
 use denote.RawPtr.{Ptr, block_ptr, null_ptr, lies_at}
 use denote.Builtin.{RawPtr, bool}
-use denote.Param.Send.{AllSend, IsSend, part_keyless, sendable}
+use denote.Param.Send.{AllSend, part_keyless, sendable}
+pub use denote.Param.Send.{IsSend, owning_send}
 use Rattle.std.specs.Prelude.{Option, Some, None}
 use Rattle.std.specs.declared.alloc.Global.{Global}
 use Rattle.std.proofs.Crossing.{frees}

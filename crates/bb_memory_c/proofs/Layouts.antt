@@ -1,15 +1,18 @@
 -- Layouts of two numbers.
-use Rattle.std.proofs.Common.{◌≡◌, ℕ, Result, Ok, Err, Option, Some, None, IsOk, IfOk, IsTrue, ◌↔◌, ap, ◌∙◌, sym, subst}
-use Rattle.std.proofs.Common.{arith, ltb, min}
-use Rattle.std.proofs.lemmas.Bool.{false≢true, ltb-true, lt-ltb}
+use Rattle.std.proofs.Common.{◌≡◌, ℕ, Result, Ok, Err, Some, IsOk, IfOk, ◌↔◌, ap, ◌∙◌, sym, subst}
+use Rattle.std.proofs.Common.{arith}
+use Rattle.std.proofs.lemmas.Bool.{false≢true}
 use Rattle.std.specs.Align.{IsLayout}
 use Rattle.std.specs.Result.{result_ok}
 use Rattle.bb_memory_traits.specs.declared.layout.Layout.{Layout}
 use Rattle.bb_memory_traits.specs.Chunk.{Region}
-use Rattle.bb_memory_traits.specs.PoolObject.{IsCut, PoolGeometry}
 use Rattle.bb_memory_traits.proofs.Layouts.{same_layout}
 use Rattle.bb_memory.specs.Pool.{MayBeCut}
-use Rattle.bb_memory_c.specs.Calls.{FailsOf, HasRoom, IsCuttable, IsOf}
+use Rattle.bb_memory_traits.specs.Chunk.{Chunk}
+use Rattle.bb_memory_traits.specs.declared.allocator.AllocationError.{AllocationError}
+use Rattle.bb_memory_c.specs.Answers.{answer_of}
+use Rattle.bb_memory_c.specs.Calls.{FailsOf, HasRoom, IsOf, LacksRoomOf, MayBeShared, TellsRequest}
+use Rattle.bb_memory_c.specs.declared.answer.Answer.{Answer}
 
 -- what is made of the numbers of a layout is that layout
 pub made_of : {E : Type 0} (r : Result Layout E) (size align : ℕ) (layout : Layout)
@@ -18,40 +21,46 @@ pub made_of : {E : Type 0} (r : Result Layout E) (size align : ℕ) (layout : La
 made_of (Ok l) size align layout succeeds made of = ap Some (same_layout l layout (made.0 ∙ sym of.0) (made.1 ∙ sym of.1))
 made_of (Err e) size align layout succeeds made of = absurd (false≢true (succeeds.1 (rw (sym of.0, sym of.1) layout.valid)))
 
-abbrev layout_or : Layout → Option Layout → Layout
-layout_or other (Some layout) = layout
-layout_or other None = other
-
--- the layout that was made is each of its numbers
-pub the_same : (made layout : Layout) (given : Option Layout) (size align : ℕ) → given ≡ Some made
-    → ((other : Layout) → IsOf size align other → given ≡ Some other) → IsOf size align layout → made ≡ layout
-the_same made layout given size align is each of = ap (layout_or made) (sym is ∙ each layout of)
-
 -- CUTS
 
 -- the numbers of a layout make one
 pub is_layout : (size align : ℕ) (layout : Layout) → IsOf size align layout → IsLayout size align
 is_layout size align layout of = rw (sym of.0, sym of.1) layout.valid
 
--- the layout of two numbers is the only one
-pub same_of : (size align : ℕ) (one other : Layout) → IsOf size align one → IsOf size align other → one ≡ other
-same_of size align one other of others = same_layout one other (of.0 ∙ sym others.0) (of.1 ∙ sym others.1)
+-- what is so of some layout of two numbers is so of this one
+pub of_this : (size align : ℕ) (P : Layout → Type 0) (bucket : Layout) → IsOf size align bucket →
+    ((other : Layout) × IsOf size align other × P other) → P bucket
+of_this size align P bucket of some = subst P (same_layout some.0 bucket (some.1.0 ∙ sym of.0) (some.1.1 ∙ sym of.1)) some.2
 
--- one layout can't both cut the region and not
-pub cut-or-not : {X : Type 0} (size align : ℕ) (region : Region) (bucket : Layout) → IsCuttable size align region bucket →
-    FailsOf size align (MayBeCut region) → X
-cut-or-not size align region bucket is not =
-    let same = same_of size align bucket not.0 is.layout not.1 in
-    absurd (not.2 (subst (λ (b : Layout). MayBeCut region b) same is.may))
+-- a request of the numbers of a layout is answered as that layout is
+pub asked : {X : Type 0} {may : X → Layout → Result Chunk AllocationError → X → Type 0} {made after : X} {size align : ℕ}
+    {told : Answer} (layout : Layout) → IsOf size align layout → (answer : Result Chunk AllocationError) → told ≡ answer_of answer
+    → may made layout answer after → TellsRequest made after size align told may
+asked {may = may} {made} {after} {size} {align} {told} layout of answer is may_be = record {
+  answered = λ other others.
+      (answer, is, of_this size align (λ l. may made l answer after) other others (layout, of, may_be));
+  no_layout = λ none. absurd (none (is_layout size align layout of));
+}
 
--- ROOM
+-- one layout of the numbers may not be so and be so
+pub not_fails : (size align : ℕ) (may : Layout → Type 0) (bucket : Layout) → IsOf size align bucket → may bucket →
+    ¬ FailsOf size align may
+not_fails size align may bucket of is fails = of_this size align (λ b. ¬ may b) bucket of fails is
 
--- a region that is cut into at most one bucket has that one where it has room for a first one
-pub room-of-one : (region : Region) (layout : Layout) (whole : PoolGeometry) → IsCut region layout whole → (count : ℕ)
-    → count ≡ min whole.buckets 1 → IsTrue (ltb 0 count) ↔ HasRoom region layout
-room-of-one region layout whole cut count is =
-    let same : HasRoom whole.region whole.bucket ≡ HasRoom region layout =
-    λ i. HasRoom (cut.region i) (cut.bucket i) in (
-      λ some. subst (λ (X : Type 0). X) same ((cut.filled 0).0 (let more = ltb-true 0 count some in omega arith)),
-      λ has. let first = (cut.filled 0).1 (subst (λ (X : Type 0). X) (sym same) has) in lt-ltb 0 count (omega arith),
-    )
+pub either_way : {P Q R : Type 0} → P ↔ Q → Q ↔ R → P ↔ R
+either_way one other = (λ p. other.0 (one.0 p), λ r. one.1 (other.1 r))
+
+-- the region may be cut for one party where it may be cut
+pub fails_alone : (size align : ℕ) (region : Region) →
+    FailsOf size align (MayBeShared region 1) ↔ FailsOf size align (MayBeCut region)
+fails_alone size align region = (
+  λ no. (no.0, no.1, λ may. no.2 (omega arith, may)),
+  λ no. (no.0, no.1, λ may. no.2 may.1),
+)
+
+pub lacks_alone : (size align : ℕ) (region : Region) → LacksRoomOf size align (MayBeShared region 1) (HasRoom region)
+    ↔ LacksRoomOf size align (MayBeCut region) (HasRoom region)
+lacks_alone size align region = (
+  λ no. (no.0, no.1, no.2.1, no.3),
+  λ no. (no.0, no.1, (omega arith, no.2), no.3),
+)

@@ -113,7 +113,6 @@ all-returned party flags are = let buckets = party.allocator.scene.geometry.buck
         | inr past ↦
             let held : holds_bucket party bucket ≡ true =
             sym (past-returns party buckets bucket (holds_bucket party bucket) past) ∙ after in
-            let below : bucket < length flags = slice_get_within flags bucket true ((are.exact bucket).1 held) in
-            omega (arith, are.as_many)
+            omega (arith, are.below bucket ((are.exact bucket).1 held))
       ];
 }

@@ -1,15 +1,10 @@
-pub mod Machine
-pub mod Values
-pub mod Holds
-pub mod Passing
-pub mod Looking
+pub mod Walks
 pub mod Owners
 pub mod Crossing
 pub mod Leaving
 pub mod Layouts
 pub mod Made
 pub mod Makers
-pub mod Joining
 pub mod Flags
 pub mod Unjoined
 pub mod Detaching

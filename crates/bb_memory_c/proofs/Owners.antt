@@ -1,5 +1,6 @@
 -- The handles are what is held, each under a name of its own.
-use Rattle.bb_memory_c.proofs.Machine.{refl, RattleType}
+use Rattle.bb_memory_c.proofs.Walks.{◌≡◌, Held, Last, List, RattleType, T, Val, blank, left, yes}
+pub use Rattle.std.proofs.Common.{refl}
 use Rattle.bb_memory_bump.specs.contracts.bump_allocator.BumpAllocator.{the_row as bump_row}
 use Rattle.bb_memory_core.specs.contracts.one_chunk_allocator.OneChunkAllocator.{the_row as one_chunk_row}
 use Rattle.bb_memory_c.specs.contracts.pool.Pool.{the_row as pool_row}
@@ -16,104 +17,47 @@ use Rattle.bb_memory_c.specs.contracts.handle.BumpPartyHandle as bump_party_hand
 use Rattle.bb_memory_c.specs.contracts.handle.SharedPoolHandle as shared_pool_handle
 use Rattle.bb_memory_c.specs.contracts.handle.PoolPartyHandle as pool_party_handle
 use Rattle.bb_memory_c.specs.contracts.handle.DetachedHandle as detached_handle
-use Rattle.bb_memory_c.proofs.Holds.{Held}
-use Rattle.bb_memory_c.proofs.Passing.{Owner}
+pub use Rattle.bb_memory_c.proofs.Walks.{Owner, lends, passes}
+
+-- an owner by its fields and by those of what is held; what else is asked of it computes
+abbrev owner : {R X : RattleType} (held : X.Denot → (Held R).Denot) (back : (Held R).Denot → X.Denot)
+    → ((d : (Held R).Denot) → held (back d) ≡ d) → ((d : X.Denot) (vs : List Val) → X.own_val d vs ≡ (Held R).own_val (held d) vs)
+    → ((d : X.Denot) → Last (X.exit yes) d) → ((d : X.Denot) (f : Last (X.exit yes) d) → T (blank (left (X.exit yes) d f)))
+    → Owner R X
+owner held back again owns last blanks =
+    record { held = held; back = back; again = again; owns = owns; last = last; blanks = blanks }
 
 abbrev pub held : {R : RattleType} → Owner R (Held R)
-held = record {
-  held = λ d. d;
-  back = λ d. d;
-  again = λ d. refl;
-  owns = λ d vs. refl;
-  owned = λ d vs. refl;
-  last = λ d. tt;
-  blanks = λ d f. tt;
-}
+held = owner (λ d. d) (λ d. d) (λ d. refl) (λ d vs. refl) (λ d. tt) (λ d f. tt)
 
 abbrev pub bump : Owner bump_row bump_handle.the_row
-bump = record {
-  held = λ d. record { at = d.at; made = d.made; heap = d.heap; value = d.value };
-  back = λ d. record { at = d.at; made = d.made; heap = d.heap; value = d.value };
-  again = λ d. refl;
-  owns = λ d vs. refl;
-  owned = λ d vs. refl;
-  last = λ d. tt;
-  blanks = λ d f. tt;
-}
+bump = owner (λ d. record { at = d.at; made = d.made; heap = d.heap; value = d.value })
+    (λ d. record { at = d.at; made = d.made; heap = d.heap; value = d.value }) (λ d. refl) (λ d vs. refl) (λ d. tt) (λ d f. tt)
 
 abbrev pub one_chunk : Owner one_chunk_row one_chunk_handle.the_row
-one_chunk = record {
-  held = λ d. record { at = d.at; made = d.made; heap = d.heap; value = d.value };
-  back = λ d. record { at = d.at; made = d.made; heap = d.heap; value = d.value };
-  again = λ d. refl;
-  owns = λ d vs. refl;
-  owned = λ d vs. refl;
-  last = λ d. tt;
-  blanks = λ d f. tt;
-}
+one_chunk = owner (λ d. record { at = d.at; made = d.made; heap = d.heap; value = d.value })
+    (λ d. record { at = d.at; made = d.made; heap = d.heap; value = d.value }) (λ d. refl) (λ d vs. refl) (λ d. tt) (λ d f. tt)
 
 abbrev pub pool : Owner pool_row pool_handle.the_row
-pool = record {
-  held = λ d. record { at = d.at; made = d.made; heap = d.heap; value = d.value };
-  back = λ d. record { at = d.at; made = d.made; heap = d.heap; value = d.value };
-  again = λ d. refl;
-  owns = λ d vs. refl;
-  owned = λ d vs. refl;
-  last = λ d. tt;
-  blanks = λ d f. tt;
-}
+pool = owner (λ d. record { at = d.at; made = d.made; heap = d.heap; value = d.value })
+    (λ d. record { at = d.at; made = d.made; heap = d.heap; value = d.value }) (λ d. refl) (λ d vs. refl) (λ d. tt) (λ d f. tt)
 
 abbrev pub shared_bump : Owner shared_bump_row shared_bump_handle.the_row
-shared_bump = record {
-  held = λ d. record { at = d.at; made = d.made; heap = d.heap; value = d.value };
-  back = λ d. record { at = d.at; made = d.made; heap = d.heap; value = d.value };
-  again = λ d. refl;
-  owns = λ d vs. refl;
-  owned = λ d vs. refl;
-  last = λ d. tt;
-  blanks = λ d f. tt;
-}
+shared_bump = owner (λ d. record { at = d.at; made = d.made; heap = d.heap; value = d.value })
+    (λ d. record { at = d.at; made = d.made; heap = d.heap; value = d.value }) (λ d. refl) (λ d vs. refl) (λ d. tt) (λ d f. tt)
 
 abbrev pub bump_party : Owner bump_party_row bump_party_handle.the_row
-bump_party = record {
-  held = λ d. record { at = d.at; made = d.made; heap = d.heap; value = d.value };
-  back = λ d. record { at = d.at; made = d.made; heap = d.heap; value = d.value };
-  again = λ d. refl;
-  owns = λ d vs. refl;
-  owned = λ d vs. refl;
-  last = λ d. tt;
-  blanks = λ d f. tt;
-}
+bump_party = owner (λ d. record { at = d.at; made = d.made; heap = d.heap; value = d.value })
+    (λ d. record { at = d.at; made = d.made; heap = d.heap; value = d.value }) (λ d. refl) (λ d vs. refl) (λ d. tt) (λ d f. tt)
 
 abbrev pub shared_pool : Owner shared_pool_row shared_pool_handle.the_row
-shared_pool = record {
-  held = λ d. record { at = d.at; made = d.made; heap = d.heap; value = d.value };
-  back = λ d. record { at = d.at; made = d.made; heap = d.heap; value = d.value };
-  again = λ d. refl;
-  owns = λ d vs. refl;
-  owned = λ d vs. refl;
-  last = λ d. tt;
-  blanks = λ d f. tt;
-}
+shared_pool = owner (λ d. record { at = d.at; made = d.made; heap = d.heap; value = d.value })
+    (λ d. record { at = d.at; made = d.made; heap = d.heap; value = d.value }) (λ d. refl) (λ d vs. refl) (λ d. tt) (λ d f. tt)
 
 abbrev pub pool_party : Owner pool_party_row pool_party_handle.the_row
-pool_party = record {
-  held = λ d. record { at = d.at; made = d.made; heap = d.heap; value = d.value };
-  back = λ d. record { at = d.at; made = d.made; heap = d.heap; value = d.value };
-  again = λ d. refl;
-  owns = λ d vs. refl;
-  owned = λ d vs. refl;
-  last = λ d. tt;
-  blanks = λ d f. tt;
-}
+pool_party = owner (λ d. record { at = d.at; made = d.made; heap = d.heap; value = d.value })
+    (λ d. record { at = d.at; made = d.made; heap = d.heap; value = d.value }) (λ d. refl) (λ d vs. refl) (λ d. tt) (λ d f. tt)
 
 abbrev pub detached : Owner detached_row detached_handle.the_row
-detached = record {
-  held = λ d. record { at = d.at; made = d.made; heap = d.heap; value = d.value };
-  back = λ d. record { at = d.at; made = d.made; heap = d.heap; value = d.value };
-  again = λ d. refl;
-  owns = λ d vs. refl;
-  owned = λ d vs. refl;
-  last = λ d. tt;
-  blanks = λ d f. tt;
-}
+detached = owner (λ d. record { at = d.at; made = d.made; heap = d.heap; value = d.value })
+    (λ d. record { at = d.at; made = d.made; heap = d.heap; value = d.value }) (λ d. refl) (λ d vs. refl) (λ d. tt) (λ d f. tt)

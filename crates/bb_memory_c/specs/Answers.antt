@@ -1,4 +1,4 @@
--- What C sees of an answer.
+-- What C sees of an answer. Passes on the codes of `src/code.rt`, under the names that clauses use.
 use Rattle.std.specs.Prelude.{◌≡◌, ℕ, Option, Some, None, Result, Ok, Err}
 use Rattle.bb_memory_traits.specs.Chunk.{Chunk}
 use Rattle.bb_memory_traits.specs.declared.layout.Layout.{Layout}
@@ -10,82 +10,22 @@ use Rattle.bb_memory_traits.specs.declared.allocator.AllocationShrinkError.{Allo
 use Rattle.bb_memory_traits.specs.declared.allocator.AllocationShrinkError.TheVariants as shrink
 use Rattle.bb_memory_c.specs.declared.answer.Answer.{Answer}
 use Rattle.bb_memory_c.specs.declared.answer.Figure.{Figure}
-
--- the codes: `src/code.rt` says what each is for
-abbrev pub ok : ℕ
-ok = 0
-
-abbrev pub size_is_zero : ℕ
-size_is_zero = 1
-
-abbrev pub size_too_large : ℕ
-size_too_large = 2
-
-abbrev pub alignment_failure : ℕ
-alignment_failure = 3
-
-abbrev pub out_of_memory : ℕ
-out_of_memory = 4
-
-abbrev pub grow_would_shrink : ℕ
-grow_would_shrink = 5
-
-abbrev pub shrink_would_grow : ℕ
-shrink_would_grow = 6
-
-abbrev pub invalid_layout : ℕ
-invalid_layout = 7
-
-abbrev pub uninitialized : ℕ
-uninitialized = 8
-
-abbrev pub not_held : ℕ
-not_held = 9
-
-abbrev pub already_initialized : ℕ
-already_initialized = 10
-
-abbrev pub invalid_argument : ℕ
-invalid_argument = 11
-
-abbrev pub no_party : ℕ
-no_party = 12
-
-abbrev pub layout_mismatch : ℕ
-layout_mismatch = 13
-
-abbrev pub malloc_refused : ℕ
-malloc_refused = 14
-
-abbrev pub more_than_reserved : ℕ
-more_than_reserved = 15
-
-abbrev pub no_bucket : ℕ
-no_bucket = 16
-
-abbrev pub parties_joined : ℕ
-parties_joined = 18
-
-abbrev pub one_party : ℕ
-one_party = 19
-
-abbrev pub detached_full : ℕ
-detached_full = 20
-
-abbrev pub detached_empty : ℕ
-detached_empty = 21
-
-abbrev pub not_a_bucket : ℕ
-not_a_bucket = 22
-
-abbrev pub other_pool : ℕ
-other_pool = 23
-
-abbrev pub readers_left : ℕ
-readers_left = 24
-
-abbrev pub no_reader : ℕ
-no_reader = 25
+pub use Rattle.bb_memory_c.specs.declared.code.TheConstants.{OK as ok, SIZE_IS_ZERO as size_is_zero}
+pub use Rattle.bb_memory_c.specs.declared.code.TheConstants.{SIZE_TOO_LARGE as size_too_large}
+pub use Rattle.bb_memory_c.specs.declared.code.TheConstants.{ALIGNMENT_FAILURE as alignment_failure}
+pub use Rattle.bb_memory_c.specs.declared.code.TheConstants.{OUT_OF_MEMORY as out_of_memory}
+pub use Rattle.bb_memory_c.specs.declared.code.TheConstants.{GROW_WOULD_SHRINK as grow_would_shrink}
+pub use Rattle.bb_memory_c.specs.declared.code.TheConstants.{SHRINK_WOULD_GROW as shrink_would_grow}
+pub use Rattle.bb_memory_c.specs.declared.code.TheConstants.{INVALID_LAYOUT as invalid_layout, UNINITIALIZED as uninitialized}
+pub use Rattle.bb_memory_c.specs.declared.code.TheConstants.{NOT_HELD as not_held, ALREADY_INITIALIZED as already_initialized}
+pub use Rattle.bb_memory_c.specs.declared.code.TheConstants.{INVALID_ARGUMENT as invalid_argument, NO_PARTY as no_party}
+pub use Rattle.bb_memory_c.specs.declared.code.TheConstants.{LAYOUT_MISMATCH as layout_mismatch}
+pub use Rattle.bb_memory_c.specs.declared.code.TheConstants.{MALLOC_REFUSED as malloc_refused}
+pub use Rattle.bb_memory_c.specs.declared.code.TheConstants.{MORE_THAN_RESERVED as more_than_reserved, NO_BUCKET as no_bucket}
+pub use Rattle.bb_memory_c.specs.declared.code.TheConstants.{PARTIES_JOINED as parties_joined, ONE_PARTY as one_party}
+pub use Rattle.bb_memory_c.specs.declared.code.TheConstants.{DETACHED_FULL as detached_full, DETACHED_EMPTY as detached_empty}
+pub use Rattle.bb_memory_c.specs.declared.code.TheConstants.{NOT_A_BUCKET as not_a_bucket, OTHER_POOL as other_pool}
+pub use Rattle.bb_memory_c.specs.declared.code.TheConstants.{READERS_LEFT as readers_left, NO_READER as no_reader}
 
 -- nothing was given, by this code
 abbrev pub refused : ℕ → Answer

@@ -20,14 +20,13 @@ use Rattle.bb_memory_c.specs.declared.answer.Figure.{Figure}
 abbrev pub IsOf : ℕ → ℕ → Layout → Type 0
 IsOf size align layout = (layout.size ≡ size) × (layout.align ≡ align)
 
--- the layout of these numbers, into buckets of which the region may be cut
-pub record IsCuttable (size align : ℕ) (region : Region) (bucket : Layout) : Type 0 where
-  pub layout : IsOf size align bucket
-  pub may : MayBeCut region bucket
-
 -- there is a layout of these numbers, of which this isn't so
 abbrev pub FailsOf : ℕ → ℕ → (Layout → Type 0) → Type 0
 FailsOf size align may = (bucket : Layout) × IsOf size align bucket × (¬ may bucket)
+
+-- there is a layout of these numbers, of which this is so, without room for a bucket
+abbrev pub LacksRoomOf : ℕ → ℕ → (Layout → Type 0) → (Layout → Type 0) → Type 0
+LacksRoomOf size align may room = (bucket : Layout) × IsOf size align bucket × may bucket × (¬ room bucket)
 
 -- there is room for a bucket, namely for the first one
 abbrev pub HasRoom : Region → Layout → Type 0
@@ -36,6 +35,12 @@ HasRoom region bucket = HasBucket region bucket 0
 -- there is at least one party, and the region may be cut so
 abbrev pub MayBeShared : Region → ℕ → Layout → Type 0
 MayBeShared region parties bucket = (1 ≤ parties) × MayBeCut region bucket
+
+-- the layout of these numbers, into buckets of which the region may be cut for so many parties, and has room for one
+pub record IsCuttable (size align : ℕ) (region : Region) (parties : ℕ) (bucket : Layout) : Type 0 where
+  pub layout : IsOf size align bucket
+  pub may : MayBeShared region parties bucket
+  pub room : HasRoom region bucket
 
 -- what threads share, and the parties that haven't joined, of which the last one joins next
 pub record Parties (S P : Type 0) : Type 0 where
@@ -158,7 +163,7 @@ pub record AnswersPoolMake {X : Type 0} (old new : Option X) (size align : ℕ) 
   pub held_one : (code ≡ already_initialized) ↔ (old ≢ None)
   pub no_layout : (code ≡ invalid_layout) ↔ ((old ≡ None) × (¬ IsLayout size align))
   pub cannot : (code ≡ invalid_argument) ↔ ((old ≡ None) × FailsOf size align may)
-  pub no_room : (code ≡ no_bucket) ↔ ((old ≡ None) × ((bucket : Layout) × IsOf size align bucket × may bucket × (¬ room bucket)))
+  pub no_room : (code ≡ no_bucket) ↔ ((old ≡ None) × LacksRoomOf size align may room)
   pub else_memory : code ≢ ok → code ≢ already_initialized → code ≢ invalid_layout → code ≢ invalid_argument → code ≢ no_bucket
       → code ≡ malloc_refused
   pub unchanged : code ≢ ok → new ≡ old

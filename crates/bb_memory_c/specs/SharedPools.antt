@@ -1,16 +1,16 @@
 -- A shared pool, its parties, and detached buckets that go from party to party, behind handles: what their calls are answered.
-use Rattle.std.specs.Prelude.{◌≡◌, ◌≢◌, ◌-◌, ◌<◌, ◌≤◌, ◌↔◌, ◌++◌, ◌∷◌, [], ℕ, zero, suc, All, Bool, false, List, Result, Ok}
-use Rattle.std.specs.Prelude.{IfErr, IfOk, Option, Some, None, IfSome, MatchOption, count_by, fold, length, if◌then◌else◌}
+use Rattle.std.specs.Prelude.{◌≡◌, ◌≢◌, ◌-◌, ◌<◌, ◌≤◌, ◌↔◌, ◌++◌, [], ℕ, zero, suc, All, Bool, false, List, Result, Ok}
+use Rattle.std.specs.Prelude.{Option, Some, None, IfSome, MatchOption, count_by, fold, length, if◌then◌else◌}
 use Rattle.std.specs.Result.{result_map_both}
 use Rattle.bb_memory_traits.specs.Chunk.{Region, Chunk, IsInside, first_place}
-use Rattle.bb_memory_traits.specs.PoolObject.{IsCut, IsWithin, PoolGeometry, bucket_place}
+use Rattle.bb_memory_traits.specs.PoolObject.{IsCut, PoolGeometry, bucket_place}
 use Rattle.bb_memory_base.specs.PoolLogs.{PoolLog, IsHeldAfter, held_after}
 use Rattle.bb_memory_traits.specs.declared.layout.Layout.{Layout}
 use Rattle.bb_memory_traits.specs.declared.allocator.AllocationError.{AllocationError}
 use Rattle.bb_memory.specs.IndexSets.{Has}
 use Rattle.bb_memory.specs.SharedPool.{AreFresh, PoolParty, SharedPool, TakenBucket, attach_entry, chunk_of, detach_entry}
 use Rattle.bb_memory.specs.SharedPool.{return_entry, taken_bucket, with_entries}
-use Rattle.bb_memory.specs.SharedPoolCaching.{CachingParty, IsOut, RefusesCaching, SearchesPool}
+use Rattle.bb_memory.specs.SharedPoolCaching.{CachingParty, IsOut, ReturnsCaching, TakesCaching}
 use Rattle.bb_memory.specs.SharedPoolCaching as caching
 use Rattle.bb_memory_c.specs.Answers.{answer_of, refused, detached_empty, detached_full, ok, not_held, one_party, other_pool}
 use Rattle.bb_memory_c.specs.Answers.{figure_of, invalid_argument, malloc_refused, no_figure, no_reader, readers_left}
@@ -20,6 +20,7 @@ use Rattle.bb_memory_c.specs.declared.answer.Answer.{Answer}
 use Rattle.bb_memory_c.specs.OneOwner.{pool_info}
 use Rattle.bb_memory_c.specs.declared.answer.Figure.{Figure}
 use Rattle.bb_memory_c.specs.declared.answer.PoolInfo.{PoolInfo}
+use Rattle.bb_memory_c.specs.declared.answer.SharedPoolInfo.{SharedPoolInfo}
 
 abbrev pub PoolParties : Type 0
 PoolParties = Parties SharedPool PoolParty
@@ -65,9 +66,10 @@ pub record AreUnjoined (pool : SharedPool) (capacity : ℕ) (parties : List Pool
   pub room : pool.scene.parties ≤ capacity
   pub idle : All (IsIdleAt pool) parties
 
--- the flags say which of the pool's buckets are so
+-- the flags say which of the pool's buckets are so; those behind them aren't set
 pub record AreFlagged (pool : SharedPool) (are_so : ℕ → Type 0) (flags : List Bool) : Type 0 where
-  pub as_many : length flags ≡ pool.scene.geometry.buckets
+  pub enough : pool.scene.geometry.buckets ≤ length flags
+  pub below : (bucket : ℕ) → Has flags bucket → bucket < pool.scene.geometry.buckets
   pub exact : (bucket : ℕ) → Has flags bucket ↔ are_so bucket
 
 -- the party is this pool's, and the flags say which buckets are out: held, and not cached
@@ -85,6 +87,12 @@ abbrev pub ShowsParty : CachingParty → PoolInfo → CachingParty → Type 0
 ShowsParty joined info after = (flags : List Bool) × AreFlagged joined.party.allocator (IsOut joined) flags
     × (info ≡ pool_info (geometry_of joined) (count_by (λ flag. flag) flags)) × (after ≡ joined)
 
+-- figures of a shared pool: whatever its parties did meanwhile, no more are told as held than it has buckets
+abbrev pub ShowsShared : PoolParties → SharedPoolInfo → PoolParties → Type 0
+ShowsShared all info after = let geometry = all.shared.scene.geometry in
+    (held : ℕ) × (held ≤ geometry.buckets) × (info.pool ≡ pool_info geometry held)
+    × (after ≡ all)
+
 -- the bucket of this number is out, and is at this place
 pub record HoldsAt (joined : CachingParty) (place number : ℕ) : Type 0 where
   pub out : IsOut joined number
@@ -94,31 +102,15 @@ pub record HoldsAt (joined : CachingParty) (place number : ℕ) : Type 0 where
 abbrev pub HoldsPlace : CachingParty → ℕ → Type 0
 HoldsPlace joined place = (number : ℕ) × HoldsAt joined place number
 
--- A request takes the bucket that was cached last, without a step. Where none is cached, it searches the pool from the party's
--- hint on, and is answered what the search found, or why it took none.
-pub record Takes (joined : CachingParty) (layout : Layout) (taken : Result TakenBucket AllocationError) (after : CachingParty)
-    : Type 0 where
-  pub cached : (before : List ℕ) (last : ℕ) → IsWithin (geometry_of joined).bucket layout → joined.cached ≡ before ++ last ∷ [] →
-      (taken ≡ Ok (taken_bucket joined.party.allocator last layout.size)) × (after ≡ record joined { cached = before })
-  pub searched : joined.cached ≡ [] → SearchesPool joined layout taken after
-  pub within : IfOk taken (λ bucket. IsWithin (geometry_of joined).bucket layout)
-  pub refused : IfErr taken (λ error. RefusesCaching joined layout error after)
-
 -- a request is answered the chunk in the bucket that it took, or why it took none
 abbrev pub GivesChunk : CachingParty → Layout → Result Chunk AllocationError → CachingParty → Type 0
 GivesChunk joined layout answer after =
     (taken : Result TakenBucket AllocationError) × (answer ≡ result_map_both chunk_of (λ error. error) taken)
-    × Takes joined layout taken after
-
--- a return: the bucket is cached while fewer than the most are, and else goes back to the pool by one step
-pub record Returns (joined : CachingParty) (number : ℕ) (after : CachingParty) : Type 0 where
-  pub cached : length joined.cached < joined.most → after ≡ record joined { cached = joined.cached ++ number ∷ [] }
-  pub returned : joined.most ≤ length joined.cached
-      → after ≡ record joined { party = with_entries joined.party (return_entry joined.party.number number) }
+    × TakesCaching joined layout taken after
 
 -- the bucket at the place was given back
 abbrev pub GivesBack : CachingParty → ℕ → CachingParty → Type 0
-GivesBack joined place after = (number : ℕ) × HoldsAt joined place number × Returns joined number after
+GivesBack joined place after = (number : ℕ) × HoldsAt joined place number × ReturnsCaching joined number after
 
 -- the party once it has given back what it cached, by a step each
 abbrev pub flushed : CachingParty → PoolParty

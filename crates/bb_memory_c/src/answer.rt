@@ -1,5 +1,5 @@
 //! Answers as C sees them.
-ghost use Rattle.std.specs.Prelude.{◌≡◌, if◌then◌else◌};
+ghost use Rattle.std.specs.Prelude.{◌≡◌};
 ghost use Rattle.bb_memory_c.specs.Answers.{answer_by, answer_of, figure_of, grow_code, no_figure, refused, shrink_code};
 
 use crate::code;
@@ -51,6 +51,14 @@ pub struct PoolInfo {
     pub max_alignment: usize,
     pub number_of_buckets: usize,
     pub held_buckets: usize,
+}
+
+/// The figures of a shared pool, which were read while parties may have called.
+#[repr(C)]
+#[derive(Clone, Copy)]
+pub struct SharedPoolInfo {
+    pub pool: PoolInfo,
+    pub refused: usize,
 }
 
 impl Answer {
@@ -121,13 +129,6 @@ impl Figure {
             code: code::OK,
             number,
         }
-    }
-
-    /// Turns a `bool` into 1 or 0.
-    pub(crate) fn whether(is: bool) -> Figure
-        ensures { result ≡ figure_of (if is then 1 else 0) }
-    {
-        Figure::of(if is { 1 } else { 0 })
     }
 
     /// No number, for the cause of this code.

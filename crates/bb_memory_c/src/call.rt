@@ -1,8 +1,8 @@
 //! The calls of C, each written once over any handle.
-ghost use Rattle.std.specs.Prelude.{◌≡◌, ◌≢◌, ◌↔◌, None, Some, IsTrue};
+ghost use Rattle.std.specs.Prelude.{◌≡◌, ◌≢◌, None, Some, IsFalse, IsTrue};
 ghost use Rattle.bb_memory_c.specs.Answers.{malloc_refused, ok};
-ghost use Rattle.bb_memory_c.specs.Calls.{AnswersFree, AnswersInfo, AnswersJoin, AnswersLeave, AnswersNumber, AnswersPlace};
-ghost use Rattle.bb_memory_c.specs.Calls.{AnswersRequest, AnswersReturn, AnswersWhether, IfBoth, TellsRequest, TellsReturn};
+ghost use Rattle.bb_memory_c.specs.Calls.{AnswersFree, AnswersInfo, AnswersJoin, AnswersLeave, AnswersNumber, AnswersPlace, TellsRequest};
+ghost use Rattle.bb_memory_c.specs.Calls.{AnswersRequest, AnswersReturn, AnswersWhether, IfBoth, TellsReturn};
 
 use crate::answer::{Answer, Figure};
 use crate::code;
@@ -13,7 +13,8 @@ use std::alloc::Global;
 
 /// Returns whether something is made behind the handle, which stays.
 pub(crate) fn is_made<H: Handle>(handle: &mut H) -> bool
-    ensures value { IsTrue result ↔ (H.made handle.old ≢ None) }
+    ensures made { IsTrue result → H.made handle.old ≢ None }
+    ensures empty { IsFalse result → H.made handle.old ≡ None }
     ensures unchanged { H.made handle.new ≡ H.made handle.old }
 {
     match handle.made_mut() {
@@ -66,6 +67,23 @@ where
 }
 
 /// Asks for a chunk of so many bytes at a multiple of `align`.
+pub(crate) fn request<H: Handle>(handle: &mut H, size: usize, align: usize) -> Answer
+where
+    H::Made: Gives,
+    ensures { AnswersRequest (H.made handle.old) (H.made handle.new) size align result
+        H.Made.may_give }
+{
+    let Some(made) = handle.made_mut() else {
+        return Answer::refusal(code::UNINITIALIZED);
+    };
+    match layout_of(size, align) {
+        Some(layout) => Answer::of(made.give(layout)),
+        None => Answer::refusal(code::INVALID_LAYOUT),
+    }
+}
+
+/// Asks for a chunk of so many bytes at a multiple of `align`, apart from the calls that are answered quickly.
+#[inline(never)]
 fn ask<M: Gives>(made: &mut M, size: usize, align: usize) -> Answer
     ensures { TellsRequest made.old made.new size align result M.may_give }
 {
@@ -75,17 +93,22 @@ fn ask<M: Gives>(made: &mut M, size: usize, align: usize) -> Answer
     }
 }
 
-/// Asks for a chunk of so many bytes at a multiple of `align`.
-pub(crate) fn request<H: Handle>(handle: &mut H, size: usize, align: usize) -> Answer
+/// Asks for a chunk of so many bytes at a multiple of `align`, in a bucket.
+pub(crate) fn request_bucket<H: Handle>(handle: &mut H, size: usize, align: usize) -> Answer
 where
-    H::Made: Gives,
+    H::Made: Gives + Bucketed,
     ensures { AnswersRequest (H.made handle.old) (H.made handle.new) size align result
         H.Made.may_give }
 {
-    match handle.made_mut() {
-        Some(made) => ask(made, size, align),
-        None => Answer::refusal(code::UNINITIALIZED),
+    let Some(made) = handle.made_mut() else {
+        return Answer::refusal(code::UNINITIALIZED);
+    };
+    if let Some(limit) = made.limit() {
+        if let Some(layout) = limit.within(size, align) {
+            return Answer::of(made.give(layout));
+        }
     }
+    ask(made, size, align)
 }
 
 /// Gives back the chunk at this place, if one is held there.
@@ -121,7 +144,7 @@ where
         (λ made. H.Made.holds made place) }
 {
     match handle.made_mut() {
-        Some(made) => Figure::whether(made.is_held(place)),
+        Some(made) => Figure::of(if made.is_held(place) { 1 } else { 0 }),
         None => Figure::refusal(code::UNINITIALIZED),
     }
 }

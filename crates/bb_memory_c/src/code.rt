@@ -1,4 +1,11 @@
 //! The codes that the functions answer. 0 is for what was done, and each other number for one cause why nothing was.
+ghost use Rattle.std.specs.Prelude.{◌≡◌};
+ghost use Rattle.bb_memory_c.specs.Answers.{alignment_failure, already_initialized, detached_empty, detached_full, grow_would_shrink};
+ghost use Rattle.bb_memory_c.specs.Answers.{invalid_argument, invalid_layout, layout_mismatch, malloc_refused, more_than_reserved};
+ghost use Rattle.bb_memory_c.specs.Answers.{no_bucket, no_party, no_reader, not_a_bucket, not_held, ok, one_party, other_pool};
+ghost use Rattle.bb_memory_c.specs.Answers.{out_of_memory, parties_joined, readers_left, shrink_would_grow, size_is_zero};
+ghost use Rattle.bb_memory_c.specs.Answers.{size_too_large, uninitialized};
+
 pub(crate) const OK: u32 = 0;
 
 pub(crate) const SIZE_IS_ZERO: u32 = 1;
@@ -48,3 +55,16 @@ pub(crate) const OTHER_POOL: u32 = 23;
 pub(crate) const READERS_LEFT: u32 = 24;
 /// The detached bucket waits for no reader.
 pub(crate) const NO_READER: u32 = 25;
+
+/// Says which numbers they are, since programs are linked by these. It does nothing: its contract is the law.
+pub(crate) fn codes_law()
+    ensures requests { (ok ≡ 0) × (size_is_zero ≡ 1) × (size_too_large ≡ 2)
+        × (alignment_failure ≡ 3) × (out_of_memory ≡ 4) × (invalid_layout ≡ 7) }
+    ensures resizes { (grow_would_shrink ≡ 5) × (shrink_would_grow ≡ 6) × (layout_mismatch ≡ 13)
+        × (more_than_reserved ≡ 15) }
+    ensures handles { (uninitialized ≡ 8) × (not_held ≡ 9) × (already_initialized ≡ 10)
+        × (invalid_argument ≡ 11) × (malloc_refused ≡ 14) × (no_bucket ≡ 16) × (not_a_bucket ≡ 22) }
+    ensures shared { (no_party ≡ 12) × (parties_joined ≡ 18) × (one_party ≡ 19)
+        × (detached_full ≡ 20) × (detached_empty ≡ 21) × (other_pool ≡ 23)
+        × (readers_left ≡ 24) × (no_reader ≡ 25) }
+{}

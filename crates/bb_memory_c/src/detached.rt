@@ -1,7 +1,6 @@
 //! Detached buckets, which go from party to party of a shared pool: what a handle owns, what a party does with it, and the
 //! exported functions.
 ghost use Rattle.std.specs.Prelude.{◌≡◌, ◌≢◌, ◌<◌, Err, IfErr, IfOk, IfSome, None, Ok, OnErr, Some};
-ghost use Rattle.std.specs.Option.{option_map};
 ghost use Rattle.bb_memory.specs.SharedPool.{chunk_of};
 ghost use Rattle.bb_memory_c.specs.Answers.{detached_empty, no_figure, ok, other_pool, readers_left, refused, uninitialized};
 ghost use Rattle.bb_memory_c.specs.Calls.{Answers, AnswersFree, AnswersMake, AnswersOfBoth, IfBoth};
@@ -40,27 +39,6 @@ impl Model for Detached {
 }
 
 impl Detached {
-    /// No detached bucket yet.
-    pub(crate) fn new() -> Detached
-        ensures { result ≡ nothing }
-    {
-        Detached {
-            inside: None,
-            start: 0,
-            readers: 0,
-        }
-    }
-
-    /// The length of the chunk in the bucket that is in it, if there is one.
-    fn len(&self) -> Option<usize>
-        ensures { result ≡ option_map (λ token. token.len) self.now.inside }
-    {
-        match &self.inside {
-            Some(token) => Some(token.len()),
-            None => None,
-        }
-    }
-
     /// Puts a bucket in, whose pool begins at `start`. None may be in it before.
     fn put(&mut self, token: DetachedBucket, start: usize)
         requires empty { self.old.inside ≡ None }
@@ -95,34 +73,6 @@ impl Detached {
             return Err(code::READERS_LEFT);
         }
         self.inside.take().ok_or(code::DETACHED_EMPTY)
-    }
-
-    /// Has the bucket wait for so many readers.
-    fn share(&mut self, readers: u32) -> u32
-        ensures { TellsShare self.old readers result self.new }
-    {
-        if self.inside.is_none() {
-            return code::DETACHED_EMPTY;
-        }
-        if readers == 0 {
-            return code::INVALID_ARGUMENT;
-        }
-        if self.readers > 0 {
-            return code::READERS_LEFT;
-        }
-        self.readers = readers;
-        code::OK
-    }
-
-    /// Counts a reader that is done.
-    fn release(&mut self) -> Figure
-        ensures { TellsRelease self.old result self.new }
-    {
-        if self.readers == 0 {
-            return Figure::refusal(code::NO_READER);
-        }
-        self.readers -= 1;
-        Figure::of(self.readers as usize)
     }
 }
 
@@ -213,7 +163,12 @@ pub extern "C" fn bb_detached_init(alloc: Global, detached: &mut DetachedHandle)
     if is_made(detached) {
         return code::ALREADY_INITIALIZED;
     }
-    keep(detached, alloc, Detached::new())
+    let none = Detached {
+        inside: None,
+        start: 0,
+        readers: 0,
+    };
+    keep(detached, alloc, none)
 }
 
 /// Frees a `bb_detached`, whose handle is empty then. A bucket that is in it stays detached for good. The answer is 0, or
@@ -234,8 +189,8 @@ pub extern "C" fn bb_detached_len(detached: &mut DetachedHandle) -> Figure
     let Some(inside) = detached.made_mut() else {
         return Figure::refusal(code::UNINITIALIZED);
     };
-    match inside.len() {
-        Some(len) => Figure::of(len),
+    match &inside.inside {
+        Some(token) => Figure::of(token.len()),
         None => Figure::refusal(code::DETACHED_EMPTY),
     }
 }
@@ -246,10 +201,20 @@ pub extern "C" fn bb_detached_share(detached: &mut DetachedHandle, readers: u32)
     ensures { Answers detached.old.value detached.new.value (result ≡ uninitialized)
         (λ before after. TellsShare before readers result after) }
 {
-    match detached.made_mut() {
-        Some(inside) => inside.share(readers),
-        None => code::UNINITIALIZED,
+    let Some(inside) = detached.made_mut() else {
+        return code::UNINITIALIZED;
+    };
+    if inside.inside.is_none() {
+        return code::DETACHED_EMPTY;
     }
+    if readers == 0 {
+        return code::INVALID_ARGUMENT;
+    }
+    if inside.readers > 0 {
+        return code::READERS_LEFT;
+    }
+    inside.readers = readers;
+    code::OK
 }
 
 /// Counts a reader that is done, and tells for how many more the bucket waits: the last one is told 0.
@@ -258,10 +223,14 @@ pub extern "C" fn bb_detached_release(detached: &mut DetachedHandle) -> Figure
     ensures { Answers detached.old.value detached.new.value (result ≡ no_figure uninitialized)
         (λ before after. TellsRelease before result after) }
 {
-    match detached.made_mut() {
-        Some(inside) => inside.release(),
-        None => Figure::refusal(code::UNINITIALIZED),
+    let Some(inside) = detached.made_mut() else {
+        return Figure::refusal(code::UNINITIALIZED);
+    };
+    if inside.readers == 0 {
+        return Figure::refusal(code::NO_READER);
     }
+    inside.readers -= 1;
+    Figure::of(inside.readers as usize)
 }
 
 /// Detaches the bucket at this place, which this party holds, with a chunk of `len` bytes. The bucket goes into a `bb_detached`

@@ -2,7 +2,6 @@
 //! is passed to C; all have the same two fields. The host holds a handle in a variable of its own, and passes that by its
 //! address. An empty one has both fields zero. It may be moved, and then the old one isn't used.
 ghost use Rattle.std.specs.Prelude.{◌≡◌, Option, Some, None, MatchOption};
-ghost use Rattle.std.specs.Option.{OnSome};
 ghost use Rattle.std.specs.Borrow.{sem, LendsSo};
 ghost use Rattle.std.specs.declared.alloc.Global.{Global as Heap};
 ghost use Rattle.bb_memory.specs.Bump.{Bump};
@@ -24,6 +23,7 @@ ghost use Rattle.bb_memory_c.specs.SharedBumps.{BumpParties as SharedBump};
 
 use crate::detached::Detached;
 use crate::held::Held;
+use crate::loose::Loose;
 use crate::pool::Pool;
 use crate::shared_bump::{BumpParties, JoinedBump};
 use crate::shared_pool::{JoinedPool, PoolParties};
@@ -74,14 +74,14 @@ pub(crate) trait Handle: Drop {
     fn made_mut(&mut self) -> Option<&mut Self::Made>
         ensures value { MatchOption result (made self.old ≡ None) (λ lent. made self.old ≡ Some lent.now) }
         ensures* writes_back { sem 𝓛 (LendsSo Self.row Self.Made.row self.entry result
-            (λ after last. OnSome result (made after ≡ Some last)) (λ after. made after ≡ made self.old)) };
+            (λ after last. made after ≡ Some last) (λ after. made after ≡ made self.old)) };
 
     /// Owns this from now on. What it owned before is forgotten, so it has to be empty.
     final fn put(&mut self, fresh: Box<Self::Made>)
         requires { made self.old ≡ None }
         ensures { made self.new ≡ Some fresh.value }
     {
-        *self = Self::of(Held::of(fresh));
+        *self = Self::of(Held::of_loose(Loose::of(fresh)));
     }
 
     /// Takes out the value that it owned, if it wasn't empty. The handle is empty then.
@@ -90,9 +90,11 @@ pub(crate) trait Handle: Drop {
         ensures value { MatchOption result (made self.old ≡ None)
             (λ taken. made self.old ≡ Some taken.value) }
     {
-        mem::replace(self, Self::of(Held::nothing(alloc)))
-            .into_held()
-            .into_box(alloc)
+        let held = mem::replace(self, Self::of(Held::nothing(alloc))).into_held();
+        match held.into_loose(alloc) {
+            Some(loose) => Some(loose.into_box()),
+            None => None,
+        }
     }
 }
 

@@ -33,7 +33,7 @@ impl<T> Held<T> {
     }
 
     /// The owner of what the loose box owns.
-    fn of_loose(loose: Loose<T, Global>) -> Held<T>
+    pub(crate) fn of_loose(loose: Loose<T, Global>) -> Held<T>
         ensures { result.value ≡ Some loose.value }
     {
         let Loose { at, alloc: _ } = loose;
@@ -41,7 +41,7 @@ impl<T> Held<T> {
     }
 
     /// Returns the value that it owns, if it owns one.
-    fn into_loose(self, alloc: Global) -> Option<Loose<T, Global>>
+    pub(crate) fn into_loose(self, alloc: Global) -> Option<Loose<T, Global>>
         ensures { MatchOption result (self.value ≡ None) (λ loose. self.value ≡ Some loose.value) }
     {
         let Held { at, made } = self;
@@ -49,25 +49,6 @@ impl<T> Held<T> {
             Some(Loose { at, alloc })
         } else {
             None
-        }
-    }
-}
-
-impl<T: Drop> Held<T> {
-    /// The owner of what the box owns.
-    pub(crate) fn of(made: Box<T>) -> Held<T>
-        ensures { result.value ≡ Some made.value }
-    {
-        Held::of_loose(Loose::of(made))
-    }
-
-    /// The box of what it owns, if it owns something.
-    pub(crate) fn into_box(self, alloc: Global) -> Option<Box<T>>
-        ensures { MatchOption result (self.value ≡ None) (λ made. self.value ≡ Some made.value) }
-    {
-        match self.into_loose(alloc) {
-            Some(loose) => Some(loose.into_box()),
-            None => None,
         }
     }
 }

@@ -55,6 +55,9 @@ pub(crate) trait Bucketed: Drop {
     /// How its region is cut.
     ghost geometry: { Self → PoolGeometry };
 
+    /// The layout within which a request can be answered quickly now, if there is one. It spares tests, and any is right.
+    fn limit(&self) -> Option<Layout>;
+
     /// Returns where the bucket of this number begins, if there is one.
     fn place_of(&self, number: u32) -> Option<usize>
         ensures { TellsPlace (geometry self.now) number result };

@@ -7,11 +7,11 @@ ghost use Rattle.bb_memory_c.specs.Calls.{AnswersRequest, AnswersReturn, Answers
 ghost use Rattle.bb_memory_c.specs.OneOwner.{MakesPool, pool_info};
 
 use crate::answer::{Answer, Figure, PoolInfo};
-use crate::call::{free, give_back, holds, info, is_made, keep, number, place, request};
+use crate::call::{free, give_back, holds, info, is_made, keep, number, place, request_bucket};
 use crate::code;
 use crate::handle::PoolHandle;
 use crate::kind::{Bucketed, Gives, Keeps, Shows};
-use crate::layout::{cut_into, has_room};
+use crate::layout::cut_into;
 use bb_memory::layout::{Chunk, Layout};
 use bb_memory::pool_allocator::{AllocationError, BaseAllocator, PoolAllocator};
 use std::alloc::Global;
@@ -49,13 +49,10 @@ pub extern "C" fn bb_pool_init(
     if is_made(handle) {
         return code::ALREADY_INITIALIZED;
     }
-    let bucket = match cut_into(bucket_size, bucket_align, start, size) {
+    let bucket = match cut_into(bucket_size, bucket_align, start, size, 1) {
         Ok(bucket) => bucket,
         Err(code) => return code,
     };
-    if !has_room(bucket, start, size) {
-        return code::NO_BUCKET;
-    }
     let Ok(pool) = PoolAllocator::new_uninit(bucket, start, size).init(alloc) else {
         return code::MALLOC_REFUSED;
     };
@@ -76,7 +73,7 @@ pub extern "C" fn bb_pool_allocate(handle: &mut PoolHandle, size: usize, align: 
     ensures { AnswersRequest handle.old.value handle.new.value size align result
         (λ pool layout answer after. Takes pool.pool layout answer after.pool) }
 {
-    request(handle, size, align)
+    request_bucket(handle, size, align)
 }
 
 /// Gives back the bucket at this place. A place that isn't a held bucket's is refused and changes nothing.
@@ -165,6 +162,10 @@ impl Keeps for Pool {
 
 impl Bucketed for Pool {
     ghost geometry = { λ pool. pool.pool.geometry };
+
+    fn limit(&self) -> Option<Layout> {
+        Some(self.pool.bucket_layout())
+    }
 
     fn place_of(&self, number: u32) -> Option<usize> {
         self.pool.place_at(number)

@@ -1,6 +1,5 @@
 //! A shared bump behind handles: one for the bump and the parties that haven't joined, and one for each party that has.
-ghost use Rattle.std.specs.Prelude.{◌≡◌, ◌<◌, ◌↔◌, IfErr, IfOk, IfSome, IsTrue, Some};
-ghost use Rattle.std.specs.Arc.{arc_value};
+ghost use Rattle.std.specs.Prelude.{◌≡◌, IfSome};
 ghost use Rattle.bb_memory_traits.specs.Chunk.{region_at};
 ghost use Rattle.bb_memory.specs.SharedBump.{MayTake};
 ghost use Rattle.bb_memory_c.specs.Answers.{uninitialized};
@@ -37,30 +36,6 @@ impl Model for JoinedBump {
     ghost view = { λ s. s.party };
 
     ghost invariant = { λ s. s.party.allocator ≡ arc_value s.bump };
-}
-
-impl JoinedBump {
-    /// Boxes the party as one that has joined. The error is the party, where a request for memory was refused.
-    fn new(
-        alloc: Global,
-        bump: &Arc<SharedBumpAllocator, Global>,
-        party: BumpParty,
-    ) -> Result<Box<JoinedBump>, BumpParty>
-        requires { party.allocator ≡ arc_value bump.now }
-        ensures joined { IfOk result (λ joined. joined.value ≡ party) }
-        ensures refused { IfErr result (λ back. back ≡ party) }
-    {
-        let Ok(bump) = Arc::try_clone(bump) else {
-            return Err(party);
-        };
-        match Box::new(alloc, JoinedBump { bump, party }) {
-            Ok(joined) => Ok(joined),
-            Err(refused) => {
-                let JoinedBump { bump: _bump, party } = refused.value;
-                Err(party)
-            }
-        }
-    }
 }
 
 impl Shows<BumpInfo> for JoinedBump {
@@ -127,26 +102,6 @@ impl BumpParties {
             parties,
         })
     }
-
-    /// Returns whether each party has left.
-    pub(crate) fn are_all_back(&self) -> bool
-        ensures { IsTrue result ↔ ¬ (left_at self.now < self.now.shared.scene.parties) }
-    {
-        self.parties.len() >= self.count as usize
-    }
-
-    /// A fresh bump over the same region, of as many parties. It is `None` where a request for memory was refused.
-    pub(crate) fn anew(&self, alloc: Global) -> Option<BumpParties>
-        ensures { IfSome result (AreFreshOver self.now.shared.scene.region
-            self.now.shared.scene.parties) }
-    {
-        BumpParties::new(
-            alloc,
-            self.bump.start_address(),
-            self.bump.total_space(),
-            self.count,
-        )
-    }
 }
 
 impl Shares<JoinedBump> for BumpParties {
@@ -166,9 +121,14 @@ impl Shares<JoinedBump> for BumpParties {
         let Some(party) = self.parties.pop() else {
             return Err(code::NO_PARTY);
         };
-        match JoinedBump::new(alloc, &self.bump, party) {
+        let Ok(bump) = Arc::try_clone(&self.bump) else {
+            self.parties.push_reserved(party);
+            return Err(code::MALLOC_REFUSED);
+        };
+        match Box::new(alloc, JoinedBump { bump, party }) {
             Ok(joined) => Ok(joined),
-            Err(party) => {
+            Err(refused) => {
+                let JoinedBump { bump: _bump, party } = refused.value;
                 self.parties.push_reserved(party);
                 Err(code::MALLOC_REFUSED)
             }
@@ -184,20 +144,6 @@ impl Shares<JoinedBump> for BumpParties {
         let JoinedBump { bump: _bump, party } = joined;
         self.parties.push_reserved(party);
     }
-}
-
-/// Starts again, where each party has left.
-fn reset(all: &mut BumpParties, alloc: Global) -> u32
-    ensures { TellsReset all.old all.new result }
-{
-    if !all.are_all_back() {
-        return code::PARTIES_JOINED;
-    }
-    let Some(fresh) = all.anew(alloc) else {
-        return code::MALLOC_REFUSED;
-    };
-    *all = fresh;
-    code::OK
 }
 
 /// Makes a shared bump over the region of `size` bytes at `start`, behind a handle that has to be empty. The start has to be
@@ -269,10 +215,20 @@ pub extern "C" fn bb_shared_bump_reset(alloc: Global, handle: &mut SharedBumpHan
     ensures { Answers handle.old.value handle.new.value (result ≡ uninitialized) (λ all after.
         TellsReset all after result) }
 {
-    match handle.made_mut() {
-        Some(all) => reset(all, alloc),
-        None => code::UNINITIALIZED,
+    let Some(all) = handle.made_mut() else {
+        return code::UNINITIALIZED;
+    };
+    let count = all.count;
+    if all.parties.len() < count as usize {
+        return code::PARTIES_JOINED;
     }
+    let start = all.bump.start_address();
+    let size = all.bump.total_space();
+    let Some(fresh) = BumpParties::new(alloc, start, size, count) else {
+        return code::MALLOC_REFUSED;
+    };
+    *all = fresh;
+    code::OK
 }
 
 /// Frees a party that hasn't left, whose handle is empty then. It can't join again, so the bump can't be reset.

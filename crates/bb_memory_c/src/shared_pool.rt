@@ -4,23 +4,24 @@ ghost use Rattle.std.specs.Prelude.{◌≡◌, IfErr, IfNone, IfOk, IfSome, coun
 ghost use Rattle.std.specs.Arc.{arc_value};
 ghost use Rattle.bb_memory_traits.specs.Chunk.{region_at};
 ghost use Rattle.bb_memory_base.specs.PoolLogs.{IsHeldAfter};
-ghost use Rattle.bb_memory.specs.SharedPoolCaching.{IsOut};
+ghost use Rattle.bb_memory.specs.SharedPoolCaching.{IsOut, ReturnsCaching};
 ghost use Rattle.bb_memory_c.specs.Answers.{ok, uninitialized};
 ghost use Rattle.bb_memory_c.specs.Calls.{Answers, AnswersFree, AnswersInfo, AnswersJoin, AnswersLeave, AnswersNumber};
 ghost use Rattle.bb_memory_c.specs.Calls.{AnswersPlace, AnswersPoolMake, AnswersRequest, AnswersReturn, AnswersWhether, HasRoom};
 ghost use Rattle.bb_memory_c.specs.Calls.{IfBoth, IsThere, MayBeShared, left_at};
+ghost use Rattle.bb_memory_c.specs.OneOwner.{pool_info};
 ghost use Rattle.bb_memory_c.specs.SharedPools.{AreFlagged, AreFreshOver, GivesAllBack, GivesBack, GivesChunk, HoldsAt};
-ghost use Rattle.bb_memory_c.specs.SharedPools.{HoldsPlace, IsAt, IsIdleAt, JoinsAt, Knows, Leaves, Returns, ShowsParty};
+ghost use Rattle.bb_memory_c.specs.SharedPools.{HoldsPlace, IsAt, IsIdleAt, JoinsAt, Knows, Leaves, ShowsParty, ShowsShared};
 ghost use Rattle.bb_memory_c.specs.SharedPools.{TellsCache, as_joined, emptied, geometry_of, with_left};
 
-use crate::answer::{Answer, Figure, PoolInfo};
+use crate::answer::{Answer, Figure, PoolInfo, SharedPoolInfo};
 use crate::call::{
-    free, give_back, holds, info, is_made, join, keep, leave, number, place, request,
+    free, give_back, holds, info, is_made, join, keep, leave, number, place, request_bucket,
 };
 use crate::code;
 use crate::handle::{Handle, PoolPartyHandle, SharedPoolHandle};
 use crate::kind::{Bucketed, Gives, Keeps, Shares, Shows};
-use crate::layout::{cut_into, has_room};
+use crate::layout::cut_into;
 use bb_memory::layout::{Chunk, Layout};
 use bb_memory::pool_allocator::AllocationError;
 use bb_memory::shared_pool::{CachingParty, PoolParty, SharedPoolAllocator, by_number};
@@ -28,12 +29,17 @@ use std::alloc::Global;
 use std::marker::Model;
 use std::sync::Arc;
 
-/// One party of a shared pool, and for each bucket whether it is out: held by the party, and not cached.
+/// How many flags fill two cache lines.
+const GAP: usize = 128;
+
+/// One party of a shared pool, and for each bucket whether it is out: held by the party, and not cached. Behind the flags and behind
+/// the party is a gap, so that what each call of one party writes shares no cache line with what another's calls write.
 #[derive(Drop)]
 pub struct JoinedPool {
     pub(crate) pool: Arc<SharedPoolAllocator, Global>,
     pub(crate) party: CachingParty,
     pub(crate) out: Vec<bool>,
+    gap: [u64; 16],
 }
 
 impl Model for JoinedPool {
@@ -53,6 +59,20 @@ fn count_set(flags: &[bool]) -> usize
     ensures { result ≡ count_by (λ flag. flag) flags.now }
 {
     flags.iter().filter(|flag| **flag).count()
+}
+
+/// The figures of a shared pool, of which so many buckets are held.
+fn figures_of(pool: &SharedPoolAllocator, held: usize) -> PoolInfo
+    ensures { result ≡ pool_info pool.now.scene.geometry held }
+{
+    PoolInfo {
+        start_address: pool.start_address(),
+        size: pool.size(),
+        bucket_size: pool.bucket_size(),
+        max_alignment: pool.max_alignment(),
+        number_of_buckets: pool.number_of_buckets() as usize,
+        held_buckets: held,
+    }
 }
 
 /// Gives back each bucket that the party holds, in order of their numbers. The flags say which those are.
@@ -83,17 +103,25 @@ impl JoinedPool {
         let Ok(pool) = Arc::try_clone(pool) else {
             return Err(party);
         };
-        let Ok(out) = Vec::from_elem(alloc, false, pool.number_of_buckets() as usize) else {
+        let flags = pool.number_of_buckets() as usize + GAP;
+        let Ok(out) = Vec::from_elem(alloc, false, flags) else {
             return Err(party);
         };
         let party = CachingParty::new(alloc, party, 0)?;
-        match Box::new(alloc, JoinedPool { pool, party, out }) {
+        let joined = JoinedPool {
+            pool,
+            party,
+            out,
+            gap: [0; 16],
+        };
+        match Box::new(alloc, joined) {
             Ok(joined) => Ok(joined),
             Err(refused) => {
                 let JoinedPool {
                     pool,
                     party,
                     out: _out,
+                    gap: _,
                 } = refused.value;
                 Err(party.into_party(&*pool))
             }
@@ -119,7 +147,7 @@ impl JoinedPool {
     #[tactic(auto, unfolding(bb_memory::specs::SharedPoolCaching::IsOut))]
     fn give_back_bucket(&mut self, number: u32)
         requires { IsOut self.old number }
-        ensures { Returns self.old number self.new }
+        ensures { ReturnsCaching self.old number self.new }
     {
         let pool = &*self.pool;
         let bucket = by_number::bucket(pool, self.party.party(), number, 0);
@@ -149,21 +177,14 @@ impl Shows<PoolInfo> for JoinedPool {
     ghost may_show = { ShowsParty };
 
     fn show(&mut self) -> PoolInfo {
-        let pool = &*self.pool;
-        PoolInfo {
-            start_address: pool.start_address(),
-            size: pool.size(),
-            bucket_size: pool.bucket_size(),
-            max_alignment: pool.max_alignment(),
-            number_of_buckets: pool.number_of_buckets() as usize,
-            held_buckets: count_set(&self.out),
-        }
+        figures_of(&*self.pool, count_set(&self.out))
     }
 }
 
 impl Gives for JoinedPool {
     ghost may_give = { GivesChunk };
 
+    #[inline(always)]
     fn give(&mut self, layout: Layout) -> Result<Chunk, AllocationError> {
         match self.party.allocate(&*self.pool, layout) {
             Ok(bucket) => {
@@ -198,6 +219,13 @@ impl Keeps for JoinedPool {
 impl Bucketed for JoinedPool {
     ghost geometry = { geometry_of };
 
+    fn limit(&self) -> Option<Layout> {
+        if self.party.number_of_cached() == 0 {
+            return None;
+        }
+        Some(self.pool.bucket_layout())
+    }
+
     fn place_of(&self, number: u32) -> Option<usize> {
         self.pool.place_at(number)
     }
@@ -226,26 +254,15 @@ impl Model for PoolParties {
     ghost invariant = { λ s. AreUnjoined (arc_value s.pool) (vec_capacity s.parties) s.parties.items };
 }
 
-impl PoolParties {
-    /// A shared pool over the region of `size` bytes at `start`, cut into buckets of this layout, none of whose parties has
-    /// joined. It is `None` where a request for memory was refused.
-    pub(crate) fn new(
-        alloc: Global,
-        bucket: Layout,
-        start: usize,
-        size: usize,
-        count: u32,
-    ) -> Option<PoolParties>
-        requires { MayBeShared (region_at start size) count bucket }
-        ensures { IfSome result (AreFreshOver (region_at start size) bucket count) }
-    {
-        let Ok((pool, parties)) = SharedPoolAllocator::new(alloc, bucket, start, size, count) else {
-            return None;
-        };
-        let Ok(pool) = Arc::new(alloc, pool) else {
-            return None;
-        };
-        Some(PoolParties { pool, parties })
+impl Shows<SharedPoolInfo> for PoolParties {
+    ghost may_show = { ShowsShared };
+
+    fn show(&mut self) -> SharedPoolInfo {
+        let figures = self.pool.figures();
+        SharedPoolInfo {
+            pool: figures_of(&*self.pool, figures.held as usize),
+            refused: figures.refused as usize,
+        }
     }
 }
 
@@ -282,7 +299,12 @@ impl Shares<JoinedPool> for PoolParties {
     }
 
     fn take_back(&mut self, joined: JoinedPool) {
-        let JoinedPool { pool, party, out } = joined;
+        let JoinedPool {
+            pool,
+            party,
+            out,
+            gap: _,
+        } = joined;
         let mut party = party.into_party(&*pool);
         give_all_back(&*pool, &mut party, &out);
         self.parties.push_reserved(party);
@@ -309,20 +331,17 @@ pub extern "C" fn bb_shared_pool_init(
     if is_made(handle) {
         return code::ALREADY_INITIALIZED;
     }
-    let bucket = match cut_into(bucket_size, bucket_align, start, size) {
+    let bucket = match cut_into(bucket_size, bucket_align, start, size, parties) {
         Ok(bucket) => bucket,
         Err(code) => return code,
     };
-    if parties == 0 {
-        return code::INVALID_ARGUMENT;
-    }
-    if !has_room(bucket, start, size) {
-        return code::NO_BUCKET;
-    }
-    let Some(all) = PoolParties::new(alloc, bucket, start, size, parties) else {
+    let Ok((pool, parties)) = SharedPoolAllocator::new(alloc, bucket, start, size, parties) else {
         return code::MALLOC_REFUSED;
     };
-    keep(handle, alloc, all)
+    let Ok(pool) = Arc::new(alloc, pool) else {
+        return code::MALLOC_REFUSED;
+    };
+    keep(handle, alloc, PoolParties { pool, parties })
 }
 
 /// Frees the handle of a shared pool, which is empty then. The pool stays as long as one of its parties does.
@@ -331,6 +350,14 @@ pub extern "C" fn bb_shared_pool_destroy(alloc: Global, handle: &mut SharedPoolH
     ensures { AnswersFree handle.old.value handle.new.value result }
 {
     free(handle, alloc)
+}
+
+/// Fills the struct with the pool's figures, while parties may call: each is read at a moment of its own.
+#[unsafe(no_mangle)]
+pub extern "C" fn bb_shared_pool_info(handle: &mut SharedPoolHandle, to: &mut SharedPoolInfo) -> u32
+    ensures { AnswersInfo handle.old.value handle.new.value to.old to.new result ShowsShared }
+{
+    info(handle, to)
 }
 
 /// Makes a party that hasn't joined join, behind a handle that has to be empty.
@@ -408,7 +435,7 @@ pub extern "C" fn bb_pool_party_allocate(
     ensures { AnswersRequest handle.old.value handle.new.value size align result
         GivesChunk }
 {
-    request(handle, size, align)
+    request_bucket(handle, size, align)
 }
 
 /// Gives back the bucket at this place. A place that isn't that of a bucket which this party holds is refused and changes

@@ -1,6 +1,7 @@
-use Rattle.bb_memory_c.proofs.Made.{at_lent, answers}
+use Rattle.bb_memory_c.proofs.Layouts.{asked}
+use Rattle.bb_memory_c.proofs.Made.{answers}
 use Rattle.bb_memory_c.proofs.call.request.Goals as goal
 
-pub returns-in-Some : goal.returns-in-Some
-returns-in-Some g c =
-    answers _ c.in-Some.ensures.value _ (at_lent _ _ c.in-Some.is (c.made_mut.follows.holds c.ask.new.made)) c.ask.ensures
+pub returns-in-Some-layout_of : goal.returns-in-Some-layout_of
+returns-in-Some-layout_of g c = answers c.in-Some.ensures.value (c.made_mut.follows.holds _)
+    (asked c.in-Some-layout_of.layout c.in-Some-layout_of.ensures.of c.give.result c.of.ensures c.give.ensures)

@@ -1,15 +1,45 @@
-use Rattle.std.proofs.Common.{rules, refl}
+use Rattle.std.proofs.Common.{arith, refl}
+use Rattle.std.proofs.lemmas.Bool.{false≢true}
 use Rattle.bb_memory_traits.specs.Chunk.{region_at}
-use Rattle.bb_memory_c.proofs.Layouts.{cut-or-not}
+use Rattle.bb_memory_c.specs.Calls.{MayBeShared}
+use Rattle.bb_memory_c.proofs.Layouts.{not_fails, of_this}
 use Rattle.bb_memory_c.proofs.layout.cut_into.Goals as goal
+use Rattle.bb_memory_c.proofs.layout.cut_into.Goals.{then-parties-eq0-via-then-parties-eq0}
+use Rattle.bb_memory_c.proofs.layout.cut_into.Goals.{then-parties-eq0-via-else-parties-eq0+then-not-can_make}
 
-pub returns-then-not-can_make-clause-invalid_argument : goal.returns-then-not-can_make-clause-invalid_argument
-returns-then-not-can_make-clause-invalid_argument c = (λ _. (c.in-Some.bucket, c.in-Some.ensures.of, search rules), λ _. refl)
+not_may : (c : goal.Joined-then-parties-eq0) →
+    ¬ MayBeShared (region_at c.args.start c.args.size) c.args.parties c.in-Some.bucket
+not_may c may = elim c.then-parties-eq0.branch [
+  | then-parties-eq0-via-then-parties-eq0 w ↦ absurd (omega (arith, may.0, w.if-parties-eq0.true))
+  | then-parties-eq0-via-else-parties-eq0+then-not-can_make w ↦ false≢true (w.if-not-can_make.ensures.1 may.1)
+]
+
+pub returns-then-parties-eq0-clause-invalid_argument : goal.returns-then-parties-eq0-clause-invalid_argument
+returns-then-parties-eq0-clause-invalid_argument c = (λ _. (c.in-Some.bucket, c.in-Some.ensures.of, not_may c), λ _. refl)
+
+pub returns-then-parties-eq0-clause-no_bucket : goal.returns-then-parties-eq0-clause-no_bucket
+returns-then-parties-eq0-clause-no_bucket c = (
+  λ wrong. absurd (cc),
+  λ lacks. absurd (not_may c (of_this _ _ (MayBeShared (region_at c.args.start c.args.size) c.args.parties) c.in-Some.bucket
+      c.in-Some.ensures.of (lacks.0, lacks.1, lacks.2))),
+)
+
+pub returns-then-not-has_room-clause-invalid_argument : goal.returns-then-not-has_room-clause-invalid_argument
+returns-then-not-has_room-clause-invalid_argument c = (
+  λ wrong. absurd (cc),
+  λ fails. absurd (not_fails _ _ _ _
+      c.in-Some.ensures.of (omega (arith, c.if-parties-eq0.false), c.can_make.ensures.0 c.if-not-can_make.false) fails),
+)
+
+pub returns-then-not-has_room-clause-no_bucket : goal.returns-then-not-has_room-clause-no_bucket
+returns-then-not-has_room-clause-no_bucket c =
+    let may : MayBeShared (region_at c.args.start c.args.size) c.args.parties c.in-Some.bucket =
+    (omega (arith, c.if-parties-eq0.false), c.can_make.ensures.0 c.if-not-can_make.false) in
+    (λ _. (c.in-Some.bucket, c.in-Some.ensures.of, may, λ has. false≢true (c.if-not-has_room.ensures.1 has)), λ _. refl)
 
 pub returns-clause-invalid_argument : goal.returns-clause-invalid_argument
 returns-clause-invalid_argument c = (
   λ wrong. absurd (cc),
-  λ not.
-      cut-or-not c.args.bucket_size c.args.bucket_align (region_at c.args.start c.args.size) c.in-Some.bucket
-      record { layout = c.in-Some.ensures.of; may = search rules } not,
+  λ fails. absurd (not_fails _ _ _ _
+      c.in-Some.ensures.of (omega (arith, c.if-parties-eq0.false), c.can_make.ensures.0 c.if-not-can_make.false) fails),
 )

@@ -1,34 +1,26 @@
-use Rattle.std.proofs.Common.{Some, ◌∙◌, ap, refl, sym}
-use Rattle.std.proofs.lemmas.Bool.{false≢true}
+use Rattle.std.proofs.Common.{◌∙◌, Some, ap, refl, sym}
 use Rattle.bb_memory_traits.specs.Chunk.{region_at}
-use Rattle.bb_memory_c.proofs.Makers.{is_empty, made-already, not-cut, not-room, tried}
+use Rattle.bb_memory_c.proofs.Layouts.{either_way, fails_alone, lacks_alone}
+use Rattle.bb_memory_c.proofs.Makers.{not-cut, tried}
 use Rattle.bb_memory_c.proofs.pool.bb_pool_init.Goals as goal
 
-pub returns-then-is_made : goal.returns-then-is_made
-returns-then-is_made c = made-already (c.is_made.ensures.value.0 c.if-is_made.true) c.is_made.ensures.unchanged
-
 pub returns-in-Err : goal.returns-in-Err
-returns-in-Err c = not-cut (is_empty _ _ c.is_made.ensures.value c.if-is_made.false) (region_at c.args.start c.args.size)
-    c.cut_into.result c.in-Err.code c.is_made.ensures.unchanged c.in-Err.is c.cut_into.ensures.invalid_layout
-    c.cut_into.ensures.invalid_argument c.in-Err.ensures.others (λ _ may. may)
-
-pub returns-then-not-has_room : goal.returns-then-not-has_room
-returns-then-not-has_room c =
-    not-room (is_empty _ _ c.is_made.ensures.value c.if-is_made.false) c.in-Ok.bucket c.in-Ok.ensures.cut.layout
-    c.in-Ok.ensures.cut.may c.is_made.ensures.unchanged (λ has. false≢true (c.if-not-has_room.ensures.1 has))
+returns-in-Err c = let cut = c.cut_into.ensures in let region = region_at c.args.start c.args.size in
+    not-cut (c.is_made.ensures.empty c.if-is_made.false) cut.invalid_layout
+    (either_way cut.invalid_argument (fails_alone _ _ region)) (either_way cut.no_bucket (lacks_alone _ _ region))
+    c.in-Err.code c.in-Err.is c.in-Err.ensures.others c.is_made.ensures.unchanged
 
 pub returns-in_default : goal.returns-in_default
-returns-in_default c = tried (is_empty _ _ c.is_made.ensures.value c.if-is_made.false) c.in-Ok.bucket c.in-Ok.ensures.cut.layout
-    c.in-Ok.ensures.cut.may _ (c.has_room.ensures.0 c.if-not-has_room.false)
-    (λ wrong. absurd (cc)) (λ _. refl) (λ _. c.is_made.ensures.unchanged)
-
-pub keep-requires : goal.keep-requires
-keep-requires c = c.is_made.ensures.unchanged ∙ is_empty _ _ c.is_made.ensures.value c.if-is_made.false
+returns-in_default c = let cut = c.cut_into.ensures in let region = region_at c.args.start c.args.size in
+    let of = c.in-Ok.ensures.cut in
+    tried (c.is_made.ensures.empty c.if-is_made.false) cut.invalid_layout
+    (either_way cut.invalid_argument (fails_alone _ _ region)) (either_way cut.no_bucket (lacks_alone _ _ region))
+    c.in-Ok.bucket c.in-Ok.is of.layout of.may.1 of.room _ (λ wrong. absurd (cc)) (λ _. (refl, c.is_made.ensures.unchanged))
 
 pub returns : goal.returns
-returns c =
-    let none = is_empty _ _ c.is_made.ensures.value c.if-is_made.false in
-    tried none c.in-Ok.bucket c.in-Ok.ensures.cut.layout c.in-Ok.ensures.cut.may c.keep.result
-    (c.has_room.ensures.0 c.if-not-has_room.false)
+returns c = let cut = c.cut_into.ensures in let region = region_at c.args.start c.args.size in
+    let none = c.is_made.ensures.empty c.if-is_made.false in let of = c.in-Ok.ensures.cut in
+    tried none cut.invalid_layout (either_way cut.invalid_argument (fails_alone _ _ region))
+    (either_way cut.no_bucket (lacks_alone _ _ region)) c.in-Ok.bucket c.in-Ok.is of.layout of.may.1 of.room c.keep.result
     (λ is. (c.new_uninit.result, c.new_uninit.ensures, c.keep.ensures.ok is ∙ ap Some c.in-Ok-init.ensures.value))
-    (λ not. (c.keep.ensures.refused not).0) (λ not. (c.keep.ensures.refused not).1 ∙ sym none)
+    (λ not. let refused = c.keep.ensures.refused not in (refused.0, refused.1 ∙ sym none))

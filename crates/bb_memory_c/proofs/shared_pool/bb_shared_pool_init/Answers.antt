@@ -1,48 +1,19 @@
-use Rattle.std.proofs.Common.{◌≡◌, ◌≢◌, ◌≤◌, ◌∙◌, ℕ, arith, refl, sym}
-use Rattle.std.proofs.lemmas.Bool.{false≢true}
-use Rattle.bb_memory_traits.specs.Chunk.{region_at}
-use Rattle.bb_memory_c.proofs.Makers.{is_empty, made-already, not-cut, not-may, not-room, tried}
+use Rattle.std.proofs.Common.{◌∙◌, arith, rules, sym}
+use Rattle.bb_memory_c.proofs.Makers.{not-cut, tried}
+use Rattle.bb_memory_c.proofs.Unjoined.{unjoined-fresh}
 use Rattle.bb_memory_c.proofs.shared_pool.bb_shared_pool_init.Goals as goal
 
-some_party : (parties : ℕ) → parties ≢ 0 → 1 ≤ parties
-some_party parties some = omega arith
-
-no_party : (parties : ℕ) → parties ≡ 0 → ¬ (1 ≤ parties)
-no_party parties none one = omega arith
-
-pub returns-then-is_made : goal.returns-then-is_made
-returns-then-is_made c = made-already (c.is_made.ensures.value.0 c.if-is_made.true) c.is_made.ensures.unchanged
+pub invariant_of-keep : goal.invariant_of-keep
+invariant_of-keep c = unjoined-fresh c.in-Ok-new.ensures.parties c.in-Ok-new-2.ensures.ok (omega arith)
 
 pub returns-in-Err : goal.returns-in-Err
-returns-in-Err c = not-cut (is_empty _ _ c.is_made.ensures.value c.if-is_made.false) (region_at c.args.start c.args.size)
-    c.cut_into.result c.in-Err.code c.is_made.ensures.unchanged c.in-Err.is c.cut_into.ensures.invalid_layout
-    c.cut_into.ensures.invalid_argument c.in-Err.ensures.others (λ _ may. may.1)
-
-pub returns-then-parties-eq0 : goal.returns-then-parties-eq0
-returns-then-parties-eq0 c =
-    not-may (is_empty _ _ c.is_made.ensures.value c.if-is_made.false) c.in-Ok.bucket c.in-Ok.ensures.cut.layout
-    c.is_made.ensures.unchanged (λ may. no_party _ c.if-parties-eq0.true may.0)
-
-pub returns-then-not-has_room : goal.returns-then-not-has_room
-returns-then-not-has_room c =
-    not-room (is_empty _ _ c.is_made.ensures.value c.if-is_made.false) c.in-Ok.bucket c.in-Ok.ensures.cut.layout
-    (some_party _ c.if-parties-eq0.false, c.in-Ok.ensures.cut.may) c.is_made.ensures.unchanged
-    (λ has. false≢true (c.if-not-has_room.ensures.1 has))
-
-pub returns-in_default : goal.returns-in_default
-returns-in_default c = tried (is_empty _ _ c.is_made.ensures.value c.if-is_made.false) c.in-Ok.bucket c.in-Ok.ensures.cut.layout
-    (some_party _ c.if-parties-eq0.false, c.in-Ok.ensures.cut.may) _
-    (c.has_room.ensures.0 c.if-not-has_room.false)
-    (λ wrong. absurd (cc)) (λ _. refl) (λ _. c.is_made.ensures.unchanged)
-
-pub keep-requires : goal.keep-requires
-keep-requires c = c.is_made.ensures.unchanged ∙ is_empty _ _ c.is_made.ensures.value c.if-is_made.false
+returns-in-Err c = let cut = c.cut_into.ensures in
+    not-cut (c.is_made.ensures.empty c.if-is_made.false) cut.invalid_layout cut.invalid_argument cut.no_bucket
+    c.in-Err.code c.in-Err.is c.in-Err.ensures.others c.is_made.ensures.unchanged
 
 pub returns : goal.returns
-returns c =
-    let none = is_empty _ _ c.is_made.ensures.value c.if-is_made.false in
-    tried none c.in-Ok.bucket c.in-Ok.ensures.cut.layout
-    (some_party _ c.if-parties-eq0.false, c.in-Ok.ensures.cut.may) c.keep.result
-    (c.has_room.ensures.0 c.if-not-has_room.false)
-    (λ is. (c.in-Some.all, c.keep.ensures.ok is, c.in-Some.ensures))
-    (λ not. (c.keep.ensures.refused not).0) (λ not. (c.keep.ensures.refused not).1 ∙ sym none)
+returns c = let cut = c.cut_into.ensures in let none = c.is_made.ensures.empty c.if-is_made.false in
+    let of = c.in-Ok.ensures.cut in
+    tried none cut.invalid_layout cut.invalid_argument cut.no_bucket c.in-Ok.bucket c.in-Ok.is of.layout of.may of.room
+    c.keep.result (λ is. (_, c.keep.ensures.ok is, search rules))
+    (λ not. let refused = c.keep.ensures.refused not in (refused.0, refused.1 ∙ sym none))

@@ -14,7 +14,7 @@ module _ {pool : SharedPool} (initial : PoolParty) {party : PoolParty} {flags : 
     (are : AreFlagged pool (IsHeldAfter initial.log) flags) (below : number < pool.scene.geometry.buckets)
     (returned : party ≡ with_entries initial (returns_of initial number)) where
   there : slice_get flags number ≡ Some (get_or flags number false)
-  there = slice_get-get_or flags number false (omega (arith, are.as_many))
+  there = slice_get-get_or flags number false (omega (arith, are.enough))
 
   held-here : get_or flags number false ≡ true → IsHeldAfter party.log number
   held-here set = subst (λ (p : PoolParty). IsHeldAfter p.log number) (sym returned)

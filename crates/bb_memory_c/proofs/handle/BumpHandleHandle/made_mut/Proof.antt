@@ -1,9 +1,6 @@
-use Rattle.std.proofs.Common.{refl}
-use Rattle.bb_memory_c.proofs.Owners.{bump}
-use Rattle.bb_memory_c.proofs.Looking.{lends}
-use Rattle.bb_memory_c.specs.contracts.handle.BumpHandleHandle.made_mut.Key.{name as #self}
+use Rattle.bb_memory_c.proofs.Owners.{lends, refl, bump}
 use Rattle.bb_memory_c.proofs.handle.BumpHandleHandle.made_mut.Statement.{statement}
 use Rattle.bb_memory_c.proofs.handle.BumpHandleHandle.made_mut.Code as code
 
 pub made_mut_spec : {M : Type 1} → statement M
-made_mut_spec 𝓤 𝓛 𝓜 𝓡 wired = lends bump tt 𝓤 𝓛 𝓜 𝓡 #self _ _ refl _ _ _ (code.unfolded 𝓤 𝓛.H 𝓜 𝓡 wired)
+made_mut_spec 𝓤 𝓛 𝓜 𝓡 wired = lends bump tt refl 𝓤 𝓛 𝓜 𝓡 _ _ _ _ (code.unfolded 𝓤 𝓛.H 𝓜 𝓡 wired)

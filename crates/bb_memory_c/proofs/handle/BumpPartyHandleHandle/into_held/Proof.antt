@@ -1,8 +1,6 @@
-use Rattle.bb_memory_c.proofs.Owners.{held, bump_party}
-use Rattle.bb_memory_c.proofs.Passing.{passes}
-use Rattle.bb_memory_c.specs.contracts.handle.BumpPartyHandleHandle.into_held.Key.{name as #self}
+use Rattle.bb_memory_c.proofs.Owners.{held, passes, bump_party}
 use Rattle.bb_memory_c.proofs.handle.BumpPartyHandleHandle.into_held.Statement.{statement}
 use Rattle.bb_memory_c.proofs.handle.BumpPartyHandleHandle.into_held.Code as code
 
 pub into_held_spec : {M : Type 1} → statement M
-into_held_spec 𝓤 𝓛 𝓜 𝓡 wired = passes bump_party held 𝓤 𝓛 𝓜 𝓡 #self _ _ (code.unfolded 𝓤 𝓛.H 𝓜 𝓡 wired)
+into_held_spec 𝓤 𝓛 𝓜 𝓡 wired = passes bump_party held 𝓤 𝓛 𝓜 𝓡 _ _ (code.unfolded 𝓤 𝓛.H 𝓜 𝓡 wired)

@@ -1,9 +1,6 @@
-use denote.Param.Send.{IsSend, owning_send}
-use Rattle.bb_memory_c.specs.contracts.shared_pool.PoolParties.{the_row as made_row}
 use Rattle.bb_memory_c.proofs.shared_pool.PoolParties.TheSendSync.{the_send}
-use Rattle.bb_memory_c.proofs.Crossing.{owned, two_send}
+use Rattle.bb_memory_c.proofs.Crossing.{IsSend, owned, owning_send, two_send}
 use Rattle.bb_memory_c.specs.contracts.handle.SharedPoolHandle.{the_row, the_type}
 
 pub send : IsSend the_row
-send = let made : IsSend made_row = the_send in
-    owning_send the_type two_send (λ d. owned made_row made d.heap d.made d.at d.value) (λ k x w. tt)
+send = owning_send the_type two_send (λ d. owned _ the_send d.heap d.made d.at d.value) (λ k x w. tt)

@@ -1,9 +1,6 @@
-use Rattle.std.proofs.Common.{refl}
-use Rattle.bb_memory_c.proofs.Owners.{shared_pool}
-use Rattle.bb_memory_c.proofs.Looking.{lends}
-use Rattle.bb_memory_c.specs.contracts.handle.SharedPoolHandleHandle.made_mut.Key.{name as #self}
+use Rattle.bb_memory_c.proofs.Owners.{lends, refl, shared_pool}
 use Rattle.bb_memory_c.proofs.handle.SharedPoolHandleHandle.made_mut.Statement.{statement}
 use Rattle.bb_memory_c.proofs.handle.SharedPoolHandleHandle.made_mut.Code as code
 
 pub made_mut_spec : {M : Type 1} → statement M
-made_mut_spec 𝓤 𝓛 𝓜 𝓡 wired = lends shared_pool tt 𝓤 𝓛 𝓜 𝓡 #self _ _ refl _ _ _ (code.unfolded 𝓤 𝓛.H 𝓜 𝓡 wired)
+made_mut_spec 𝓤 𝓛 𝓜 𝓡 wired = lends shared_pool tt refl 𝓤 𝓛 𝓜 𝓡 _ _ _ _ (code.unfolded 𝓤 𝓛.H 𝓜 𝓡 wired)

@@ -1,17 +1,17 @@
 -- `into_loose` hands out the box that was owned.
-use Rattle.bb_memory_c.proofs.Machine.{◌≡◌, List, [], ◌∷◌, ◌++◌, refl, sym, ◌∙◌, subst, lit<, true, false, a_type, impl, tnil}
-use Rattle.bb_memory_c.proofs.Machine.{dnil, inst_fn, Val, vptr, vcons, vnil, SProp, ent, emp, id⊢, ftrue, flft, WpFn, ‵, raw}
-use Rattle.bb_memory_c.proofs.Machine.{at_ret, ◌⊛◌, ◌$◌, ◌∵◌, !, qed, by, move, keep, split, fsplit, fjoin, suffices, use0}
-use Rattle.bb_memory_c.proofs.Machine.{use1, stop, fld, lit, of_opd, first, branches, exec, no_more, and_then, returns, enter}
-use Rattle.bb_memory_c.proofs.Machine.{alloc_all, pass_all, free_all, look_at, get, get_in, sets, sets_last, env, live, agg}
-use Rattle.bb_memory_c.proofs.Machine.{sub, whole, fact, fact_i, tables, yes, no, RattleType, owns, param, layout, layouts}
-use Rattle.bb_memory_c.proofs.Machine.{types_at, type_at, plain, block_ptr, nothing, Stays, stay_dropped, walk_of, Goes-dropped}
-use Rattle.bb_memory_c.proofs.Machine.{Al, Goes-blank, handle_tells, after, Good, Some-of, none_of, and_tt, proved_at, leaves}
-use Rattle.bb_memory_c.proofs.Machine.{Some, None, ghosts}
+use Rattle.bb_memory_c.proofs.Walks.{◌≡◌, List, [], ◌∷◌, ◌++◌, refl, sym, ◌∙◌, subst, lit<, true, false, a_type, impl, tnil}
+use Rattle.bb_memory_c.proofs.Walks.{dnil, inst_fn, Val, vptr, vcons, vnil, SProp, ent, emp, id⊢, ftrue, flft, WpFn, ‵, raw}
+use Rattle.bb_memory_c.proofs.Walks.{at_ret, ◌⊛◌, ◌$◌, ◌∵◌, !, qed, by, move, keep, split, fsplit, fjoin, suffices, use0}
+use Rattle.bb_memory_c.proofs.Walks.{use1, stop, fld, lit, of_opd, first, branches, exec, no_more, and_then, returns, enter}
+use Rattle.bb_memory_c.proofs.Walks.{alloc_all, pass_all, free_all, look_at, get, get_in, sets, sets_last, env, live, agg}
+use Rattle.bb_memory_c.proofs.Walks.{sub, whole, fact, fact_i, tables, yes, no, RattleType, owns, param, layout, layouts}
+use Rattle.bb_memory_c.proofs.Walks.{types_at, type_at, plain, block_ptr, nothing, Stays, stay_dropped, walk_of, Goes-dropped}
+use Rattle.bb_memory_c.proofs.Walks.{Al, Goes-blank, handle_tells, after, Good, Some-of, none_of, and_tt, proved_at, leaves}
+use Rattle.bb_memory_c.proofs.Walks.{Some, None, ghosts}
 use Rattle.std.specs.contracts.alloc.Global as heap
 use Rattle.std.proofs.alloc.Global.TheLaws as heap_laws
-use Rattle.bb_memory_c.proofs.Values.{both, Loose, loose_good, loose_in}
-use Rattle.bb_memory_c.proofs.Holds.{Held, word, word_good, ptr_good, held_out, owns_either}
+use Rattle.bb_memory_c.proofs.Walks.{both, Loose, loose_good, loose_in}
+use Rattle.bb_memory_c.proofs.Walks.{Held, word, word_good, ptr_good, held_out, owns_either}
 use Rattle.bb_memory_c.specs.contracts.held.Held.into_loose.{ended, clauses}
 use Rattle.bb_memory_c.specs.contracts.held.Held.into_loose.Key.{name as #self}
 use Rattle.bb_memory_c.proofs.held.Held.into_loose.Statement.{statement}

@@ -1,14 +1,14 @@
 -- `nothing` owns nothing.
-use Rattle.bb_memory_c.proofs.Machine.{◌≡◌, List, [], ◌∷◌, ◌++◌, refl, sym, subst, false, a_type, impl, tnil, dnil, inst_fn}
-use Rattle.bb_memory_c.proofs.Machine.{Val, SProp, ent, emp, id⊢, ftrue, flft, WpFn, ‵, raw, ◌⊛◌, ◌$◌, ◌∵◌, !, qed, by, move}
-use Rattle.bb_memory_c.proofs.Machine.{keep, drop, split, fsplit, fjoin, suffices, use0, lit, no_more, and_then, returns, enter}
-use Rattle.bb_memory_c.proofs.Machine.{alloc_all, pass_all, free_all, look_at, sets, agg, fact, fact_i, tables, yes, param}
-use Rattle.bb_memory_c.proofs.Machine.{layouts, RattleType, owns, types_at, plain, null_ptr, nothing, Stays, stay_dropped}
-use Rattle.bb_memory_c.proofs.Machine.{walk_of, Goes-dropped, Al, handle_tells, proved_at, leaves, Option, None, ghosts}
+use Rattle.bb_memory_c.proofs.Walks.{◌≡◌, List, [], ◌∷◌, ◌++◌, refl, sym, subst, false, a_type, impl, tnil, dnil, inst_fn}
+use Rattle.bb_memory_c.proofs.Walks.{Val, SProp, ent, emp, id⊢, ftrue, flft, WpFn, ‵, raw, ◌⊛◌, ◌$◌, ◌∵◌, !, qed, by, move}
+use Rattle.bb_memory_c.proofs.Walks.{keep, drop, split, fsplit, fjoin, suffices, use0, lit, no_more, and_then, returns, enter}
+use Rattle.bb_memory_c.proofs.Walks.{alloc_all, pass_all, free_all, look_at, sets, agg, fact, fact_i, tables, yes, param}
+use Rattle.bb_memory_c.proofs.Walks.{layouts, RattleType, owns, types_at, plain, null_ptr, nothing, Stays, stay_dropped}
+use Rattle.bb_memory_c.proofs.Walks.{walk_of, Goes-dropped, Al, handle_tells, proved_at, leaves, Option, None, ghosts}
 use types.Run as run
 use Rattle.std.specs.contracts.alloc.Global as heap
 use Rattle.std.proofs.alloc.Global.TheLaws as heap_laws
-use Rattle.bb_memory_c.proofs.Holds.{Held, word, word_good, held_in}
+use Rattle.bb_memory_c.proofs.Walks.{Held, word, word_good, held_in}
 use Rattle.bb_memory_c.specs.contracts.held.Held.nothing.{ended, clauses}
 use Rattle.bb_memory_c.specs.contracts.held.Held.nothing.Key.{name as #self}
 use Rattle.bb_memory_c.proofs.held.Held.nothing.Statement.{statement}

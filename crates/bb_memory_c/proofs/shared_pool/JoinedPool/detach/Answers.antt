@@ -5,6 +5,3 @@ pub returns-in-Ok : goal.returns-in-Ok
 returns-in-Ok c =
     detaches c.in-Ok.number c.detach_bucket-token.result c.in-Ok.ensures.placed c.in-Ok.ensures.may c.in-Ok.ensures.empty
     c.put.ensures c.detach_bucket-token.ensures
-
-pub returns-in-Err : goal.returns-in-Err
-returns-in-Err c = c.in-Err.ensures.refused.1

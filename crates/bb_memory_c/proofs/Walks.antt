@@ -1,28 +1,10 @@
 -- What is behind a handle is lent where it lies. Assumes `Logic`.
-use Rattle.bb_memory_c.proofs.Machine.{◌≡◌, ℕ, List, [], ◌∷◌, refl, sym, ap, ◌∙◌, lit<, true, false, full_share, Fn, Sym}
-use Rattle.bb_memory_c.proofs.Machine.{Callee, Ty, Tys, tcons, tnil, ttcons, ttnil, ty_struct, ty_enum, ty_ptr, ty_bool, ty_ref}
-use Rattle.bb_memory_c.proofs.Machine.{named, erased, mut, local, value_local, seq, cond, skip, block, assign, return, place}
-use Rattle.bb_memory_c.proofs.Machine.{field, deref, rv_opd, op1, bit_not, addr_of, copy, int, w8, aggregate, Val, vptr}
-use Rattle.bb_memory_c.proofs.Machine.{of_list, Ura, SProp, ent, sep, emp, via, fst∗, Fml, Lft, GName, Share, ftrue, fsep, flft}
-use Rattle.bb_memory_c.proofs.Machine.{fobs, fres, Model, Env, Calls, Loops, WpFn, Closed, Logic, sem, ‵, raw, ◌⊛◌, some, later}
-use Rattle.bb_memory_c.proofs.Machine.{at_ret, ◌$◌, ◌∵◌, !, qed, done, by, move, keep, drop, use0, use1, split, join, pick}
-use Rattle.bb_memory_c.proofs.Machine.{group, fsplit, fsplit3, fjoin, fpack, await, rewrite, stop, fld, load, lit, un, addr}
-use Rattle.bb_memory_c.proofs.Machine.{of_opd, no_more, and_then, first, blocks, branches, skips, exec, returns, returns_within}
-use Rattle.bb_memory_c.proofs.Machine.{enter, alloc_all, pass_all, free_all, look_at, get, through, sets, sets_last, env, live}
-use Rattle.bb_memory_c.proofs.Machine.{agg, sub, whole, look_in, fact, fact_i, Running, tables, One, RefMutOf, no, Part}
-use Rattle.bb_memory_c.proofs.Machine.{follows, lends_Part, part_at, mem, cell_at, lone, RattleType, owns, block_ptr, MutRef}
-use Rattle.bb_memory_c.proofs.Machine.{MutBor, mut_vals, mut_Tells, plain, mut_ref_to, nothing, opens, closes, Ended, Clauses}
-use Rattle.bb_memory_c.proofs.Machine.{closing, on_entry, Meets, Stays, stay_dropped, walk_of, Goes-spent_ref, Option, Some}
-use Rattle.bb_memory_c.proofs.Machine.{None, MatchOption, OnSome, LendsSo, ghosts, after, Some-of, none_of, proved, leaves}
+pub mod Values
+pub use Values.*
 use denote.Memory.{part_of}
 use denote.Follow.{such_by, follows_by}
 use mir.Raw.{raw as bare}
 use Rattle.std.specs.contracts.option.Option as OP
-use Rattle.bb_memory_c.proofs.Holds.{Held, word, held_out, held_in, owns_either}
-use Rattle.bb_memory_c.proofs.Passing.{Owner}
-
-abbrev two : Tys
-two = tcons ty_ptr (tcons ty_bool tnil)
 
 abbrev maybe : Sym → Ty → Ty
 maybe option τ = ty_enum option (ttcons tnil (ttcons (tcons τ tnil) ttnil))
@@ -66,7 +48,7 @@ module _ {R X : RattleType} (I : Owner R X) (one : One X.mir) where
   Said s r = MatchOption r (made s.now ≡ None) (λ lent. made s.now ≡ Some lent.now)
 
   abbrev Follows : MutBor X.Denot → Option (MutBor R.Denot) → Fml
-  Follows s r = LendsSo X R s r (λ last lent. OnSome r (made last ≡ Some lent)) (λ last. made last ≡ made s.now)
+  Follows s r = LendsSo X R s r (λ last lent. made last ≡ Some lent) (λ last. made last ≡ made s.now)
 
   abbrev pub lent : {M : Type 1} {𝓤 : Ura M} (𝓛 : Logic 𝓤) → Clauses 𝓤 lending
   lent {𝓤 = 𝓤} 𝓛 κs a = record {
@@ -114,7 +96,7 @@ module _ {R X : RattleType} (I : Owner R X) (one : One X.mir) where
     back b o w =
         let v : Val = word (block_ptr b o) true in
         qed 𝓛 (‵ (part_at R full_share w b o) ∷ ‵ (Rest b o) ∷ []) ∵ move ! (1 ∷ []) $ fsplit ! $ move ! (2 ∷ 0 ∷ []) $ fjoin ! $
-        held_in R ! (held_at b o w) $ rewrite ! 0 ‵ (sym (I.owned (held_at b o w) (v ∷ []))) refl $ move ! (1 ∷ 0 ∷ []) $
+        held_in R ! (held_at b o w) $ rewrite ! 0 ‵ (sym (owned I (held_at b o w) (v ∷ []))) refl $ move ! (1 ∷ 0 ∷ []) $
         fjoin ! $ fpack ! (List Val) (λ us. fsep (cell_at full_share X.mir us rb ro) (X.own_val (ending b o w) us)) (v ∷ [])
         $ done !
 
@@ -125,9 +107,9 @@ module _ {R X : RattleType} (I : Owner R X) (one : One X.mir) where
         let r : Option (MutBor R.Denot) = None in
         qed 𝓛 (‵ (fobs γ (X.coded.code last)) ∷ ‵ (flft κ q) ∷ []) ∵
         use1 𝓛 (‵ (fres γ (X.coded.code last))) (𝓛.names.obs-res γ (X.coded.code last)) $
-        fpack ! ((s : (R.Denot → X.Denot) × X.Denot) × ((w : R.Denot) → OnSome r (made (s.0 w) ≡ Some w)) × (made s.1 ≡ made d))
+        fpack ! ((s : (R.Denot → X.Denot) × X.Denot) × ((w : R.Denot) → made (s.0 w) ≡ Some w) × (made s.1 ≡ made d))
         (λ s. follows_by X.Denot R.Denot X.coded.code R.coded.code γ mathlib.Core.Option.none s.0.0 s.0.1)
-        (((λ w. d), last), (λ w. tt), as_it_was) $
+        ((ending rb ro, last), (λ w. ap (λ (e : (Held R).Denot). e.value) (I.again (held_at rb ro w))), as_it_was) $
         use0 𝓛 (raw (fact 𝓤 (Said self r))) (fact_i 𝓤 (Said self r) (emp 𝓤) none) $ join ! $
         use0 𝓛 (‵ ((OP.the_row Lent).own_val None (live 0 (of_list []) ∷ []))) (none_of 𝓛 Lent) $
         nothing ! $ nothing ! $ fjoin ! $ nothing ! $ move ! (4 ∷ 0 ∷ []) $ join ! $
@@ -143,7 +125,7 @@ module _ {R X : RattleType} (I : Owner R X) (one : One X.mir) where
         qed 𝓛 (‵ (Lent.own_val to (vptr b o ∷ [])) ∷ ‵ (flft κ q) ∷ ‵ (follows X R γ γ' (ending b o)) ∷ []) ∵
         use1 𝓛 (‵ ((OP.the_row Lent).own_val r (live 1 (of_list (vptr b o ∷ [])) ∷ []))) (Some-of 𝓛 Lent to (vptr b o)) $
         move ! (2 ∷ []) $
-        fpack ! ((s : (R.Denot → X.Denot) × X.Denot) × ((w : R.Denot) → OnSome r (made (s.0 w) ≡ Some w)) × (made s.1 ≡ made d))
+        fpack ! ((s : (R.Denot → X.Denot) × X.Denot) × ((w : R.Denot) → made (s.0 w) ≡ Some w) × (made s.1 ≡ made d))
         (λ s. follows_by X.Denot R.Denot X.coded.code R.coded.code γ (mathlib.Core.Option.some γ') s.0.0 s.0.1)
         ((ending b o, d), (λ w. ap (λ (e : (Held R).Denot). e.value) (I.again (held_at b o w))), refl) $
         use0 𝓛 (raw (fact 𝓤 (Said self r))) (fact_i 𝓤 (Said self r) (emp 𝓤) some_x) $ join ! $
@@ -174,7 +156,7 @@ module _ {R X : RattleType} (I : Owner R X) (one : One X.mir) where
           first ! $ branches ! (get ! refl)
           (λ _. sets ! (agg ! (and_then ! (lit ! tt) (no_more !))) refl (tt, (record { fits = lit< tt }, tt)) $
           rewrite ! 0 (λ (ms : List Ty). ‵ (cell_at full_share ms (v ∷ []) rb ro)) (sym is) refl $
-          nothing ! $ held_in R ! none_again $ rewrite ! 0 ‵ (sym (I.owned none_again (v ∷ []))) refl $ move ! (1 ∷ 0 ∷ []) $
+          nothing ! $ held_in R ! none_again $ rewrite ! 0 ‵ (sym (owned I none_again (v ∷ []))) refl $ move ! (1 ∷ 0 ∷ []) $
           closes ! tt X (I.back none_again) (v ∷ []) rb ro $
           returns_within ! Post refl (look_at ! 0 refl) $ free_all ! refl $ keep ! (0 ∷ 2 ∷ []) $
           by ! (left_none (I.back none_again) (ap (λ (e : (Held R).Denot). e.value) (I.again none_again) ∙ sym none) none))
@@ -204,11 +186,11 @@ module _ {R X : RattleType} (I : Owner R X) (one : One X.mir) where
           await ! tt $ pick ! (λ γ'. returns ! (look_at ! 0 refl) $ free_all ! refl $ keep ! (0 ∷ []) $
           by ! (left_some b o x some_x γ')))))))
 
-  pub lends : {M : Type 1} (𝓤 : Ura M) (𝓛 : Logic 𝓤) (𝓜 : Model 𝓤 𝓛.H) (𝓡 : Running 𝓤 𝓛.H 𝓜)
-      → (k : Callee) (option handle : Sym) → X.mir ≡ ty_struct handle two ∷ [] → (behind lent_as at : Ty)
+  pub lends : {handle : Sym} → X.mir ≡ ty_struct handle two ∷ [] → {M : Type 1} (𝓤 : Ura M) (𝓛 : Logic 𝓤) (𝓜 : Model 𝓤 𝓛.H)
+      (𝓡 : Running 𝓤 𝓛.H 𝓜) {k : Callee} (option : Sym) (behind lent_as at : Ty)
       → Closed 𝓤 𝓛.H (tables 𝓤 𝓛.H 𝓜 𝓡 𝓡.env).C (tables 𝓤 𝓛.H 𝓜 𝓡 𝓡.env).Λ k (looking option handle behind lent_as at)
       → Meets 𝓛 lending.signature ((tables 𝓤 𝓛.H 𝓜 𝓡 𝓡.env).C k) (closing 𝓛 lending (lent 𝓛))
-  lends 𝓤 𝓛 𝓜 𝓡 k option handle is behind lent_as at closed =
+  lends {handle} is 𝓤 𝓛 𝓜 𝓡 {k} option behind lent_as at closed =
       let 𝓣 = tables 𝓤 𝓛.H 𝓜 𝓡 𝓡.env in
       proved 𝓛 lending stays (lent 𝓛) 𝓜 𝓡 (Goes-spent_ref 𝓛 1 (0 ∷ []) tt (plain (λ _. X)), tt) k
       (looking option handle behind lent_as at) closed (λ κs. (mut_vals, tt)) (λ κs. (mut_Tells (named 0) κs.0 X, tt))

@@ -1,6 +1,0 @@
-use Rattle.bb_memory_c.proofs.Made.{at_lent, answers}
-use Rattle.bb_memory_c.proofs.detached.bb_detached_share.Goals as goal
-
-pub returns-in-Some : goal.returns-in-Some
-returns-in-Some c =
-    answers _ c.in-Some.ensures.value _ (at_lent _ _ c.in-Some.is (c.made_mut.follows.holds c.share.new.self)) c.share.ensures
