@@ -1,6 +1,6 @@
 //! Publish and subscribe over one pool, without a copy: each message goes to each of several readers, who read its bucket where
 //! it lies. An `Arc` counts them, and with the last reader's share the `DetachedBucket` ends, which gives the bucket back. A
-//! publisher that finds no bucket waits for a return. A thread of statistics reads what the host counts.
+//! publisher that finds no bucket waits for a return. A thread of statistics reads the pool's figures.
 use bb_memory::{
     AllocationError, BaseAllocator, DetachedBucket, Pool, PoolParty, SharedPoolAllocator,
 };
@@ -26,7 +26,6 @@ struct Message {
 #[derive(Clone, Copy, Default, Debug)]
 struct Figures {
     held: usize,
-    most_held: usize,
     published: u64,
     delivered: u64,
     ends: bool,
@@ -77,7 +76,6 @@ fn take(party: &PoolParty<'_>, host: &Host) -> NonNull<Message> {
         match given {
             Ok(chunk) => {
                 figures.held += 1;
-                figures.most_held = figures.most_held.max(figures.held);
                 return chunk.cast();
             }
             Err(AllocationError::OutOfMemory) if figures.held == BUCKETS as usize => {
@@ -121,13 +119,13 @@ fn read_all(queue: Receiver<Arc<Sample>>, host: Arc<Host>) -> u64 {
     next.iter().sum()
 }
 
-fn watch(host: Arc<Host>) -> u64 {
+fn watch(pool: SharedPoolAllocator<'static>, host: Arc<Host>) -> u64 {
     let mut looks = 0;
     loop {
-        let now = *host.figures.lock().unwrap();
-        assert!(now.held <= now.most_held && now.most_held <= BUCKETS as usize, "{now:?}");
+        let now = pool.info();
+        assert!(now.pool.held_buckets <= BUCKETS as usize, "{now:?}");
         looks += 1;
-        if now.ends {
+        if host.figures.lock().unwrap().ends {
             return looks;
         }
         thread::sleep(Duration::from_millis(1));
@@ -139,8 +137,8 @@ fn main() -> Result<(), Box<dyn std::error::Error>> {
     let pool = SharedPoolAllocator::with_buckets(Layout::new::<Message>(), BUCKETS, parties)?;
     let host = Arc::new(Host::default());
     let watching = thread::spawn({
-        let host = Arc::clone(&host);
-        move || watch(host)
+        let (pool, host) = (pool.clone(), Arc::clone(&host));
+        move || watch(pool, host)
     });
     let (queues, reading): (Vec<_>, Vec<_>) = (0..SUBSCRIBERS)
         .map(|_| {
@@ -170,9 +168,6 @@ fn main() -> Result<(), Box<dyn std::error::Error>> {
     let last = pool.join()?;
     let taken = (0..BUCKETS).map(|_| last.allocate(last.bucket()));
     assert!(taken.collect::<Result<Vec<_>, _>>().is_ok() && last.held_buckets() == 12);
-    println!(
-        "pubsub: {} messages to {SUBSCRIBERS} readers each, at most {} held",
-        figures.published, figures.most_held
-    );
+    println!("pubsub: {} messages to {SUBSCRIBERS} readers each", figures.published);
     Ok(())
 }

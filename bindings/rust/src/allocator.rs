@@ -77,9 +77,9 @@ pub trait Allocator: BaseAllocator {
 
 /// Writes a getter of each of these figures.
 macro_rules! getters {
-    ($($figure:ident $about:literal)*) => {
+    ($($figure:ident),*) => {
         $(
-            #[doc = concat!("Returns ", $about)]
+            #[doc = concat!("Returns `", stringify!($figure), "` of [`info`](Pool::info).")]
             fn $figure(&self) -> usize {
                 self.info().$figure
             }
@@ -112,14 +112,7 @@ pub trait Pool: BaseAllocator {
     /// Returns the layout of a bucket.
     fn bucket(&self) -> Layout;
 
-    getters! {
-        start_address "the address of bucket 0."
-        size "the bytes of the region, padding in front included."
-        bucket_size "the bytes of a bucket, as they were asked for."
-        max_alignment "the greatest alignment that a request may have."
-        number_of_buckets "the number of buckets."
-        held_buckets "the number of buckets that are held; of a party, that it holds."
-    }
+    getters! { start_address, size, bucket_size, max_alignment, number_of_buckets, held_buckets }
 }
 
 /// Writes how an allocator is made over a region. In brackets stand the parameters in front of the region and behind it.

@@ -71,6 +71,16 @@ pub struct PoolInfo {
     pub held_buckets: usize,
 }
 
+/// The figures of a pool that threads share, each of which was read at a moment of its own.
+#[repr(C)]
+#[derive(Clone, Copy, Debug, Default, PartialEq, Eq)]
+pub struct SharedPoolInfo {
+    /// Those of its buckets. One that is held, cached or detached counts as held.
+    pub pool: PoolInfo,
+    /// The number of requests that were refused for want of a bucket.
+    pub refused: usize,
+}
+
 pub const OK: u32 = 0;
 pub const SIZE_IS_ZERO: u32 = 1;
 pub const SIZE_TOO_LARGE: u32 = 2;
@@ -140,6 +150,7 @@ functions! {
     bb_bump_party_info(*mut BumpInfo) -> u32;
     bb_shared_pool_init(usize, usize, *const c_void, usize, u32) -> u32;
     bb_shared_pool_destroy() -> u32;
+    bb_shared_pool_info(*mut SharedPoolInfo) -> u32;
     bb_shared_pool_join(*mut Handle) -> u32;
     bb_shared_pool_leave(*mut Handle) -> u32;
     bb_pool_party_destroy() -> u32;

@@ -16,6 +16,6 @@ pub use error::{
     AllocationError, AllocationGrowError, AllocationShrinkError, DeallocationError, DetachError,
     InitError, JoinError, ResetError,
 };
-pub use ffi::{BumpInfo, OneChunkInfo, PoolInfo};
+pub use ffi::{BumpInfo, OneChunkInfo, PoolInfo, SharedPoolInfo};
 pub use owners::{BumpAllocator, OneChunkAllocator, PoolAllocator};
 pub use shared::{BumpParty, DetachedBucket, PoolParty, SharedBumpAllocator, SharedPoolAllocator};

@@ -34,10 +34,8 @@ impl<'region> Owned<'region> {
         init: impl FnOnce(*mut Handle, *const c_void) -> u32,
     ) -> Result<Self, InitError> {
         let mut handle = Handle::EMPTY;
-        match init(&mut handle, start.as_ptr().cast()) {
-            ffi::OK => Ok(Owned::of(handle, start, destroy)),
-            code => Err(InitError::of(code)),
-        }
+        InitError::unless_ok(init(&mut handle, start.as_ptr().cast()))?;
+        Ok(Owned::of(handle, start, destroy))
     }
 
     fn of(handle: Handle, start: NonNull<u8>, destroy: ffi::Destroy) -> Self {
@@ -51,10 +49,8 @@ impl<'region> Owned<'region> {
     pub unsafe fn join(&self, by: &Joining) -> Result<Self, JoinError> {
         let mut handle = Handle::EMPTY;
         // SAFETY: the function is of this kind, no other call has one of the handles, and they are two.
-        match unsafe { (by.join)(self.handle(), &mut handle) } {
-            ffi::OK => Ok(Owned::of(handle, self.start, by.destroy)),
-            code => Err(JoinError::of(code)),
-        }
+        JoinError::unless_ok(unsafe { (by.join)(self.handle(), &mut handle) })?;
+        Ok(Owned::of(handle, self.start, by.destroy))
     }
 
     /// Takes the region's memory along, which is freed behind what is over it.
@@ -75,10 +71,7 @@ impl<'region> Owned<'region> {
 
     /// Returns where the chunk is that was given, by the pointer with which the region was handed in.
     pub fn place(&self, answer: ffi::Answer) -> Result<NonNull<u8>, u32> {
-        match answer.code {
-            ffi::OK => Ok(self.at(answer.place.addr())),
-            code => Err(code),
-        }
+        if answer.code == ffi::OK { Ok(self.at(answer.place.addr())) } else { Err(answer.code) }
     }
 
     /// Asks for a chunk of the layout's size.

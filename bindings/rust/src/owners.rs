@@ -190,15 +190,6 @@ pub struct PoolAllocator<'region> {
 impl PoolAllocator<'static> {
     /// Makes a pool of just so many buckets in memory of its own, which is freed with it: no chunk is used behind its end.
     /// `InvalidArgument` where there are none, or no such memory can be.
-    ///
-    /// ```
-    /// use bb_memory::{Pool, PoolAllocator};
-    /// use core::alloc::Layout;
-    ///
-    /// let pool = PoolAllocator::with_buckets(Layout::new::<[u64; 4]>(), 16)?;
-    /// std::thread::spawn(move || assert_eq!(pool.number_of_buckets(), 16)).join().unwrap();
-    /// # Ok::<(), Box<dyn std::error::Error>>(())
-    /// ```
     pub fn with_buckets(bucket: Layout, buckets: u32) -> Result<Self, InitError> {
         let memory = Memory::of_buckets(bucket, buckets)?;
         let (start, size) = (memory.start, memory.layout.size());

@@ -148,6 +148,16 @@ impl<'region> SharedPoolAllocator<'region> {
         let owned = unsafe { Member::join(&self.shared, &POOL_PARTIES)? };
         Ok(PoolParty { owned, bucket: self.bucket })
     }
+
+    /// Returns figures, in any thread and while parties call. A party of the crate's own gives back what nobody attached.
+    pub fn info(&self) -> ffi::SharedPoolInfo {
+        let mut info = ffi::SharedPoolInfo::default();
+        // SAFETY: the function is of this kind, and writes nothing that another call may read.
+        expect_ok(unsafe {
+            ffi::bb_shared_pool_info(lock(&self.shared).owned.handle(), &mut info)
+        });
+        info
+    }
 }
 
 impl SharedPoolAllocator<'static> {
@@ -164,18 +174,7 @@ impl SharedPoolAllocator<'static> {
     }
 }
 
-impl fmt::Debug for SharedPoolAllocator<'_> {
-    fn fmt(&self, f: &mut fmt::Formatter<'_>) -> fmt::Result {
-        let mut info = ffi::PoolInfo::default();
-        if let Some(keeper) = &lock(&self.shared).keeper {
-            // SAFETY: the function is of this kind, and no other call has the handle.
-            expect_ok(unsafe { ffi::bb_pool_party_info(keeper.handle(), &mut info) });
-        }
-        let mut shown = f.debug_struct("SharedPoolAllocator");
-        shown.field("bucket", &self.bucket).field("number_of_buckets", &info.number_of_buckets);
-        shown.finish_non_exhaustive()
-    }
-}
+shown! { SharedPoolAllocator }
 
 /// A party of a [`SharedPoolAllocator`], for one thread at a time. A bucket is given back through the party that holds it: the
 /// one that took it, or one that attached it. Dropped, also by a panic, it leaves: each bucket that it holds is given back, and

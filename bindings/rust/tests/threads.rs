@@ -108,6 +108,25 @@ fn a_shared_bump_is_reset_when_each_party_has_left() {
 }
 
 #[test]
+fn any_thread_is_told_what_is_held() {
+    let pool = SharedPoolAllocator::with_buckets(bucket(), 3, 2).unwrap();
+    let told = |pool: &SharedPoolAllocator<'_>| {
+        let info = pool.info();
+        assert_eq!(info.pool.number_of_buckets, 3);
+        (info.pool.held_buckets, info.refused)
+    };
+    assert_eq!(told(&pool), (0, 0));
+    let party = pool.join().unwrap();
+    assert!((0..3).all(|_| party.allocate(bucket()).is_ok()));
+    refuses(party.allocate(bucket()), AllocationError::OutOfMemory);
+    let elsewhere = pool.clone();
+    assert_eq!(thread::spawn(move || told(&elsewhere)).join().unwrap(), (3, 1));
+    drop(party);
+    assert_eq!(told(&pool), (0, 1));
+    assert!(format!("{pool:?}").contains("refused: 1"));
+}
+
+#[test]
 fn threads_that_come_and_go_lose_nothing() {
     let pool = SharedPoolAllocator::with_buckets(bucket(), 3, 2).unwrap();
     let kept = pool.join().unwrap();
