@@ -6,7 +6,8 @@
 #include <string.h>
 #include <time.h>
 
-enum { ROUNDS = 31, CALLS = 40000, MOST_BUCKETS = 65536, MOST_CALLS = 2 * MOST_BUCKETS + CALLS };
+enum { ROUNDS = 31, CALLS = 40000, WRITTEN_CALLS = 10 * CALLS, MOST_BUCKETS = 65536 };
+enum { MOST_CALLS = 2 * MOST_BUCKETS + WRITTEN_CALLS };
 enum { PATTERNS = 6, SIZES = 5, FILLS = 3, ROWS = SIZES * FILLS };
 enum { GROUP = 64 };
 
@@ -128,7 +129,7 @@ static void print_times(double *of) {
     printf("%.2f,%.2f,%.2f\n", of[ROUNDS / 2], of[ROUNDS / 4], of[ROUNDS * 3 / 4]);
 }
 
-static task task_of(uint32_t buckets) { return (task){buckets, 128, 8, 48}; }
+static task task_of(uint32_t buckets, uint32_t bucket_size) { return (task){buckets, bucket_size, 8, 48}; }
 
 // So many per cent of the buckets, rounded down.
 static uint32_t part(uint32_t buckets, uint32_t percent) { return (uint32_t)((uint64_t)buckets * percent / 100); }
@@ -146,16 +147,15 @@ static double call_time(follow *run, const task *t, size_t before, uint32_t firs
     return (timed(run, t, calls, born) - made) * 1e9 / (double)(calls - before);
 }
 
-// One round of some loops over pools of so many buckets, of which so many per cent are held, each in turn. The time that making
-// and filling the pool takes is subtracted.
-static void time_each(const loop *loops, int many, pattern p, uint32_t buckets, uint32_t percent, int round,
+// One round of some loops over pools like this one, of which so many per cent are held, each in turn. The time that making and
+// filling the pool takes is subtracted.
+static void time_each(const loop *loops, int many, pattern p, task t, uint32_t percent, size_t of, int round,
                       double (*spent)[ROUNDS]) {
-    task t = task_of(buckets);
-    fill(buckets, part(buckets, percent));
+    fill(t.buckets, part(t.buckets, percent));
     size_t before = calls;
     uint32_t first = born;
-    while (calls < before + CALLS)
-        some_calls(p, buckets);
+    while (calls < before + of)
+        some_calls(p, t.buckets);
     for (int i = 0; i < many; i++)
         if (loops[i].is_there)
             spent[i][round] = call_time(loops[i].run, &t, before, first);
@@ -179,7 +179,7 @@ static void time_pools(void) {
         for (int p = 0; p < PATTERNS; p++)
             for (size_t row = 0; row < ROWS; row++)
                 if (has_row(p, row))
-                    time_each(pools, POOLS, p, sizes[row / FILLS], fills[row % FILLS], round, spent[p][row]);
+                    time_each(pools, POOLS, p, task_of(sizes[row / FILLS], 128), fills[row % FILLS], CALLS, round, spent[p][row]);
     for (int p = 0; p < PATTERNS; p++)
         for (size_t row = 0; row < ROWS; row++)
             if (has_row(p, row))
@@ -193,12 +193,12 @@ static void time_border(void) {
     static double border_spent[BORDER_SIZES][WAYS][ROUNDS];
     for (int round = 0; round < ROUNDS; round++)
         for (int i = 0; i < BORDER_SIZES; i++)
-            time_each(border, WAYS, ONE, of[i], 50, round, border_spent[i]);
+            time_each(border, WAYS, ONE, task_of(of[i], 128), 50, CALLS, round, border_spent[i]);
     for (int i = 0; i < BORDER_SIZES; i++)
         print_each("border", "pool", of[i], 50, border, WAYS, border_spent[i]);
 }
 
-// What is taken is written, and read before it goes back: in 512 KiB, and in 8 MiB.
+// What is taken is written, and read before it goes back, in buckets of a cache line: in 256 KiB, and in 4 MiB.
 static void time_written(void) {
     enum { WRITTEN_SIZES = 2, WRITTEN_PATTERNS = 3 };
     static const uint32_t of[WRITTEN_SIZES] = {4096, MOST_BUCKETS};
@@ -207,7 +207,7 @@ static void time_written(void) {
     for (int round = 0; round < ROUNDS; round++)
         for (int p = 0; p < WRITTEN_PATTERNS; p++)
             for (int i = 0; i < WRITTEN_SIZES; i++)
-                time_each(written, WRITTEN, by[p], of[i], 50, round, written_spent[p][i]);
+                time_each(written, WRITTEN, by[p], task_of(of[i], 64), 50, WRITTEN_CALLS, round, written_spent[p][i]);
     for (int p = 0; p < WRITTEN_PATTERNS; p++)
         for (int i = 0; i < WRITTEN_SIZES; i++)
             print_each("written", pattern_names[by[p]], of[i], 50, written, WRITTEN, written_spent[p][i]);
@@ -216,7 +216,7 @@ static void time_written(void) {
 static void count_reads(void) {
     for (int p = 0; p < PATTERNS; p++)
         for (size_t row = 0; row < ROWS; row++) {
-            task t = task_of(sizes[row / FILLS]);
+            task t = task_of(sizes[row / FILLS], 128);
             uint32_t held = part(t.buckets, fills[row % FILLS]);
             if (!has_row(p, row))
                 continue;
@@ -274,7 +274,7 @@ static void time_lines(void) {
 unsigned char *memory;
 
 static void look_for(loop *loops, int many) {
-    task one = task_of(1);
+    task one = task_of(1, 128);
     for (int i = 0; i < many; i++)
         loops[i].is_there = loops[i].run(&one, script, 0) != NOT_THERE;
 }
