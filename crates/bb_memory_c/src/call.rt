@@ -1,8 +1,8 @@
 //! The calls of C, each written once over any handle.
 ghost use Rattle.std.specs.Prelude.{◌≡◌, ◌≢◌, None, Some, IsFalse, IsTrue};
 ghost use Rattle.bb_memory_c.specs.Answers.{malloc_refused, ok};
-ghost use Rattle.bb_memory_c.specs.Calls.{AnswersFree, AnswersInfo, AnswersJoin, AnswersLeave, AnswersNumber, AnswersPlace, TellsRequest};
-ghost use Rattle.bb_memory_c.specs.Calls.{AnswersRequest, AnswersReturn, AnswersWhether, IfBoth, TellsReturn};
+ghost use Rattle.bb_memory_c.specs.Calls.{AnswersFree, AnswersInfo, AnswersJoin, AnswersLeave, AnswersNumber, AnswersPlace};
+ghost use Rattle.bb_memory_c.specs.Calls.{AnswersRequest, AnswersReturn, AnswersWhether, IfBoth, TellsRequest, TellsReturn};
 
 use crate::answer::{Answer, Figure};
 use crate::code;

@@ -1,10 +1,10 @@
 //! The codes that the functions answer. 0 is for what was done, and each other number for one cause why nothing was.
 ghost use Rattle.std.specs.Prelude.{◌≡◌};
-ghost use Rattle.bb_memory_c.specs.Answers.{alignment_failure, already_initialized, detached_empty, detached_full, grow_would_shrink};
-ghost use Rattle.bb_memory_c.specs.Answers.{invalid_argument, invalid_layout, layout_mismatch, malloc_refused, more_than_reserved};
+ghost use Rattle.bb_memory_c.specs.Answers.{alignment_failure, already_initialized, detached_empty, detached_full};
+ghost use Rattle.bb_memory_c.specs.Answers.{grow_would_shrink, invalid_argument, invalid_layout, layout_mismatch, malloc_refused};
 ghost use Rattle.bb_memory_c.specs.Answers.{no_bucket, no_party, no_reader, not_a_bucket, not_held, ok, one_party, other_pool};
 ghost use Rattle.bb_memory_c.specs.Answers.{out_of_memory, parties_joined, readers_left, shrink_would_grow, size_is_zero};
-ghost use Rattle.bb_memory_c.specs.Answers.{size_too_large, uninitialized};
+ghost use Rattle.bb_memory_c.specs.Answers.{more_than_reserved, size_too_large, uninitialized};
 
 pub(crate) const OK: u32 = 0;
 

@@ -32,8 +32,8 @@ use std::sync::Arc;
 /// How many flags fill two cache lines.
 const GAP: usize = 128;
 
-/// One party of a shared pool, and for each bucket whether it is out: held by the party, and not cached. Behind the flags and behind
-/// the party is a gap, so that what each call of one party writes shares no cache line with what another's calls write.
+/// One party of a shared pool, and for each bucket whether it is out: held by the party, and not cached. Behind the flags and
+/// behind the party is a gap, so that what each call of one party writes shares no cache line with what another's calls write.
 #[derive(Drop)]
 pub struct JoinedPool {
     pub(crate) pool: Arc<SharedPoolAllocator, Global>,

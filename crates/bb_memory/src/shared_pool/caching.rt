@@ -19,8 +19,8 @@ use std::marker::Model;
 /// How many numbers of four bytes fill two cache lines.
 const GAP: usize = 32;
 
-/// An empty list with room for so many numbers, and for a gap behind them: each call writes its party's list, which shares no cache
-/// line with what another thread's calls write. For no numbers it takes no memory.
+/// An empty list with room for so many numbers, and for a gap behind them: each call writes its party's list, which shares no
+/// cache line with what another thread's calls write. For no numbers it takes no memory.
 fn list_of(alloc: Global, most: u32) -> Result<Vec<u32>, AllocError>
     ensures items { IfOk result (λ list. list.items ≡ []) }
     ensures room { IfOk result (λ list. most ≤ vec_capacity list) }

@@ -21,8 +21,8 @@ impl<const CAPPED: usize, const MOST: usize> SharedBucketPool<CAPPED, MOST> {
         self.flags.refused.fetch_add(1, Ordering::Relaxed);
     }
 
-    /// Figures, for any thread and while parties call. Each flag is loaded once. A detached bucket is held, though by no party. No
-    /// contract tells more of what a load finds while others step.
+    /// Figures, for any thread and while parties call. Each flag is loaded once. A detached bucket is held, though by no party.
+    /// No contract tells more of what a load finds while others step.
     pub fn figures(&self) -> SharedPoolFigures
         ensures { result.held ≤ self.now.scene.geometry.buckets }
     {
