@@ -37,17 +37,20 @@ use std::marker::Model;
 pub struct BumpAllocator {
     start: usize,
     size: usize,
-    current_position: usize,
+    /// The address before the unused bytes, behind which the next chunk begins.
+    last: usize,
 }
 
 impl Model for BumpAllocator {
+    ghost use Rattle.std.specs.Prelude.{◌+◌, ◌-◌, ◌≤◌};
     ghost use Rattle.bb_memory_bump.specs.Bump.{Bump, IsBump, bump_of};
 
     ghost Value = { Bump };
 
-    ghost view = { λ a. bump_of a.start a.size a.current_position };
+    ghost view = { λ a. bump_of a.start a.size (a.last + 1 - a.start) };
 
-    ghost invariant = { λ a. IsBump (bump_of a.start a.size a.current_position) };
+    ghost invariant = { λ a. IsBump (bump_of a.start a.size (a.last + 1 - a.start))
+        × (a.start ≤ a.last + 1) };
 }
 
 impl BumpAllocator {
@@ -62,7 +65,7 @@ impl BumpAllocator {
         BumpAllocator {
             start,
             size,
-            current_position: 0,
+            last: start - 1,
         }
     }
 
@@ -82,7 +85,7 @@ impl BumpAllocator {
         BumpAllocator {
             start,
             size,
-            current_position: position,
+            last: start - 1 + position,
         }
     }
 
@@ -102,7 +105,7 @@ impl BumpAllocator {
         ensures of_live { (live : List Chunk) → StandsFor self.now.region self.now.used live
             → result ≡ used_space self.now.region live }
     {
-        self.current_position
+        self.last + 1 - self.start
     }
 
     /// How many bytes are behind the last chunk.
@@ -110,7 +113,7 @@ impl BumpAllocator {
     pub fn free_space(&self) -> usize
         ensures { self.now.used + result ≡ self.now.region.size }
     {
-        self.size - self.current_position
+        self.start + self.size - (self.last + 1)
     }
 
     /// How many bytes the region has.
@@ -148,7 +151,7 @@ impl BumpAllocator {
     {
         let start = self.start;
         let size = self.size;
-        let position = self.current_position;
+        let position = self.used_space();
         match SharedBumpAllocator::open(alloc, start, size, position, parties) {
             Ok(shared) => Ok(shared),
             Err(AllocError) => Err((self, AllocationError::OutOfMemory)),
@@ -165,7 +168,7 @@ impl fmt::Display for BumpAllocator {
     fn fmt<W: fmt::Write>(&self, f: &mut fmt::Formatter<W>) -> fmt::Result {
         let start = self.start;
         let size = self.size;
-        let current_position = self.current_position;
+        let current_position = self.used_space();
         write!(
             f,
             "BumpAllocator {{ start: {start}, size: {size}, current_position: {current_position} }}"
@@ -214,17 +217,17 @@ impl BaseAllocator for BumpAllocator {
             return Err(AllocationError::SizeIsZero);
         }
         let end = self.start + self.size;
-        let Some(chunk) = Chunk::at_or_after(self.start + self.current_position, layout, end) else {
+        let Some(chunk) = Chunk::at_or_after(self.last + 1, layout, end) else {
             return Err(AllocationError::OutOfMemory);
         };
-        self.current_position = chunk.end() - self.start;
+        self.last = chunk.end() - 1;
         Ok(chunk)
     }
 
     /// Gives back all chunks, whichever place and layout are named.
     #[inline(always)]
     fn deallocate(&mut self, _place: usize, _layout: Layout) {
-        self.current_position = 0;
+        self.last = self.start - 1;
     }
 
     fn stands_for_some_list(&self) {

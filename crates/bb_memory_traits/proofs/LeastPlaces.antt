@@ -1,10 +1,11 @@
 -- The least place is what its name says, and a mask computes it.
-use Rattle.std.proofs.Common.{◌≡◌, ℕ, ◌+◌, ◌-◌, ◌*◌, ◌/◌, ◌%◌, ◌^◌, ◌<◌, ◌≤◌, bit_and}
+use Rattle.std.proofs.Common.{◌≡◌, ℕ, ◌+◌, ◌-◌, ◌*◌, ◌/◌, ◌%◌, ◌^◌, ◌<◌, ◌≤◌, bit_and, bit_or, pow_pos}
 use Rattle.std.proofs.Common.{arith, ap, sym, ◌∙◌, inl, inr, mul-le-mul_right, div-add-mod'}
-use Rattle.std.proofs.Math.Nat.{mod-eq_of_lt, mod_self}
+use Rattle.std.proofs.Math.Nat.{add-mod_right, mod-eq_of_lt, mod-le, mod_self}
 use Rattle.std.proofs.lemmas.Bool.{cases_lt}
-use Rattle.std.proofs.lemmas.Nat.{mod-mul-add, le-div}
+use Rattle.std.proofs.lemmas.Nat.{and_mask, mod-mul-add, le-div}
 use Rattle.std.specs.Int.{IsPowerOfTwo}
+use Rattle.std.specs.Int.Bits.{or_add_and}
 use Rattle.bb_memory_traits.specs.LeastPlace.{least_place, IsLeastPlace}
 use Rattle.bb_memory_traits.proofs.PowersOfTwo.{power_of_two-positive, power_of_two-divides, power_of_two-clears}
 
@@ -80,6 +81,16 @@ pub least_place-beyond : (v align k : ℕ) → 0 < align → k * align ≤ v + (
 least_place-beyond v align k positive near =
     let most = le-div k (v + (align - 1)) align positive near in
     omega (arith, least_place-quotient v align positive, mul-le-mul_right align most)
+
+-- the address before the least place has the low bits of the mask set, and the others of the address before the number
+pub least_place-behind : (v align : ℕ) → IsPowerOfTwo align → 0 < v → bit_or (v - 1) (align - 1) + 1 ≡ least_place v align
+least_place-behind v align (k, is) some =
+    let rounds = least_place-rounds v align (power_of_two-positive align (k, is)) in
+    let whole : v + (align - 1) ≡ v - 1 + align = omega (arith, is, pow_pos k) in
+    let rest : (v + (align - 1)) % align ≡ (v - 1) % align = ap (λ n. n % align) whole ∙ add-mod_right (v - 1) align in
+    let low : bit_and (v - 1) (align - 1) ≡ (v - 1) % align =
+    ap (λ n. bit_and (v - 1) (n - 1)) is ∙ and_mask (v - 1) k ∙ ap (λ n. (v - 1) % n) (sym is) in
+    omega (arith, rounds, rest, low, or_add_and (v - 1) (align - 1), is, pow_pos k, mod-le (v - 1) align)
 
 -- to round up by a mask, as the machine does
 pub least_place-masked : (v align : ℕ) → IsPowerOfTwo align → align < 2 ^ 64 → v + (align - 1) < 2 ^ 64

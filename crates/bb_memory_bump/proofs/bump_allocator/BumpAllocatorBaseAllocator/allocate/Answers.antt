@@ -1,4 +1,4 @@
-use Rattle.std.proofs.Common.{◌≡◌, ◌+◌, ◌<◌, ◌≤◌, refl, arith, ap, sym, ◌∙◌, subst}
+use Rattle.std.proofs.Common.{◌≡◌, ◌+◌, ◌-◌, ◌<◌, ◌≤◌, ◌++◌, ◌∷◌, [], refl, arith, ap, sym, ◌∙◌, subst}
 use Rattle.bb_memory_traits.specs.Chunk.{region_end, Chunk, chunk_end}
 use Rattle.bb_memory_traits.specs.BumpObject.{StandsFor, chunk_at_or_after, next_chunk}
 use Rattle.bb_memory_traits.proofs.LiveLists.{StandsFor-end, StandsFor-push}
@@ -8,9 +8,10 @@ use Rattle.bb_memory_bump.proofs.bump_allocator.BumpAllocatorBaseAllocator.alloc
 pub returns-in_default-clause-answer : goal.returns-in_default-clause-answer
 returns-in_default-clause-answer c = λ live stands.
     let layout = c.args.layout in
-    let bump = bump_of c.self.inside.start c.self.inside.size c.self.inside.current_position in
+    let bump = bump_of c.self.inside.start c.self.inside.size (c.self.inside.last + 1 - c.self.inside.start) in
     let here = subst (λ (b : Bump). StandsFor b.region b.used live) (sym c.self.view_is) stands in
-    let end = StandsFor-end bump.region bump.used live here in
+    let back : bump.region.start + bump.used ≡ c.self.inside.last + 1 = omega (arith, c.self.invariant.1) in
+    let end = sym back ∙ StandsFor-end bump.region bump.used live here in
     let same = ap (λ v. chunk_end (chunk_at_or_after v layout)) end in
     subst (λ (b : Bump). (0 < layout.size) × (region_end b.region < chunk_end (next_chunk b.region live layout))) c.self.view_is
     (omega arith, omega (arith, c.in_default.ensures.value, same))
@@ -19,9 +20,10 @@ pub returns-clause-answer : goal.returns-clause-answer
 returns-clause-answer c = λ live stands.
     let layout = c.args.layout in
     let chunk = c.in-Some.chunk in
-    let bump = bump_of c.self.inside.start c.self.inside.size c.self.inside.current_position in
+    let bump = bump_of c.self.inside.start c.self.inside.size (c.self.inside.last + 1 - c.self.inside.start) in
     let here = subst (λ (b : Bump). StandsFor b.region b.used live) (sym c.self.view_is) stands in
-    let end = StandsFor-end bump.region bump.used live here in
+    let back : bump.region.start + bump.used ≡ c.self.inside.last + 1 = omega (arith, c.self.invariant.1) in
+    let end = sym back ∙ StandsFor-end bump.region bump.used live here in
     let told = c.in-Some.ensures.value in
     subst (λ (b : Bump). (0 < layout.size) × (chunk_end chunk ≤ region_end b.region) × (chunk ≡ next_chunk b.region live layout))
     c.self.view_is (
@@ -33,21 +35,27 @@ returns-clause-answer c = λ live stands.
 pub returns-clause-appended : goal.returns-clause-appended
 returns-clause-appended c = λ live stands.
     let chunk = c.in-Some.chunk in
-    let bump = bump_of c.self.inside.start c.self.inside.size c.self.inside.current_position in
+    let bump = bump_of c.self.inside.start c.self.inside.size (c.self.inside.last + 1 - c.self.inside.start) in
     let here = subst (λ (b : Bump). StandsFor b.region b.used live) (sym c.self.view_is) stands in
-    let end = StandsFor-end bump.region bump.used live here in
+    let back : bump.region.start + bump.used ≡ c.self.inside.last + 1 = omega (arith, c.self.invariant.1) in
+    let end = sym back ∙ StandsFor-end bump.region bump.used live here in
     let told = c.in-Some.ensures in
-    rw c.end.ensures (StandsFor-push bump.region bump.used live chunk here (omega (arith, told.above, end))
-    (omega (arith, told.value.0, ap (λ (k : Chunk). chunk_end k) told.value.1)))
+    let used : chunk_end chunk - bump.region.start ≡ chunk_end chunk - 1 + 1 - bump.region.start =
+    omega (arith, told.above, c.self.invariant.1) in
+    rw c.end.ensures (subst (λ n. StandsFor bump.region n (live ++ chunk ∷ [])) used
+    (StandsFor-push bump.region bump.used live chunk here (omega (arith, told.above, end, back))
+    (omega (arith, told.value.0, ap (λ (k : Chunk). chunk_end k) told.value.1))))
 
 pub returns-in_default-clause-kept : goal.returns-in_default-clause-kept
 returns-in_default-clause-kept c = λ live stands. stands
 
 pub returns-in_default-clause-value : goal.returns-in_default-clause-value
 returns-in_default-clause-value c =
-    let bump = bump_of c.self.inside.start c.self.inside.size c.self.inside.current_position in
+    let bump = bump_of c.self.inside.start c.self.inside.size (c.self.inside.last + 1 - c.self.inside.start) in
+    let back : bump.region.start + bump.used ≡ c.self.inside.last + 1 = omega (arith, c.self.invariant.1) in
+    let same = ap (λ v. chunk_end (chunk_at_or_after v c.args.layout)) back in
     let full : region_end bump.region < chunk_end (chunk_at_or_after (bump.region.start + bump.used) c.args.layout) =
-    omega (arith, c.in_default.ensures.value) in
+    omega (arith, c.in_default.ensures.value, same) in
     rw (← c.self.view_is) record {
       accepted = (λ given. absurd (cc given), λ room. absurd (omega (arith, full, room.1)));
       size_is_zero = (λ is. absurd (cc is), λ zero. absurd (omega (arith, zero)));

@@ -1,4 +1,4 @@
-use Rattle.std.proofs.Common.{subst, List}
+use Rattle.std.proofs.Common.{◌+◌, ◌-◌, subst, List}
 use Rattle.bb_memory_traits.specs.Chunk.{Chunk}
 use Rattle.bb_memory_traits.specs.BumpObject.{StandsFor}
 use Rattle.bb_memory_traits.proofs.LiveLists.{stands_for_some}
@@ -7,6 +7,6 @@ use Rattle.bb_memory_bump.proofs.bump_allocator.BumpAllocatorBaseAllocator.stand
 
 pub returns : goal.returns
 returns c =
-    let bump = bump_of c.self.inside.start c.self.inside.size c.self.inside.current_position in
+    let bump = bump_of c.self.inside.start c.self.inside.size (c.self.inside.last + 1 - c.self.inside.start) in
     subst (λ (b : Bump). (live : List Chunk) × StandsFor b.region b.used live) c.self.view_is
-    (stands_for_some bump.region bump.used c.self.invariant.used)
+    (stands_for_some bump.region bump.used c.self.invariant.0.used)
