@@ -1,13 +1,15 @@
 -- A set of numbers without the one that is aside: its bit is set, and it is free.
-use Rattle.std.proofs.Common.{◌≡◌, ◌≢◌, ℕ, ◌/◌, ◌<◌, ◌≤◌, true, false, Bool, List, length, set, get_or, sym, ◌∙◌, ap, inl, inr}
-use Rattle.std.proofs.Common.{arith, length-set, eqb, eq-eqb}
+use Rattle.std.proofs.Common.{◌≡◌, ◌≢◌, ℕ, ◌-◌, ◌/◌, ◌<◌, ◌≤◌, true, false, Bool, List, length, set, get_or, sym, ◌∙◌, ap}
+use Rattle.std.proofs.Common.{inl, inr, arith, length-set, eqb, eq-eqb}
 use Rattle.std.proofs.lemmas.Bool.{ne_eqb, false≢true}
 use Rattle.std.proofs.lemmas.List.{set-set, set_comm, set-get_or, set_past}
 use Rattle.std.proofs.lemmas.Option.{slice_get-get_or, slice_get_within}
 use Rattle.std.specs.Prelude.{slice_get, IsTrue, ◌↔◌, not, Some}
 use Rattle.bb_memory_traits.proofs.SliceGets.{slice_get-set, slice_get-set_same, slice_get-set_other}
-use Rattle.bb_memory_core.specs.IndexSets.{Has, Lacks, IsAside, index_words, less_aside, numbers_of, AreIndexWords, SetsBit}
+use Rattle.bb_memory_core.specs.IndexSets.{Has, Lacks, IsAside, IsTally, index_words, less_aside, numbers_of}
+use Rattle.bb_memory_core.specs.IndexSets.{AreIndexWords, SetsBit}
 use Rattle.bb_memory_core.proofs.NumberWords.{length-numbers_of, released}
+use Rattle.bb_memory_core.proofs.Tallies.{tally-released}
 
 -- THE NUMBER THAT IS ASIDE, AND THE OTHERS
 
@@ -91,6 +93,7 @@ pub record IsPutBack (bound : ℕ) (words new : List ℕ) (aside number : ℕ) :
   pub are : AreIndexWords bound new
   pub still_aside : IsAside (numbers_of bound new) aside
   pub less : less_aside (numbers_of bound new) aside ≡ less_aside (less_aside (numbers_of bound words) aside) number
+  pub tally : (count most : ℕ) → IsTally (numbers_of bound words) count most → IsTally (numbers_of bound new) (count - 1) most
 
 pub put_back : (bound : ℕ) (words new : List ℕ) (aside number : ℕ) → AreIndexWords bound words →
     IsAside (numbers_of bound words) aside → Has (less_aside (numbers_of bound words) aside) number →
@@ -103,4 +106,5 @@ put_back bound words new aside number are is_aside has sets =
       are = left.0;
       still_aside = λ some. rw left.1 (others_in numbers number aside (λ same. other.0 (sym same)) (is_aside some));
       less = ap (λ (l : List Bool). less_aside l aside) left.1 ∙ set_comm numbers number aside false false other.0;
+      tally = λ count most is. rw left.1 (tally-released numbers count most number is other.1);
     }

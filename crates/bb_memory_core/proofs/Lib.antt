@@ -3,7 +3,6 @@ pub mod Cuts
 mod EmptyChunks
 mod FreshPools
 mod Geometries
-mod HeldBuckets
 mod Listings
 mod LowestBits
 pub mod Measures
@@ -16,3 +15,4 @@ mod PoolAnswers
 pub mod PoolCalls
 mod PoolRuns
 pub mod Pools
+mod Tallies

@@ -1,7 +1,7 @@
 -- What a pool's requests and releases make of each live list that it stands for.
 use Rattle.std.proofs.Common.{◌≡◌, ◌≢◌, ℕ, suc, ◌+◌, ◌-◌, ◌*◌, ◌/◌, ◌%◌, ◌^◌, ◌<◌, ◌≤◌, Bool, true, false, List, [], ◌∷◌, ◌++◌}
 use Rattle.std.proofs.Common.{Result, Ok, Err, refl, sym, ap, subst, ◌∙◌, arith, Some, inl, inr, div-add-mod', pow_pos, pow_mono}
-use Rattle.std.proofs.Common.{pow-add, pow-suc, cond, leb, min, ◌&&◌}
+use Rattle.std.proofs.Common.{pow-add, pow-suc, cond, leb, max, min, ◌&&◌}
 use Rattle.std.proofs.lemmas.Bool.{le-leb, cases_lt}
 use Rattle.std.specs.Prelude.{slice_get, slice_set, remove, IfOk}
 use Rattle.std.specs.Int.{IsPowerOfTwo}
@@ -21,7 +21,7 @@ use Rattle.bb_memory_traits.proofs.PoolGeometries.{bucket_place-aligned, bucket_
 use Rattle.bb_memory_traits.proofs.SliceGets.{slice_get-set_other, slice_get-set_same}
 use Rattle.bb_memory_core.specs.IndexSets.{Has, Lacks}
 use Rattle.bb_memory_core.specs.Pool.{Pool, IsPool, StandsFor, HoldsPlace, Takes, with_flag, CountedPool, TakesBucket}
-use Rattle.bb_memory_core.specs.Pool.{FreesBucket, counted, reads_of, bucket_held_at, held_at_bucket}
+use Rattle.bb_memory_core.specs.Pool.{FreesBucket, counted, held_count, reads_of, bucket_held_at, held_at_bucket}
 use Rattle.bb_memory_core.proofs.Cuts.{number-at}
 use Rattle.bb_memory_core.proofs.Pools.{Has-set_true, IsPool-with_flag, bucket-below, filled-at, held-inside, lacked-free}
 use Rattle.bb_memory_core.proofs.Pools.{one_bucket, stands-given, stands-freed, stands-resized}
@@ -154,9 +154,10 @@ reads_one bucket words layout within some =
 
 -- all that a request says by the value
 pub TakesBucket-is : (old : CountedPool) (layout : Layout) (answer : Result Chunk AllocationError) (new : CountedPool)
-    (words : ℕ) → IsPool old.pool → old.reads ≤ words → Takes old.pool layout answer new.pool →
-    new.reads ≡ reads_of old.pool.geometry.bucket words layout → TakesBucket old layout answer new words
-TakesBucket-is old layout (Ok chunk) new words is most (i, within, lacks, given, after) reads =
+    (words : ℕ) → IsPool old.pool → old.reads ≤ words → held_count old.pool ≤ old.greatest →
+    Takes old.pool layout answer new.pool → new.reads ≡ reads_of old.pool.geometry.bucket words layout →
+    new.greatest ≡ max old.greatest (held_count new.pool) → TakesBucket old layout answer new words
+TakesBucket-is old layout (Ok chunk) new words is most at_least (i, within, lacks, given, after) reads greatest =
     let pool = old.pool in
     let at : chunk.place ≡ bucket_place pool.geometry i = ap (λ (c : Chunk). c.place) given in
     let differ : (place : ℕ) (there : HoldsPlace pool place) → (bucket_held_at pool place there).0 ≢ i = λ place there same.
@@ -176,14 +177,17 @@ TakesBucket-is old layout (Ok chunk) new words is most (i, within, lacks, given,
       ];
       others_kept = Takes-others_kept pool layout (Ok chunk) new.pool (i, within, lacks, given, after);
       bucket_aligned = ap (λ (c : Chunk). c.place % pool.geometry.bucket.align) given ∙ bucket_place-aligned pool.geometry i;
+      greatest = greatest;
+      greatest_unchanged = tt;
       one_read = λ _ some. reads ∙ reads_one pool.geometry.bucket words layout within some;
       uncounted = λ zero. omega (arith, zero, reads, reads_few pool.geometry.bucket words layout, most);
       unchanged = λ zero. tt;
     }
-TakesBucket-is old layout (Err error) new words is most takes reads =
+TakesBucket-is old layout (Err error) new words is most at_least takes reads greatest =
     let none : words ≡ 0 → new.reads ≡ old.reads =
     λ zero. omega (arith, zero, reads, reads_few old.pool.geometry.bucket words layout, most) in
     let (still, why) = refused old.pool layout error new.pool is takes in
+    let kept : new.greatest ≡ old.greatest = omega (arith, greatest, at_least, ap (λ (p : Pool). held_count p) still) in
     record {
       taken = takes;
       accepted = (λ ok. absurd (cc), λ may. absurd (why may.0 may.1.0 may.1.1));
@@ -192,9 +196,12 @@ TakesBucket-is old layout (Err error) new words is most takes reads =
       apart = tt;
       others_kept = λ place holds. subst (λ (p : Pool). HoldsPlace p place) (sym still) holds;
       bucket_aligned = tt;
+      greatest = greatest;
+      greatest_unchanged = kept;
       one_read = λ within some. reads ∙ reads_one old.pool.geometry.bucket words layout within some;
       uncounted = none;
-      unchanged = λ zero. ap (λ p. counted p new.reads) still ∙ ap (counted old.pool) (none zero);
+      unchanged = λ zero. ap (λ p. counted p new.reads new.greatest) still
+          ∙ ap (λ n. counted old.pool n new.greatest) (none zero) ∙ ap (counted old.pool old.reads) kept;
     }
 
 -- RELEASES
@@ -227,13 +234,15 @@ module _ (pool : Pool) (place i : ℕ) (is : IsPool pool) (has : Has pool.held i
       absurd (let e : Some true ≡ Some false = sym still ∙ ap (slice_get (slice_set pool.held i false)) same ∙ gone in cc)
 
   -- all that a release says by the value
-  pub FreesBucket-is : FreesBucket pool place (with_flag pool i false)
-  FreesBucket-is = record {
+  pub FreesBucket-is : (reads greatest : ℕ) →
+      FreesBucket (counted pool reads greatest) place (counted (with_flag pool i false) reads greatest)
+  FreesBucket-is reads greatest = record {
     freed = λ j other at.
         ap (λ n. with_flag pool n false) (one_bucket pool.geometry is.geometry i j (sym there ∙ at));
     others_kept = others_kept;
     given_back = given_back;
     room = (i, slice_get-set_same pool.held i false true has);
+    greatest = refl;
   }
 
   -- the chunk at the place is out of each list that the pool stands for

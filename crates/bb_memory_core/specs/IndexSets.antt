@@ -1,7 +1,7 @@
 -- A set of numbers below a bound, as a flag for each number.
 use Rattle.std.specs.Prelude.{◌≡◌, ℕ, ◌<◌, Bool, true, false, List, Some, length, slice_get, slice_set}
 use Rattle.std.specs.Prelude.{◌+◌, ◌-◌, ◌/◌, ◌≢◌, ◌*◌, ◌%◌, ◌^◌, ◌≤◌, ◌==◌, if◌then◌else◌, map, take, drop}
-use Rattle.std.specs.Prelude.{slice_index, not, eqb}
+use Rattle.std.specs.Prelude.{slice_index, not, eqb, count_by, replicate}
 use Rattle.std.specs.List.{range_with_len, list_any}
 use Rattle.std.specs.Int.{bit_at}
 
@@ -16,6 +16,28 @@ Lacks set number = slice_get set number ≡ Some false
 -- every number below the bound is in the set
 abbrev pub IsFull : List Bool → Type 0
 IsFull set = (number : ℕ) → number < length set → Has set number
+
+-- how many numbers are in the set
+abbrev pub member_count : List Bool → ℕ
+member_count set = count_by (λ held. held) set
+
+-- a set of numbers, and the greatest number of members that the set had at one time so far
+pub record NumberSet : Type 0 where
+  pub numbers : List Bool
+  pub most : ℕ
+
+abbrev pub number_set : List Bool → ℕ → NumberSet
+number_set numbers most = record { numbers = numbers; most = most }
+
+-- the set of no number below a bound, as it is made
+abbrev pub fresh_set : ℕ → NumberSet
+fresh_set bound = number_set (replicate bound false) 0
+
+-- the set has this many members, and never had more than `most`, which is at most its bound
+pub record IsTally (set : List Bool) (count most : ℕ) : Type 0 where
+  pub members : count ≡ member_count set
+  pub few : count ≤ most
+  pub within : most ≤ length set
 
 -- How many words of 64 bits keep a set of numbers.
 

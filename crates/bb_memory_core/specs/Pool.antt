@@ -1,7 +1,7 @@
 -- A pool, as its contracts see it.
 use Rattle.std.specs.Prelude.{◌≡◌, ◌≢◌, ℕ, ◌-◌, ◌+◌, ◌%◌, ◌≤◌, ◌<◌, ◌^◌, ◌⊎◌, ◌↔◌, Bool, true, false, ◌&&◌, if◌then◌else◌}
-use Rattle.std.specs.Prelude.{get_or, nat_eq, nat_le, List, All, length, min, replicate, slice_set, Result, Ok, Err, IsOk, IfOk}
-use Rattle.std.specs.Prelude.{OnErr, count_by, Some, slice_get, Option, IfSome, IfNone}
+use Rattle.std.specs.Prelude.{get_or, nat_eq, nat_le, List, All, length, max, min, replicate, slice_set, Result, Ok, Err, IsOk}
+use Rattle.std.specs.Prelude.{IfOk, OnErr, Some, slice_get, Option, IfSome, IfNone}
 use Rattle.std.specs.List.{list_any, range_with_len}
 use Rattle.bb_memory_traits.specs.Chunk.{Region, IsRegion, Chunk, IsSound, first_place}
 use Rattle.bb_memory_traits.specs.Object.{PlacesDiffer, note_after_run}
@@ -12,7 +12,7 @@ use Rattle.bb_memory_traits.specs.declared.allocator.Command.{Command}
 use Rattle.bb_memory_traits.specs.declared.allocator.AllocationError.{AllocationError}
 use Rattle.bb_memory_traits.specs.declared.allocator.AllocationError.TheVariants.{SizeIsZero, SizeTooLarge, AlignmentFailure}
 use Rattle.bb_memory_traits.specs.declared.allocator.AllocationError.TheVariants.{OutOfMemory}
-use Rattle.bb_memory_core.specs.IndexSets.{Has, Lacks, IsFull}
+use Rattle.bb_memory_core.specs.IndexSets.{Has, Lacks, IsFull, member_count}
 use Rattle.std.specs.Cmp.Derive.{both_true}
 use Rattle.std.proofs.Common.{refl, sym, ◌∙◌, ap, arith, subst}
 use Rattle.std.proofs.lemmas.Bool.{eq-eqb, eqb-true}
@@ -108,13 +108,18 @@ abbrev pub Frees : Pool → ℕ → Pool → Type 0
 Frees pool place new =
     (i : ℕ) → Has pool.held i → place ≡ bucket_place pool.geometry i → new ≡ with_flag pool i false
 
--- a pool, and how many index words its last request read
+-- how many of the pool's buckets are held
+abbrev pub held_count : Pool → ℕ
+held_count pool = member_count pool.held
+
+-- a pool, how many index words its last request read, and the greatest number of buckets that were held at one time so far
 pub record CountedPool : Type 0 where
   pub pool : Pool
   pub reads : ℕ
+  pub greatest : ℕ
 
-abbrev pub counted : Pool → ℕ → CountedPool
-counted pool reads = record { pool = pool; reads = reads }
+abbrev pub counted : Pool → ℕ → ℕ → CountedPool
+counted pool reads greatest = record { pool = pool; reads = reads; greatest = greatest }
 
 -- What a request is answered by the value alone, what the pool is then, and how many of its words it read.
 pub record TakesBucket (old : CountedPool) (layout : Layout) (answer : Result Chunk AllocationError)
@@ -128,17 +133,21 @@ pub record TakesBucket (old : CountedPool) (layout : Layout) (answer : Result Ch
       → AreAStrideApart old.pool.geometry.bucket place chunk.place)
   pub others_kept : (place : ℕ) → HoldsPlace old.pool place → HoldsPlace new.pool place
   pub bucket_aligned : IfOk answer (λ chunk. chunk.place % old.pool.geometry.bucket.align ≡ 0)
+  -- a bucket that is given counts, and a refusal doesn't
+  pub greatest : new.greatest ≡ max old.greatest (held_count new.pool)
+  pub greatest_unchanged : OnErr answer (new.greatest ≡ old.greatest)
   pub one_read : IsWithin old.pool.geometry.bucket layout → 0 < words → new.reads ≡ 1
   -- where no reads are counted, a refusal leaves all as it was
   pub uncounted : words ≡ 0 → new.reads ≡ old.reads
   pub unchanged : words ≡ 0 → OnErr answer (new ≡ old)
 
--- What a pool is after a release by the value alone: that bucket is free, and each other one as it was.
-pub record FreesBucket (old : Pool) (place : ℕ) (new : Pool) : Type 0 where
-  pub freed : Frees old place new
-  pub others_kept : (other : ℕ) → HoldsPlace old other → other ≢ place → HoldsPlace new other
-  pub given_back : ¬ HoldsPlace new place
-  pub room : (i : ℕ) × Lacks new.held i
+-- What a pool is after a release by the value alone: that bucket is free, each other one as it was, and the greatest number too.
+pub record FreesBucket (old : CountedPool) (place : ℕ) (new : CountedPool) : Type 0 where
+  pub freed : Frees old.pool place new.pool
+  pub others_kept : (other : ℕ) → HoldsPlace old.pool other → other ≢ place → HoldsPlace new.pool other
+  pub given_back : ¬ HoldsPlace new.pool place
+  pub room : (i : ℕ) × Lacks new.pool.held i
+  pub greatest : new.greatest ≡ old.greatest
 
 -- INDEX WORDS
 
@@ -154,10 +163,6 @@ reads_after bucket words before commands =
     note_after_run (λ layout reads. reads_of bucket words layout) before commands
 
 -- HOW MANY BUCKETS
-
--- how many of the pool's buckets are held
-abbrev pub held_count : Pool → ℕ
-held_count pool = count_by (λ held. held) pool.held
 
 -- the buckets are the first of those that the region has room for, at most so many
 pub record IsCutAtMost (most : ℕ) (region : Region) (bucket : Layout) (geometry : PoolGeometry) : Type 0 where

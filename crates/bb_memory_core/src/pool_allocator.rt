@@ -53,7 +53,7 @@ impl UninitPoolAllocator {
         self,
         alloc: A,
     ) -> Result<PoolAllocator<A>, (UninitPoolAllocator, AllocationError)>
-        ensures value { IfOk result (λ pool. pool ≡ counted (fresh_pool self) 0) }
+        ensures value { IfOk result (λ pool. pool ≡ counted (fresh_pool self) 0 0) }
         ensures empty { IfOk result (λ pool. StandsFor pool.pool []) }
         ensures refused { IfErr result (λ refusal. refusal ≡ (self, AllocationError.OutOfMemory)) }
     {
@@ -166,6 +166,7 @@ impl<A: LanguageAllocator> PoolAllocator<A> {
         ensures room { (i : ℕ) × Lacks self.new.pool.held i }
         ensures geometry { self.new.pool.geometry ≡ self.old.pool.geometry }
         ensures reads { self.new.reads ≡ self.old.reads }
+        ensures greatest { self.new.greatest ≡ self.old.greatest }
     {
         self.deallocate(place, Layout::empty());
     }

@@ -59,6 +59,16 @@ pub fn back_if_held(pool: &mut FixedSizePoolAllocator<16>) -> Result<(), Allocat
     Ok(())
 }
 
+/// A bucket that is given back leaves the greatest number of held buckets as it was.
+pub fn greatest_kept(pool: &mut FixedSizePoolAllocator<16>) -> Result<(), AllocationError> {
+    let chunk = pool.allocate(Layout::empty())?;
+    let greatest = pool.greatest_held();
+    pool.deallocate(chunk.place(), Layout::empty());
+    let still = pool.greatest_held();
+    prove!(still == greatest);
+    Ok(())
+}
+
 /// Takes one more bucket. The place `out` is still held then, and the new chunk has another one.
 fn one_more(
     pool: &mut FixedSizePoolAllocator<16>,

@@ -129,10 +129,10 @@ IsPoolPlan plan = MayBeCut (region_at plan.start plan.size) plan.bucket
 abbrev pub pool_numbers : PoolPlan → Numbers
 pool_numbers plan = Four plan.start plan.size plan.bucket.size plan.bucket.align
 
--- the pool's region is cut into all the buckets that it has room for; none is held, and no index word was read
+-- the pool's region is cut into all the buckets that it has room for; none is held, none was before, and no index word was read
 abbrev pub BeginsPool : PoolPlan → CountedPool → Type 0
 BeginsPool plan pool = (geometry : PoolGeometry) × IsCut (region_at plan.start plan.size) plan.bucket geometry
-    × (pool ≡ counted (fresh_pool geometry) 0)
+    × (pool ≡ counted (fresh_pool geometry) 0 0)
 
 -- the replies are a run of the pool object over the pool's geometry, and the pool stands for the list that the run leaves
 pub record PoolRuns (old : Pool) (live : List Chunk) (commands : List Command)
@@ -166,10 +166,10 @@ pool_rules = record {
       ++ pool_figures pool.pool.geometry live (codes " reads " ++ (decimal pool.reads ++ codes "\n")));
 }
 
--- the pool's region is cut into the buckets that it has room for, but into at most 512; none is held
+-- the pool's region is cut into the buckets that it has room for, but into at most 512; none is held, and none was before
 abbrev pub BeginsFixed : PoolPlan → CountedPool → Type 0
 BeginsFixed plan pool = (whole : PoolGeometry) × IsCut (region_at plan.start plan.size) plan.bucket whole
-    × (pool ≡ counted (fresh_pool (at_most 512 whole)) 0)
+    × (pool ≡ counted (fresh_pool (at_most 512 whole)) 0 0)
 
 -- a fixed pool that a script drives: it begins with no bucket held
 abbrev pub fixed_rules : AllocatorRules CountedPool PoolPlan

@@ -1,6 +1,6 @@
 //! A set of numbers as words of 64 bits.
-ghost use Rattle.std.specs.Prelude.{◌≡◌, false, replicate, slice_set, IfOk};
-ghost use Rattle.bb_memory_core.specs.IndexSets.{Has};
+ghost use Rattle.std.specs.Prelude.{◌≡◌, false, slice_set, IfOk};
+ghost use Rattle.bb_memory_core.specs.IndexSets.{Has, fresh_set};
 
 use crate::index_set::index_words::IndexWords;
 use crate::index_set::{Counter, IndexSet};
@@ -18,6 +18,9 @@ const NONE: usize = usize::MAX;
 ///
 /// `top` words aren't full: one such is in hand, and the others are listed, each once. Where no number is aside, a taking reads
 /// the word in hand, and no other: so it reads one word, however many are full. With all of them full, it is refused.
+///
+/// `count` bits below the bound are set, and never were more than `most`. A taking that sets a bit finds no number aside, so that
+/// the set has `count` members then: `most` is the greatest number of members, too, and the number aside costs no counting.
 #[derive(Drop)]
 pub struct Words<A: Allocator> {
     words: IndexWords<A>,
@@ -25,25 +28,28 @@ pub struct Words<A: Allocator> {
     hand: usize,
     top: usize,
     aside: usize,
+    count: u32,
+    most: u32,
 }
 
 impl<A: Allocator> Model for Words<A> {
-    ghost use Rattle.std.specs.Prelude.{Bool, List};
-    ghost use Rattle.bb_memory_core.specs.IndexSets.{IsAside, less_aside, numbers_of, IsWordSet};
+    ghost use Rattle.bb_memory_core.specs.IndexSets.{NumberSet, number_set, less_aside, numbers_of};
+    ghost use Rattle.bb_memory_core.specs.IndexSets.{IsAside, IsTally, IsWordSet};
 
-    ghost Value = { List Bool };
+    ghost Value = { NumberSet };
 
-    ghost view = { λ a. less_aside (numbers_of a.bound a.words.words) a.aside };
+    ghost view = { λ a. number_set (less_aside (numbers_of a.bound a.words.words) a.aside) a.most };
 
     ghost invariant = { λ a. IsWordSet a.bound a.words.words a.words.listed a.hand a.top
-        × IsAside (numbers_of a.bound a.words.words) a.aside };
+        × IsAside (numbers_of a.bound a.words.words) a.aside
+        × IsTally (numbers_of a.bound a.words.words) a.count a.most };
 }
 
 impl<A: Allocator> Words<A> {
     /// The empty set of numbers below a bound: eight bytes for each word, and eight for each word but one. It is refused only
     /// where a request for memory was.
     pub fn new(alloc: A, bound: u32) -> Result<Self, AllocError>
-        ensures { IfOk result (λ set. set ≡ replicate bound false) }
+        ensures { IfOk result (λ set. set ≡ fresh_set bound) }
     {
         let count = (bound as usize).div_ceil(64);
         let mut words = IndexWords::new(alloc, count)?;
@@ -60,6 +66,8 @@ impl<A: Allocator> Words<A> {
             hand: 0,
             top: count,
             aside: NONE,
+            count: 0,
+            most: 0,
         })
     }
 
@@ -67,9 +75,11 @@ impl<A: Allocator> Words<A> {
     /// on, where it was full, and the word that was in hand is listed.
     #[inline(always)]
     fn put_back(&mut self, number: usize)
-        requires { Has self.old number }
-        ensures { self.new ≡ slice_set self.old number false }
+        requires { Has self.old.numbers number }
+        ensures numbers { self.new.numbers ≡ slice_set self.old.numbers number false }
+        ensures most { self.new.most ≡ self.old.most }
     {
+        self.count -= 1;
         let was_full = self.words.clear(number);
         if was_full {
             if self.top > 0 {
@@ -84,7 +94,9 @@ impl<A: Allocator> Words<A> {
 impl<A: Allocator> IndexSet for Words<A> {
     ghost use Rattle.bb_memory_core.specs.IndexSets.{index_words};
 
-    ghost numbers = { λ set. set };
+    ghost numbers = { λ set. set.numbers };
+
+    ghost most = { λ set. set.most };
 
     ghost words = { index_words };
 
@@ -108,6 +120,8 @@ impl<A: Allocator> IndexSet for Words<A> {
         }
         let hand = self.hand;
         let word = self.words.word(hand, counter);
+        self.count += 1;
+        self.most = self.most.max(self.count);
         let left = word | (word + 1);
         if left == u64::MAX {
             self.top -= 1;
@@ -138,5 +152,19 @@ impl<A: Allocator> IndexSet for Words<A> {
     #[inline(always)]
     fn has_room(&self) -> bool {
         self.aside < self.bound as usize || self.top > 0 && self.words.is_open(self.hand)
+    }
+
+    #[inline(always)]
+    fn len(&self) -> u32 {
+        if self.aside < self.bound as usize {
+            self.count - 1
+        } else {
+            self.count
+        }
+    }
+
+    #[inline(always)]
+    fn greatest_len(&self) -> u32 {
+        self.most
     }
 }

@@ -1,12 +1,12 @@
 //! Pools over a set of held buckets: what the pools of this crate have in common.
 ghost use Rattle.std.specs.Prelude.{◌≡◌, ◌≢◌, ◌↔◌, ◌≤◌, ℕ, false, true, List, OnOk, Some};
-ghost use Rattle.std.specs.Prelude.{IfSome, IsSome, IsTrue, length, remove, slice_get};
+ghost use Rattle.std.specs.Prelude.{IfSome, IsSome, IsTrue, length, max, remove, slice_get};
 ghost use Rattle.bb_memory_traits.specs.Chunk.{Chunk};
 ghost use Rattle.bb_memory_traits.specs.Object.{AnswersRun, Step, ResizableStep};
 ghost use Rattle.bb_memory_traits.specs.PoolObject.{bucket_place, pool_object};
 ghost use Rattle.bb_memory_core.specs.Pool.{TellsNumber, TellsPlace};
 ghost use Rattle.bb_memory_core.specs.Pool.{held_count, FreesBucket, HoldsPlace, IsPool, StandsFor};
-ghost use Rattle.bb_memory_core.specs.IndexSets.{Has, Lacks};
+ghost use Rattle.bb_memory_core.specs.IndexSets.{Has, Lacks, member_count};
 ghost use Rattle.bb_memory_core.specs.Pool.{Takes, pool_of, reads_after, reads_of};
 
 use super::geometry::Geometry;
@@ -30,14 +30,15 @@ pub struct BucketPool<S: IndexSet> {
 
 impl<S: IndexSet> Model for BucketPool<S> {
     ghost use Rattle.std.specs.Prelude.{◌≤◌};
-    ghost use Rattle.bb_memory_core.specs.Pool.{CountedPool, IsPool, counted, pool_of};
+    ghost use Rattle.bb_memory_core.specs.Pool.{CountedPool, IsPool, counted, held_count, pool_of};
 
     ghost Value = { CountedPool };
 
-    ghost view = { λ a. counted (pool_of a.geometry (S.numbers a.held)) a.last_search };
+    ghost view = { λ a. counted (pool_of a.geometry (S.numbers a.held)) a.last_search (S.most a.held) };
 
     ghost invariant = { λ a. IsPool (pool_of a.geometry (S.numbers a.held))
-        × (a.last_search ≤ S.words a.geometry.buckets) };
+        × (a.last_search ≤ S.words a.geometry.buckets)
+        × (held_count (pool_of a.geometry (S.numbers a.held)) ≤ S.most a.held) };
 }
 
 impl<S: IndexSet> BucketPool<S> {
@@ -96,17 +97,31 @@ impl<S: IndexSet> BucketPool<S> {
         self.geometry.number_at(place)
     }
 
-    /// How many buckets are held: as many as were given and not given back. Each bucket is looked at, and no read is counted.
+    /// How many buckets are held: as many as were given and not given back. No bucket is looked at, and no read is counted.
+    #[inline]
     pub fn held_buckets(&self) -> u32
         ensures { result ≡ held_count self.now.pool }
     {
-        let mut held = 0;
-        for number in 0..self.geometry.count() {
-            if self.held.has(number as usize) {
-                held += 1;
-            }
-        }
-        held
+        self.held.len()
+    }
+
+    /// Returns the greatest number of buckets that were held at one time since the pool was made. A refused request doesn't
+    /// change it, nor does a bucket that is given back. No bucket is looked at, and no read is counted.
+    ///
+    /// ```
+    /// let chunk = pool.allocate(Layout::empty())?;
+    /// let greatest = pool.greatest_held();
+    /// pool.deallocate(chunk.place(), Layout::empty());
+    /// let still = pool.greatest_held();
+    /// prove!(still == greatest);
+    /// ```
+    #[inline]
+    pub fn greatest_held(&self) -> u32
+        ensures value { result ≡ self.now.greatest }
+        ensures at_least { held_count self.now.pool ≤ result }
+        ensures at_most { result ≤ self.now.pool.geometry.buckets }
+    {
+        self.held.greatest_len()
     }
 
     /// Tests that a bucket is free, so that a request that is no greater than a bucket, in size and alignment, is accepted.
@@ -157,7 +172,7 @@ impl<S: IndexSet> BucketPool<S> {
     pub fn deallocate_if_held(&mut self, place: usize) -> bool
         ensures held { IsTrue result ↔ HoldsPlace self.old.pool place }
         ensures freed { result ≡ true
-            → FreesBucket self.old.pool place self.new.pool }
+            → FreesBucket self.old place self.new }
         ensures released { (live : List Chunk) (position : ℕ) (chunk : Chunk)
             → StandsFor self.old.pool live → slice_get live position ≡ Some chunk
             → chunk.place ≡ place → StandsFor self.new.pool (remove live position) }
@@ -167,6 +182,7 @@ impl<S: IndexSet> BucketPool<S> {
         ensures unchanged { result ≡ false → self.new ≡ self.old }
         ensures geometry { self.new.pool.geometry ≡ self.old.pool.geometry }
         ensures reads { self.new.reads ≡ self.old.reads }
+        ensures greatest { self.new.greatest ≡ self.old.greatest }
     {
         let Some(number) = self.held_number(place) else {
             return false;
@@ -201,10 +217,13 @@ fn take<S: IndexSet>(
 ) -> Result<Chunk, AllocationError>
     requires as_many { length (S.numbers held.old) ≡ geometry.now.buckets }
     requires uncounted { counter.old ≡ 0 }
+    requires at_least { member_count (S.numbers held.old) ≤ S.most held.old }
     ensures taken { Takes (pool_of geometry.now (S.numbers held.old)) layout result
         (pool_of geometry.now (S.numbers held.new)) }
     ensures reads { counter.new
         ≡ reads_of geometry.now.bucket (S.words geometry.now.buckets) layout }
+    ensures greatest { S.most held.new
+        ≡ max (S.most held.old) (member_count (S.numbers held.new)) }
 {
     if layout.size() > geometry.bucket().size() {
         return Err(AllocationError::SizeTooLarge);
@@ -249,7 +268,7 @@ impl<S: IndexSet> BaseAllocator for BucketPool<S> {
     ghost takes = { λ old layout answer new.
         TakesBucket old layout answer new (S.words old.pool.geometry.buckets) };
 
-    ghost frees = { λ old place _ new. FreesBucket old.pool place new.pool };
+    ghost frees = { λ old place _ new. FreesBucket old place new };
 
     /// A chunk of `layout.size()` bytes in a bucket that isn't held; which one is left open. It is refused in this order: with
     /// `SizeTooLarge` where the size is greater than the bucket's, with `AlignmentFailure` where the alignment is greater than

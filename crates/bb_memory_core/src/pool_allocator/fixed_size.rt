@@ -40,7 +40,7 @@ impl<const MAX_NUMBER_OF_BUCKETS: usize> FixedSizePoolAllocator<MAX_NUMBER_OF_BU
         requires cut { MayBeCut (region_at start size) bucket_layout }
         requires most { MAX_NUMBER_OF_BUCKETS < 2 ^ 32 - 1 }
         ensures value { (whole : PoolGeometry) × IsCut (region_at start size) bucket_layout whole
-            × (result ≡ counted (fresh_pool (at_most MAX_NUMBER_OF_BUCKETS whole)) 0) }
+            × (result ≡ counted (fresh_pool (at_most MAX_NUMBER_OF_BUCKETS whole)) 0 0) }
         ensures empty { StandsFor result.pool [] }
     {
         let most = MAX_NUMBER_OF_BUCKETS as u32;

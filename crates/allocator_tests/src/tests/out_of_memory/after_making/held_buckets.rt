@@ -1,4 +1,4 @@
-//! The count of held buckets, buckets by number, and the reads of a request.
+//! The count of held buckets, the greatest one so far, buckets by number, and the reads of a request.
 use crate::tests::checks::{check, ends_unmade, layout};
 use crate::tests::marks::{none_was_asked, refuse_memory};
 use crate::tests::owner::kinds::{fixed_over, pool_over};
@@ -16,6 +16,9 @@ type Told = (u32, bool, Option<usize>, Option<u32>, bool);
 trait Buckets: BaseAllocator + Drop {
     fn told(&self, number: u32, place: usize) -> Told;
 
+    /// The answer of `greatest_held`.
+    fn greatest(&self) -> u32;
+
     /// Calls `deallocate_if_held`.
     fn give(&mut self, place: usize) -> bool;
 }
@@ -25,6 +28,10 @@ impl Buckets for PoolAllocator<Global> {
         let (held, room) = (self.held_buckets(), self.has_room());
         let (at, number) = (self.place_at(number), self.number_at(place));
         (held, room, at, number, self.holds(place))
+    }
+
+    fn greatest(&self) -> u32 {
+        self.greatest_held()
     }
 
     fn give(&mut self, place: usize) -> bool {
@@ -37,6 +44,10 @@ impl<const N: usize> Buckets for FixedSizePoolAllocator<N> {
         let (held, room) = (self.held_buckets(), self.has_room());
         let (at, number) = (self.place_at(number), self.number_at(place));
         (held, room, at, number, self.holds(place))
+    }
+
+    fn greatest(&self) -> u32 {
+        self.greatest_held()
     }
 
     fn give(&mut self, place: usize) -> bool {
@@ -129,9 +140,11 @@ fn counts(rt: &impl Abort, alloc: Global, made: Option<impl Buckets>, buckets: u
     };
     refuse_memory(alloc);
     tells(rt, &pool, buckets, 0);
+    check(rt, pool.greatest() == 0);
     all_are_taken(rt, &mut pool, &mut taken, buckets);
+    check(rt, pool.greatest() == buckets);
     all_go_back(rt, &mut pool, buckets);
-    check(rt, none_was_asked(alloc));
+    check(rt, pool.greatest() == buckets && none_was_asked(alloc));
 }
 
 /// More buckets than a word has bits; one; and none.
@@ -153,6 +166,73 @@ fn fixed_counts_what_it_holds(rt: HostRuntime) {
         let pool = fixed_over::<66>(sixteen, 4096, 16 * *region);
         counts(&rt, rt.alloc(), pool, *buckets);
     }
+}
+
+/// Takes so many buckets of 16 bytes, and adds their places to the list.
+fn takes_some(rt: &impl Abort, pool: &mut impl Buckets, places: &mut Vec<usize>, many: usize) {
+    for _ in 0..many {
+        let Ok(chunk) = pool.allocate(layout(rt, 16, 8)) else {
+            panic!(rt; "no bucket is free");
+        };
+        check(rt, places.push(chunk.place()).is_ok());
+    }
+}
+
+/// Gives the last so many buckets of the list back.
+fn gives_some(rt: &impl Abort, pool: &mut impl Buckets, places: &mut Vec<usize>, many: usize) {
+    for _ in 0..many {
+        let Some(place) = places.pop() else {
+            panic!(rt; "no bucket is held");
+        };
+        check(rt, pool.give(place));
+    }
+}
+
+/// Checks how many buckets are held, and the greatest number of them so far.
+fn has_held(rt: &impl Abort, pool: &impl Buckets, held: u32, greatest: u32) {
+    check(rt, pool.told(0, 0).0 == held && pool.greatest() == greatest);
+}
+
+/// Takes and gives back buckets of a pool that has five. Neither a return nor a refusal changes the greatest number.
+fn keeps_the_greatest(rt: &impl Abort, alloc: Global, made: Option<impl Buckets>) {
+    let Some(mut pool) = made else {
+        return ends_unmade(rt, alloc);
+    };
+    let Ok(mut places) = Vec::with_capacity(alloc, 5) else {
+        return ends_unmade(rt, alloc);
+    };
+    refuse_memory(alloc);
+    has_held(rt, &pool, 0, 0);
+    takes_some(rt, &mut pool, &mut places, 3);
+    has_held(rt, &pool, 3, 3);
+    gives_some(rt, &mut pool, &mut places, 2);
+    has_held(rt, &pool, 1, 3);
+    takes_some(rt, &mut pool, &mut places, 1);
+    has_held(rt, &pool, 2, 3);
+    check(rt, pool.allocate(layout(rt, 17, 8)).is_err());
+    has_held(rt, &pool, 2, 3);
+    gives_some(rt, &mut pool, &mut places, 2);
+    has_held(rt, &pool, 0, 3);
+    takes_some(rt, &mut pool, &mut places, 4);
+    has_held(rt, &pool, 4, 4);
+    takes_some(rt, &mut pool, &mut places, 1);
+    has_held(rt, &pool, 5, 5);
+    check(rt, pool.allocate(layout(rt, 16, 8)).is_err());
+    gives_some(rt, &mut pool, &mut places, 5);
+    has_held(rt, &pool, 0, 5);
+    check(rt, none_was_asked(alloc));
+}
+
+#[test]
+fn pool_keeps_the_greatest(rt: HostRuntime) {
+    let alloc = rt.alloc();
+    keeps_the_greatest(&rt, alloc, pool_over(alloc, layout(&rt, 16, 8), 4096, 80));
+}
+
+#[test]
+fn fixed_keeps_the_greatest(rt: HostRuntime) {
+    let pool = fixed_over::<66>(layout(&rt, 16, 8), 4096, 80);
+    keeps_the_greatest(&rt, rt.alloc(), pool);
 }
 
 /// Asks for a byte, which reads one index word. It is given at `place`, or refused where this is `None`.

@@ -24,6 +24,7 @@ returns-then-size g c =
     record {
       taken = (large, refl);
       reads = c.requires.uncounted ∙ sym (none_of_large bucket _ c.args.layout large);
+      greatest = omega (arith, c.requires.at_least);
     }
 
 pub returns-then-align : goal.returns-then-align
@@ -38,6 +39,7 @@ returns-then-align g c =
       reads = c.requires.uncounted ∙ sym (of_small bucket _ c.args.layout small
           ∙ ap (λ b. cond b (min (g.S.IndexSet.words c.args.geometry.now.buckets) 1) 0)
           (lt-leb c.args.layout.align bucket.align large));
+      greatest = omega (arith, c.requires.at_least);
     }
 
 -- a request within a bucket reads as a set of so many numbers does
@@ -63,6 +65,7 @@ returns-in_default g c =
       );
       reads = c.in_default.ensures.counted
           ∙ within_reads g.S.IndexSet.words _ geometry c.args.layout within c.requires.as_many;
+      greatest = c.in_default.ensures.most;
     }
 
 pub chunk-requires : goal.chunk-requires
@@ -91,4 +94,5 @@ returns g c =
       );
       reads = c.in-Some.ensures.counted
           ∙ within_reads g.S.IndexSet.words _ geometry c.args.layout within c.requires.as_many;
+      greatest = c.in-Some.ensures.most;
     }

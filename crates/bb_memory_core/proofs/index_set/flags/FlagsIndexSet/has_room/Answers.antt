@@ -7,7 +7,7 @@ use Rattle.bb_memory_core.proofs.index_set.flags.FlagsIndexSet.has_room.Goals as
 pub returns : goal.returns
 returns g c =
     let inside = c.self.inside in
-    let is = c.self.invariant.listed in
+    let is = c.self.invariant.0.listed in
     let last : ℕ = get_or inside.free (inside.left - 1) 0 in (
       λ has.
           let some : 0 < inside.left = ltb-true 0 inside.left has in (
@@ -17,7 +17,7 @@ returns g c =
           ),
       λ free. elim (cases_lt 0 inside.left) [
         | inl some ↦ lt-ltb 0 inside.left some
-        | inr none ↦ absurd (full_lacks_none c.args.self.now free.0
+        | inr none ↦ absurd (full_lacks_none c.args.self.now.numbers free.0
             (rw (← c.self.view_is) (all_held inside.bound inside.free inside.left (omega (arith, none)))) free.1)
       ],
     )

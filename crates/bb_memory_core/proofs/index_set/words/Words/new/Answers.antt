@@ -1,8 +1,9 @@
-use Rattle.std.proofs.Common.{◌≡◌, ◌∙◌, ℕ, List, ap, refl, arith, set, ◌-◌, ◌<◌, length, length-set}
-use Rattle.bb_memory_core.specs.IndexSets.{index_words, Slots, numbers_of}
+use Rattle.std.proofs.Common.{◌≡◌, ◌∙◌, ℕ, Bool, List, ap, refl, arith, set, ◌-◌, ◌<◌, length, length-set}
+use Rattle.bb_memory_core.specs.IndexSets.{index_words, Slots, number_set, numbers_of}
 use Rattle.bb_memory_core.proofs.AsideNumbers.{less_none}
 use Rattle.bb_memory_core.proofs.NumberWords.{fresh_whole, fresh_part, last_word, zeros}
 use Rattle.bb_memory_core.proofs.OpenWords.{fresh_set, named_more}
+use Rattle.bb_memory_core.proofs.Tallies.{tally-fresh}
 use Rattle.bb_memory_core.proofs.index_set.words.Words.new.Goals as goal
 use Rattle.bb_memory_core.proofs.index_set.words.Words.new.Goals.{then-used-ne0, else-used-ne0}
 
@@ -38,6 +39,7 @@ invariant_of-result g c =
             fresh_set bound count c.if-used-ne0.words.words _ c.loop-k.words.listed words is made.0 made.1 inv.room
                 (λ j h. inv.named j (omega (arith, h))),
             λ some. absurd (some refl),
+            rw (words, made.2) (tally-fresh bound),
           )
       | else-used-ne0 w ↦
           let words : c.if-used-ne0.words.words ≡ zeros count = ap (λ (s : Slots). s.words) w.words-is ∙ inv.words in
@@ -47,6 +49,7 @@ invariant_of-result g c =
             fresh_set bound count c.if-used-ne0.words.words _ c.loop-k.words.listed words is made.0 made.1 inv.room
                 (λ j h. inv.named j (omega (arith, h))),
             λ some. absurd (some refl),
+            rw (words, made.2) (tally-fresh bound),
           )
     ]
 
@@ -61,10 +64,10 @@ returns g c =
           let words : c.if-used-ne0.words.words ≡ set (zeros count) (count - 1) (last_word bound) =
           ap (λ (s : Slots). s.words) w.words-is ∙ w.put.ensures.words
           ∙ ap (λ (ws : List ℕ). set ws (count - 1) (last_word bound)) inv.words in
-          less_none bound c.if-used-ne0.words.words _ (omega arith) ∙ ap (numbers_of bound) words
-          ∙ (fresh_part bound count is (omega arith)).2
+          ap (λ (l : List Bool). number_set l 0) (less_none bound c.if-used-ne0.words.words _ (omega arith)
+          ∙ ap (numbers_of bound) words ∙ (fresh_part bound count is (omega arith)).2)
       | else-used-ne0 w ↦
           let words : c.if-used-ne0.words.words ≡ zeros count = ap (λ (s : Slots). s.words) w.words-is ∙ inv.words in
-          less_none bound c.if-used-ne0.words.words _ (omega arith) ∙ ap (numbers_of bound) words
-          ∙ (fresh_whole bound count is (omega arith)).2
+          ap (λ (l : List Bool). number_set l 0) (less_none bound c.if-used-ne0.words.words _ (omega arith)
+          ∙ ap (numbers_of bound) words ∙ (fresh_whole bound count is (omega arith)).2)
     ]

@@ -3,8 +3,15 @@ use Rattle.bb_memory_core.proofs.AsideNumbers.{others_have, put_back}
 use Rattle.bb_memory_core.proofs.NumberWords.{has_word}
 use Rattle.bb_memory_core.proofs.OpenWords.{set_opened, set_still, named_hand}
 use Rattle.bb_memory_core.proofs.Listings.{room_left}
+use Rattle.bb_memory_core.proofs.Tallies.{tally-some}
 use Rattle.bb_memory_core.proofs.index_set.words.Words.put_back.Goals as goal
 use Rattle.bb_memory_core.proofs.index_set.words.Words.put_back.Goals.{then-self-gt0, else-self-gt0}
+
+pub overflow_sub-self : goal.overflow_sub-self
+overflow_sub-self g c =
+    let inside = c.self.inside in
+    let has = (others_have _ inside.aside c.args.number (rw (← c.self.view_is) at c.requires)).1 in
+    tally-some _ inside.count inside.most c.args.number c.self.invariant.2 has
 
 pub clear-was_full-requires : goal.clear-was_full-requires
 clear-was_full-requires g c =
@@ -50,6 +57,7 @@ invariant_of-self g c =
                 (λ k h. ap (λ (l : List ℕ). get_or l k 0) named
                 ∙ named_hand listed inside.hand inside.top k h (omega (arith, fits, room))),
             left.still_aside,
+            left.tally inside.count inside.most c.self.invariant.2,
           )
       | else-self-gt0 w ↦
           rw w.self-inside-is (
@@ -57,6 +65,7 @@ invariant_of-self g c =
                 inside.top at is left.are told.others within full told.not_full (ap length told.listed)
                 (λ k h. absurd (omega (arith, h, w.if-self-gt0.false))),
             left.still_aside,
+            left.tally inside.count inside.most c.self.invariant.2,
           )
     ]
 
@@ -74,10 +83,11 @@ invariant_of-self-else-was_full g c =
           inside.hand inside.top (c.args.number / 64) is left.are told.others within
           (told.was_open c.if-was_full.false) told.not_full told.listed,
       left.still_aside,
+      left.tally inside.count inside.most c.self.invariant.2,
     )
 
-pub returns-after-self-gt0 : goal.returns-after-self-gt0
-returns-after-self-gt0 g c =
+pub returns-after-self-gt0-clause-numbers : goal.returns-after-self-gt0-clause-numbers
+returns-after-self-gt0-clause-numbers g c =
     let inside = c.self.inside in
     let in_set = rw (← c.self.view_is) at c.requires in
     let left = put_back inside.bound inside.words.words _ inside.aside c.args.number c.self.invariant.0.are c.self.invariant.1
@@ -87,8 +97,8 @@ returns-after-self-gt0 g c =
       | else-self-gt0 w ↦ rw (← c.self.view_is, w.self-inside-is) left.less
     ]
 
-pub returns-else-was_full : goal.returns-else-was_full
-returns-else-was_full g c =
+pub returns-else-was_full-clause-numbers : goal.returns-else-was_full-clause-numbers
+returns-else-was_full-clause-numbers g c =
     let inside = c.self.inside in
     let in_set = rw (← c.self.view_is) at c.requires in
     let left = put_back inside.bound inside.words.words _ inside.aside c.args.number c.self.invariant.0.are c.self.invariant.1

@@ -1,6 +1,6 @@
-use Rattle.std.proofs.Common.{◌/◌, ◌<◌, arith, inl, inr, length, sym, ◌∙◌}
+use Rattle.std.proofs.Common.{◌/◌, ◌<◌, ap, arith, inl, inr, length, sym, ◌∙◌}
 use Rattle.std.proofs.lemmas.Bool.{cases_Bool, lt-ltb, ltb-true}
-use Rattle.bb_memory_core.specs.IndexSets.{numbers_of}
+use Rattle.bb_memory_core.specs.IndexSets.{NumberSet, numbers_of}
 use Rattle.bb_memory_core.proofs.AsideNumbers.{aside_lacks, less_none}
 use Rattle.bb_memory_core.proofs.NumberSets.{full_lacks_none}
 use Rattle.bb_memory_core.proofs.NumberWords.{lacks}
@@ -19,7 +19,8 @@ pub returns-then-self-gt0 : goal.returns-then-self-gt0
 returns-then-self-gt0 g c =
     let inside = c.self.inside in
     let words = inside.words.words in
-    let view = sym (less_none inside.bound inside.words.words inside.aside (omega (arith, c.if-self.false))) ∙ c.self.view_is in
+    let view = sym (less_none inside.bound inside.words.words inside.aside (omega (arith, c.if-self.false)))
+    ∙ ap (λ (s : NumberSet). s.numbers) c.self.view_is in
     let is = c.self.invariant.0 in
     let hand = hand_open words inside.words.listed inside.hand inside.top is.listing c.if-self-gt0.true in (
       λ told.
@@ -35,8 +36,9 @@ returns-then-self-gt0 g c =
 pub returns-else-self-gt0 : goal.returns-else-self-gt0
 returns-else-self-gt0 g c =
     let inside = c.self.inside in
-    let view = sym (less_none inside.bound inside.words.words inside.aside (omega (arith, c.if-self.false))) ∙ c.self.view_is in (
+    let view = sym (less_none inside.bound inside.words.words inside.aside (omega (arith, c.if-self.false)))
+    ∙ ap (λ (s : NumberSet). s.numbers) c.self.view_is in (
       λ told. absurd (omega (arith, ltb-true 0 inside.top told, c.if-self-gt0.false)),
-      λ free. absurd (full_lacks_none c.args.self.now free.0 (rw (← view) (none_open inside.bound inside.words.words _ inside.hand
-          inside.top c.self.invariant.0 (omega (arith, c.if-self-gt0.false)))) free.1),
+      λ free. absurd (full_lacks_none c.args.self.now.numbers free.0 (rw (← view) (none_open inside.bound inside.words.words _
+          inside.hand inside.top c.self.invariant.0 (omega (arith, c.if-self-gt0.false)))) free.1),
     )

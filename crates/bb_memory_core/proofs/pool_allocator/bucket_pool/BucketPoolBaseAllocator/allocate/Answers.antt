@@ -26,5 +26,5 @@ returns-clause-aligned g c = Takes-aligned _ c.args.layout c.take-answer.result 
 pub returns-clause-value : goal.returns-clause-value
 returns-clause-value g c =
     rw (← c.self.view_is)
-    (TakesBucket-is _ c.args.layout c.take-answer.result _ _ c.self.invariant.0 c.self.invariant.1
-    c.take-answer.ensures.taken c.take-answer.ensures.reads)
+    (TakesBucket-is _ c.args.layout c.take-answer.result _ _ c.self.invariant.0 c.self.invariant.1 c.self.invariant.2
+    c.take-answer.ensures.taken c.take-answer.ensures.reads c.take-answer.ensures.greatest)

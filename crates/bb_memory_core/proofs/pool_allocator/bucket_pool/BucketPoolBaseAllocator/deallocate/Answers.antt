@@ -1,6 +1,8 @@
-use Rattle.std.proofs.Common.{arith}
+use Rattle.std.proofs.Common.{arith, false}
 use Rattle.bb_memory_core.specs.Pool.{bucket_held_at}
 use Rattle.bb_memory_core.proofs.PoolCalls.{FreesBucket-is, number-held, released-stands}
+use Rattle.bb_memory_core.proofs.Pools.{IsPool-with_flag}
+use Rattle.bb_memory_core.proofs.Tallies.{member_count-released}
 use Rattle.bb_memory_core.proofs.pool_allocator.bucket_pool.BucketPoolBaseAllocator.deallocate.Goals as goal
 
 pub overflow_sub-place : goal.overflow_sub-place
@@ -14,12 +16,23 @@ release-requires g c =
     let holds = rw (← c.self.view_is) at c.requires in
     (number-held _ c.args.place c.first.result c.strides-number.result holds c.first.ensures told.value told.some).0
 
+pub invariant_of-self : goal.invariant_of-self
+invariant_of-self g c =
+    let told = c.strides-number.ensures in
+    let holds = rw (← c.self.view_is) at c.requires in
+    let held = number-held _ c.args.place c.first.result c.strides-number.result holds c.first.ensures told.value told.some in
+    rw (c.release.ensures.released, c.release.ensures.most) (
+      IsPool-with_flag _ c.self.invariant.0 c.strides-number.result false,
+      c.self.invariant.1,
+      omega (arith, c.self.invariant.2, member_count-released _ c.strides-number.result held.0),
+    )
+
 pub returns-clause-released : goal.returns-clause-released
 returns-clause-released g c =
     let told = c.strides-number.ensures in
     let holds = rw (← c.self.view_is) at c.requires in
     let held = number-held _ c.args.place c.first.result c.strides-number.result holds c.first.ensures told.value told.some in
-    rw (← c.self.view_is, c.release.ensures)
+    rw (← c.self.view_is, c.release.ensures.released)
     (released-stands _ c.args.place c.strides-number.result c.self.invariant.0 held.0 held.1)
 
 pub returns-clause-value : goal.returns-clause-value
@@ -27,5 +40,5 @@ returns-clause-value g c =
     let told = c.strides-number.ensures in
     let holds = rw (← c.self.view_is) at c.requires in
     let held = number-held _ c.args.place c.first.result c.strides-number.result holds c.first.ensures told.value told.some in
-    rw (← c.self.view_is, c.release.ensures)
-    (FreesBucket-is _ c.args.place c.strides-number.result c.self.invariant.0 held.0 held.1)
+    rw (← c.self.view_is, c.release.ensures.released, c.release.ensures.most)
+    (FreesBucket-is _ c.args.place c.strides-number.result c.self.invariant.0 held.0 held.1 _ _)
