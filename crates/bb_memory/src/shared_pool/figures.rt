@@ -9,25 +9,38 @@ use std::sync::atomic::Ordering;
 pub struct SharedPoolFigures {
     /// How many buckets were held, cached or detached.
     pub held: u32,
+    /// How many were found held at most so far: by a reading of the flags, or by a refused request, which finds each bucket held,
+    /// one after the other and not at one moment. More may have been held between two readings.
+    pub greatest_held: u32,
     /// How many requests were refused for want of a bucket.
     pub refused: u64,
 }
 
 impl<const CAPPED: usize, const MOST: usize> SharedBucketPool<CAPPED, MOST> {
-    /// Counts a request that was refused for want of a bucket.
+    /// Counts a request that was refused for want of a bucket, each of which it found held.
     #[cold]
     #[inline(never)]
     pub(super) fn count_refusal(&self) {
+        let buckets = self.number_of_buckets() as u64;
         self.flags.refused.fetch_add(1, Ordering::Relaxed);
+        self.flags.greatest.fetch_max(buckets, Ordering::Relaxed);
     }
 
     /// Figures, for any thread and while parties call. Each flag is loaded once. A detached bucket is held, though by no party.
     /// No contract tells more of what a load finds while others step.
     pub fn figures(&self) -> SharedPoolFigures
-        ensures { result.held ≤ self.now.scene.geometry.buckets }
+        ensures held { result.held ≤ result.greatest_held }
+        ensures greatest_held { result.greatest_held ≤ self.now.scene.geometry.buckets }
     {
+        let buckets = self.number_of_buckets();
+        let held = self.flags.count_taken().min(buckets);
+        let before = self
+            .flags
+            .greatest
+            .fetch_max(held as u64, Ordering::Relaxed);
         SharedPoolFigures {
-            held: self.flags.count_taken().min(self.number_of_buckets()),
+            held,
+            greatest_held: held.max(before.min(buckets as u64) as u32),
             refused: self.flags.refused.load(Ordering::Relaxed),
         }
     }

@@ -45,8 +45,9 @@ fn word_of(bucket: u32) -> usize
 pub(super) struct Flags {
     table: Table<u8, View, Scene, Agreement, Global>,
     pub(super) scene: Scene,
-    /// How many requests were refused, of which contracts say nothing.
+    /// How many requests were refused, and the greatest number of buckets that were found held. Contracts say nothing of them.
     pub(super) refused: AtomicU64,
+    pub(super) greatest: AtomicU64,
 }
 
 impl Model for Flags {
@@ -79,6 +80,7 @@ impl Flags {
             table,
             scene,
             refused: AtomicU64::new(0),
+            greatest: AtomicU64::new(0),
         };
         Ok((flags, seat))
     }

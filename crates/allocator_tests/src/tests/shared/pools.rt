@@ -120,13 +120,20 @@ impl Pool {
         ]
     }
 
-    /// Returns how many buckets are held, and how many requests were refused for want of one.
+    /// Returns how many buckets are held, how many were found held at most, and how many requests were refused for want of one.
     pub(crate) fn counts(&self) -> [usize; 6] {
         let figures = match &self.form {
             Form::Whole(pool) => pool.figures(),
             Form::Four(pool) => pool.figures(),
         };
-        [figures.held as usize, figures.refused as usize, 0, 0, 0, 0]
+        [
+            figures.held as usize,
+            figures.greatest_held as usize,
+            figures.refused as usize,
+            0,
+            0,
+            0,
+        ]
     }
 
     pub(crate) fn number_at(&self, place: usize) -> Option<u32> {

@@ -33,8 +33,8 @@ fn shared_bumps(rt: HostRuntime) {
 ///
 /// `take` makes a pass and `fit` a next-fit search; `keep` and `keep-fit` keep the token in place of the one that was. `detach`
 /// puts the kept token's bucket on a stack; `attach` takes the top, and `drop` drops it. `figures` are the first place (of a
-/// `four` 0), the buckets, the bucket size, the alignment, the size and the parties. `counts` are the held buckets and
-/// the refused requests.
+/// `four` 0), the buckets, the bucket size, the alignment, the size and the parties. `counts` are the held buckets, the
+/// greatest number of them that was found, and the refused requests.
 const POOLS: &str = "\
 shared-pool-dropped-bucket | pool 4096 256 1 | number 0 = is 0; keep 0 48 4 = bucket 0 4096 48; take 0 48 4 = bucket 1 4224 48; \
     take 0 48 4 = OutOfMemory; give 0 = given; take 0 48 4 = bucket 0 4096 48; take 0 48 4 = OutOfMemory
@@ -109,16 +109,20 @@ a meeting keeps where a search begins | pool 4096 1024 4 | fit 1 48 4 = bucket 2
 a meeting keeps where a search of at most four begins | four 4096 1024 2 | keep-fit 1 48 4 = bucket 2 4352 48; \
     detach 1 = detached 2 48; attach 0 = bucket 2 4352 48; give 0 = given; meet-all = met; fit 1 48 4 = bucket 3 4480 48; \
     fit 0 48 4 = bucket 2 4352 48; fit 1 48 4 = bucket 0 4096 48
-what any thread may count | pool 4096 1024 3 | counts = are 0 0; keep 0 48 4 = bucket 0 4096 48; \
-    keep-fit 1 48 4 = bucket 2 4352 48; counts = are 2 0; give 0 = given; counts = are 1 0; \
-    keep 0 48 4 = bucket 0 4096 48; detach 0 = detached 0 48; counts = are 2 0; attach 2 = bucket 0 4096 48; \
-    counts = are 2 0; give 2 = given; counts = are 1 0; meet-all = met; fit 1 48 4 = bucket 3 4480 48; counts = are 2 0; \
-    take 0 48 4 = bucket 0 4096 48; take 0 48 4 = bucket 1 4224 48; take 0 48 4 = bucket 4 4608 48; counts = are 5 0; \
-    take 0 129 4 = SizeTooLarge; take 0 48 4 = bucket 5 4736 48; take 0 48 4 = bucket 6 4864 48; \
-    take 0 48 4 = bucket 7 4992 48; counts = are 8 0; take 2 48 4 = OutOfMemory; fit 1 48 4 = OutOfMemory; counts = are 8 2
-what any thread may count of at most four | four 4096 1024 2 | keep-fit 1 48 4 = bucket 2 4352 48; counts = are 1 0; \
-    give 1 = given; counts = are 0 0; keep 0 48 4 = bucket 0 4096 48; counts = are 1 0; meet 0 = met; give 0 = given; \
-    keep 0 48 4 = bucket 0 4096 48; take 0 48 4 = bucket 1 4224 48; counts = are 2 0";
+what any thread may count | pool 4096 1024 3 | counts = are 0 0 0; keep 0 48 4 = bucket 0 4096 48; \
+    keep-fit 1 48 4 = bucket 2 4352 48; counts = are 2 2 0; give 0 = given; counts = are 1 2 0; \
+    keep 0 48 4 = bucket 0 4096 48; detach 0 = detached 0 48; counts = are 2 2 0; attach 2 = bucket 0 4096 48; \
+    counts = are 2 2 0; give 2 = given; counts = are 1 2 0; meet-all = met; fit 1 48 4 = bucket 3 4480 48; \
+    counts = are 2 2 0; take 0 48 4 = bucket 0 4096 48; take 0 48 4 = bucket 1 4224 48; take 0 48 4 = bucket 4 4608 48; \
+    counts = are 5 5 0; take 0 129 4 = SizeTooLarge; take 0 48 4 = bucket 5 4736 48; take 0 48 4 = bucket 6 4864 48; \
+    take 0 48 4 = bucket 7 4992 48; counts = are 8 8 0; take 2 48 4 = OutOfMemory; fit 1 48 4 = OutOfMemory; \
+    counts = are 8 8 2
+what any thread may count of at most four | four 4096 1024 2 | keep-fit 1 48 4 = bucket 2 4352 48; counts = are 1 1 0; \
+    give 1 = given; counts = are 0 1 0; keep 0 48 4 = bucket 0 4096 48; counts = are 1 1 0; meet 0 = met; give 0 = given; \
+    keep 0 48 4 = bucket 0 4096 48; take 0 48 4 = bucket 1 4224 48; counts = are 2 2 0
+a refused request found all held | pool 4096 256 2 | keep 0 48 4 = bucket 0 4096 48; take 1 48 4 = bucket 1 4224 48; \
+    take 1 129 4 = SizeTooLarge; give 0 = given; counts = are 1 1 0; keep 0 48 4 = bucket 0 4096 48; \
+    fit 1 48 4 = OutOfMemory; give 0 = given; counts = are 1 2 1";
 
 #[test]
 fn shared_pools(rt: HostRuntime) {
