@@ -69,14 +69,14 @@ extern "C" {
 #endif
 
 // The version of this library, as text and by its numbers. The last of them grows with each version, for `#if`.
-#define BB_VERSION "0.13.0"
+#define BB_VERSION "0.14.0"
 #define BB_VERSION_MAJOR 0
-#define BB_VERSION_MINOR 13
+#define BB_VERSION_MINOR 14
 #define BB_VERSION_PATCH 0
 #define BB_VERSION_NUMBER (BB_VERSION_MAJOR * 10000 + BB_VERSION_MINOR * 100 + BB_VERSION_PATCH)
 // The number in the shared library's SONAME. It grows where a function goes, or a type, a struct's fields or a code's number
 // changes. So a program runs with each library of its number from the version on with which it was linked.
-#define BB_ABI 1
+#define BB_ABI 2
 
 // A place is where a region or a chunk begins, and an address is a place that is handed in alone. The functions see their numbers
 // alone: a host whose places are numbers, such as offsets, defines BB_PLACES_ARE_NUMBERS above the header.
@@ -178,7 +178,7 @@ typedef struct bb_figure { uint32_t code; size_t number; } bb_figure;
 //     bb_bump, bb_one_chunk, bb_detached    64
 //     bb_pool                               256, and 16 for each 64 buckets
 //     bb_shared_bump                        256, and 16 for each party (as many to reset, before it frees those); 64 to join
-//     bb_shared_pool                        320, 16 a bucket, 12 a party; to join 352, 1 a bucket; to cache 128, 4 a bucket
+//     bb_shared_pool                        336, 16 a bucket, 12 a party; to join 352, 1 a bucket; to cache 128, 4 a bucket
 
 // BUMP, over the region of `size` bytes at `start`: BB_INVALID_ARGUMENT where start is 0, or start plus size exceeds SIZE_MAX.
 BB_MUST_USE uint32_t bb_bump_init(bb_bump *, bb_place start, size_t size);
@@ -241,8 +241,8 @@ uint32_t bb_pool_deallocate(bb_pool *, bb_address place);
 // 1 where this is the place of a held bucket, else 0.
 bb_figure bb_pool_holds(bb_pool *, bb_address place);
 // The start is that of bucket 0: the region's start rounded up to the bucket's alignment. The size is the region's as it was
-// passed. Each bucket is looked at, so this takes longer the more buckets there are.
-struct bb_pool_info { size_t start_address, size, bucket_size, max_alignment, number_of_buckets, held_buckets; };
+// passed. `greatest_held` is the greatest number of buckets that were held at one time so far.
+struct bb_pool_info { size_t start_address, size, bucket_size, max_alignment, number_of_buckets, held_buckets, greatest_held; };
 uint32_t bb_pool_info(bb_pool *, struct bb_pool_info *);
 // Where the bucket of this number begins, from 0 on; and the number of the bucket that begins at this place, held or not.
 // BB_NOT_A_BUCKET where there is none. A second process that maps the region has no pool of its own over it: it reads bucket
@@ -291,7 +291,7 @@ BB_MUST_USE uint32_t bb_shared_pool_init(bb_shared_pool *, size_t bucket_size, s
                                          uint32_t parties);
 uint32_t bb_shared_pool_destroy(bb_shared_pool *);
 // For any thread, while parties call: each bucket is looked at, at a moment of its own. A cached or a detached one is held, too.
-// `refused` counts the requests that were answered BB_OUT_OF_MEMORY.
+// `greatest_held` is the greatest number that `info` found, or all where a request was refused. `refused` counts these requests.
 struct bb_shared_pool_info { struct bb_pool_info pool; size_t refused; };
 uint32_t bb_shared_pool_info(const bb_shared_pool *, struct bb_shared_pool_info *);
 // As of the shared bump. `leave` also gives back what the party holds or caches, so the host uses no chunk in it any more.
@@ -302,7 +302,7 @@ uint32_t bb_pool_party_destroy(bb_pool_party *);
 // since it took its last one, or else behind that one; at first in a part of the pool that is its own. BB_OUT_OF_MEMORY where
 // each bucket was held when the search came to it, not at one moment.
 BB_MUST_USE bb_answer bb_pool_party_allocate(bb_pool_party *, size_t size, size_t align);
-// As of a pool, where only the buckets count as held that this party holds, and doesn't cache.
+// As of a pool, of the buckets that this party holds and doesn't cache. `greatest_held` is the greatest number that `info` found.
 uint32_t bb_pool_party_deallocate(bb_pool_party *, bb_address place);
 bb_figure bb_pool_party_holds(bb_pool_party *, bb_address place);
 uint32_t bb_pool_party_info(bb_pool_party *, struct bb_pool_info *);

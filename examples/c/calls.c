@@ -172,13 +172,14 @@ static void run_pool(void) {
         bb_answer answer = bb_pool_allocate(&pool, 48, 4);
         EXPECT(answer.code == BB_OK && (answer.place - 4104) % 128 == 0);
         places[at] = answer.place;
-        EXPECT(same(of_pool(&pool).held_buckets, at + 1));
+        EXPECT(same(of_pool(&pool).held_buckets, at + 1) && same(of_pool(&pool).greatest_held, at + 1));
     }
     EXPECT(refused(bb_pool_allocate(&pool, 0, 1), BB_OUT_OF_MEMORY));
     size_t place = places[3];
     EXPECT(is(bb_pool_holds(&pool, place), 1) && is(bb_pool_holds(&pool, place + 1), 0));
     EXPECT(bb_pool_deallocate(&pool, place + 1) == BB_NOT_HELD && bb_pool_deallocate(&pool, place) == BB_OK);
     EXPECT(bb_pool_deallocate(&pool, place) == BB_NOT_HELD && same(of_pool(&pool).held_buckets, 6));
+    EXPECT(same(of_pool(&pool).greatest_held, 7));
     EXPECT(given(bb_pool_allocate(&pool, 48, 4), place));
     EXPECT(requests == 0);
     EXPECT(bb_pool_destroy(&pool) == BB_OK && bb_pool_destroy(&pool) == BB_UNINITIALIZED);
@@ -297,7 +298,7 @@ static void run_memory(void) {
             WITHIN(256 + 16 * ((buckets + 63) / 64), bb_pool_init(&pool, 8, 8, 4096, 8 * buckets));
             WITHIN(256 + 16 * parties, bb_shared_bump_init(&shared_bump, 4096, 8 * buckets, parties));
             WITHIN(64, bb_shared_bump_join(&shared_bump, &bump_party));
-            WITHIN(320 + 16 * buckets + 12 * parties, bb_shared_pool_init(&shared_pool, 8, 8, 4096, 8 * buckets, parties));
+            WITHIN(336 + 16 * buckets + 12 * parties, bb_shared_pool_init(&shared_pool, 8, 8, 4096, 8 * buckets, parties));
             WITHIN(352 + buckets, bb_shared_pool_join(&shared_pool, &pool_party));
             WITHIN(128 + 4 * parties, bb_pool_party_cache(&pool_party, parties));
             EXPECT(bb_pool_destroy(&pool) == BB_OK);
@@ -306,13 +307,14 @@ static void run_memory(void) {
         }
 }
 
-// What any thread is told of a shared pool: how many buckets are held, and how many requests were refused.
-static int counts(const bb_shared_pool *pool, size_t held, size_t refusals) {
+// What any thread is told of a shared pool: how many buckets are held, how many at most were found, and how many requests were
+// refused.
+static int counts(const bb_shared_pool *pool, size_t held, size_t most, size_t refusals) {
     struct bb_shared_pool_info info;
     EXPECT(bb_shared_pool_info(pool, &info) == BB_OK);
     EXPECT(info.pool.start_address == 4104 && info.pool.size == 1100 && info.pool.bucket_size == 128);
     EXPECT(info.pool.max_alignment == 8 && info.pool.number_of_buckets == 8);
-    return info.pool.held_buckets == held && info.refused == refusals;
+    return info.pool.held_buckets == held && info.pool.greatest_held == most && info.refused == refusals;
 }
 
 static void run_counts(void) {
@@ -322,23 +324,24 @@ static void run_counts(void) {
     memset(&info, 0xa5, sizeof info);
     before = info;
     EXPECT(bb_shared_pool_info(&pool, &info) == BB_UNINITIALIZED && memcmp(&info, &before, sizeof info) == 0);
-    EXPECT(bb_shared_pool_init(&pool, 128, 8, 4097, 1100, 2) == BB_OK && counts(&pool, 0, 0));
+    EXPECT(bb_shared_pool_init(&pool, 128, 8, 4097, 1100, 2) == BB_OK && counts(&pool, 0, 0, 0));
     EXPECT(bb_shared_pool_join(&pool, &one) == BB_OK && bb_pool_party_cache(&one, 1) == BB_OK);
-    EXPECT(bb_shared_pool_join(&pool, &other) == BB_OK && counts(&pool, 0, 0));
+    EXPECT(bb_shared_pool_join(&pool, &other) == BB_OK && counts(&pool, 0, 0, 0));
     bb_answer first = bb_pool_party_allocate(&one, 48, 8), second = bb_pool_party_allocate(&one, 48, 8);
     EXPECT(first.code == BB_OK && second.code == BB_OK && bb_pool_party_allocate(&other, 48, 8).code == BB_OK);
-    EXPECT(counts(&pool, 3, 0));
-    EXPECT(bb_pool_party_deallocate(&one, first.place) == BB_OK && counts(&pool, 3, 0));
-    EXPECT(bb_pool_party_deallocate(&one, second.place) == BB_OK && counts(&pool, 2, 0));
+    EXPECT(counts(&pool, 3, 3, 0) && same(of_pool_party(&one).greatest_held, 2));
+    EXPECT(bb_pool_party_deallocate(&one, first.place) == BB_OK && counts(&pool, 3, 3, 0));
+    EXPECT(bb_pool_party_deallocate(&one, second.place) == BB_OK && counts(&pool, 2, 3, 0));
     for (size_t at = 1; at < 7; at++) {
-        EXPECT(bb_pool_party_allocate(&other, 48, 8).code == BB_OK && counts(&pool, 2 + at, 0));
+        EXPECT(bb_pool_party_allocate(&other, 48, 8).code == BB_OK && counts(&pool, 2 + at, 2 + at, 0));
     }
-    EXPECT(refused(bb_pool_party_allocate(&other, 48, 8), BB_OUT_OF_MEMORY) && counts(&pool, 8, 1));
-    EXPECT(refused(bb_pool_party_allocate(&other, 129, 8), BB_SIZE_TOO_LARGE) && counts(&pool, 8, 1));
-    EXPECT(given(bb_pool_party_allocate(&one, 48, 8), first.place) && counts(&pool, 8, 1));
-    EXPECT(refused(bb_pool_party_allocate(&one, 48, 8), BB_OUT_OF_MEMORY) && counts(&pool, 8, 2));
-    EXPECT(bb_shared_pool_leave(&pool, &other) == BB_OK && counts(&pool, 1, 2));
-    EXPECT(bb_shared_pool_leave(&pool, &one) == BB_OK && counts(&pool, 0, 2));
+    EXPECT(refused(bb_pool_party_allocate(&other, 48, 8), BB_OUT_OF_MEMORY) && counts(&pool, 8, 8, 1));
+    EXPECT(refused(bb_pool_party_allocate(&other, 129, 8), BB_SIZE_TOO_LARGE) && counts(&pool, 8, 8, 1));
+    EXPECT(given(bb_pool_party_allocate(&one, 48, 8), first.place) && counts(&pool, 8, 8, 1));
+    EXPECT(refused(bb_pool_party_allocate(&one, 48, 8), BB_OUT_OF_MEMORY) && counts(&pool, 8, 8, 2));
+    EXPECT(same(of_pool_party(&one).held_buckets, 1) && same(of_pool_party(&one).greatest_held, 2));
+    EXPECT(bb_shared_pool_leave(&pool, &other) == BB_OK && counts(&pool, 1, 8, 2));
+    EXPECT(bb_shared_pool_leave(&pool, &one) == BB_OK && counts(&pool, 0, 8, 2));
     EXPECT(bb_shared_pool_destroy(&pool) == BB_OK && bb_shared_pool_info(&pool, &info) == BB_UNINITIALIZED);
 }
 

@@ -90,7 +90,7 @@ macro_rules! getters {
 /// Gives buckets of one layout: a [`PoolAllocator`](crate::PoolAllocator), or a [`PoolParty`](crate::PoolParty) of a pool that
 /// threads share. A function over `&impl Pool` takes either.
 pub trait Pool: BaseAllocator {
-    /// Returns all figures. Each bucket is looked at.
+    /// Returns all figures. Of a party each bucket is looked at.
     fn info(&self) -> PoolInfo;
 
     /// Returns whether a held bucket begins here; of a party, one that it holds.
@@ -112,7 +112,7 @@ pub trait Pool: BaseAllocator {
     /// Returns the layout of a bucket.
     fn bucket(&self) -> Layout;
 
-    getters! { start_address, size, bucket_size, max_alignment, number_of_buckets, held_buckets }
+    getters! { start_address, size, bucket_size, max_alignment, number_of_buckets, held_buckets, greatest_held }
 }
 
 /// Writes how an allocator is made over a region. In brackets stand the parameters in front of the region and behind it.

@@ -69,6 +69,8 @@ pub struct PoolInfo {
     pub number_of_buckets: usize,
     /// The number of buckets that are held; of a party, that it holds.
     pub held_buckets: usize,
+    /// The greatest number of them at one time; of what threads share, the greatest that was found.
+    pub greatest_held: usize,
 }
 
 /// The figures of a pool that threads share, each of which was read at a moment of its own.

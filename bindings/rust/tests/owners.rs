@@ -135,7 +135,7 @@ fn a_pool_gives_buckets() {
         pool.deallocate(held[3], layout(0, 1));
         pool.deallocate(held[3], layout(0, 1));
     }
-    assert_eq!(pool.held_buckets(), 7);
+    assert_eq!((pool.held_buckets(), pool.greatest_held()), (7, 8));
     assert!(is_zero(pool.allocate_zeroed(layout(128, 8)).unwrap()));
 }
 
@@ -188,7 +188,9 @@ fn what_is_made_shows_its_figures() {
     assert!(pool.allocate(layout(1, 1)).is_ok());
     let shown = format!("{pool:?}");
     assert!(
-        shown.ends_with("max_alignment: 16, number_of_buckets: 3, held_buckets: 1 })"),
+        shown.ends_with(
+            "max_alignment: 16, number_of_buckets: 3, held_buckets: 1, greatest_held: 1 })"
+        ),
         "{shown}"
     );
 }

@@ -113,16 +113,17 @@ fn any_thread_is_told_what_is_held() {
     let told = |pool: &SharedPoolAllocator<'_>| {
         let info = pool.info();
         assert_eq!(info.pool.number_of_buckets, 3);
-        (info.pool.held_buckets, info.refused)
+        (info.pool.held_buckets, info.pool.greatest_held, info.refused)
     };
-    assert_eq!(told(&pool), (0, 0));
+    assert_eq!(told(&pool), (0, 0, 0));
     let party = pool.join().unwrap();
     assert!((0..3).all(|_| party.allocate(bucket()).is_ok()));
     refuses(party.allocate(bucket()), AllocationError::OutOfMemory);
     let elsewhere = pool.clone();
-    assert_eq!(thread::spawn(move || told(&elsewhere)).join().unwrap(), (3, 1));
+    assert_eq!(thread::spawn(move || told(&elsewhere)).join().unwrap(), (3, 3, 1));
+    assert_eq!(party.greatest_held(), 3);
     drop(party);
-    assert_eq!(told(&pool), (0, 1));
+    assert_eq!(told(&pool), (0, 3, 1));
     assert!(format!("{pool:?}").contains("refused: 1"));
 }
 

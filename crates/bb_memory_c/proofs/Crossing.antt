@@ -11,9 +11,8 @@ use denote.Builtin.{RawPtr, bool}
 use denote.Param.Send.{AllSend, part_keyless, sendable}
 pub use denote.Param.Send.{IsSend, owning_send}
 use Rattle.std.specs.Prelude.{Option, Some, None}
-use Rattle.std.specs.declared.alloc.Global.{Global}
 use Rattle.std.proofs.Crossing.{frees}
-use Rattle.bb_memory_c.specs.Handles.{owns_if}
+use Rattle.bb_memory_c.specs.Handles.{heap, owns_if}
 
 -- the two fields of a handle may
 pub two_send : AllSend (RawPtr ∷ bool ∷ [])
@@ -23,9 +22,9 @@ lies : (R : RattleType) → IsSend R → (p : Ptr) (x : R.Denot) → Keyless (li
 lies R s (block_ptr b o) x = part_keyless R s full_share x b o
 lies R s null_ptr x = tt
 
-pub owned : (R : RattleType) → IsSend R → (heap : Global) (made : Bool) (at : Ptr) (value : Option R.Denot) → Keyless
-    (owns_if R heap made at value)
-owned R s heap true at (Some x) = (lies R s at x, frees.frees heap (raw (lone R.mir)) at)
-owned R s heap true at None = tt
-owned R s heap false at (Some x) = tt
-owned R s heap false at None = tt
+pub owned : (R : RattleType) → IsSend R → (made : Bool) (at : Ptr) (value : Option R.Denot) → Keyless
+    (owns_if R made at value)
+owned R s true at (Some x) = (lies R s at x, frees.frees heap (raw (lone R.mir)) at)
+owned R s true at None = tt
+owned R s false at (Some x) = tt
+owned R s false at None = tt

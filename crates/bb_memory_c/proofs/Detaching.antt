@@ -1,17 +1,18 @@
 -- What is answered where a party detaches a bucket.
-use Rattle.std.proofs.Common.{◌≡◌, ℕ, None, arith, refl}
+use Rattle.std.proofs.Common.{◌≡◌, ◌≤◌, ℕ, None, arith, refl}
 use Rattle.bb_memory.specs.SharedPool.{TakenBucket}
 use Rattle.bb_memory.specs.SharedPoolCaching.{CachingParty}
 use Rattle.bb_memory_c.specs.Answers.{ok}
-use Rattle.bb_memory_c.specs.SharedPools.{Detached, HasDetached, HoldsAt, MayDetachBucket, TellsDetach, holding}
+use Rattle.bb_memory_c.specs.SharedPools.{Detached, HasDetached, HasOthers, HoldsAt, TellsDetach, geometry_of, holding}
 
 pub detaches : {party : CachingParty} {before : Detached} {place len : ℕ} {after : CachingParty} {filled : Detached} (number : ℕ)
-    (token : TakenBucket) → HoldsAt party place number → MayDetachBucket party number len → before.inside ≡ None →
-    filled ≡ holding token → HasDetached party number len after token → TellsDetach party before place len ok after filled
-detaches number token holds may none is did = record {
-  one_party = λ alone. absurd (alone may.others);
+    (token : TakenBucket) → HoldsAt party place number → HasOthers party → len ≤ (geometry_of party).bucket.size →
+    before.inside ≡ None → filled ≡ holding token → HasDetached party number len after token →
+    TellsDetach party before place len ok after filled
+detaches number token holds others short none is did = record {
+  one_party = λ alone. absurd (alone others);
   not_held = λ _ not. absurd (not (number, holds));
-  too_large = λ _ large. absurd (omega (arith, may.short));
+  too_large = λ _ large. absurd (omega (arith, short));
   full = λ _ some. absurd (some none);
   detached = λ _ _. (refl, (number, token, holds, is, did));
   unchanged = λ not. absurd (not refl);

@@ -1,14 +1,12 @@
 -- Layouts of two numbers.
-use Rattle.std.proofs.Common.{◌≡◌, ℕ, Result, Ok, Err, Some, IsOk, IfOk, ◌↔◌, ap, ◌∙◌, sym, subst}
-use Rattle.std.proofs.Common.{arith}
+use Rattle.std.proofs.Common.{◌≡◌, ℕ, Result, Ok, Err, Some, IsOk, IfOk, ◌↔◌, ap, ◌∙◌, sym, subst, arith}
 use Rattle.std.proofs.lemmas.Bool.{false≢true}
 use Rattle.std.specs.Align.{IsLayout}
 use Rattle.std.specs.Result.{result_ok}
 use Rattle.bb_memory_traits.specs.declared.layout.Layout.{Layout}
-use Rattle.bb_memory_traits.specs.Chunk.{Region}
+use Rattle.bb_memory_traits.specs.Chunk.{Region, Chunk}
 use Rattle.bb_memory_traits.proofs.Layouts.{same_layout}
 use Rattle.bb_memory.specs.Pool.{MayBeCut}
-use Rattle.bb_memory_traits.specs.Chunk.{Chunk}
 use Rattle.bb_memory_traits.specs.declared.allocator.AllocationError.{AllocationError}
 use Rattle.bb_memory_c.specs.Answers.{answer_of}
 use Rattle.bb_memory_c.specs.Calls.{FailsOf, HasRoom, IsOf, LacksRoomOf, MayBeShared, TellsRequest}

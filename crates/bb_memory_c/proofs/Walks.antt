@@ -1,198 +1,145 @@
--- What is behind a handle is lent where it lies. Assumes `Logic`.
-pub mod Values
-pub use Values.*
-use denote.Memory.{part_of}
-use denote.Follow.{such_by, follows_by}
+-- The machine values of a `Loose` and of what a handle holds, which is taken apart and put together again under another name.
+-- Passes on what the walks use of the logic of machines. Assumes `Logic`.
+pub use Rattle.std.proofs.Common.{◌≡◌, List, [], ◌∷◌, ◌++◌, refl, sym, ◌∙◌, subst, lit<, ap, ℕ}
+pub use mathlib.Core.Bool.{true, false, ◌&&◌, Bool}
+pub use mir.Syntax.{a_type, impl, tnil, dnil, dcons, Fn, Callee, Ty, ty_ptr}
+pub use mir.Syntax.{ty_ref, named, erased, mut, local, value_local, seq, block, assign, return, place}
+pub use mir.Syntax.{deref, rv_opd, addr_of, copy}
+pub use mir.MapTy.{inst_fn}
+pub use mir.Val.{Val, vptr, vcons, vnil, vstruct, of_list, has_ty, WT, vbool}
+pub use base.Logic.{SProp, ent, emp, id⊢, never, fst∗, sep, via, never_e}
+pub use base.Fml.{ftrue, flft, fsep, Fml, Lft, GName, Share, fobs, fres}
+pub use prog.Wp.{WpFn, Env, Calls, Loops, Closed}
+pub use types.Kit.{‵, raw, at_ret, ◌⊛◌, ◌$◌, ◌∵◌, !, qed, by, move, keep, split, fsplit, fjoin, suffices, use0, use1, drop}
+pub use types.Kit.{some, later, split3, join, pick, await, rewrite, feq_i, fpick, feq_l, done, group, fsplit3, fpack, Item}
+pub use types.Kit.{Goal, Seq, Step, step, given, learn, mean}
+pub use types.Run.{stop, fld, lit, of_opd, first, branches, exec, no_more, and_then, returns, enter, true_lit, blocks, load, un}
+pub use types.Run.{addr, skips, returns_within}
+pub use types.ByLocal.{alloc_all, pass_all, free_all, look_at, get, get_in, sets, sets_last, env, lands_last, lands_as, through}
+pub use types.Match.{live}
+pub use types.Part.{agg, sub, whole, look_in}
+pub use contract.Monad.{fact, fact_i}
+pub use contract.Running.{tables, Running}
+pub use denote.Exit.{yes, no}
+pub use denote.RattleType.{RattleType, owns, Valss}
+pub use denote.Param.{param, layout, layouts, bounded}
+pub use denote.Signature.{types_at, type_at, plain, mut_ref_to}
+pub use denote.RawPtr.{block_ptr, null_ptr, Ptr, ptr_val, in_a_block}
+pub use denote.Steps.{nothing, only, heard, opens, closes}
+pub use denote.Triple.Walked.{Stays, stay_dropped, walk_of, Goes-dropped, Goes-spent_ref}
+pub use Rattle.std.proofs.alloc.Calls.{Al, Goes-blank, handle_tells}
+pub use Rattle.std.proofs.alloc.Shapes.{after}
+pub use Rattle.std.proofs.cell.Inside.{Good}
+pub use Rattle.std.proofs.option.Made.{Some-of, none_of}
+pub use Rattle.std.proofs.ResultValues.{and_tt}
+pub use Rattle.std.proofs.raw_atomic.Walks.{proved_at, leaves, proved}
+pub use Rattle.std.specs.Prelude.{Some, None, Option, MatchOption}
+pub use Rattle.std.specs.contracts.impls.GlobalAllocator.TheImpl.{ghosts}
+pub use contract.BorrowLft.{◌⊑◌}
+pub use denote.Param.Laws.{param_laws, Laws}
+pub use denote.Triple.Clauses.{Lasts, lasts, Ended, Clauses, closing}
+pub use denote.Triple.Spec.{triple_of, Meets}
+pub use denote.Triple.Call.{calls_at_last, calls_at}
+pub use denote.Triple.Table.{framed}
+pub use Rattle.std.proofs.BoxSteps.Steps.{box_out, box_in}
+pub use types.Logic.{sem, Logic}
+pub use denote.Builtin.{RawPtr, One, RefMutOf, bool}
+pub use denote.Struct.Tuple.{Tuple}
+pub use Rattle.std.specs.Box.Ownership.{box_owns}
+pub use base.Fraction.{full_share}
+pub use seplogic.Ra.Ura.{Ura}
+pub use prog.Model.{Model}
+pub use denote.Follow.{Part, follows, lends_Part}
+pub use denote.Memory.{part_at, mem, cell_at, lone}
+pub use denote.Ref.{MutRef, MutBor, mut_vals, mut_Tells}
+pub use denote.Triple.Entry.{on_entry}
+pub use lib.Dec.{T}
+pub use denote.Struct.Struct.{within}
+pub use denote.Struct.Owning.{shape}
+pub use Rattle.std.specs.declared.alloc.Allocator.{Ghosts}
+pub use Rattle.std.specs.declared.alloc.Global.{Global}
 use mir.Raw.{raw as bare}
-use Rattle.std.specs.contracts.option.Option as OP
+use Rattle.bb_memory_c.specs.Handles.{heap, owns_if}
+use Rattle.bb_memory_c.specs.contracts.held.Held as held_row
+use Rattle.bb_memory_c.specs.contracts.held.Loose as loose
 
-abbrev maybe : Sym → Ty → Ty
-maybe option τ = ty_enum option (ttcons tnil (ttcons (tcons τ tnil) ttnil))
+abbrev pub both : Val → Val → Val
+both v w = vstruct (vcons v (vcons w vnil))
 
--- the code: the flag is read, and then the pointer
-abbrev pub looking : (option handle : Sym) (behind behind_at at : Ty) → Fn
-looking option handle behind made at = record {
-  lifetimes = 1;
-  outlives = [];
-  ty_params = [];
-  givens = 0;
-  params = 1;
-  locals = local (maybe option (ty_ref (named 0) mut made)) value_local ∷ local (ty_ref (named 0) mut behind) value_local
-      ∷ local ty_bool value_local ∷ local ty_bool value_local ∷ local (ty_ref erased mut made) value_local
-      ∷ local (ty_ref erased mut made) value_local ∷ local ty_ptr value_local ∷ local ty_ptr value_local ∷ [];
-  body = seq (assign (place 2 []) (rv_opd (copy (place 1 (deref (ty_struct handle two) ∷ field 1 ∷ []))))) (
-      seq (assign (place 3 []) (op1 bit_not (copy (place 2 [])))) (
-      seq (cond (copy (place 3 [])) (seq (assign (place 0 []) (aggregate (int w8 0 ∷ []))) return) skip) (
-      seq (block (seq (assign (place 6 []) (rv_opd (copy (place 1 (deref (ty_struct handle two) ∷ field 0 ∷ [])))))
-      (seq (assign (place 7 []) (rv_opd (copy (place 6 [])))) (assign (place 5 []) (addr_of (place 7 (deref at ∷ []))))))) (
-      seq (assign (place 4 []) (rv_opd (copy (place 5 [])))) (
-      seq (assign (place 0 []) (aggregate (int w8 1 ∷ copy (place 4 []) ∷ []))) return)))));
-}
+module _ (R Z : RattleType) (L : Laws Z) (g : Ghosts Z.Denot) where
+  abbrev pub Loose : RattleType
+  Loose = loose.the_row R Z g
 
-module _ {R X : RattleType} (I : Owner R X) (one : One X.mir) where
-  abbrev pub lending : Ended
-  lending = record {
-    signature = record {
-      lifetimes = 1;
-      outlives = [];
-      params = RefMutOf (0 ∷ []) tt (plain (λ _. X)) (λ _. one) ∷ [];
-      result = plain (λ κs. OP.the_row (MutRef (named 0) κs.0 R));
-    };
-    kept = (no, tt);
-  }
+  abbrev al : Al
+  al = record { row = Z; laws = L; g = g; d = impl [] tnil dnil; drops = impl [] tnil dnil }
 
-  abbrev made : X.Denot → Option R.Denot
-  made d = (I.held d).value
+  pub loose_good : (b o : ℕ) (h : Val) → Good (layout Z) h → T (has_ty (layout Z) h && true) × WT (both (vptr b o) h)
+  loose_good b o h fits = (and_tt (has_ty (layout Z) h) fits.0, (tt, (fits.1, tt)))
 
-  abbrev Said : MutBor X.Denot → Option (MutBor R.Denot) → Type 0
-  Said s r = MatchOption r (made s.now ≡ None) (λ lent. made s.now ≡ Some lent.now)
+  module _ {M : Type 1} {𝓤 : Ura M} {𝓛 : Logic 𝓤} {K : Type 0} {Γ : List (Item 𝓤)} {G : Goal 𝓤 𝓛.H} where
+    pub loose_out : K → (d : Loose.Denot) (vs : List Val)
+        → ((b o : ℕ) (h : Val) → d.at ≡ block_ptr b o → vs ≡ both (vptr b o) h ∷ [] → Good (layout Z) h → Seq K 𝓛
+        (‵ (box_owns (g.dealloc_token d.alloc) R (block_ptr b o) d.value) ∷ ‵ (Z.own_val d.alloc (h ∷ [])) ∷ Γ) G)
+        → Seq K 𝓛 (‵ (Loose.own_val d vs) ∷ Γ) G
+    loose_out t d vs k = fsplit t $ fpick t (λ vss. fsplit t $
+        feq_l t (λ ev. fsplit t $ feq_l t (λ ep. fsplit t $
+        handle_tells al t d.alloc vss.1.0 (λ h ea fits. move t (1 ∷ []) $ drop t $ move t (1 ∷ []) $
+        in_a_block t d.at (λ p. box_owns (g.dealloc_token d.alloc) R p d.value)
+        (fst∗ 𝓤 (never 𝓤) (sem 𝓛 (g.dealloc_token d.alloc (bare (lone R.mir)) null_ptr))) (λ b o e. k b o h e
+        (subst (λ (p : Ptr). vs ≡ vstruct (of_list (ptr_val p ∷ h ∷ [])) ∷ []) e
+        (subst (λ (ws : List Val). vs ≡ vstruct (of_list (ptr_val d.at ∷ (ws ++ []))) ∷ []) ea
+        (subst (λ (ps : List Val). vs ≡ vstruct (of_list (ps ++ (vss.1.0 ++ []))) ∷ []) ep ev))) fits)))))
 
-  abbrev Follows : MutBor X.Denot → Option (MutBor R.Denot) → Fml
-  Follows s r = LendsSo X R s r (λ last lent. made last ≡ Some lent) (λ last. made last ≡ made s.now)
+    pub loose_in : K → (b o : ℕ) (h : Val) (a : Z.Denot) (x : R.Denot)
+        → Step K 𝓛 (‵ (Loose.own_val (record { at = block_ptr b o; alloc = a; value = x }) (both (vptr b o) h ∷ [])) ∷ Γ) G
+        (‵ (box_owns (g.dealloc_token a) R (block_ptr b o) x) ∷ ‵ (Z.own_val a (h ∷ [])) ∷ Γ) G
+    loose_in t b o h a x = step (λ s. let v : Val = both (vptr b o) h in
+        nothing t $ move t (2 ∷ 0 ∷ []) $ fjoin t $ feq_i t (List Val) (vptr b o ∷ []) (vptr b o ∷ []) refl $ fjoin t $
+        feq_i t (List Val) (v ∷ []) (v ∷ []) refl $ fjoin t $
+        fpack t (Valss (RawPtr ∷ Z ∷ [])) (within (shape (loose.the_type R Z g)) (block_ptr b o, (a, tt)) (v ∷ []))
+        (vptr b o ∷ [], (h ∷ [], tt)) $ fjoin t $ s)
 
-  abbrev pub lent : {M : Type 1} {𝓤 : Ura M} (𝓛 : Logic 𝓤) → Clauses 𝓤 lending
-  lent {𝓤 = 𝓤} 𝓛 κs a = record {
-    ghost = Unit {0};
-    requires = λ _. emp 𝓤;
-    ensures = λ _ r _. sep 𝓤 (fact 𝓤 (Said a.0 r)) (sem 𝓛 (Follows a.0 r));
-  }
+abbrev pub word : Ptr → Bool → Val
+word at made = vstruct (vcons (ptr_val at) (vcons (vbool made) vnil))
 
-  abbrev stays : Stays lending.signature.params lending.kept
-  stays = (stay_dropped (mut_ref_to (0 ∷ []) tt (plain (λ _. X))) no, tt)
+pub ptr_good : (p : Ptr) → T (has_ty ty_ptr (ptr_val p)) × WT (ptr_val p)
+ptr_good (block_ptr b o) = (tt, tt)
+ptr_good null_ptr = (tt, record { fits = lit< tt })
 
-  module _ {M : Type 1} {𝓤 : Ura M} (𝓛 : Logic 𝓤) (handle : Sym) (is : X.mir ≡ ty_struct handle two ∷ [])
-      (κ : Lft) (q : Share) (rb ro : ℕ) (γ : GName) (d : X.Denot) where
-    open 𝓛 use {H, A}
+module _ (R : RattleType) where
+  abbrev pub Held : RattleType
+  Held = held_row.the_row R
 
-    abbrev self : MutBor X.Denot
-    self = record { ref_ptr = (rb, ro); ghost_name = γ; now = d }
+  pub word_good : (p : Ptr) (made : Bool) → Good (layout Held) (word p made)
+  word_good (block_ptr b o) made = (tt, (tt, (tt, tt)))
+  word_good null_ptr made = (tt, (record { fits = lit< tt }, (tt, tt)))
 
-    abbrev bound : (walk_of 𝓛 lending stays (lent 𝓛)).Ghost
-    bound = (((κ, tt), (q, tt), tt, (self, tt), (vptr rb ro ∷ [], tt)), tt)
+  module _ {M : Type 1} {𝓤 : Ura M} {𝓛 : Logic 𝓤} {K : Type 0} {Γ : List (Item 𝓤)} {G : Goal 𝓤 𝓛.H} where
+    pub held_out : K → (d : Held.Denot) (vs : List Val)
+        → (vs ≡ word d.at d.made ∷ [] → Seq K 𝓛 (‵ (owns_if R d.made d.at d.value) ∷ Γ) G)
+        → Seq K 𝓛 (‵ (Held.own_val d vs) ∷ Γ) G
+    held_out t d vs k =
+        fsplit t $ fpick t (λ vss. fsplit t $ feq_l t (λ ev. fsplit t $ feq_l t (λ ep. fsplit t $ feq_l t (λ eb. drop t $ k
+        (subst (λ (bs : List Val). vs ≡ vstruct (of_list (ptr_val d.at ∷ (bs ++ []))) ∷ []) eb
+        (subst (λ (ps : List Val). vs ≡ vstruct (of_list (ps ++ (vss.1.0 ++ []))) ∷ []) ep ev))))))
 
-    abbrev Post : Val → SProp 𝓤
-    Post = (walk_of 𝓛 lending stays (lent 𝓛)).post bound
+    pub held_in : K → (d : Held.Denot)
+        → Step K 𝓛 (‵ (Held.own_val d (word d.at d.made ∷ [])) ∷ Γ) G (‵ (owns_if R d.made d.at d.value) ∷ Γ) G
+    held_in t d = step (λ s. let v : Val = word d.at d.made in
+        nothing t $ feq_i t (List Val) (vbool d.made ∷ []) (vbool d.made ∷ []) refl $ fjoin t $
+        feq_i t (List Val) (ptr_val d.at ∷ []) (ptr_val d.at ∷ []) refl $ fjoin t $
+        feq_i t (List Val) (v ∷ []) (v ∷ []) refl $ fjoin t $
+        fpack t (Valss (RawPtr ∷ bool ∷ [])) (within (shape (held_row.the_type R)) (d.at, (d.made, tt)) (v ∷ []))
+        (ptr_val d.at ∷ [], (vbool d.made ∷ [], tt)) $ fjoin t $ s)
 
-    abbrev h : (Held R).Denot
-    h = I.held d
-
-    abbrev Lent : RattleType
-    Lent = MutRef (named 0) κ R
-
-    abbrev held_at : ℕ → ℕ → R.Denot → (Held R).Denot
-    held_at b o w = record { at = block_ptr b o; made = true; heap = h.heap; value = Some w }
-
-    abbrev ending : ℕ → ℕ → R.Denot → X.Denot
-    ending b o w = I.back (held_at b o w)
-
-    -- the right to free it, and the handle
-    abbrev Rest : ℕ → ℕ → Fml
-    Rest b o = fsep (ghosts.dealloc_token h.heap (bare (lone R.mir)) (block_ptr b o))
-        (cell_at full_share X.mir (word (block_ptr b o) true ∷ []) rb ro)
-
-    back : (b o : ℕ) (w : R.Denot) → ent 𝓤 (sep 𝓤 (sem 𝓛 ((mem R).own_at w b o)) (sem 𝓛 (Rest b o)))
-        (sem 𝓛 ((mem X).own_at (ending b o w) rb ro))
-    unfolding part_of
-    back b o w =
-        let v : Val = word (block_ptr b o) true in
-        qed 𝓛 (‵ (part_at R full_share w b o) ∷ ‵ (Rest b o) ∷ []) ∵ move ! (1 ∷ []) $ fsplit ! $ move ! (2 ∷ 0 ∷ []) $ fjoin ! $
-        held_in R ! (held_at b o w) $ rewrite ! 0 ‵ (sym (owned I (held_at b o w) (v ∷ []))) refl $ move ! (1 ∷ 0 ∷ []) $
-        fjoin ! $ fpack ! (List Val) (λ us. fsep (cell_at full_share X.mir us rb ro) (X.own_val (ending b o w) us)) (v ∷ [])
-        $ done !
-
-    left_none : (last : X.Denot) → made last ≡ made d → made d ≡ None
-        → ent 𝓤 (sep 𝓤 (A.obs γ (X.coded.code last)) (A.lft κ q)) (Post (live 0 (of_list [])))
-    unfolding such_by follows_by
-    left_none last as_it_was none =
-        let r : Option (MutBor R.Denot) = None in
-        qed 𝓛 (‵ (fobs γ (X.coded.code last)) ∷ ‵ (flft κ q) ∷ []) ∵
-        use1 𝓛 (‵ (fres γ (X.coded.code last))) (𝓛.names.obs-res γ (X.coded.code last)) $
-        fpack ! ((s : (R.Denot → X.Denot) × X.Denot) × ((w : R.Denot) → made (s.0 w) ≡ Some w) × (made s.1 ≡ made d))
-        (λ s. follows_by X.Denot R.Denot X.coded.code R.coded.code γ mathlib.Core.Option.none s.0.0 s.0.1)
-        ((ending rb ro, last), (λ w. ap (λ (e : (Held R).Denot). e.value) (I.again (held_at rb ro w))), as_it_was) $
-        use0 𝓛 (raw (fact 𝓤 (Said self r))) (fact_i 𝓤 (Said self r) (emp 𝓤) none) $ join ! $
-        use0 𝓛 (‵ ((OP.the_row Lent).own_val None (live 0 (of_list []) ∷ []))) (none_of 𝓛 Lent) $
-        nothing ! $ nothing ! $ fjoin ! $ nothing ! $ move ! (4 ∷ 0 ∷ []) $ join ! $
-        by ! (leaves 𝓛 lending stays (lent 𝓛) bound (live 0 (of_list [])) r (tt, tt) (tt, tt))
-
-    left_some : (b o : ℕ) (x : R.Denot) → made d ≡ Some x → (γ' : GName)
-        → ent 𝓤 (sep 𝓤 (sem 𝓛 (Lent.own_val (record { ref_ptr = (b, o); ghost_name = γ'; now = x }) (vptr b o ∷ [])))
-        (sep 𝓤 (A.lft κ q) (sem 𝓛 (follows X R γ γ' (ending b o))))) (Post (live 1 (of_list (vptr b o ∷ []))))
-    unfolding such_by follows_by
-    left_some b o x some_x γ' =
-        let to : MutBor R.Denot = record { ref_ptr = (b, o); ghost_name = γ'; now = x } in
-        let r : Option (MutBor R.Denot) = Some to in
-        qed 𝓛 (‵ (Lent.own_val to (vptr b o ∷ [])) ∷ ‵ (flft κ q) ∷ ‵ (follows X R γ γ' (ending b o)) ∷ []) ∵
-        use1 𝓛 (‵ ((OP.the_row Lent).own_val r (live 1 (of_list (vptr b o ∷ [])) ∷ []))) (Some-of 𝓛 Lent to (vptr b o)) $
-        move ! (2 ∷ []) $
-        fpack ! ((s : (R.Denot → X.Denot) × X.Denot) × ((w : R.Denot) → made (s.0 w) ≡ Some w) × (made s.1 ≡ made d))
-        (λ s. follows_by X.Denot R.Denot X.coded.code R.coded.code γ (mathlib.Core.Option.some γ') s.0.0 s.0.1)
-        ((ending b o, d), (λ w. ap (λ (e : (Held R).Denot). e.value) (I.again (held_at b o w))), refl) $
-        use0 𝓛 (raw (fact 𝓤 (Said self r))) (fact_i 𝓤 (Said self r) (emp 𝓤) some_x) $ join ! $
-        move ! (1 ∷ []) $ nothing ! $ nothing ! $ fjoin ! $ nothing ! $ move ! (4 ∷ 0 ∷ []) $ join ! $
-        by ! (leaves 𝓛 lending stays (lent 𝓛) bound (live 1 (of_list (vptr b o ∷ []))) r (tt, tt) (tt, tt))
-
-    module _ (option : Sym) (behind lent_as at : Ty) (C : Calls 𝓤 H) (Λ : Loops 𝓤 H) where
-      abbrev fn : Fn
-      fn = looking option handle behind lent_as at
-
-      abbrev none_again : (Held R).Denot
-      none_again = record { at = h.at; made = false; heap = h.heap; value = None }
-
-      walk : ent 𝓤 (on_entry 𝓛 lending.signature (κ, tt) (q, tt) (self, tt) (vptr rb ro ∷ [], tt))
-          (WpFn 𝓤 H C Λ fn (vptr rb ro ∷ []) Post)
-      walk = qed 𝓛 ((‵ (flft κ q) ⊛ ‵ ftrue) ∷ ‵ (owns (MutRef (named 0) κ X ∷ []) (self, tt) (vptr rb ro ∷ [], tt)) ∷ []) ∵
-          enter ! C Λ fn (vptr rb ro ∷ []) Post $ alloc_all ! (λ l. pass_all ! refl ((tt, tt), tt) $
-          let En : Env 𝓤 H = env fn.locals l in
-          move ! (1 ∷ []) $ fsplit ! $ fsplit3 ! $ drop ! $ move ! (3 ∷ []) $ split ! $ move ! (2 ∷ 3 ∷ 0 ∷ []) $
-          opens ! tt X {h = d} rb ro (λ vs. move ! (1 ∷ []) $ rewrite ! 0 ‵ (I.owns d vs) refl $ held_out R ! h vs (λ ws.
-          rewrite ! 1 (λ (us : List Val). ‵ (cell_at full_share X.mir us rb ro)) ws refl $
-          owns_either R ! h.heap h.made h.at h.value
-          (λ no_made none. let v : Val = word h.at false in
-          rewrite ! 0 (λ (us : List Val). ‵ (cell_at full_share X.mir us rb ro)) (λ i. word h.at (no_made i) ∷ []) refl $
-          rewrite ! 0 (λ (ms : List Ty). ‵ (cell_at full_share ms (v ∷ []) rb ro)) is refl $
-          sets ! (of_opd ! (load ! (through ! refl (fld ! refl (stop !))) (look_in ! 0 (sub ! 1 refl (whole !))))) refl (tt, tt) $
-          sets ! (un ! (get ! refl) tt) refl (tt, tt) $
-          first ! $ branches ! (get ! refl)
-          (λ _. sets ! (agg ! (and_then ! (lit ! tt) (no_more !))) refl (tt, (record { fits = lit< tt }, tt)) $
-          rewrite ! 0 (λ (ms : List Ty). ‵ (cell_at full_share ms (v ∷ []) rb ro)) (sym is) refl $
-          nothing ! $ held_in R ! none_again $ rewrite ! 0 ‵ (sym (owned I none_again (v ∷ []))) refl $ move ! (1 ∷ 0 ∷ []) $
-          closes ! tt X (I.back none_again) (v ∷ []) rb ro $
-          returns_within ! Post refl (look_at ! 0 refl) $ free_all ! refl $ keep ! (0 ∷ 2 ∷ []) $
-          by ! (left_none (I.back none_again) (ap (λ (e : (Held R).Denot). e.value) (I.again none_again) ∙ sym none) none))
-          (λ wrong. absurd wrong))
-          (λ b o x at_b yes_made some_x. let v : Val = word (block_ptr b o) true in
-          rewrite ! 1 (λ (us : List Val). ‵ (cell_at full_share X.mir us rb ro)) (λ i. word (at_b i) (yes_made i) ∷ []) refl $
-          rewrite ! 1 (λ (ms : List Ty). ‵ (cell_at full_share ms (v ∷ []) rb ro)) is refl $
-          sets ! (of_opd ! (load ! (through ! refl (fld ! refl (stop !))) (look_in ! 1 (sub ! 1 refl (whole !))))) refl (tt, tt) $
-          sets ! (un ! (get ! refl) tt) refl (tt, tt) $
-          first ! $ branches ! (get ! refl) (λ wrong. absurd wrong)
-          (λ _. skips ! $ exec ! C Λ En (after 3 fn.body) (at_ret En Post) $ fsplit ! $
-          -- [what was made; the right to free it; the handle; the open borrow; obs; auth]
-          first ! $ blocks ! $
-          sets ! (of_opd ! (load ! (through ! refl (fld ! refl (stop !))) (look_in ! 2 (sub ! 0 refl (whole !))))) refl (tt, tt) $
-          sets ! (of_opd ! (get ! refl)) refl (tt, tt) $
-          sets_last ! (addr ! (through ! refl (stop !))) refl (tt, tt) $
-          exec ! C Λ En (after 4 fn.body) (at_ret En Post) $
-          sets ! (of_opd ! (get ! refl)) refl (tt, tt) $
-          sets ! (agg ! (and_then ! (lit ! tt) (and_then ! (get ! refl) (no_more !)))) refl
-          (tt, (record { fits = lit< tt }, (tt, tt))) $
-          rewrite ! 2 (λ (ms : List Ty). ‵ (cell_at full_share ms (v ∷ []) rb ro)) (sym is) refl $
-          move ! (1 ∷ 2 ∷ []) $ fjoin ! $ move ! (2 ∷ 3 ∷ 4 ∷ 1 ∷ 0 ∷ []) $ group ! 5 $
-          use1 𝓛 (later (some (λ (γ' : GName). raw (Part 𝓛 X R (ending b o) (named 0) κ q rb ro b o γ
-          (sem 𝓛 (Rest b o)) (back b o) x γ'))))
-          (lends_Part 𝓛 X R (ending b o) (named 0) κ q rb ro b o γ (sem 𝓛 (Rest b o)) (back b o) (X.coded.code d)
-          (X.coded.code d) x) $
-          await ! tt $ pick ! (λ γ'. returns ! (look_at ! 0 refl) $ free_all ! refl $ keep ! (0 ∷ []) $
-          by ! (left_some b o x some_x γ')))))))
-
-  pub lends : {handle : Sym} → X.mir ≡ ty_struct handle two ∷ [] → {M : Type 1} (𝓤 : Ura M) (𝓛 : Logic 𝓤) (𝓜 : Model 𝓤 𝓛.H)
-      (𝓡 : Running 𝓤 𝓛.H 𝓜) {k : Callee} (option : Sym) (behind lent_as at : Ty)
-      → Closed 𝓤 𝓛.H (tables 𝓤 𝓛.H 𝓜 𝓡 𝓡.env).C (tables 𝓤 𝓛.H 𝓜 𝓡 𝓡.env).Λ k (looking option handle behind lent_as at)
-      → Meets 𝓛 lending.signature ((tables 𝓤 𝓛.H 𝓜 𝓡 𝓡.env).C k) (closing 𝓛 lending (lent 𝓛))
-  lends {handle} is 𝓤 𝓛 𝓜 𝓡 {k} option behind lent_as at closed =
-      let 𝓣 = tables 𝓤 𝓛.H 𝓜 𝓡 𝓡.env in
-      proved 𝓛 lending stays (lent 𝓛) 𝓜 𝓡 (Goes-spent_ref 𝓛 1 (0 ∷ []) tt (plain (λ _. X)), tt) k
-      (looking option handle behind lent_as at) closed (λ κs. (mut_vals, tt)) (λ κs. (mut_Tells (named 0) κs.0 X, tt))
-      (λ κs qs bounds a g are. via 𝓤 _ (fst∗ 𝓤 _ (emp 𝓤)) (walk 𝓛 handle is κs.0 qs.0 a.0.ref_ptr.0 a.0.ref_ptr.1 a.0.ghost_name
-      a.0.now option behind lent_as at 𝓣.C 𝓣.Λ))
+    -- it is nothing, or a box at its pointer
+    pub owns_either : K → (made : Bool) (at : Ptr) (value : Option R.Denot)
+        → (made ≡ false → value ≡ None → Seq K 𝓛 Γ G)
+        → ((b o : ℕ) (x : R.Denot) → at ≡ block_ptr b o → made ≡ true → value ≡ Some x
+        → Seq K 𝓛 (‵ (box_owns (ghosts.dealloc_token heap) R (block_ptr b o) x) ∷ Γ) G)
+        → Seq K 𝓛 (‵ (owns_if R made at value) ∷ Γ) G
+    owns_either t true at (Some x) empty full = in_a_block t at (λ p. box_owns (ghosts.dealloc_token heap) R p x)
+        (fst∗ 𝓤 (never 𝓤) (sem 𝓛 (ghosts.dealloc_token heap (bare (lone R.mir)) null_ptr))) (λ b o e. full b o x e refl refl)
+    owns_either t true at None empty full = use1 𝓛 (given ⊥ (‵ ftrue)) (never_e 𝓤 _) $ learn t (λ z. absurd z)
+    owns_either t false at (Some x) empty full = use1 𝓛 (given ⊥ (‵ ftrue)) (never_e 𝓤 _) $ learn t (λ z. absurd z)
+    owns_either t false at None empty full = drop t $ empty refl refl

@@ -1,15 +1,17 @@
 -- The allocators with one owner behind handles: what their requests are answered, and the figures that are shown of them.
-use Rattle.std.specs.Prelude.{◌≡◌, ◌-◌, ◌↔◌, ◌++◌, ◌∷◌, [], ℕ, IsTrue, List, Option, None, Some, Result, IfOk}
+use Rattle.std.specs.Prelude.{◌≡◌, ◌≤◌, ◌%◌, ◌-◌, ◌↔◌, ◌++◌, ◌∷◌, [], ℕ, IsTrue, List, Option, None, Some, Result, IfOk}
 use Rattle.bb_memory_traits.specs.Chunk.{Chunk, Region, first_place}
 use Rattle.bb_memory_traits.specs.BumpObject.{MayAllocate, StandsFor}
-use Rattle.bb_memory_traits.specs.OneChunkObject.{reserved_at}
+use Rattle.bb_memory_traits.specs.OneChunkObject.{MayGrow, MayShrink, reserved_at}
 use Rattle.bb_memory_traits.specs.PoolObject.{PoolGeometry, IsCut}
 use Rattle.bb_memory_traits.specs.declared.layout.Layout.{Layout}
 use Rattle.bb_memory_traits.specs.declared.allocator.AllocationError.{AllocationError}
 use Rattle.bb_memory.specs.Bump.{Bump, Takes as TakesOfBump}
 use Rattle.bb_memory.specs.OneChunk.{OneChunk, Takes as TakesChunk}
-use Rattle.bb_memory.specs.Pool.{CountedPool, counted, fresh_pool}
-use Rattle.bb_memory_c.specs.Answers.{figure_of, no_figure, not_held}
+use Rattle.bb_memory.specs.Pool.{CountedPool, TakesBucket, counted, fresh_pool, held_count}
+use Rattle.bb_memory_core.specs.IndexSets.{index_words}
+use Rattle.bb_memory_c.specs.Answers.{TellsResized, figure_of, grow_code, no_figure, not_held, shrink_code}
+use Rattle.bb_memory_c.specs.declared.answer.Answer.{Answer}
 use Rattle.bb_memory_c.specs.declared.answer.BumpInfo.{BumpInfo}
 use Rattle.bb_memory_c.specs.declared.answer.Figure.{Figure}
 use Rattle.bb_memory_c.specs.declared.answer.OneChunkInfo.{OneChunkInfo}
@@ -34,7 +36,7 @@ pub record OneChunkAllocates (one : OneChunk) (layout : Layout)
 -- a fresh pool over the region, cut into buckets of the layout
 abbrev pub MakesPool : Region → Layout → Option CountedPool → Type 0
 MakesPool region bucket new = (geometry : PoolGeometry)
-    × IsCut region bucket geometry × (new ≡ Some (counted (fresh_pool geometry) 0))
+    × IsCut region bucket geometry × (new ≡ Some (counted (fresh_pool geometry) 0 0))
 
 -- FIGURES
 
@@ -59,13 +61,30 @@ pub record TellsReserved (one : OneChunk) (place : ℕ) (told : Figure) : Type 0
   pub held : one.kept ≡ Some place → told ≡ figure_of (reserved_at one.region place)
   pub nothing : ¬ (one.kept ≡ Some place) → told ≡ no_figure not_held
 
--- figures of a pool of this geometry, of which so many buckets are held
-abbrev pub pool_info : PoolGeometry → ℕ → PoolInfo
-pool_info geometry held = record {
+-- what C is told of a grow of the chunk at this place from a layout to another
+abbrev pub TellsGrow : OneChunk → ℕ → Answer → Layout → Layout → Type 0
+TellsGrow one place told from to = TellsResized (one.kept ≡ Some place) (place % from.align ≡ 0) grow_code
+    (MayGrow one.region place from to) told
+
+-- what C is told of a shrink of the chunk at this place from a layout to another
+abbrev pub TellsShrink : OneChunk → ℕ → Answer → Layout → Layout → Type 0
+TellsShrink one place told from to = TellsResized (one.kept ≡ Some place)
+    ((place % from.align ≡ 0) × (from.size ≤ reserved_at one.region place)) shrink_code (MayShrink place from to) told
+
+-- figures of a pool of this geometry, of which so many buckets are held, and so many were at one time
+abbrev pub pool_info : PoolGeometry → ℕ → ℕ → PoolInfo
+pool_info geometry held greatest = record {
   start_address = first_place geometry.region geometry.bucket;
   size = geometry.region.size;
   bucket_size = geometry.bucket.size;
   max_alignment = geometry.bucket.align;
   number_of_buckets = geometry.buckets;
   held_buckets = held;
+  greatest_held = greatest;
 }
+
+abbrev pub ShowsPool : CountedPool → PoolInfo → CountedPool → Type 0
+ShowsPool pool info after = (info ≡ pool_info pool.pool.geometry (held_count pool.pool) pool.greatest) × (after ≡ pool)
+
+abbrev pub PoolAllocates : CountedPool → Layout → Result Chunk AllocationError → CountedPool → Type 0
+PoolAllocates pool layout answer after = TakesBucket pool layout answer after (index_words pool.pool.geometry.buckets)

@@ -82,16 +82,16 @@ pub record AreFreshOver (region : Region) (bucket : Layout) (count : ℕ) (all :
   pub cut : IsCut region bucket all.shared.scene.geometry
   pub parties : AreFresh all.shared count all.parties
 
--- figures of a party: of its pool's buckets those that are out are counted
+-- figures of a party: of its pool's buckets those that are out are counted, and no fewer are told as the most that were found
 abbrev pub ShowsParty : CachingParty → PoolInfo → CachingParty → Type 0
-ShowsParty joined info after = (flags : List Bool) × AreFlagged joined.party.allocator (IsOut joined) flags
-    × (info ≡ pool_info (geometry_of joined) (count_by (λ flag. flag) flags)) × (after ≡ joined)
+ShowsParty joined info after = (flags : List Bool) × AreFlagged joined.party.allocator (IsOut joined) flags × (greatest : ℕ)
+    × (count_by (λ flag. flag) flags ≤ greatest)
+    × (info ≡ pool_info (geometry_of joined) (count_by (λ flag. flag) flags) greatest) × (after ≡ joined)
 
--- figures of a shared pool: whatever its parties did meanwhile, no more are told as held than it has buckets
+-- figures of a shared pool: whatever its parties did meanwhile, no more are held than were at most, nor than it has buckets
 abbrev pub ShowsShared : PoolParties → SharedPoolInfo → PoolParties → Type 0
-ShowsShared all info after = let geometry = all.shared.scene.geometry in
-    (held : ℕ) × (held ≤ geometry.buckets) × (info.pool ≡ pool_info geometry held)
-    × (after ≡ all)
+ShowsShared all info after = let geometry = all.shared.scene.geometry in (held : ℕ) × (greatest : ℕ)
+    × (held ≤ greatest) × (greatest ≤ geometry.buckets) × (info.pool ≡ pool_info geometry held greatest) × (after ≡ all)
 
 -- the bucket of this number is out, and is at this place
 pub record HoldsAt (joined : CachingParty) (place number : ℕ) : Type 0 where
@@ -194,12 +194,6 @@ MayDetachAt joined place = HasOthers joined × HoldsPlace joined place
 -- a party may detach the bucket at the place, and a chunk of so many bytes has room there
 abbrev pub MayDetachChunk : CachingParty → ℕ → ℕ → Type 0
 MayDetachChunk joined place len = MayDetachAt joined place × (len ≤ (geometry_of joined).bucket.size)
-
--- a party may detach the bucket of a number, with a chunk of so many bytes
-pub record MayDetachBucket (joined : CachingParty) (number len : ℕ) : Type 0 where
-  pub others : HasOthers joined
-  pub out : IsOut joined number
-  pub short : len ≤ (geometry_of joined).bucket.size
 
 -- the party detached the bucket of a number, by one step; the token of the detached bucket has a chunk of so many bytes
 pub record HasDetached (joined : CachingParty) (number len : ℕ) (after : CachingParty) (token : TakenBucket) : Type 0 where

@@ -41,7 +41,7 @@ pub struct OneChunkInfo {
     pub has_chunk_available: bool,
 }
 
-/// The figures of a pool. The start is that of bucket 0; of a party, the held buckets are its own.
+/// The figures of a pool, from bucket 0 on. Of a party, held buckets are its own, and `greatest_held` is the most that were found.
 #[repr(C)]
 #[derive(Clone, Copy)]
 pub struct PoolInfo {
@@ -51,6 +51,7 @@ pub struct PoolInfo {
     pub max_alignment: usize,
     pub number_of_buckets: usize,
     pub held_buckets: usize,
+    pub greatest_held: usize,
 }
 
 /// The figures of a shared pool, which were read while parties may have called.

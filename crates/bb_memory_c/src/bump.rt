@@ -1,5 +1,5 @@
 //! A bump behind a handle.
-ghost use Rattle.std.specs.Prelude.{◌≡◌, None, Some};
+ghost use Rattle.std.specs.Prelude.{◌≡◌, Some};
 ghost use Rattle.bb_memory_traits.specs.Chunk.{IsRegion, region_at};
 ghost use Rattle.bb_memory.specs.Bump.{bump_of};
 ghost use Rattle.bb_memory_c.specs.Answers.{ok, uninitialized};
@@ -10,7 +10,7 @@ use crate::answer::{Answer, BumpInfo};
 use crate::call::{free, info, is_made, keep, request};
 use crate::code;
 use crate::handle::{BumpHandle, Handle};
-use crate::kind::{Gives, Shows};
+use crate::kind::Gives;
 use bb_memory::bump_allocator::{AllocationError, BaseAllocator, BumpAllocator};
 use bb_memory::layout::{Chunk, Layout};
 use std::alloc::Global;
@@ -58,13 +58,11 @@ pub extern "C" fn bb_bump_deallocate(handle: &mut BumpHandle) -> u32
     ensures { Answers handle.old.value handle.new.value (result ≡ uninitialized) (λ bump after.
         (result ≡ ok) × (after ≡ bump_of bump.region.start bump.region.size 0)) }
 {
-    match handle.made_mut() {
-        Some(bump) => {
-            bump.deallocate(0, Layout::empty());
-            code::OK
-        }
-        None => code::UNINITIALIZED,
-    }
+    let Some(bump) = handle.made_mut() else {
+        return code::UNINITIALIZED;
+    };
+    bump.deallocate(0, Layout::empty());
+    code::OK
 }
 
 /// Fills the struct with the bump's figures. The used space has the padding between chunks in it.
@@ -75,8 +73,14 @@ pub extern "C" fn bb_bump_info(handle: &mut BumpHandle, to: &mut BumpInfo) -> u3
     info(handle, to)
 }
 
-impl Shows<BumpInfo> for BumpAllocator {
+impl Gives<BumpInfo> for BumpAllocator {
+    ghost may_give = { BumpAllocates };
+
     ghost may_show = { ShowsBump };
+
+    fn give(&mut self, layout: Layout) -> Result<Chunk, AllocationError> {
+        self.allocate(layout)
+    }
 
     fn show(&mut self) -> BumpInfo {
         BumpInfo {
@@ -85,13 +89,5 @@ impl Shows<BumpInfo> for BumpAllocator {
             free_space: self.free_space(),
             total_space: self.total_space(),
         }
-    }
-}
-
-impl Gives for BumpAllocator {
-    ghost may_give = { BumpAllocates };
-
-    fn give(&mut self, layout: Layout) -> Result<Chunk, AllocationError> {
-        self.allocate(layout)
     }
 }

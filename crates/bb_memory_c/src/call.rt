@@ -2,17 +2,17 @@
 ghost use Rattle.std.specs.Prelude.{◌≡◌, ◌≢◌, None, Some, IsFalse, IsTrue};
 ghost use Rattle.bb_memory_c.specs.Answers.{malloc_refused, ok};
 ghost use Rattle.bb_memory_c.specs.Calls.{AnswersFree, AnswersInfo, AnswersJoin, AnswersLeave, AnswersNumber, AnswersPlace};
-ghost use Rattle.bb_memory_c.specs.Calls.{AnswersRequest, AnswersReturn, AnswersWhether, IfBoth, TellsRequest, TellsReturn};
+ghost use Rattle.bb_memory_c.specs.Calls.{AnswersRequest, AnswersReturn, AnswersWhether, IfBoth, TellsRequest};
 
 use crate::answer::{Answer, Figure};
 use crate::code;
 use crate::handle::Handle;
-use crate::kind::{Bucketed, Gives, Keeps, Shares, Shows};
+use crate::kind::{Bucketed, Gives, Keeps, Shares};
 use crate::layout::layout_of;
 use std::alloc::Global;
 
 /// Returns whether something is made behind the handle, which stays.
-pub(crate) fn is_made<H: Handle>(handle: &mut H) -> bool
+pub(crate) fn is_made<M: Drop, H: Handle<M>>(handle: &mut H) -> bool
     ensures made { IsTrue result → H.made handle.old ≢ None }
     ensures empty { IsFalse result → H.made handle.old ≡ None }
     ensures unchanged { H.made handle.new ≡ H.made handle.old }
@@ -23,9 +23,8 @@ pub(crate) fn is_made<H: Handle>(handle: &mut H) -> bool
     }
 }
 
-/// Puts what was made behind an empty handle, in memory of its own. The answer is 0, or `BB_MALLOC_REFUSED`, and then the handle
-/// stays empty.
-pub(crate) fn keep<H: Handle>(handle: &mut H, alloc: Global, made: H::Made) -> u32
+/// Puts what was made behind an empty handle, in memory of its own, or answers `BB_MALLOC_REFUSED`: then it stays empty.
+pub(crate) fn keep<M: Drop, H: Handle<M>>(handle: &mut H, alloc: Global, made: M) -> u32
     requires { H.made handle.old ≡ None }
     ensures ok { result ≡ ok → H.made handle.new ≡ Some made }
     ensures refused { result ≢ ok → (result ≡ malloc_refused) × (H.made handle.new ≡ None) }
@@ -38,40 +37,34 @@ pub(crate) fn keep<H: Handle>(handle: &mut H, alloc: Global, made: H::Made) -> u
 }
 
 /// Frees what is behind the handle, which is empty then.
-pub(crate) fn free<H: Handle>(handle: &mut H, alloc: Global) -> u32
+pub(crate) fn free<M: Drop, H: Handle<M>>(handle: &mut H, alloc: Global) -> u32
     ensures { AnswersFree (H.made handle.old) (H.made handle.new) result }
 {
-    match handle.take(alloc) {
-        Some(made) => {
-            drop(made);
-            code::OK
-        }
-        None => code::UNINITIALIZED,
-    }
+    let Some(made) = handle.take(alloc) else {
+        return code::UNINITIALIZED;
+    };
+    drop(made);
+    code::OK
 }
 
 /// Fills C's struct with the figures of what is made.
-pub(crate) fn info<H: Handle, I: Copy>(handle: &mut H, to: &mut I) -> u32
-where
-    H::Made: Shows<I>,
-    ensures { AnswersInfo (H.made handle.old) (H.made handle.new) to.old to.new result
-        H.Made.may_show }
+pub(crate) fn info<I: Copy, M: Gives<I>, H: Handle<M>>(handle: &mut H, to: &mut I) -> u32
+    ensures { AnswersInfo (H.made handle.old) (H.made handle.new) to.old to.new result M.may_show }
 {
-    match handle.made_mut() {
-        Some(made) => {
-            *to = made.show();
-            code::OK
-        }
-        None => code::UNINITIALIZED,
-    }
+    let Some(made) = handle.made_mut() else {
+        return code::UNINITIALIZED;
+    };
+    *to = made.show();
+    code::OK
 }
 
 /// Asks for a chunk of so many bytes at a multiple of `align`.
-pub(crate) fn request<H: Handle>(handle: &mut H, size: usize, align: usize) -> Answer
-where
-    H::Made: Gives,
-    ensures { AnswersRequest (H.made handle.old) (H.made handle.new) size align result
-        H.Made.may_give }
+pub(crate) fn request<I, M: Gives<I>, H: Handle<M>>(
+    handle: &mut H,
+    size: usize,
+    align: usize,
+) -> Answer
+    ensures { AnswersRequest (H.made handle.old) (H.made handle.new) size align result M.may_give }
 {
     let Some(made) = handle.made_mut() else {
         return Answer::refusal(code::UNINITIALIZED);
@@ -84,7 +77,7 @@ where
 
 /// Asks for a chunk of so many bytes at a multiple of `align`, apart from the calls that are answered quickly.
 #[inline(never)]
-fn ask<M: Gives>(made: &mut M, size: usize, align: usize) -> Answer
+fn ask<I, M: Gives<I>>(made: &mut M, size: usize, align: usize) -> Answer
     ensures { TellsRequest made.old made.new size align result M.may_give }
 {
     match layout_of(size, align) {
@@ -94,11 +87,12 @@ fn ask<M: Gives>(made: &mut M, size: usize, align: usize) -> Answer
 }
 
 /// Asks for a chunk of so many bytes at a multiple of `align`, in a bucket.
-pub(crate) fn request_bucket<H: Handle>(handle: &mut H, size: usize, align: usize) -> Answer
-where
-    H::Made: Gives + Bucketed,
-    ensures { AnswersRequest (H.made handle.old) (H.made handle.new) size align result
-        H.Made.may_give }
+pub(crate) fn request_bucket<I, M: Gives<I> + Bucketed, H: Handle<M>>(
+    handle: &mut H,
+    size: usize,
+    align: usize,
+) -> Answer
+    ensures { AnswersRequest (H.made handle.old) (H.made handle.new) size align result M.may_give }
 {
     let Some(made) = handle.made_mut() else {
         return Answer::refusal(code::UNINITIALIZED);
@@ -112,10 +106,13 @@ where
 }
 
 /// Gives back the chunk at this place, if one is held there.
-fn release<M: Keeps>(made: &mut M, place: usize) -> u32
-    ensures { TellsReturn (M.holds made.old place) (M.frees made.old place made.new)
-        (made.new ≡ made.old) result }
+pub(crate) fn give_back<M: Keeps, H: Handle<M>>(handle: &mut H, place: usize) -> u32
+    ensures { AnswersReturn (H.made handle.old) (H.made handle.new) result
+        (λ made. M.holds made place) (λ made after. M.frees made place after) }
 {
+    let Some(made) = handle.made_mut() else {
+        return code::UNINITIALIZED;
+    };
     if made.give_back(place) {
         code::OK
     } else {
@@ -123,25 +120,9 @@ fn release<M: Keeps>(made: &mut M, place: usize) -> u32
     }
 }
 
-/// Gives back the chunk at this place, if one is held there.
-pub(crate) fn give_back<H: Handle>(handle: &mut H, place: usize) -> u32
-where
-    H::Made: Keeps,
-    ensures { AnswersReturn (H.made handle.old) (H.made handle.new) result
-        (λ made. H.Made.holds made place) (λ made after. H.Made.frees made place after) }
-{
-    match handle.made_mut() {
-        Some(made) => release(made, place),
-        None => code::UNINITIALIZED,
-    }
-}
-
 /// Tells whether a chunk is held at this place: 1 or 0.
-pub(crate) fn holds<H: Handle>(handle: &mut H, place: usize) -> Figure
-where
-    H::Made: Keeps,
-    ensures { AnswersWhether (H.made handle.old) (H.made handle.new) result
-        (λ made. H.Made.holds made place) }
+pub(crate) fn holds<M: Keeps, H: Handle<M>>(handle: &mut H, place: usize) -> Figure
+    ensures { AnswersWhether (H.made handle.old) (H.made handle.new) result (λ made. M.holds made place) }
 {
     match handle.made_mut() {
         Some(made) => Figure::of(if made.is_held(place) { 1 } else { 0 }),
@@ -150,10 +131,8 @@ where
 }
 
 /// Tells where the bucket of this number begins.
-pub(crate) fn place<H: Handle>(handle: &mut H, number: u32) -> Figure
-where
-    H::Made: Bucketed,
-    ensures { AnswersPlace (H.made handle.old) (H.made handle.new) result number H.Made.geometry }
+pub(crate) fn place<M: Bucketed, H: Handle<M>>(handle: &mut H, number: u32) -> Figure
+    ensures { AnswersPlace (H.made handle.old) (H.made handle.new) result number M.geometry }
 {
     let Some(made) = handle.made_mut() else {
         return Figure::refusal(code::UNINITIALIZED);
@@ -165,10 +144,8 @@ where
 }
 
 /// Tells the number of the bucket at this place.
-pub(crate) fn number<H: Handle>(handle: &mut H, place: usize) -> Figure
-where
-    H::Made: Bucketed,
-    ensures { AnswersNumber (H.made handle.old) (H.made handle.new) result place H.Made.geometry }
+pub(crate) fn number<M: Bucketed, H: Handle<M>>(handle: &mut H, place: usize) -> Figure
+    ensures { AnswersNumber (H.made handle.old) (H.made handle.new) result place M.geometry }
 {
     let Some(made) = handle.made_mut() else {
         return Figure::refusal(code::UNINITIALIZED);
@@ -180,11 +157,13 @@ where
 }
 
 /// Makes a party that hasn't joined join, behind a handle that has to be empty.
-pub(crate) fn join<H: Handle, S: Handle>(handle: &mut H, alloc: Global, joined: &mut S) -> u32
-where
-    H::Made: Shares<S::Made>,
+pub(crate) fn join<M: Shares<P>, P: Drop, H: Handle<M>, S: Handle<P>>(
+    handle: &mut H,
+    alloc: Global,
+    joined: &mut S,
+) -> u32
     ensures { AnswersJoin (H.made handle.old) (H.made handle.new) (S.made joined.old) (S.made joined.new)
-        result H.Made.left H.Made.with_party H.Made.joins }
+        result M.left M.with_party M.joins }
 {
     if is_made(joined) {
         return code::ALREADY_INITIALIZED;
@@ -192,22 +171,23 @@ where
     let Some(shared) = handle.made_mut() else {
         return code::UNINITIALIZED;
     };
-    match shared.deal(alloc) {
-        Ok(dealt) => {
-            joined.put(dealt);
-            code::OK
-        }
-        Err(code) => code,
-    }
+    let dealt = match shared.deal(alloc) {
+        Ok(dealt) => dealt,
+        Err(code) => return code,
+    };
+    joined.put(dealt);
+    code::OK
 }
 
 /// Ends a party, whose handle is empty then. It may join again.
-pub(crate) fn leave<H: Handle, S: Handle>(handle: &mut H, alloc: Global, joined: &mut S) -> u32
-where
-    H::Made: Shares<S::Made>,
-    requires { IfBoth (H.made handle.old) (S.made joined.old) H.Made.knows }
+pub(crate) fn leave<M: Shares<P>, P: Drop, H: Handle<M>, S: Handle<P>>(
+    handle: &mut H,
+    alloc: Global,
+    joined: &mut S,
+) -> u32
+    requires { IfBoth (H.made handle.old) (S.made joined.old) M.knows }
     ensures { AnswersLeave (H.made handle.old) (H.made handle.new) (S.made joined.old)
-        (S.made joined.new) result H.Made.is_at H.Made.leaves H.Made.with_party }
+        (S.made joined.new) result M.is_at M.leaves M.with_party }
 {
     let Some(shared) = handle.made_mut() else {
         return code::UNINITIALIZED;

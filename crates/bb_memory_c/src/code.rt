@@ -60,11 +60,9 @@ pub(crate) const NO_READER: u32 = 25;
 pub(crate) fn codes_law()
     ensures requests { (ok ≡ 0) × (size_is_zero ≡ 1) × (size_too_large ≡ 2)
         × (alignment_failure ≡ 3) × (out_of_memory ≡ 4) × (invalid_layout ≡ 7) }
-    ensures resizes { (grow_would_shrink ≡ 5) × (shrink_would_grow ≡ 6) × (layout_mismatch ≡ 13)
-        × (more_than_reserved ≡ 15) }
+    ensures resizes { (grow_would_shrink ≡ 5) × (shrink_would_grow ≡ 6) × (layout_mismatch ≡ 13) × (more_than_reserved ≡ 15) }
     ensures handles { (uninitialized ≡ 8) × (not_held ≡ 9) × (already_initialized ≡ 10)
         × (invalid_argument ≡ 11) × (malloc_refused ≡ 14) × (no_bucket ≡ 16) × (not_a_bucket ≡ 22) }
     ensures shared { (no_party ≡ 12) × (parties_joined ≡ 18) × (one_party ≡ 19)
-        × (detached_full ≡ 20) × (detached_empty ≡ 21) × (other_pool ≡ 23)
-        × (readers_left ≡ 24) × (no_reader ≡ 25) }
+        × (detached_full ≡ 20) × (detached_empty ≡ 21) × (other_pool ≡ 23) × (readers_left ≡ 24) × (no_reader ≡ 25) }
 {}

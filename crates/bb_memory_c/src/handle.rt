@@ -2,15 +2,10 @@
 //! is passed to C; all have the same two fields. The host holds a handle in a variable of its own, and passes that by its
 //! address. An empty one has both fields zero. It may be moved, and then the old one isn't used.
 ghost use Rattle.std.specs.Prelude.{◌≡◌, Option, Some, None, MatchOption};
-ghost use Rattle.std.specs.Borrow.{sem, LendsSo};
-ghost use Rattle.std.specs.declared.alloc.Global.{Global as Heap};
-ghost use Rattle.bb_memory.specs.Bump.{Bump};
-ghost use Rattle.bb_memory.specs.OneChunk.{OneChunk};
-ghost use Rattle.bb_memory.specs.Pool.{CountedPool};
-ghost use Rattle.bb_memory.specs.SharedBump.{BumpParty};
-ghost use Rattle.bb_memory.specs.SharedPoolCaching.{CachingParty};
+ghost use Rattle.std.specs.Borrow.{sem, Lends, LendsSo};
 ghost use Rattle.bb_memory_c.specs.Handles.{owns_if};
-ghost use Rattle.bb_memory_c.specs.SharedPools.{Detached as Inside, PoolParties as SharedPool};
+ghost use Rattle.bb_memory_c.specs.contracts.held.Held.{the_row as held_row};
+ghost use Rattle.bb_memory_c.specs.declared.held.Held.{Held as HeldOf};
 ghost use Rattle.bb_memory_bump.specs.contracts.bump_allocator.BumpAllocator.{the_row as bump_row};
 ghost use Rattle.bb_memory_core.specs.contracts.one_chunk_allocator.OneChunkAllocator.{the_row as one_chunk_row};
 ghost use Rattle.bb_memory_c.specs.contracts.detached.Detached.{the_row as detached_row};
@@ -19,11 +14,9 @@ ghost use Rattle.bb_memory_c.specs.contracts.shared_bump.BumpParties.{the_row as
 ghost use Rattle.bb_memory_c.specs.contracts.shared_bump.JoinedBump.{the_row as bump_party_row};
 ghost use Rattle.bb_memory_c.specs.contracts.shared_pool.JoinedPool.{the_row as pool_party_row};
 ghost use Rattle.bb_memory_c.specs.contracts.shared_pool.PoolParties.{the_row as shared_pool_row};
-ghost use Rattle.bb_memory_c.specs.SharedBumps.{BumpParties as SharedBump};
 
 use crate::detached::Detached;
-use crate::held::Held;
-use crate::loose::Loose;
+use crate::held::{Held, Loose};
 use crate::pool::Pool;
 use crate::shared_bump::{BumpParties, JoinedBump};
 use crate::shared_pool::{JoinedPool, PoolParties};
@@ -33,68 +26,59 @@ use std::alloc::Global;
 use std::marker::Model;
 use std::mem;
 
-/// Copies the fields of an owner into one of another type.
-macro_rules! renamed {
-    ($owner:expr, $from:ident, $to:ident, $behind:ty) => {
-        let $from { at, made } = $owner;
-        $to {
-            at: at as *mut $behind,
-            made,
-        }
-    };
-}
-
-/// Lends what the handle owns, where it lies.
-macro_rules! lent {
-    ($handle:expr, $behind:ty) => {
-        if !$handle.made {
+impl<T> Held<T> {
+    /// Lends the value that was made, where it lies, if it owns one.
+    pub(crate) fn made_mut(&mut self) -> Option<&mut T>
+        ensures value { MatchOption result (self.old.value ≡ None) (λ lent. self.old.value ≡ Some lent.now) }
+        ensures* writes_back { sem 𝓛 (LendsSo (held_row T.row) T.row self.entry result
+            (λ after last. after.value ≡ Some last) (λ after. after.value ≡ self.old.value)) }
+    {
+        if !self.made {
             return None;
         }
-        Some(unsafe { &mut *($handle.at as *mut $behind) })
-    };
+        let at = self.at;
+        Some(unsafe { &mut *at })
+    }
 }
 
 /// A handle, which the host holds.
-pub(crate) trait Handle: Drop {
-    /// The kind of value that is made behind it.
-    type Made: Drop;
-
+pub(crate) trait Handle<M: Drop>: Drop {
     /// The value that was made, if the handle isn't empty.
-    ghost made: { Self → Option Self.Made };
+    ghost made: { Self → Option M };
 
     /// The handle of what is held.
-    fn of(held: Held<Self::Made>) -> Self
-        ensures { made result ≡ held.value };
+    ghost of: { HeldOf M → Self };
 
-    /// Returns the value that it owns.
-    fn into_held(self) -> Held<Self::Made>
-        ensures { result.value ≡ made self };
+    /// Lends what it holds, by the one type for all kinds.
+    fn held(&mut self) -> &mut Held<M>
+        ensures* writes_back { sem 𝓛 (Lends Self.row (held_row M.row) self.entry result of) }
+        ensures value { result.now.value ≡ made self.old }
+        ensures kept { (held : HeldOf M) → made (of held) ≡ held.value };
 
     /// Lends the value that was made, where it lies, if the handle isn't empty. The handle isn't written.
-    fn made_mut(&mut self) -> Option<&mut Self::Made>
+    final fn made_mut(&mut self) -> Option<&mut M>
         ensures value { MatchOption result (made self.old ≡ None) (λ lent. made self.old ≡ Some lent.now) }
-        ensures* writes_back { sem 𝓛 (LendsSo Self.row Self.Made.row self.entry result
-            (λ after last. made after ≡ Some last) (λ after. made after ≡ made self.old)) };
+        ensures* writes_back { sem 𝓛 (LendsSo Self.row M.row self.entry result
+            (λ after last. made after ≡ Some last) (λ after. made after ≡ made self.old)) }
+    {
+        self.held().made_mut()
+    }
 
     /// Owns this from now on. What it owned before is forgotten, so it has to be empty.
-    final fn put(&mut self, fresh: Box<Self::Made>)
+    final fn put(&mut self, fresh: Box<M>)
         requires { made self.old ≡ None }
         ensures { made self.new ≡ Some fresh.value }
     {
-        *self = Self::of(Held::of_loose(Loose::of(fresh)));
+        *self.held() = Held::of_loose(Loose::of(fresh));
     }
 
     /// Takes out the value that it owned, if it wasn't empty. The handle is empty then.
-    final fn take(&mut self, alloc: Global) -> Option<Box<Self::Made>>
+    final fn take(&mut self, alloc: Global) -> Option<Box<M>>
         ensures empty { made self.new ≡ None }
-        ensures value { MatchOption result (made self.old ≡ None)
-            (λ taken. made self.old ≡ Some taken.value) }
+        ensures value { MatchOption result (made self.old ≡ None) (λ taken. made self.old ≡ Some taken.value) }
     {
-        let held = mem::replace(self, Self::of(Held::nothing(alloc))).into_held();
-        match held.into_loose(alloc) {
-            Some(loose) => Some(loose.into_box()),
-            None => None,
-        }
+        let held = mem::replace(self.held(), Held::nothing(alloc));
+        held.into_loose(alloc).map(|loose| loose.into_box())
     }
 }
 
@@ -104,31 +88,20 @@ pub(crate) trait Handle: Drop {
 pub struct BumpHandle {
     at: *mut u8,
     made: bool,
-    pub ghost heap: { Heap },
-    pub ghost value: { Option Bump },
+    pub ghost value: { Option bump_row.Denot },
 }
 
 impl Model for BumpHandle {
-    ghost also_owns = { λ h. owns_if bump_row h.heap h.made h.at h.value };
+    ghost also_owns = { λ h. owns_if bump_row h.made h.at h.value };
 }
 
-impl Handle for BumpHandle {
-    type Made = BumpAllocator;
-
+impl Handle<BumpAllocator> for BumpHandle {
     ghost made = { λ h. h.value };
 
-    fn of(held: Held<BumpAllocator>) -> BumpHandle
-        ensures { result.value ≡ held.value }
-    {
-        renamed! { held, Held, BumpHandle, u8 }
-    }
+    ghost of = { λ held. record { at = held.at; made = held.made; value = held.value } };
 
-    fn into_held(self) -> Held<BumpAllocator> {
-        renamed! { self, BumpHandle, Held, BumpAllocator }
-    }
-
-    fn made_mut(&mut self) -> Option<&mut BumpAllocator> {
-        lent! { self, BumpAllocator }
+    fn held(&mut self) -> &mut Held<BumpAllocator> {
+        unsafe { &mut *(self as *mut Self as *mut Held<BumpAllocator>) }
     }
 }
 
@@ -138,31 +111,20 @@ impl Handle for BumpHandle {
 pub struct OneChunkHandle {
     at: *mut u8,
     made: bool,
-    pub ghost heap: { Heap },
-    pub ghost value: { Option OneChunk },
+    pub ghost value: { Option one_chunk_row.Denot },
 }
 
 impl Model for OneChunkHandle {
-    ghost also_owns = { λ h. owns_if one_chunk_row h.heap h.made h.at h.value };
+    ghost also_owns = { λ h. owns_if one_chunk_row h.made h.at h.value };
 }
 
-impl Handle for OneChunkHandle {
-    type Made = OneChunkAllocator;
-
+impl Handle<OneChunkAllocator> for OneChunkHandle {
     ghost made = { λ h. h.value };
 
-    fn of(held: Held<OneChunkAllocator>) -> OneChunkHandle
-        ensures { result.value ≡ held.value }
-    {
-        renamed! { held, Held, OneChunkHandle, u8 }
-    }
+    ghost of = { λ held. record { at = held.at; made = held.made; value = held.value } };
 
-    fn into_held(self) -> Held<OneChunkAllocator> {
-        renamed! { self, OneChunkHandle, Held, OneChunkAllocator }
-    }
-
-    fn made_mut(&mut self) -> Option<&mut OneChunkAllocator> {
-        lent! { self, OneChunkAllocator }
+    fn held(&mut self) -> &mut Held<OneChunkAllocator> {
+        unsafe { &mut *(self as *mut Self as *mut Held<OneChunkAllocator>) }
     }
 }
 
@@ -172,31 +134,20 @@ impl Handle for OneChunkHandle {
 pub struct PoolHandle {
     at: *mut u8,
     made: bool,
-    pub ghost heap: { Heap },
-    pub ghost value: { Option CountedPool },
+    pub ghost value: { Option pool_row.Denot },
 }
 
 impl Model for PoolHandle {
-    ghost also_owns = { λ h. owns_if pool_row h.heap h.made h.at h.value };
+    ghost also_owns = { λ h. owns_if pool_row h.made h.at h.value };
 }
 
-impl Handle for PoolHandle {
-    type Made = Pool;
-
+impl Handle<Pool> for PoolHandle {
     ghost made = { λ h. h.value };
 
-    fn of(held: Held<Pool>) -> PoolHandle
-        ensures { result.value ≡ held.value }
-    {
-        renamed! { held, Held, PoolHandle, u8 }
-    }
+    ghost of = { λ held. record { at = held.at; made = held.made; value = held.value } };
 
-    fn into_held(self) -> Held<Pool> {
-        renamed! { self, PoolHandle, Held, Pool }
-    }
-
-    fn made_mut(&mut self) -> Option<&mut Pool> {
-        lent! { self, Pool }
+    fn held(&mut self) -> &mut Held<Pool> {
+        unsafe { &mut *(self as *mut Self as *mut Held<Pool>) }
     }
 }
 
@@ -206,31 +157,20 @@ impl Handle for PoolHandle {
 pub struct SharedBumpHandle {
     at: *mut u8,
     made: bool,
-    pub ghost heap: { Heap },
-    pub ghost value: { Option SharedBump },
+    pub ghost value: { Option shared_bump_row.Denot },
 }
 
 impl Model for SharedBumpHandle {
-    ghost also_owns = { λ h. owns_if shared_bump_row h.heap h.made h.at h.value };
+    ghost also_owns = { λ h. owns_if shared_bump_row h.made h.at h.value };
 }
 
-impl Handle for SharedBumpHandle {
-    type Made = BumpParties;
-
+impl Handle<BumpParties> for SharedBumpHandle {
     ghost made = { λ h. h.value };
 
-    fn of(held: Held<BumpParties>) -> SharedBumpHandle
-        ensures { result.value ≡ held.value }
-    {
-        renamed! { held, Held, SharedBumpHandle, u8 }
-    }
+    ghost of = { λ held. record { at = held.at; made = held.made; value = held.value } };
 
-    fn into_held(self) -> Held<BumpParties> {
-        renamed! { self, SharedBumpHandle, Held, BumpParties }
-    }
-
-    fn made_mut(&mut self) -> Option<&mut BumpParties> {
-        lent! { self, BumpParties }
+    fn held(&mut self) -> &mut Held<BumpParties> {
+        unsafe { &mut *(self as *mut Self as *mut Held<BumpParties>) }
     }
 }
 
@@ -240,31 +180,20 @@ impl Handle for SharedBumpHandle {
 pub struct BumpPartyHandle {
     at: *mut u8,
     made: bool,
-    pub ghost heap: { Heap },
-    pub ghost value: { Option BumpParty },
+    pub ghost value: { Option bump_party_row.Denot },
 }
 
 impl Model for BumpPartyHandle {
-    ghost also_owns = { λ h. owns_if bump_party_row h.heap h.made h.at h.value };
+    ghost also_owns = { λ h. owns_if bump_party_row h.made h.at h.value };
 }
 
-impl Handle for BumpPartyHandle {
-    type Made = JoinedBump;
-
+impl Handle<JoinedBump> for BumpPartyHandle {
     ghost made = { λ h. h.value };
 
-    fn of(held: Held<JoinedBump>) -> BumpPartyHandle
-        ensures { result.value ≡ held.value }
-    {
-        renamed! { held, Held, BumpPartyHandle, u8 }
-    }
+    ghost of = { λ held. record { at = held.at; made = held.made; value = held.value } };
 
-    fn into_held(self) -> Held<JoinedBump> {
-        renamed! { self, BumpPartyHandle, Held, JoinedBump }
-    }
-
-    fn made_mut(&mut self) -> Option<&mut JoinedBump> {
-        lent! { self, JoinedBump }
+    fn held(&mut self) -> &mut Held<JoinedBump> {
+        unsafe { &mut *(self as *mut Self as *mut Held<JoinedBump>) }
     }
 }
 
@@ -274,31 +203,20 @@ impl Handle for BumpPartyHandle {
 pub struct SharedPoolHandle {
     at: *mut u8,
     made: bool,
-    pub ghost heap: { Heap },
-    pub ghost value: { Option SharedPool },
+    pub ghost value: { Option shared_pool_row.Denot },
 }
 
 impl Model for SharedPoolHandle {
-    ghost also_owns = { λ h. owns_if shared_pool_row h.heap h.made h.at h.value };
+    ghost also_owns = { λ h. owns_if shared_pool_row h.made h.at h.value };
 }
 
-impl Handle for SharedPoolHandle {
-    type Made = PoolParties;
-
+impl Handle<PoolParties> for SharedPoolHandle {
     ghost made = { λ h. h.value };
 
-    fn of(held: Held<PoolParties>) -> SharedPoolHandle
-        ensures { result.value ≡ held.value }
-    {
-        renamed! { held, Held, SharedPoolHandle, u8 }
-    }
+    ghost of = { λ held. record { at = held.at; made = held.made; value = held.value } };
 
-    fn into_held(self) -> Held<PoolParties> {
-        renamed! { self, SharedPoolHandle, Held, PoolParties }
-    }
-
-    fn made_mut(&mut self) -> Option<&mut PoolParties> {
-        lent! { self, PoolParties }
+    fn held(&mut self) -> &mut Held<PoolParties> {
+        unsafe { &mut *(self as *mut Self as *mut Held<PoolParties>) }
     }
 }
 
@@ -308,31 +226,20 @@ impl Handle for SharedPoolHandle {
 pub struct PoolPartyHandle {
     at: *mut u8,
     made: bool,
-    pub ghost heap: { Heap },
-    pub ghost value: { Option CachingParty },
+    pub ghost value: { Option pool_party_row.Denot },
 }
 
 impl Model for PoolPartyHandle {
-    ghost also_owns = { λ h. owns_if pool_party_row h.heap h.made h.at h.value };
+    ghost also_owns = { λ h. owns_if pool_party_row h.made h.at h.value };
 }
 
-impl Handle for PoolPartyHandle {
-    type Made = JoinedPool;
-
+impl Handle<JoinedPool> for PoolPartyHandle {
     ghost made = { λ h. h.value };
 
-    fn of(held: Held<JoinedPool>) -> PoolPartyHandle
-        ensures { result.value ≡ held.value }
-    {
-        renamed! { held, Held, PoolPartyHandle, u8 }
-    }
+    ghost of = { λ held. record { at = held.at; made = held.made; value = held.value } };
 
-    fn into_held(self) -> Held<JoinedPool> {
-        renamed! { self, PoolPartyHandle, Held, JoinedPool }
-    }
-
-    fn made_mut(&mut self) -> Option<&mut JoinedPool> {
-        lent! { self, JoinedPool }
+    fn held(&mut self) -> &mut Held<JoinedPool> {
+        unsafe { &mut *(self as *mut Self as *mut Held<JoinedPool>) }
     }
 }
 
@@ -342,31 +249,20 @@ impl Handle for PoolPartyHandle {
 pub struct DetachedHandle {
     at: *mut u8,
     made: bool,
-    pub ghost heap: { Heap },
-    pub ghost value: { Option Inside },
+    pub ghost value: { Option detached_row.Denot },
 }
 
 impl Model for DetachedHandle {
-    ghost also_owns = { λ h. owns_if detached_row h.heap h.made h.at h.value };
+    ghost also_owns = { λ h. owns_if detached_row h.made h.at h.value };
 }
 
-impl Handle for DetachedHandle {
-    type Made = Detached;
-
+impl Handle<Detached> for DetachedHandle {
     ghost made = { λ h. h.value };
 
-    fn of(held: Held<Detached>) -> DetachedHandle
-        ensures { result.value ≡ held.value }
-    {
-        renamed! { held, Held, DetachedHandle, u8 }
-    }
+    ghost of = { λ held. record { at = held.at; made = held.made; value = held.value } };
 
-    fn into_held(self) -> Held<Detached> {
-        renamed! { self, DetachedHandle, Held, Detached }
-    }
-
-    fn made_mut(&mut self) -> Option<&mut Detached> {
-        lent! { self, Detached }
+    fn held(&mut self) -> &mut Held<Detached> {
+        unsafe { &mut *(self as *mut Self as *mut Held<Detached>) }
     }
 }
 

@@ -1,24 +1,23 @@
-//! The pointer that a handle holds.
+//! The pointer that a handle holds, and a box whose pointer is in sight.
 ghost use Rattle.std.specs.Prelude.{◌≡◌, Option, Some, None, MatchOption};
-ghost use Rattle.std.specs.declared.alloc.Global.{Global as Heap};
+ghost use Rattle.std.specs.Box.Ownership.{box_owns};
+ghost use Rattle.bb_memory_c.specs.Handles.{owns_if};
 
-use crate::loose::Loose;
-use std::alloc::Global;
+use std::alloc::{Allocator, Global};
 use std::marker::Model;
 use std::ptr;
 
 /// Nothing, or the owner of what was made.
+#[repr(C)]
+#[derive(Drop)]
 pub(crate) struct Held<T> {
     pub(crate) at: *mut T,
     pub(crate) made: bool,
-    pub(crate) ghost heap: { Heap },
     pub(crate) ghost value: { Option T },
 }
 
 impl<T> Model for Held<T> {
-    ghost use Rattle.bb_memory_c.specs.Handles.{owns_if};
-
-    ghost also_owns = { λ h. owns_if T.row h.heap h.made h.at h.value };
+    ghost also_owns = { λ h. owns_if T.row h.made h.at h.value };
 }
 
 impl<T> Held<T> {
@@ -50,5 +49,34 @@ impl<T> Held<T> {
         } else {
             None
         }
+    }
+}
+
+/// The parts of a box, which owns the value behind the pointer.
+pub(crate) struct Loose<T, A: Allocator> {
+    pub(crate) at: *mut T,
+    pub(crate) alloc: A,
+    pub(crate) ghost value: { T },
+}
+
+impl<T, A: Allocator> Model for Loose<T, A> {
+    ghost also_owns = { λ l. box_owns (A.dealloc_token l.alloc) T.row l.at l.value };
+}
+
+impl<T: Drop, A: Allocator> Loose<T, A> {
+    /// The parts of a box.
+    pub(crate) fn of(value: Box<T, A>) -> Loose<T, A>
+        ensures { result.value ≡ value.value }
+    {
+        let (at, alloc) = Box::into_raw_with_allocator(value);
+        Loose { at, alloc }
+    }
+
+    /// The box of these parts.
+    pub(crate) fn into_box(self) -> Box<T, A>
+        ensures { result.value ≡ self.value }
+    {
+        let Loose { at, alloc } = self;
+        unsafe { Box::from_raw(alloc, at) }
     }
 }

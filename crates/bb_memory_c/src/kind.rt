@@ -11,28 +11,25 @@ use bb_memory::allocator::AllocationError;
 use bb_memory::layout::{Chunk, Layout};
 use std::alloc::Global;
 
-/// Fills a C struct of type `I` with its figures.
-pub(crate) trait Shows<I>: Drop {
+/// Gives chunks, and fills a C struct of type `I` with its figures.
+pub(crate) trait Gives<I>: Drop {
+    /// The answers that a request may have, and the value that is there then.
+    ghost may_give: { Self → Asked → Result Chunk AllocationError → Self → Type 0 };
+
     /// The struct may be filled so, and what is there then.
     ghost may_show: { Self → I → Self → Type 0 };
+
+    /// Asks for a chunk.
+    fn give(&mut self, layout: Layout) -> Result<Chunk, AllocationError>
+        ensures { may_give self.old layout result self.new };
 
     /// Returns the filled struct.
     fn show(&mut self) -> I
         ensures { may_show self.old result self.new };
 }
 
-/// Gives chunks.
-pub(crate) trait Gives: Drop {
-    /// The answers that a request may have, and the value that is there then.
-    ghost may_give: { Self → Asked → Result Chunk AllocationError → Self → Type 0 };
-
-    /// Asks for a chunk.
-    fn give(&mut self, layout: Layout) -> Result<Chunk, AllocationError>
-        ensures { may_give self.old layout result self.new };
-}
-
 /// Knows its chunks by their places.
-pub(crate) trait Keeps: Gives {
+pub(crate) trait Keeps: Drop {
     /// A chunk is held at this place.
     ghost holds: { Self → ℕ → Type 0 };
 
@@ -84,8 +81,8 @@ pub(crate) trait Shares<S: Drop>: Drop {
     /// Where the party is of what begins at the same place, it is of this.
     ghost knows: { Self → S → Type 0 };
 
-    /// A party before and after it has left.
-    ghost leaves: { S → S → Type 0 };
+    /// A party before and after it has left: the same, where a kind says no more.
+    ghost leaves: { S → S → Type 0 } = { λ party after. after ≡ party };
 
     /// Makes the last party that hasn't joined join, in memory of its own.
     fn deal(&mut self, alloc: Global) -> Result<Box<S>, u32>

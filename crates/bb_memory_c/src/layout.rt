@@ -1,10 +1,9 @@
 //! Layouts of two numbers that C hands in.
-ghost use Rattle.std.specs.Prelude.{◌≡◌, ◌≢◌, ◌↔◌, IfOk, IfErr, IfSome, IsTrue, None, Some, Err};
+ghost use Rattle.std.specs.Prelude.{◌≡◌, ◌≢◌, ◌↔◌, IfOk, IfErr, IfSome, None, Some, Err};
 ghost use Rattle.std.specs.Align.{IsLayout};
 ghost use Rattle.bb_memory_traits.specs.declared.layout.Layout.{Layout as Asked};
 ghost use Rattle.bb_memory_traits.specs.Chunk.{region_at};
 ghost use Rattle.bb_memory_c.specs.Answers.{invalid_argument, invalid_layout, no_bucket};
-ghost use Rattle.bb_memory.specs.Pool.{MayBeCut};
 ghost use Rattle.bb_memory_c.specs.Calls.{FailsOf, HasRoom, IsCuttable, IsOf, LacksRoomOf, MayBeShared};
 
 use crate::code;
@@ -29,26 +28,15 @@ pub(crate) fn layouts_of(
     new_size: usize,
     new_align: usize,
 ) -> Option<(Layout, Layout)>
-    ensures each { (old new : Asked) → IsOf old_size old_align old → IsOf new_size new_align new
-        → result ≡ Some (old, new) }
-    ensures none { ¬ (IsLayout old_size old_align × IsLayout new_size new_align)
-        → result ≡ None }
+    ensures each { (old new : Asked) → IsOf old_size old_align old → IsOf new_size new_align new → result ≡ Some (old, new) }
+    ensures none { ¬ (IsLayout old_size old_align × IsLayout new_size new_align) → result ≡ None }
 {
     let old = layout_of(old_size, old_align)?;
     let new = layout_of(new_size, new_align)?;
     Some((old, new))
 }
 
-/// Tests that the region of `size` bytes at `start`, which may be cut into buckets of this layout, has room for one.
-fn has_room(layout: Layout, start: usize, size: usize) -> bool
-    requires { MayBeCut (region_at start size) layout }
-    ensures { IsTrue result ↔ HasRoom (region_at start size) layout }
-{
-    FixedSizePoolAllocator::<1>::new(layout, start, size).number_of_buckets() > 0
-}
-
-/// The layout of this size and this alignment, into buckets of which the region of `size` bytes at `start` may be cut for so many
-/// parties and has room for one, or the code for why there is none.
+/// The layout of a bucket, where the region may be cut so for these parties with room for one, or the code for why there is none.
 pub(crate) fn cut_into(
     bucket_size: usize,
     bucket_align: usize,
@@ -61,10 +49,8 @@ pub(crate) fn cut_into(
     ensures invalid_argument { (result ≡ Err invalid_argument)
         ↔ FailsOf bucket_size bucket_align (MayBeShared (region_at start size) parties) }
     ensures no_bucket { (result ≡ Err no_bucket)
-        ↔ LacksRoomOf bucket_size bucket_align (MayBeShared (region_at start size) parties)
-        (HasRoom (region_at start size)) }
-    ensures others { IfErr result (λ code. code ≢ invalid_layout → code ≢ invalid_argument
-        → code ≡ no_bucket) }
+        ↔ LacksRoomOf bucket_size bucket_align (MayBeShared (region_at start size) parties) (HasRoom (region_at start size)) }
+    ensures others { IfErr result (λ code. code ≢ invalid_layout → code ≢ invalid_argument → code ≡ no_bucket) }
 {
     let Some(bucket) = layout_of(bucket_size, bucket_align) else {
         return Err(code::INVALID_LAYOUT);
@@ -72,7 +58,7 @@ pub(crate) fn cut_into(
     if parties == 0 || !PoolAllocator::<Global>::can_make(bucket, start, size) {
         return Err(code::INVALID_ARGUMENT);
     }
-    if !has_room(bucket, start, size) {
+    if FixedSizePoolAllocator::<1>::new(bucket, start, size).number_of_buckets() == 0 {
         return Err(code::NO_BUCKET);
     }
     Ok(bucket)

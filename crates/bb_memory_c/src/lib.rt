@@ -7,8 +7,7 @@
 //!
 //! - `code`: what the functions answer. `answer`: a chunk, a figure or all figures, as C sees them.
 //! - `layout`: layouts of two numbers that C hands in.
-//! - `loose`: a box whose pointer is in sight. `held`: what was made, or nothing. `handle`: what the host holds, by a type for
-//!   each kind.
+//! - `held`: what was made, or nothing. `handle`: what the host holds, by a type for each kind.
 //! - `kind`: what a call asks of a kind. `call`: each call, written once over any handle.
 //! - `bump`, `one_chunk`, `pool`: the exported functions of each allocator with one owner.
 //! - `shared_bump`, `shared_pool`: what threads share, its parties, and the exported functions of both.
@@ -26,7 +25,6 @@ mod handle;
 mod held;
 mod kind;
 mod layout;
-mod loose;
 mod one_chunk;
 mod pool;
 mod shared_bump;

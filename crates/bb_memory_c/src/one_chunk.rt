@@ -1,24 +1,21 @@
 //! A one-chunk allocator behind a handle.
-ghost use Rattle.std.specs.Prelude.{◌≡◌, ◌≤◌, ◌%◌, None, Some};
+ghost use Rattle.std.specs.Prelude.{◌≡◌, None, Some};
 ghost use Rattle.bb_memory_traits.specs.Chunk.{IsRegion, region_at};
 ghost use Rattle.bb_memory.specs.OneChunk.{one_chunk_of};
-ghost use Rattle.bb_memory_traits.specs.OneChunkObject.{MayGrow, MayShrink, reserved_at};
-ghost use Rattle.bb_memory_c.specs.Answers.{AnswersStill, TellsOfLayouts, TellsResized, grow_code, no_figure, shrink_code};
-ghost use Rattle.bb_memory_c.specs.Answers.{uninitialized};
+ghost use Rattle.bb_memory_c.specs.Answers.{AnswersStill, TellsOfLayouts, no_figure, uninitialized};
 ghost use Rattle.bb_memory_c.specs.Calls.{Answers, AnswersFree, AnswersInfo, AnswersMake, AnswersRequest, AnswersResize};
 ghost use Rattle.bb_memory_c.specs.Calls.{AnswersReturn, AnswersWhether};
-ghost use Rattle.bb_memory_c.specs.OneOwner.{OneChunkAllocates, ShowsOneChunk, TellsReserved};
+ghost use Rattle.bb_memory_c.specs.OneOwner.{OneChunkAllocates, ShowsOneChunk, TellsGrow, TellsReserved, TellsShrink};
 
 use crate::answer::{Answer, Figure, OneChunkInfo};
 use crate::call::{free, give_back, holds, info, is_made, keep, request};
 use crate::code;
 use crate::handle::{Handle, OneChunkHandle};
-use crate::kind::{Gives, Keeps, Shows};
+use crate::kind::{Gives, Keeps};
 use crate::layout::layouts_of;
+use bb_memory::allocator::{AllocationError, Allocator, BaseAllocator};
 use bb_memory::layout::{Chunk, Layout};
-use bb_memory::one_chunk_allocator::{
-    AllocationError, Allocator, BaseAllocator, OneChunkAllocator,
-};
+use bb_memory::one_chunk_allocator::OneChunkAllocator;
 use std::alloc::Global;
 
 /// Makes a one-chunk allocator over the region of `size` bytes at `start`, behind a handle that has to be empty. The start
@@ -74,8 +71,7 @@ pub extern "C" fn bb_one_chunk_deallocate(handle: &mut OneChunkHandle, place: us
 /// Tells whether this is the place of the chunk that is out: 1 or 0.
 #[unsafe(no_mangle)]
 pub extern "C" fn bb_one_chunk_holds(handle: &mut OneChunkHandle, place: usize) -> Figure
-    ensures { AnswersWhether handle.old.value handle.new.value result
-        (λ one. one.kept ≡ Some place) }
+    ensures { AnswersWhether handle.old.value handle.new.value result (λ one. one.kept ≡ Some place) }
 {
     holds(handle, place)
 }
@@ -105,9 +101,7 @@ pub extern "C" fn bb_one_chunk_info(handle: &mut OneChunkHandle, to: &mut OneChu
 
 /// Checks that the chunk at this place is held and fits the old layout, then grows it.
 fn grow(one: &mut OneChunkAllocator, place: usize, layouts: Option<(Layout, Layout)>) -> Answer
-    ensures { AnswersStill one.old one.new (TellsOfLayouts layouts result (λ from to.
-        TellsResized (one.old.kept ≡ Some place) (place % from.align ≡ 0) grow_code
-        (MayGrow one.old.region place from to) result)) }
+    ensures { AnswersStill one.old one.new (TellsOfLayouts layouts result (TellsGrow one.old place result)) }
 {
     let Some((from, to)) = layouts else {
         return Answer::refusal(code::INVALID_LAYOUT);
@@ -131,24 +125,22 @@ pub extern "C" fn bb_one_chunk_grow(
     new_size: usize,
     new_align: usize,
 ) -> Answer
-    ensures { AnswersResize handle.old.value handle.new.value
-        old_size old_align new_size new_align result (λ one from to.
-        TellsResized (one.kept ≡ Some place) (place % from.align ≡ 0) grow_code
-        (MayGrow one.region place from to) result) }
+    ensures { AnswersResize handle.old.value handle.new.value old_size old_align new_size new_align result
+        (λ one. TellsGrow one place result) }
 {
-    let layouts = layouts_of(old_size, old_align, new_size, new_align);
     match handle.made_mut() {
-        Some(one) => grow(one, place, layouts),
+        Some(one) => grow(
+            one,
+            place,
+            layouts_of(old_size, old_align, new_size, new_align),
+        ),
         None => Answer::refusal(code::UNINITIALIZED),
     }
 }
 
 /// Checks that the chunk at this place is held and fits the old layout, then shrinks it.
 fn shrink(one: &mut OneChunkAllocator, place: usize, layouts: Option<(Layout, Layout)>) -> Answer
-    ensures { AnswersStill one.old one.new (TellsOfLayouts layouts result (λ from to.
-        TellsResized (one.old.kept ≡ Some place)
-        ((place % from.align ≡ 0) × (from.size ≤ reserved_at one.old.region place)) shrink_code
-        (MayShrink place from to) result)) }
+    ensures { AnswersStill one.old one.new (TellsOfLayouts layouts result (TellsShrink one.old place result)) }
 {
     let Some((from, to)) = layouts else {
         return Answer::refusal(code::INVALID_LAYOUT);
@@ -172,21 +164,27 @@ pub extern "C" fn bb_one_chunk_shrink(
     new_size: usize,
     new_align: usize,
 ) -> Answer
-    ensures { AnswersResize handle.old.value handle.new.value
-        old_size old_align new_size new_align result (λ one from to.
-        TellsResized (one.kept ≡ Some place)
-        ((place % from.align ≡ 0) × (from.size ≤ reserved_at one.region place)) shrink_code
-        (MayShrink place from to) result) }
+    ensures { AnswersResize handle.old.value handle.new.value old_size old_align new_size new_align result
+        (λ one. TellsShrink one place result) }
 {
-    let layouts = layouts_of(old_size, old_align, new_size, new_align);
     match handle.made_mut() {
-        Some(one) => shrink(one, place, layouts),
+        Some(one) => shrink(
+            one,
+            place,
+            layouts_of(old_size, old_align, new_size, new_align),
+        ),
         None => Answer::refusal(code::UNINITIALIZED),
     }
 }
 
-impl Shows<OneChunkInfo> for OneChunkAllocator {
+impl Gives<OneChunkInfo> for OneChunkAllocator {
+    ghost may_give = { OneChunkAllocates };
+
     ghost may_show = { ShowsOneChunk };
+
+    fn give(&mut self, layout: Layout) -> Result<Chunk, AllocationError> {
+        self.allocate(layout)
+    }
 
     fn show(&mut self) -> OneChunkInfo {
         OneChunkInfo {
@@ -194,14 +192,6 @@ impl Shows<OneChunkInfo> for OneChunkAllocator {
             size: self.size(),
             has_chunk_available: self.has_chunk_available(),
         }
-    }
-}
-
-impl Gives for OneChunkAllocator {
-    ghost may_give = { OneChunkAllocates };
-
-    fn give(&mut self, layout: Layout) -> Result<Chunk, AllocationError> {
-        self.allocate(layout)
     }
 }
 

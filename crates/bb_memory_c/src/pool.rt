@@ -1,16 +1,16 @@
 //! A pool behind a handle.
 ghost use Rattle.std.specs.Prelude.{◌≡◌};
 ghost use Rattle.bb_memory_traits.specs.Chunk.{region_at};
-ghost use Rattle.bb_memory.specs.Pool.{held_count, Frees, HoldsPlace, MayBeCut, Takes};
+ghost use Rattle.bb_memory.specs.Pool.{CountedPool, FreesBucket, HoldsPlace, MayBeCut};
 ghost use Rattle.bb_memory_c.specs.Calls.{AnswersFree, AnswersInfo, AnswersNumber, AnswersPlace, AnswersPoolMake};
 ghost use Rattle.bb_memory_c.specs.Calls.{AnswersRequest, AnswersReturn, AnswersWhether, HasRoom};
-ghost use Rattle.bb_memory_c.specs.OneOwner.{MakesPool, pool_info};
+ghost use Rattle.bb_memory_c.specs.OneOwner.{MakesPool, PoolAllocates, ShowsPool};
 
 use crate::answer::{Answer, Figure, PoolInfo};
 use crate::call::{free, give_back, holds, info, is_made, keep, number, place, request_bucket};
 use crate::code;
 use crate::handle::PoolHandle;
-use crate::kind::{Bucketed, Gives, Keeps, Shows};
+use crate::kind::{Bucketed, Gives, Keeps};
 use crate::layout::cut_into;
 use bb_memory::layout::{Chunk, Layout};
 use bb_memory::pool_allocator::{AllocationError, BaseAllocator, PoolAllocator};
@@ -24,8 +24,6 @@ pub struct Pool {
 }
 
 impl Model for Pool {
-    ghost use Rattle.bb_memory.specs.Pool.{CountedPool};
-
     ghost Value = { CountedPool };
 
     ghost view = { λ s. s.pool };
@@ -43,8 +41,7 @@ pub extern "C" fn bb_pool_init(
     size: usize,
 ) -> u32
     ensures { AnswersPoolMake handle.old.value handle.new.value bucket_size bucket_align result
-        (MayBeCut (region_at start size)) (HasRoom (region_at start size))
-        (MakesPool (region_at start size)) }
+        (MayBeCut (region_at start size)) (HasRoom (region_at start size)) (MakesPool (region_at start size)) }
 {
     if is_made(handle) {
         return code::ALREADY_INITIALIZED;
@@ -70,8 +67,7 @@ pub extern "C" fn bb_pool_destroy(alloc: Global, handle: &mut PoolHandle) -> u32
 /// Asks for a chunk of `size` bytes at a multiple of `align`, in a bucket that isn't held.
 #[unsafe(no_mangle)]
 pub extern "C" fn bb_pool_allocate(handle: &mut PoolHandle, size: usize, align: usize) -> Answer
-    ensures { AnswersRequest handle.old.value handle.new.value size align result
-        (λ pool layout answer after. Takes pool.pool layout answer after.pool) }
+    ensures { AnswersRequest handle.old.value handle.new.value size align result PoolAllocates }
 {
     request_bucket(handle, size, align)
 }
@@ -80,7 +76,7 @@ pub extern "C" fn bb_pool_allocate(handle: &mut PoolHandle, size: usize, align: 
 #[unsafe(no_mangle)]
 pub extern "C" fn bb_pool_deallocate(handle: &mut PoolHandle, place: usize) -> u32
     ensures { AnswersReturn handle.old.value handle.new.value result
-        (λ pool. HoldsPlace pool.pool place) (λ pool after. Frees pool.pool place after.pool) }
+        (λ pool. HoldsPlace pool.pool place) (λ pool after. FreesBucket pool place after) }
 {
     give_back(handle, place)
 }
@@ -88,18 +84,15 @@ pub extern "C" fn bb_pool_deallocate(handle: &mut PoolHandle, place: usize) -> u
 /// Returns 1 where this is the place of a held bucket, else 0.
 #[unsafe(no_mangle)]
 pub extern "C" fn bb_pool_holds(handle: &mut PoolHandle, place: usize) -> Figure
-    ensures { AnswersWhether handle.old.value handle.new.value result
-        (λ pool. HoldsPlace pool.pool place) }
+    ensures { AnswersWhether handle.old.value handle.new.value result (λ pool. HoldsPlace pool.pool place) }
 {
     holds(handle, place)
 }
 
-/// Fills the struct with the pool's figures. Each bucket is looked at, to count those that are held.
+/// Fills the struct with the pool's figures.
 #[unsafe(no_mangle)]
 pub extern "C" fn bb_pool_info(handle: &mut PoolHandle, to: &mut PoolInfo) -> u32
-    ensures { AnswersInfo handle.old.value handle.new.value to.old to.new result
-        (λ pool info after. (info ≡ pool_info pool.pool.geometry (held_count pool.pool))
-        × (after ≡ pool)) }
+    ensures { AnswersInfo handle.old.value handle.new.value to.old to.new result ShowsPool }
 {
     info(handle, to)
 }
@@ -107,8 +100,7 @@ pub extern "C" fn bb_pool_info(handle: &mut PoolHandle, to: &mut PoolInfo) -> u3
 /// Where the bucket of this number begins, held or not, or `BB_NOT_A_BUCKET` where there is no such bucket.
 #[unsafe(no_mangle)]
 pub extern "C" fn bb_pool_place_at(handle: &mut PoolHandle, number: u32) -> Figure
-    ensures { AnswersPlace handle.old.value handle.new.value result number
-        (λ pool. pool.pool.geometry) }
+    ensures { AnswersPlace handle.old.value handle.new.value result number (λ pool. pool.pool.geometry) }
 {
     place(handle, number)
 }
@@ -116,15 +108,19 @@ pub extern "C" fn bb_pool_place_at(handle: &mut PoolHandle, number: u32) -> Figu
 /// The number of the bucket at this place, held or not, or `BB_NOT_A_BUCKET` where no bucket begins there.
 #[unsafe(no_mangle)]
 pub extern "C" fn bb_pool_number_at(handle: &mut PoolHandle, place: usize) -> Figure
-    ensures { AnswersNumber handle.old.value handle.new.value result place
-        (λ pool. pool.pool.geometry) }
+    ensures { AnswersNumber handle.old.value handle.new.value result place (λ pool. pool.pool.geometry) }
 {
     number(handle, place)
 }
 
-impl Shows<PoolInfo> for Pool {
-    ghost may_show = { λ pool info after. (info ≡ pool_info pool.pool.geometry (held_count pool.pool))
-        × (after ≡ pool) };
+impl Gives<PoolInfo> for Pool {
+    ghost may_give = { PoolAllocates };
+
+    ghost may_show = { ShowsPool };
+
+    fn give(&mut self, layout: Layout) -> Result<Chunk, AllocationError> {
+        self.pool.allocate(layout)
+    }
 
     fn show(&mut self) -> PoolInfo {
         PoolInfo {
@@ -134,22 +130,15 @@ impl Shows<PoolInfo> for Pool {
             max_alignment: self.pool.max_alignment(),
             number_of_buckets: self.pool.number_of_buckets() as usize,
             held_buckets: self.pool.held_buckets() as usize,
+            greatest_held: self.pool.greatest_held() as usize,
         }
-    }
-}
-
-impl Gives for Pool {
-    ghost may_give = { λ pool layout answer after. Takes pool.pool layout answer after.pool };
-
-    fn give(&mut self, layout: Layout) -> Result<Chunk, AllocationError> {
-        self.pool.allocate(layout)
     }
 }
 
 impl Keeps for Pool {
     ghost holds = { λ pool place. HoldsPlace pool.pool place };
 
-    ghost frees = { λ pool place after. Frees pool.pool place after.pool };
+    ghost frees = { FreesBucket };
 
     fn is_held(&self, place: usize) -> bool {
         self.pool.holds(place)

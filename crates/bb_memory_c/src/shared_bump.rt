@@ -1,17 +1,19 @@
 //! A shared bump behind handles: one for the bump and the parties that haven't joined, and one for each party that has.
-ghost use Rattle.std.specs.Prelude.{◌≡◌, IfSome};
+ghost use Rattle.std.specs.Prelude.{◌≡◌, IfSome, vec_capacity};
+ghost use Rattle.std.specs.Arc.{arc_value};
 ghost use Rattle.bb_memory_traits.specs.Chunk.{region_at};
-ghost use Rattle.bb_memory.specs.SharedBump.{MayTake};
+ghost use Rattle.bb_memory.specs.SharedBump.{BumpParty, MayTake};
 ghost use Rattle.bb_memory_c.specs.Answers.{uninitialized};
 ghost use Rattle.bb_memory_c.specs.Calls.{Answers, AnswersFree, AnswersInfo, AnswersJoin, AnswersLeave, AnswersMake};
 ghost use Rattle.bb_memory_c.specs.Calls.{AnswersRequest, IfBoth, IsThere, left_at, with_party};
-ghost use Rattle.bb_memory_c.specs.SharedBumps.{AreFreshOver, IsAt, IsShareable, Knows, ShowsLoad, TellsReset};
+ghost use Rattle.bb_memory_c.specs.SharedBumps.{AreFreshOver, AreUnjoined, BumpParties, IsAt, IsShareable, Knows, ShowsLoad};
+ghost use Rattle.bb_memory_c.specs.SharedBumps.{TellsReset};
 
 use crate::answer::{Answer, BumpInfo};
 use crate::call::{free, info, is_made, join, keep, leave, request};
 use crate::code;
 use crate::handle::{BumpPartyHandle, Handle, SharedBumpHandle};
-use crate::kind::{Gives, Shares, Shows};
+use crate::kind::{Gives, Shares};
 use bb_memory::bump_allocator::{AllocationError, BumpAllocator};
 use bb_memory::layout::{Chunk, Layout};
 use bb_memory::shared_bump::{BumpParty, SharedBumpAllocator};
@@ -27,10 +29,6 @@ pub struct JoinedBump {
 }
 
 impl Model for JoinedBump {
-    ghost use Rattle.std.specs.Prelude.{◌≡◌};
-    ghost use Rattle.std.specs.Arc.{arc_value};
-    ghost use Rattle.bb_memory.specs.SharedBump.{BumpParty};
-
     ghost Value = { BumpParty };
 
     ghost view = { λ s. s.party };
@@ -38,8 +36,14 @@ impl Model for JoinedBump {
     ghost invariant = { λ s. s.party.allocator ≡ arc_value s.bump };
 }
 
-impl Shows<BumpInfo> for JoinedBump {
+impl Gives<BumpInfo> for JoinedBump {
+    ghost may_give = { MayTake };
+
     ghost may_show = { ShowsLoad };
+
+    fn give(&mut self, layout: Layout) -> Result<Chunk, AllocationError> {
+        self.bump.allocate(&mut self.party, layout)
+    }
 
     fn show(&mut self) -> BumpInfo {
         let bump = &*self.bump;
@@ -54,14 +58,6 @@ impl Shows<BumpInfo> for JoinedBump {
     }
 }
 
-impl Gives for JoinedBump {
-    ghost may_give = { MayTake };
-
-    fn give(&mut self, layout: Layout) -> Result<Chunk, AllocationError> {
-        self.bump.allocate(&mut self.party, layout)
-    }
-}
-
 /// A shared bump, how many parties it has, and those of them that haven't joined.
 #[derive(Drop)]
 pub struct BumpParties {
@@ -71,31 +67,21 @@ pub struct BumpParties {
 }
 
 impl Model for BumpParties {
-    ghost use Rattle.std.specs.Prelude.{vec_capacity};
-    ghost use Rattle.std.specs.Arc.{arc_value};
-    ghost use Rattle.bb_memory_c.specs.SharedBumps.{AreUnjoined, BumpParties};
-
     ghost Value = { BumpParties };
 
     ghost view = { λ s. record { shared = arc_value s.bump; parties = s.parties.items } };
 
-    ghost invariant = { λ s. AreUnjoined (arc_value s.bump) s.count (vec_capacity s.parties)
-        s.parties.items };
+    ghost invariant = { λ s. AreUnjoined (arc_value s.bump) s.count (vec_capacity s.parties) s.parties.items };
 }
 
 impl BumpParties {
-    /// A shared bump over the region of `size` bytes at `start`, none of whose parties has joined. It is `None` where a
-    /// request for memory was refused.
+    /// A shared bump over the region of `size` bytes at `start`, with no party joined, or `None` where memory was refused.
     pub(crate) fn new(alloc: Global, start: usize, size: usize, count: u32) -> Option<BumpParties>
         requires { IsShareable (region_at start size) count }
         ensures { IfSome result (AreFreshOver (region_at start size) count) }
     {
-        let Ok((bump, parties)) = BumpAllocator::new(start, size).share(alloc, count) else {
-            return None;
-        };
-        let Ok(bump) = Arc::new(alloc, bump) else {
-            return None;
-        };
+        let (bump, parties) = BumpAllocator::new(start, size).share(alloc, count).ok()?;
+        let bump = Arc::new(alloc, bump).ok()?;
         Some(BumpParties {
             bump,
             count,
@@ -115,12 +101,8 @@ impl Shares<JoinedBump> for BumpParties {
 
     ghost knows = { Knows };
 
-    ghost leaves = { λ party after. after ≡ party };
-
     fn deal(&mut self, alloc: Global) -> Result<Box<JoinedBump>, u32> {
-        let Some(party) = self.parties.pop() else {
-            return Err(code::NO_PARTY);
-        };
+        let party = self.parties.pop().ok_or(code::NO_PARTY)?;
         let Ok(bump) = Arc::try_clone(&self.bump) else {
             self.parties.push_reserved(party);
             return Err(code::MALLOC_REFUSED);
@@ -128,8 +110,7 @@ impl Shares<JoinedBump> for BumpParties {
         match Box::new(alloc, JoinedBump { bump, party }) {
             Ok(joined) => Ok(joined),
             Err(refused) => {
-                let JoinedBump { bump: _bump, party } = refused.value;
-                self.parties.push_reserved(party);
+                self.parties.push_reserved(refused.value.party);
                 Err(code::MALLOC_REFUSED)
             }
         }
@@ -141,8 +122,7 @@ impl Shares<JoinedBump> for BumpParties {
     }
 
     fn take_back(&mut self, joined: JoinedBump) {
-        let JoinedBump { bump: _bump, party } = joined;
-        self.parties.push_reserved(party);
+        self.parties.push_reserved(joined.party);
     }
 }
 
@@ -156,8 +136,7 @@ pub extern "C" fn bb_shared_bump_init(
     size: usize,
     parties: u32,
 ) -> u32
-    ensures { AnswersMake handle.old.value handle.new.value result
-        (IsShareable (region_at start size) parties)
+    ensures { AnswersMake handle.old.value handle.new.value result (IsShareable (region_at start size) parties)
         (IsThere (AreFreshOver (region_at start size) parties)) }
 {
     if is_made(handle) {
@@ -187,14 +166,12 @@ pub extern "C" fn bb_shared_bump_join(
     handle: &mut SharedBumpHandle,
     party: &mut BumpPartyHandle,
 ) -> u32
-    ensures { AnswersJoin handle.old.value handle.new.value party.old.value party.new.value result
-        left_at with_party IsAt }
+    ensures { AnswersJoin handle.old.value handle.new.value party.old.value party.new.value result left_at with_party IsAt }
 {
     join(handle, alloc, party)
 }
 
-/// Ends a party of this bump, whose handle is empty then. It may join again. The party of a bump that begins at another place is
-/// refused with `BB_OTHER_POOL`.
+/// Ends a party of this bump, whose handle is empty then; it may join again. Another bump's party is refused (`BB_OTHER_POOL`).
 #[unsafe(no_mangle)]
 pub extern "C" fn bb_shared_bump_leave(
     alloc: Global,
@@ -208,23 +185,20 @@ pub extern "C" fn bb_shared_bump_leave(
     leave(handle, alloc, party)
 }
 
-/// Starts again over the same region, with as many parties: nothing is used, and each party can join. Each party has to have
-/// left.
+/// Starts again over the same region, with as many parties: nothing is used, and each can join. Each has to have left.
 #[unsafe(no_mangle)]
 pub extern "C" fn bb_shared_bump_reset(alloc: Global, handle: &mut SharedBumpHandle) -> u32
-    ensures { Answers handle.old.value handle.new.value (result ≡ uninitialized) (λ all after.
-        TellsReset all after result) }
+    ensures { Answers handle.old.value handle.new.value (result ≡ uninitialized) (λ all after. TellsReset all after result) }
 {
     let Some(all) = handle.made_mut() else {
         return code::UNINITIALIZED;
     };
-    let count = all.count;
-    if all.parties.len() < count as usize {
+    if all.parties.len() < all.count as usize {
         return code::PARTIES_JOINED;
     }
     let start = all.bump.start_address();
     let size = all.bump.total_space();
-    let Some(fresh) = BumpParties::new(alloc, start, size, count) else {
+    let Some(fresh) = BumpParties::new(alloc, start, size, all.count) else {
         return code::MALLOC_REFUSED;
     };
     *all = fresh;
@@ -246,8 +220,7 @@ pub extern "C" fn bb_bump_party_allocate(
     size: usize,
     align: usize,
 ) -> Answer
-    ensures { AnswersRequest handle.old.value handle.new.value size align result
-        MayTake }
+    ensures { AnswersRequest handle.old.value handle.new.value size align result MayTake }
 {
     request(handle, size, align)
 }

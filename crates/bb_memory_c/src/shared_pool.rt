@@ -1,18 +1,18 @@
-//! A shared pool behind handles: one for the pool and the parties that haven't joined, and one for each party that has, with the
-//! buckets that it holds.
-ghost use Rattle.std.specs.Prelude.{◌≡◌, IfErr, IfNone, IfOk, IfSome, count_by};
+//! A shared pool behind handles: one for the pool and the parties that haven't joined, and one for each party that has.
+ghost use Rattle.std.specs.Prelude.{◌≡◌, IfErr, IfNone, IfOk, IfSome, vec_capacity};
 ghost use Rattle.std.specs.Arc.{arc_value};
 ghost use Rattle.bb_memory_traits.specs.Chunk.{region_at};
 ghost use Rattle.bb_memory_base.specs.PoolLogs.{IsHeldAfter};
-ghost use Rattle.bb_memory.specs.SharedPoolCaching.{IsOut, ReturnsCaching};
+ghost use Rattle.bb_memory.specs.SharedPoolCaching.{CachingParty, IsOut, ReturnsCaching};
 ghost use Rattle.bb_memory_c.specs.Answers.{ok, uninitialized};
 ghost use Rattle.bb_memory_c.specs.Calls.{Answers, AnswersFree, AnswersInfo, AnswersJoin, AnswersLeave, AnswersNumber};
 ghost use Rattle.bb_memory_c.specs.Calls.{AnswersPlace, AnswersPoolMake, AnswersRequest, AnswersReturn, AnswersWhether, HasRoom};
 ghost use Rattle.bb_memory_c.specs.Calls.{IfBoth, IsThere, MayBeShared, left_at};
 ghost use Rattle.bb_memory_c.specs.OneOwner.{pool_info};
-ghost use Rattle.bb_memory_c.specs.SharedPools.{AreFlagged, AreFreshOver, GivesAllBack, GivesBack, GivesChunk, HoldsAt};
-ghost use Rattle.bb_memory_c.specs.SharedPools.{HoldsPlace, IsAt, IsIdleAt, JoinsAt, Knows, Leaves, ShowsParty, ShowsShared};
-ghost use Rattle.bb_memory_c.specs.SharedPools.{TellsCache, as_joined, emptied, geometry_of, with_left};
+ghost use Rattle.bb_memory_c.specs.SharedPools.{AreFlagged, AreFreshOver, AreUnjoined, GivesAllBack, GivesBack, GivesChunk};
+ghost use Rattle.bb_memory_c.specs.SharedPools.{HoldsAt, HoldsPlace, IsAt, IsIdleAt, IsJoinedAt, JoinsAt, Knows, Leaves};
+ghost use Rattle.bb_memory_c.specs.SharedPools.{PoolParties, ShowsParty, ShowsShared, TellsCache, as_joined, emptied};
+ghost use Rattle.bb_memory_c.specs.SharedPools.{geometry_of, with_left};
 
 use crate::answer::{Answer, Figure, PoolInfo, SharedPoolInfo};
 use crate::call::{
@@ -20,7 +20,7 @@ use crate::call::{
 };
 use crate::code;
 use crate::handle::{Handle, PoolPartyHandle, SharedPoolHandle};
-use crate::kind::{Bucketed, Gives, Keeps, Shares, Shows};
+use crate::kind::{Bucketed, Gives, Keeps, Shares};
 use crate::layout::cut_into;
 use bb_memory::layout::{Chunk, Layout};
 use bb_memory::pool_allocator::AllocationError;
@@ -32,21 +32,17 @@ use std::sync::Arc;
 /// How many flags fill two cache lines.
 const GAP: usize = 128;
 
-/// One party of a shared pool, and for each bucket whether it is out: held by the party, and not cached. Behind the flags and
-/// behind the party is a gap, so that what each call of one party writes shares no cache line with what another's calls write.
+/// One party, and for each bucket whether it is out: held, and not cached. Gaps keep what parties' calls write on lines apart.
 #[derive(Drop)]
 pub struct JoinedPool {
     pub(crate) pool: Arc<SharedPoolAllocator, Global>,
     pub(crate) party: CachingParty,
     pub(crate) out: Vec<bool>,
+    greatest: usize,
     gap: [u64; 16],
 }
 
 impl Model for JoinedPool {
-    ghost use Rattle.std.specs.Arc.{arc_value};
-    ghost use Rattle.bb_memory.specs.SharedPoolCaching.{CachingParty};
-    ghost use Rattle.bb_memory_c.specs.SharedPools.{IsJoinedAt};
-
     ghost Value = { CachingParty };
 
     ghost view = { λ s. s.party };
@@ -54,16 +50,9 @@ impl Model for JoinedPool {
     ghost invariant = { λ s. IsJoinedAt (arc_value s.pool) s.party s.out.items };
 }
 
-/// How many of the flags are set.
-fn count_set(flags: &[bool]) -> usize
-    ensures { result ≡ count_by (λ flag. flag) flags.now }
-{
-    flags.iter().filter(|flag| **flag).count()
-}
-
-/// The figures of a shared pool, of which so many buckets are held.
-fn figures_of(pool: &SharedPoolAllocator, held: usize) -> PoolInfo
-    ensures { result ≡ pool_info pool.now.scene.geometry held }
+/// The figures of a shared pool, of which so many buckets are held, and so many were.
+fn figures_of(pool: &SharedPoolAllocator, held: usize, greatest: usize) -> PoolInfo
+    ensures { result ≡ pool_info pool.now.scene.geometry held greatest }
 {
     PoolInfo {
         start_address: pool.start_address(),
@@ -72,6 +61,7 @@ fn figures_of(pool: &SharedPoolAllocator, held: usize) -> PoolInfo
         max_alignment: pool.max_alignment(),
         number_of_buckets: pool.number_of_buckets() as usize,
         held_buckets: held,
+        greatest_held: greatest,
     }
 }
 
@@ -112,20 +102,13 @@ impl JoinedPool {
             pool,
             party,
             out,
+            greatest: 0,
             gap: [0; 16],
         };
-        match Box::new(alloc, joined) {
-            Ok(joined) => Ok(joined),
-            Err(refused) => {
-                let JoinedPool {
-                    pool,
-                    party,
-                    out: _out,
-                    gap: _,
-                } = refused.value;
-                Err(party.into_party(&*pool))
-            }
-        }
+        Box::new(alloc, joined).map_err(|refused| {
+            let JoinedPool { pool, party, .. } = refused.value;
+            party.into_party(&*pool)
+        })
     }
 
     /// The number of the bucket at this place, if it is out.
@@ -133,14 +116,8 @@ impl JoinedPool {
         ensures held { IfSome result (HoldsAt self.now place) }
         ensures none { IfNone result (¬ HoldsPlace self.now place) }
     {
-        let Some(number) = self.pool.number_at(place) else {
-            return None;
-        };
-        if self.out[number as usize] {
-            Some(number)
-        } else {
-            None
-        }
+        let number = self.pool.number_at(place)?;
+        self.out[number as usize].then_some(number)
     }
 
     /// Gives back the bucket of this number, which is out.
@@ -154,47 +131,26 @@ impl JoinedPool {
         self.party.deallocate(pool, bucket);
         self.out[number as usize] = false;
     }
-
-    /// Has the party cache at most so many buckets.
-    fn cache(&mut self, alloc: Global, most: u32) -> u32
-        ensures { TellsCache self.old most result self.new }
-    {
-        match self.party.cache_at_most(alloc, &*self.pool, most) {
-            Ok(()) => code::OK,
-            Err(_) => code::MALLOC_REFUSED,
-        }
-    }
-
-    /// Gives back what is cached.
-    fn flush(&mut self)
-        ensures { self.new ≡ emptied self.old self.old.most }
-    {
-        self.party.flush(&*self.pool);
-    }
 }
 
-impl Shows<PoolInfo> for JoinedPool {
-    ghost may_show = { ShowsParty };
-
-    fn show(&mut self) -> PoolInfo {
-        figures_of(&*self.pool, count_set(&self.out))
-    }
-}
-
-impl Gives for JoinedPool {
+impl Gives<PoolInfo> for JoinedPool {
     ghost may_give = { GivesChunk };
+
+    ghost may_show = { ShowsParty };
 
     #[inline(always)]
     fn give(&mut self, layout: Layout) -> Result<Chunk, AllocationError> {
-        match self.party.allocate(&*self.pool, layout) {
-            Ok(bucket) => {
-                let number = bucket.number();
-                let chunk = bucket.chunk();
-                self.out[number as usize] = true;
-                Ok(chunk)
-            }
-            Err(error) => Err(error),
-        }
+        let bucket = self.party.allocate(&*self.pool, layout)?;
+        let number = bucket.number();
+        let chunk = bucket.chunk();
+        self.out[number as usize] = true;
+        Ok(chunk)
+    }
+
+    fn show(&mut self) -> PoolInfo {
+        let held = self.out.iter().filter(|flag| **flag).count();
+        self.greatest = self.greatest.max(held);
+        figures_of(&*self.pool, held, self.greatest)
     }
 }
 
@@ -243,27 +199,11 @@ pub struct PoolParties {
 }
 
 impl Model for PoolParties {
-    ghost use Rattle.std.specs.Prelude.{vec_capacity};
-    ghost use Rattle.std.specs.Arc.{arc_value};
-    ghost use Rattle.bb_memory_c.specs.SharedPools.{AreUnjoined, PoolParties};
-
     ghost Value = { PoolParties };
 
     ghost view = { λ s. record { shared = arc_value s.pool; parties = s.parties.items } };
 
     ghost invariant = { λ s. AreUnjoined (arc_value s.pool) (vec_capacity s.parties) s.parties.items };
-}
-
-impl Shows<SharedPoolInfo> for PoolParties {
-    ghost may_show = { ShowsShared };
-
-    fn show(&mut self) -> SharedPoolInfo {
-        let figures = self.pool.figures();
-        SharedPoolInfo {
-            pool: figures_of(&*self.pool, figures.held as usize),
-            refused: figures.refused as usize,
-        }
-    }
 }
 
 impl Shares<JoinedPool> for PoolParties {
@@ -280,9 +220,7 @@ impl Shares<JoinedPool> for PoolParties {
     ghost leaves = { Leaves };
 
     fn deal(&mut self, alloc: Global) -> Result<Box<JoinedPool>, u32> {
-        let Some(party) = self.parties.pop() else {
-            return Err(code::NO_PARTY);
-        };
+        let party = self.parties.pop().ok_or(code::NO_PARTY)?;
         match JoinedPool::new(alloc, &self.pool, party) {
             Ok(joined) => Ok(joined),
             Err(party) => {
@@ -299,21 +237,14 @@ impl Shares<JoinedPool> for PoolParties {
     }
 
     fn take_back(&mut self, joined: JoinedPool) {
-        let JoinedPool {
-            pool,
-            party,
-            out,
-            gap: _,
-        } = joined;
-        let mut party = party.into_party(&*pool);
-        give_all_back(&*pool, &mut party, &out);
+        let mut party = joined.party.into_party(&*joined.pool);
+        give_all_back(&*joined.pool, &mut party, &joined.out);
         self.parties.push_reserved(party);
     }
 }
 
 /// Makes a shared pool over the region of `size` bytes at `start`, behind a handle that has to be empty. The region is cut into
-/// buckets of `bucket_size` bytes at multiples of `bucket_align`, and has to have room for one. Each of the parties, at least
-/// one, can join.
+/// buckets of `bucket_size` bytes at multiples of `bucket_align`, with room for one. Each party, at least one, can join.
 #[unsafe(no_mangle)]
 pub extern "C" fn bb_shared_pool_init(
     alloc: Global,
@@ -357,7 +288,16 @@ pub extern "C" fn bb_shared_pool_destroy(alloc: Global, handle: &mut SharedPoolH
 pub extern "C" fn bb_shared_pool_info(handle: &mut SharedPoolHandle, to: &mut SharedPoolInfo) -> u32
     ensures { AnswersInfo handle.old.value handle.new.value to.old to.new result ShowsShared }
 {
-    info(handle, to)
+    let Some(all) = handle.made_mut() else {
+        return code::UNINITIALIZED;
+    };
+    let figures = all.pool.figures();
+    let (held, greatest) = (figures.held as usize, figures.greatest_held as usize);
+    *to = SharedPoolInfo {
+        pool: figures_of(&*all.pool, held, greatest),
+        refused: figures.refused as usize,
+    };
+    code::OK
 }
 
 /// Makes a party that hasn't joined join, behind a handle that has to be empty.
@@ -367,8 +307,7 @@ pub extern "C" fn bb_shared_pool_join(
     handle: &mut SharedPoolHandle,
     party: &mut PoolPartyHandle,
 ) -> u32
-    ensures { AnswersJoin handle.old.value handle.new.value party.old.value party.new.value result
-        left_at with_left JoinsAt }
+    ensures { AnswersJoin handle.old.value handle.new.value party.old.value party.new.value result left_at with_left JoinsAt }
 {
     join(handle, alloc, party)
 }
@@ -382,8 +321,7 @@ pub extern "C" fn bb_shared_pool_leave(
     party: &mut PoolPartyHandle,
 ) -> u32
     requires { IfBoth handle.old.value party.old.value Knows }
-    ensures { AnswersLeave handle.old.value handle.new.value party.old.value party.new.value result
-        IsAt Leaves with_left }
+    ensures { AnswersLeave handle.old.value handle.new.value party.old.value party.new.value result IsAt Leaves with_left }
 {
     leave(handle, alloc, party)
 }
@@ -403,9 +341,12 @@ pub extern "C" fn bb_pool_party_cache(alloc: Global, handle: &mut PoolPartyHandl
     ensures { Answers handle.old.value handle.new.value (result ≡ uninitialized)
         (λ joined after. TellsCache joined most result after) }
 {
-    match handle.made_mut() {
-        Some(joined) => joined.cache(alloc, most),
-        None => code::UNINITIALIZED,
+    let Some(joined) = handle.made_mut() else {
+        return code::UNINITIALIZED;
+    };
+    match joined.party.cache_at_most(alloc, &*joined.pool, most) {
+        Ok(()) => code::OK,
+        Err(_) => code::MALLOC_REFUSED,
     }
 }
 
@@ -415,31 +356,26 @@ pub extern "C" fn bb_pool_party_flush(handle: &mut PoolPartyHandle) -> u32
     ensures { Answers handle.old.value handle.new.value (result ≡ uninitialized)
         (λ joined after. (result ≡ ok) × (after ≡ emptied joined joined.most)) }
 {
-    match handle.made_mut() {
-        Some(joined) => {
-            joined.flush();
-            code::OK
-        }
-        None => code::UNINITIALIZED,
-    }
+    let Some(joined) = handle.made_mut() else {
+        return code::UNINITIALIZED;
+    };
+    joined.party.flush(&*joined.pool);
+    code::OK
 }
 
-/// Asks for a chunk of `size` bytes at a multiple of `align`, in the bucket that was cached last, or else in one that isn't held,
-/// by one search of the buckets from the party's hint on.
+/// Asks for a chunk of `size` bytes at a multiple of `align`, in the bucket cached last, or else in one that a next fit finds.
 #[unsafe(no_mangle)]
 pub extern "C" fn bb_pool_party_allocate(
     handle: &mut PoolPartyHandle,
     size: usize,
     align: usize,
 ) -> Answer
-    ensures { AnswersRequest handle.old.value handle.new.value size align result
-        GivesChunk }
+    ensures { AnswersRequest handle.old.value handle.new.value size align result GivesChunk }
 {
     request_bucket(handle, size, align)
 }
 
-/// Gives back the bucket at this place. A place that isn't that of a bucket which this party holds is refused and changes
-/// nothing.
+/// Gives back the bucket at this place. A place of no bucket that this party holds is refused and changes nothing.
 #[unsafe(no_mangle)]
 pub extern "C" fn bb_pool_party_deallocate(handle: &mut PoolPartyHandle, place: usize) -> u32
     ensures { AnswersReturn handle.old.value handle.new.value result
@@ -451,8 +387,7 @@ pub extern "C" fn bb_pool_party_deallocate(handle: &mut PoolPartyHandle, place: 
 /// Tells whether this is the place of a bucket that this party holds: 1 or 0.
 #[unsafe(no_mangle)]
 pub extern "C" fn bb_pool_party_holds(handle: &mut PoolPartyHandle, place: usize) -> Figure
-    ensures { AnswersWhether handle.old.value handle.new.value result
-        (λ party. HoldsPlace party place) }
+    ensures { AnswersWhether handle.old.value handle.new.value result (λ party. HoldsPlace party place) }
 {
     holds(handle, place)
 }
@@ -460,8 +395,7 @@ pub extern "C" fn bb_pool_party_holds(handle: &mut PoolPartyHandle, place: usize
 /// Fills the struct with the pool's figures, and with how many buckets this party holds, without those that it caches.
 #[unsafe(no_mangle)]
 pub extern "C" fn bb_pool_party_info(handle: &mut PoolPartyHandle, to: &mut PoolInfo) -> u32
-    ensures { AnswersInfo handle.old.value handle.new.value to.old to.new result
-        ShowsParty }
+    ensures { AnswersInfo handle.old.value handle.new.value to.old to.new result ShowsParty }
 {
     info(handle, to)
 }
@@ -469,8 +403,7 @@ pub extern "C" fn bb_pool_party_info(handle: &mut PoolPartyHandle, to: &mut Pool
 /// Where the bucket of this number begins, held or not, or `BB_NOT_A_BUCKET` where there is no such bucket.
 #[unsafe(no_mangle)]
 pub extern "C" fn bb_pool_party_place_at(handle: &mut PoolPartyHandle, number: u32) -> Figure
-    ensures { AnswersPlace handle.old.value handle.new.value result number
-        geometry_of }
+    ensures { AnswersPlace handle.old.value handle.new.value result number geometry_of }
 {
     place(handle, number)
 }
@@ -478,8 +411,7 @@ pub extern "C" fn bb_pool_party_place_at(handle: &mut PoolPartyHandle, number: u
 /// The number of the bucket at this place, held or not, or `BB_NOT_A_BUCKET` where no bucket begins there.
 #[unsafe(no_mangle)]
 pub extern "C" fn bb_pool_party_number_at(handle: &mut PoolPartyHandle, place: usize) -> Figure
-    ensures { AnswersNumber handle.old.value handle.new.value result place
-        geometry_of }
+    ensures { AnswersNumber handle.old.value handle.new.value result place geometry_of }
 {
     number(handle, place)
 }

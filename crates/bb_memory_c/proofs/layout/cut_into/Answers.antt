@@ -1,6 +1,7 @@
-use Rattle.std.proofs.Common.{arith, refl}
+use Rattle.std.proofs.Common.{◌<◌, ap, arith, refl}
 use Rattle.std.proofs.lemmas.Bool.{false≢true}
 use Rattle.bb_memory_traits.specs.Chunk.{region_at}
+use Rattle.bb_memory.specs.Pool.{CountedPool}
 use Rattle.bb_memory_c.specs.Calls.{MayBeShared}
 use Rattle.bb_memory_c.proofs.Layouts.{not_fails, of_this}
 use Rattle.bb_memory_c.proofs.layout.cut_into.Goals as goal
@@ -24,18 +25,28 @@ returns-then-parties-eq0-clause-no_bucket c = (
       c.in-Some.ensures.of (lacks.0, lacks.1, lacks.2))),
 )
 
-pub returns-then-not-has_room-clause-invalid_argument : goal.returns-then-not-has_room-clause-invalid_argument
-returns-then-not-has_room-clause-invalid_argument c = (
+pub returns-then-number_of_buckets-eq0-clause-invalid_argument : goal.returns-then-number_of_buckets-eq0-clause-invalid_argument
+returns-then-number_of_buckets-eq0-clause-invalid_argument c = (
   λ wrong. absurd (cc),
   λ fails. absurd (not_fails _ _ _ _
       c.in-Some.ensures.of (omega (arith, c.if-parties-eq0.false), c.can_make.ensures.0 c.if-not-can_make.false) fails),
 )
 
-pub returns-then-not-has_room-clause-no_bucket : goal.returns-then-not-has_room-clause-no_bucket
-returns-then-not-has_room-clause-no_bucket c =
+pub returns-then-number_of_buckets-eq0-clause-no_bucket : goal.returns-then-number_of_buckets-eq0-clause-no_bucket
+returns-then-number_of_buckets-eq0-clause-no_bucket c =
     let may : MayBeShared (region_at c.args.start c.args.size) c.args.parties c.in-Some.bucket =
     (omega (arith, c.if-parties-eq0.false), c.can_make.ensures.0 c.if-not-can_make.false) in
-    (λ _. (c.in-Some.bucket, c.in-Some.ensures.of, may, λ has. false≢true (c.if-not-has_room.ensures.1 has)), λ _. refl)
+    let cut = c.new.ensures.value in (
+      λ _. (
+        c.in-Some.bucket,
+        c.in-Some.ensures.of,
+        may,
+        λ has.
+            let below : 0 < cut.0.buckets = (cut.1.filled 0).1 (rw (cut.1.region, cut.1.bucket) has) in
+            omega (arith, ap (λ (p : CountedPool). p.pool.geometry.buckets) cut.2),
+      ),
+      λ _. refl,
+    )
 
 pub returns-clause-invalid_argument : goal.returns-clause-invalid_argument
 returns-clause-invalid_argument c = (

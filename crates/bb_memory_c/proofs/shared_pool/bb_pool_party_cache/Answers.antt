@@ -1,5 +1,9 @@
+use Rattle.std.proofs.Common.{rules}
 use Rattle.bb_memory_c.proofs.Made.{answers}
 use Rattle.bb_memory_c.proofs.shared_pool.bb_pool_party_cache.Goals as goal
 
-pub returns-in-Some : goal.returns-in-Some
-returns-in-Some c = answers c.in-Some.ensures.value (c.made_mut.follows.holds _) c.cache.ensures
+pub returns-in-Ok : goal.returns-in-Ok
+returns-in-Ok c = answers c.in-Some.ensures.value (c.made_mut.follows.holds _) (search rules)
+
+pub returns-in-Err : goal.returns-in-Err
+returns-in-Err c = answers c.in-Some.ensures.value (c.made_mut.follows.holds _) (search rules)

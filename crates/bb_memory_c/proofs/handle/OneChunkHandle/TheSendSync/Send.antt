@@ -3,4 +3,4 @@ use Rattle.bb_memory_c.proofs.Crossing.{IsSend, owned, owning_send, two_send}
 use Rattle.bb_memory_c.specs.contracts.handle.OneChunkHandle.{the_row, the_type}
 
 pub send : IsSend the_row
-send = owning_send the_type two_send (λ d. owned _ the_send d.heap d.made d.at d.value) (λ k x w. tt)
+send = owning_send the_type two_send (λ d. owned _ the_send d.made d.at d.value) (λ k x w. tt)

@@ -1,17 +1,15 @@
 -- `into_loose` hands out the box that was owned.
-use Rattle.bb_memory_c.proofs.Walks.{◌≡◌, List, [], ◌∷◌, ◌++◌, refl, sym, ◌∙◌, subst, lit<, true, false, a_type, impl, tnil}
-use Rattle.bb_memory_c.proofs.Walks.{dnil, inst_fn, Val, vptr, vcons, vnil, SProp, ent, emp, id⊢, ftrue, flft, WpFn, ‵, raw}
-use Rattle.bb_memory_c.proofs.Walks.{at_ret, ◌⊛◌, ◌$◌, ◌∵◌, !, qed, by, move, keep, split, fsplit, fjoin, suffices, use0}
-use Rattle.bb_memory_c.proofs.Walks.{use1, stop, fld, lit, of_opd, first, branches, exec, no_more, and_then, returns, enter}
-use Rattle.bb_memory_c.proofs.Walks.{alloc_all, pass_all, free_all, look_at, get, get_in, sets, sets_last, env, live, agg}
-use Rattle.bb_memory_c.proofs.Walks.{sub, whole, fact, fact_i, tables, yes, no, RattleType, owns, param, layout, layouts}
-use Rattle.bb_memory_c.proofs.Walks.{types_at, type_at, plain, block_ptr, nothing, Stays, stay_dropped, walk_of, Goes-dropped}
-use Rattle.bb_memory_c.proofs.Walks.{Al, Goes-blank, handle_tells, after, Good, Some-of, none_of, and_tt, proved_at, leaves}
-use Rattle.bb_memory_c.proofs.Walks.{Some, None, ghosts}
+use Rattle.bb_memory_c.proofs.Walks.{◌≡◌, List, [], ◌∷◌, ◌++◌, refl, sym, ◌∙◌, subst, lit<, true, false, a_type, impl, tnil, dnil}
+use Rattle.bb_memory_c.proofs.Walks.{inst_fn, Val, vptr, vcons, vnil, SProp, ent, emp, id⊢, ftrue, flft, WpFn, ‵, raw, at_ret}
+use Rattle.bb_memory_c.proofs.Walks.{◌⊛◌, ◌$◌, ◌∵◌, !, qed, by, move, keep, split, fsplit, fjoin, suffices, use0, use1, stop, fld}
+use Rattle.bb_memory_c.proofs.Walks.{lit, of_opd, first, branches, exec, no_more, and_then, returns, enter, alloc_all, pass_all}
+use Rattle.bb_memory_c.proofs.Walks.{free_all, look_at, get, get_in, sets, sets_last, env, live, agg, sub, whole, fact, fact_i}
+use Rattle.bb_memory_c.proofs.Walks.{tables, yes, no, RattleType, owns, param, layout, layouts, types_at, type_at, plain}
+use Rattle.bb_memory_c.proofs.Walks.{block_ptr, nothing, Stays, stay_dropped, walk_of, Goes-dropped, Al, Goes-blank, handle_tells}
+use Rattle.bb_memory_c.proofs.Walks.{after, Good, Some-of, none_of, and_tt, proved_at, leaves, Some, None, ghosts, both, Loose}
+use Rattle.bb_memory_c.proofs.Walks.{loose_good, loose_in, Held, word, word_good, ptr_good, held_out, owns_either}
 use Rattle.std.specs.contracts.alloc.Global as heap
 use Rattle.std.proofs.alloc.Global.TheLaws as heap_laws
-use Rattle.bb_memory_c.proofs.Walks.{both, Loose, loose_good, loose_in}
-use Rattle.bb_memory_c.proofs.Walks.{Held, word, word_good, ptr_good, held_out, owns_either}
 use Rattle.bb_memory_c.specs.contracts.held.Held.into_loose.{ended, clauses}
 use Rattle.bb_memory_c.specs.contracts.held.Held.into_loose.Key.{name as #self}
 use Rattle.bb_memory_c.proofs.held.Held.into_loose.Statement.{statement}
@@ -43,7 +41,7 @@ into_loose_spec 𝓤 𝓛 𝓜 𝓡 wired T L =
     let begun : (w : Val) → z.0.4.0 ≡ w ∷ [] → ent 𝓤 (Run (w ∷ h ∷ [])) (Run (z.0.4.0 ++ (z.0.4.1.0 ++ []))) = λ w e.
     subst (λ (us : List Val). ent 𝓤 (Run (w ∷ h ∷ [])) (Run us)) (sym (λ i. e i ++ (es i ++ []))) (id⊢ 𝓤 (Run (w ∷ h ∷ []))) in
     -- [what is owned; the heap; nothing; the tokens; the `requires`]
-    owns_either R ! d.heap d.made d.at d.value
+    owns_either R ! d.made d.at d.value
     (λ no_made none. let w : Val = word d.at false in
     suffices ! (Run (w ∷ h ∷ [])) (begun w (ws ∙ (λ i. word d.at (no_made i) ∷ []))) $
     enter ! 𝓣.C 𝓣.Λ fn (w ∷ h ∷ []) Post $

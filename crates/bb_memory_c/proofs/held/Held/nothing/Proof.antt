@@ -30,7 +30,7 @@ nothing_spec 𝓤 𝓛 𝓜 𝓡 wired T L =
     qed 𝓛 (((‵ (flft κs.0 qs.0) ⊛ ‵ ftrue) ⊛ ‵ (owns (types_at En.signature.params κs) z.0.3 z.0.4)) ∷ raw
     ((c κs z.0.3).requires z.1) ∷ []) ∵ split ! $ move ! (1 ∷ []) $ fsplit ! $
     handle_tells al ! z.0.3.0 z.0.4.0 (λ h ws fits. drop ! $
-    let d : (Held R).Denot = record { at = null_ptr; made = false; heap = z.0.3.0; value = None } in
+    let d : (Held R).Denot = record { at = null_ptr; made = false; value = None } in
     let made : Val = word null_ptr false in let gone : Option R.Denot = None in
     suffices ! (Run (h ∷ [])) (subst (λ (us : List Val). ent 𝓤 (Run (h ∷ [])) (Run us)) (sym (λ i. ws i ++ []))
     (id⊢ 𝓤 (Run (h ∷ [])))) $

@@ -29,7 +29,7 @@ of_loose_spec 𝓤 𝓛 𝓜 𝓡 wired T L =
     ((c κs z.0.3).requires z.1) ∷ []) ∵ split ! $ move ! (1 ∷ []) $ fsplit ! $
     loose_out R Z LZ ghosts ! v z.0.4.0 (λ b o h e ws fits.
     let w : Val = both (vptr b o) h in let made : Val = word (block_ptr b o) true in
-    let d : (Held R).Denot = record { at = block_ptr b o; made = true; heap = v.alloc; value = Some v.value } in
+    let d : (Held R).Denot = record { at = block_ptr b o; made = true; value = Some v.value } in
     suffices ! (Run (w ∷ [])) (subst (λ (us : List Val). ent 𝓤 (Run (w ∷ [])) (Run us)) (sym (λ i. ws i ++ []))
     (id⊢ 𝓤 (Run (w ∷ [])))) $
     enter ! 𝓣.C 𝓣.Λ fn (w ∷ []) Post $ alloc_all ! (λ l. pass_all ! refl (loose_good R Z LZ ghosts b o h fits, tt) $
