@@ -41,7 +41,7 @@ pub struct OneChunkInfo {
     pub has_chunk_available: bool,
 }
 
-/// The figures of a pool, from bucket 0 on. Of a party, held buckets are its own, and `greatest_held` is the most that were found.
+/// The figures of a pool, from bucket 0 on. Of a party, held buckets are its own, and `greatest_held` is the most that was found.
 #[repr(C)]
 #[derive(Clone, Copy)]
 pub struct PoolInfo {
