@@ -13,17 +13,19 @@
 #include <time.h>
 #include <x86intrin.h>
 
-enum { MOST_THREADS = 4, BUCKETS = 64, START = 4096, ROOM = 32, BURST = 8, MOST_CYCLES = 1 << 18 };
+enum { MOST_THREADS = 4, FEW = 64, MANY = 1024, START = 4096, ROOM = 32, BURST = 8, MOST_CYCLES = 1 << 18 };
 #define NONE UINT32_MAX
 #define SIZE ((size_t)1 << 50)
 
 // What threads write while they are timed shares no cache line with anything else.
 static _Alignas(128) _Atomic size_t used;
 static _Alignas(128) _Atomic uint64_t head;
-static _Alignas(128) _Atomic uint32_t next[BUCKETS];
+static _Alignas(128) _Atomic uint32_t next[MANY];
 static _Alignas(128) atomic_uint came;
 static _Alignas(128) unsigned threads;
 static _Alignas(128) unsigned calls;
+static unsigned buckets = FEW;
+static int held;
 
 // A request for 48 bytes at 8: the place is rounded up, and the position exchanged.
 static size_t bump_pair(void) {
@@ -80,10 +82,25 @@ static _Thread_local bb_pool_party *party;
 static inline size_t party_take(void) { return bb_pool_party_allocate(party, 48, 8).place; }
 static inline void party_give(size_t taken) { (void)bb_pool_party_deallocate(party, taken); }
 
+// A party more takes all buckets, and gives each fourth back.
+static void hold_most(bb_shared_pool *pool) {
+    bb_pool_party holder = BB_EMPTY;
+    if (bb_shared_pool_join(pool, &holder) != BB_OK)
+        abort();
+    for (size_t i = 0; i < buckets; i++)
+        if (bb_pool_party_allocate(&holder, 48, 8).code != BB_OK)
+            abort();
+    for (size_t i = 0; i < buckets; i += 4)
+        (void)bb_pool_party_deallocate(&holder, START + i * 128);
+    bb_pool_party_destroy(&holder);
+}
+
 static void join_all(unsigned cached) {
     bb_shared_pool pool = BB_EMPTY;
-    if (bb_shared_pool_init(&pool, 128, 8, START, BUCKETS * 128, threads) != BB_OK)
+    if (bb_shared_pool_init(&pool, 128, 8, START, buckets * 128, threads + (held ? 1 : 0)) != BB_OK)
         abort();
+    if (held)
+        hold_most(&pool);
     for (unsigned i = 0; i < threads; i++)
         if (bb_shared_pool_join(&pool, &parties[i]) != BB_OK || bb_pool_party_cache(&parties[i], cached) != BB_OK)
             abort();
@@ -191,7 +208,7 @@ static int mimalloc_is_there(void) { return mimalloc_calls.take != NULL; }
 static int jemalloc_is_there(void) { return jemalloc_calls.take != NULL; }
 
 static int dpdk_is_there(void) {
-    if (!dpdk_pool_open(BUCKETS, 128, BURST))
+    if (!dpdk_pool_open(buckets, 128, BURST))
         return 0;
     dpdk_pool_close();
     return 1;
@@ -222,15 +239,17 @@ static const kind kinds[] = {
     {"ring alone", {NULL, NULL, NULL, NULL}, none_send, none_receive, NULL, 0},
 };
 
-// What is timed of a kind, by so many threads.
+// What is timed of a kind, by so many threads, in a pool of so many buckets, of which three of four are held or none.
 static const struct {
     const char *name;
     what_of what;
-    unsigned threads;
+    unsigned threads, buckets;
+    int held;
 } figures[] = {
-    {"pool", PAIR_CALL, 1},     {"pool", PAIR_CALL, 2},   {"pool", PAIR_CALL, 4},
-    {"burst", BURST_CALL, 1},   {"burst", BURST_CALL, 2}, {"burst", BURST_CALL, 4},
-    {"pair tail", PAIR_TAIL, 4}, {"burst tail", BURST_TAIL, 4}, {"queue", ENDS, 2},
+    {"pool", PAIR_CALL, 1, FEW, 0},        {"pool", PAIR_CALL, 2, FEW, 0},       {"pool", PAIR_CALL, 4, FEW, 0},
+    {"burst", BURST_CALL, 1, FEW, 0},      {"burst", BURST_CALL, 2, FEW, 0},     {"burst", BURST_CALL, 4, FEW, 0},
+    {"held burst", BURST_CALL, 1, FEW, 1}, {"wide burst", BURST_CALL, 4, MANY, 0}, {"wide tail", BURST_TAIL, 4, MANY, 0},
+    {"pair tail", PAIR_TAIL, 4, FEW, 0},   {"burst tail", BURST_TAIL, 4, FEW, 0}, {"queue", ENDS, 2, FEW, 0},
 };
 enum { KINDS = sizeof kinds / sizeof *kinds, FIGURES = sizeof figures / sizeof *figures, BUMP = 0 };
 
@@ -285,9 +304,9 @@ static void open_all(int is_dpdk) {
     atomic_store(&came, 0);
     atomic_store(&ring_head, 0);
     atomic_store(&ring_tail, 0);
-    for (uint32_t i = 0; i < BUCKETS; i++)
-        atomic_store(&next[i], i + 1 < BUCKETS ? i + 1 : NONE);
-    if (is_dpdk && !dpdk_pool_open(BUCKETS, 128, BURST))
+    for (uint32_t i = 0; i < buckets; i++)
+        atomic_store(&next[i], i + 1 < buckets ? i + 1 : NONE);
+    if (is_dpdk && !dpdk_pool_open(buckets, 128, BURST))
         abort();
 }
 
@@ -366,7 +385,10 @@ static int by_size(const void *one, const void *other) {
     return (x > y) - (x < y);
 }
 
+// Only a pool's parties have a pool of which others hold buckets.
 static int has(int kind, int figure) {
+    if (figures[figure].held)
+        return kinds[kind].call[BURST_CALL] == party_burst;
     return figures[figure].what == ENDS ? kinds[kind].send != NULL : kinds[kind].call[figures[figure].what] != NULL;
 }
 
@@ -388,6 +410,8 @@ int main(int argc, char **argv) {
             if (!there[kind] || !has(kind, figure))
                 continue;
             threads = figures[figure].threads;
+            buckets = figures[figure].buckets;
+            held = figures[figure].held;
             found[(unsigned)at * rounds + round] = figures[figure].what == ENDS
                                                        ? queue_timed(&kinds[kind], is_dpdk)
                                                        : timed(&kinds[kind], figures[figure].what, is_dpdk, &refused[at]);
