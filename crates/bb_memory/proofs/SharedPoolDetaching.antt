@@ -1,5 +1,5 @@
 -- Detaching and attaching a bucket keep words and logs in agreement.
-use Rattle.std.proofs.Common.{◌≡◌, ℕ, ◌<◌, None, List, [], ◌∷◌, ◌++◌, Bool, refl, sym, ◌∙◌, subst}
+use Rattle.std.proofs.Common.{◌≡◌, ℕ, ◌<◌, None, List, [], ◌∷◌, ◌++◌, Bool, get_or, refl, sym, ◌∙◌, subst}
 use mathlib.Core.Option.{none}
 use Rattle.atomic_table.specs.Table.{Me, keeps, step, Allows}
 use Rattle.bb_memory_base.specs.PoolMachine.{PoolScene}
@@ -73,10 +73,10 @@ detaches_as scene slots seat word party bucket log me there is others held =
 
 -- ATTACHING
 
-attaches_one : (scene : PoolScene) (slots seat party bucket : ℕ) (log : PoolLog) → pass_in log ≡ None →
-    Allows (WordsAndLogsAgree scene) slots seat (alone_with scene party log bucket, []) (word_of bucket) (λ found. found)
+attaches_one : (scene : PoolScene) (slots seat word party bucket : ℕ) (log : PoolLog) → pass_in log ≡ None →
+    Allows (WordsAndLogsAgree scene) slots seat (alone_with scene party log bucket, []) word (λ found. found)
     (λ _. HasAttachedAt scene party log bucket)
-attaches_one scene slots seat party bucket log idle state rule homes at fits =
+attaches_one scene slots seat word party bucket log idle state rule homes at fits =
     let old : SeatView = alone_with scene party log bucket in
     let mine = rule.seated.known seat old at in
     let entry : PoolEntry = entry_of (Attach party bucket) (Attaches bucket) in
@@ -94,7 +94,7 @@ attaches_one scene slots seat party bucket log idle state rule homes at fits =
         flags = rule.flags;
         logs = logs;
         agree = agree;
-        words = subst (λ (w : List ℕ). HaveFlags w rule.flags) (sym (same_word state.words (word_of bucket))) rule.words;
+        words = subst (λ (w : List ℕ). HaveFlags w rule.flags) (sym (same_word state.words word)) rule.words;
         one_a_party = length-set_at rule.logs party longer ∙ rule.one_a_party;
         seated = seated_with scene.parties rule.logs state.views seat scene party log longer (bucket ∷ []) [] rule.seated at;
         detached = fewer_detached_one rule.flags rule.logs logs state.views seat bucket old new refl refl at rule.detached
@@ -112,11 +112,9 @@ attaches_one scene slots seat party bucket log idle state rule homes at fits =
 
 -- a seat of one idle party may attach the bucket that is detached there
 pub attaches_as : (scene : PoolScene) (slots seat word party bucket : ℕ) (log : PoolLog) (me : Me ℕ SeatView) →
-    word ≡ word_of bucket → me ≡ (alone_with scene party log bucket, []) → pass_in log ≡ None →
+    me ≡ (alone_with scene party log bucket, []) → pass_in log ≡ None →
     Allows (WordsAndLogsAgree scene) slots seat me word (λ found. found) (attaches (step slots word 0 0 none) me)
-attaches_as scene slots seat word party bucket log me there is idle =
-    at_word (WordsAndLogsAgree scene) slots seat bucket word me (λ found. found)
-    (λ b _. HasAttachedAt me.0.scene (number_of me.0) (view_log me.0) b) there
-    (subst (λ (m : Me ℕ SeatView). Allows (WordsAndLogsAgree scene) slots seat m (word_of bucket) (λ found. found)
-    (λ _. HasAttachedAt m.0.scene (number_of m.0) (view_log m.0) bucket)) (sym is)
-    (attaches_one scene slots seat party bucket log idle))
+attaches_as scene slots seat word party bucket log me is idle =
+    subst (λ (m : Me ℕ SeatView). Allows (WordsAndLogsAgree scene) slots seat m word (λ found. found)
+    (λ _. HasAttachedAt m.0.scene (number_of m.0) (view_log m.0) (get_or m.0.detached 0 0))) (sym is)
+    (attaches_one scene slots seat word party bucket log idle)

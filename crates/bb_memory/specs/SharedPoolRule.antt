@@ -1,7 +1,7 @@
 -- The rule of a shared pool's words, what its seats and fields stand for, and what each step on a word tells the party that
 -- makes it.
 use Rattle.std.specs.Prelude.{◌≡◌, ℕ, ◌+◌, ◌-◌, Bool, true, false, List, Some, slice_get, ◌<◌, ◌≤◌, [], All}
-use Rattle.std.specs.Prelude.{None, length, ◌≢◌, ◌∷◌, ◌++◌}
+use Rattle.std.specs.Prelude.{None, get_or, length, ◌≢◌, ◌∷◌, ◌++◌}
 use Rattle.std.specs.declared.vec.Vec.{Vec}
 use mathlib.Core.Path.{refl}
 use native.Mathlib.Nat.{zero-lt-suc}
@@ -318,9 +318,10 @@ meets step old found new = (new ≡ old) × TellsMeeting old.0.scene old.0.parti
 abbrev pub detaches : Step ℕ → Me ℕ SeatView → ℕ → Me ℕ SeatView → Type 0
 detaches step old found new = TellsDetach old.0.scene (number_of old.0) (view_log old.0) (bucket_of step.word) new
 
--- a load of its word by an idle party at whose seat the bucket is detached, and which attaches it
+-- a load of any word by an idle party at whose seat a bucket is detached, and which attaches that bucket
 abbrev pub attaches : Step ℕ → Me ℕ SeatView → ℕ → Me ℕ SeatView → Type 0
-attaches step old found new = HasAttachedAt old.0.scene (number_of old.0) (view_log old.0) (bucket_of step.word) new
+attaches step old found new =
+    HasAttachedAt old.0.scene (number_of old.0) (view_log old.0) (get_or old.0.detached 0 0) new
 
 -- A load by a seat, where these parties have met. The seat stays as it is.
 pub record HasFound (scene : PoolScene) (parties : List NumberedLog) (was : TableId) (old : Me ℕ SeatView)

@@ -217,6 +217,7 @@ impl CachingParty {
               (attach_entry self.old.party.number detached.number);
         } }
         ensures attached { IsOut self.new detached.number }
+        ensures not_out { ¬ IsOut self.old detached.number }
         ensures others_kept { (other : ℕ) → IsOut self.old other → IsOut self.new other }
         ensures others { (other : ℕ) → other ≢ detached.number
             → IsOut self.new other → IsOut self.old other }

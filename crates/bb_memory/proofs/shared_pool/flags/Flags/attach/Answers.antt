@@ -27,7 +27,6 @@ load-requires c =
     let counted = c.self.invariant.1.words in (
       c.join_seat.ensures.0 ∙ c.requires.seat.table ∙ sym (ap (λ (p : SharedPool). p.table) c.self.view_is),
       omega arith,
-      attaches_as c.self.inside.table.shared.key _ _ c.word_of.result (number_of me.0) c.args.bucket (view_log me.0)
-          c.join_seat.new.seat.me c.word_of.ensures
-          both c.requires.seat.seat.idle,
+      attaches_as c.self.inside.table.shared.key _ _ 0 (number_of me.0) c.args.bucket (view_log me.0)
+          c.join_seat.new.seat.me both c.requires.seat.seat.idle,
     )
