@@ -1,10 +1,10 @@
 //! The flags that threads share, one a bucket: their words, and the only calls that touch them.
 //!
 //! `try_flag`, `try_at` and `give_back` make one logged step each, by the seat of the party whose step it is, and tell that its
-//! log then ends with that step and what it found. So do `detach`, whose step is a load of the bucket's word,
-//! and `attach`, whose step is a load of word 0; each loads a word more for the seat of what is detached. `deal`, `gather`, `find`
-//! and `meet` only load words, and are in no log; nor is the load with which `try_at` begins, where it finds the flag free. `open`
-//! is before all sharing, and `geometry` touches no word.
+//! log then ends with that step and what it found. So do `detach`, whose step is a load of the bucket's word, and `attach`, whose
+//! step is a load of word 0; each loads a word more for the seat of what is detached. `deal`, `gather`, `find` and `meet` only
+//! load words, and are in no log; nor is the load with which `try_at` begins, where it finds the flag free. `open` is before all
+//! sharing, and `geometry` touches no word.
 ghost use Rattle.std.specs.Prelude.{◌≡◌, ◌<◌, ◌≤◌, [], IfOk, MatchBool};
 ghost use Rattle.bb_memory_traits.specs.Chunk.{IsRegion};
 ghost use Rattle.bb_memory_traits.specs.PoolObject.{IsPoolGeometry};
@@ -156,8 +156,8 @@ impl Flags {
         self.table.shared.split_seat::<GiveDetached>(seat)
     }
 
-    /// A load of word 0, by an idle party to whose seat this bucket detached comes. So a party that attaches buckets takes no line
-    /// of flags from the party that takes the next ones.
+    /// A load of word 0, by an idle party to whose seat this bucket detached comes. So a party that attaches buckets takes no
+    /// line of flags from the party that takes the next ones.
     pub(super) fn attach(&self, seat: &mut Seat<u8, View>, detached: Seat<u8, View>, bucket: u32)
         requires { MayAttachAt self.now seat.old.table_id seat.old.me
             detached.table_id detached.me bucket }
