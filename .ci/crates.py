@@ -59,3 +59,15 @@ def lane(name, number=0):
                 shutil.copytree(built, room / "crates" / it / "out" / kept, copy_function=link)
     (room / "crates.txt").write_text("".join(f"{LINES[it]}\n" for it in [*below(name), name]))
     return room / "crates" / name
+
+
+def edited(edit, read):
+    """Returns the files of a crate that a wrong body's edit changes, with its changes made in what `read` returns of each."""
+    made = {}
+    for change in re.split("^file: ", edit, flags=re.M)[1:]:
+        name = change.partition("\n")[0]
+        for old, new in re.findall("^old: (.*)\nnew: ?(.*)$", change, re.M):
+            text = made[name] if name in made else read(name)
+            assert text.count(old) == 1, f"{name}: a text isn't there once: {old}"
+            made[name] = text.replace(old, new)
+    return made

@@ -15,10 +15,7 @@
 
 enum { FIRST_MARK = 100003, SECOND_MARK = 100019, FREED_MARK = 100043, REFUSED_MARK = 100049 };
 
-extern void *__libc_malloc(size_t);
-extern void *__libc_calloc(size_t, size_t);
-extern void *__libc_realloc(void *, size_t);
-extern void __libc_free(void *);
+extern void *__libc_malloc(size_t), *__libc_calloc(size_t, size_t), *__libc_realloc(void *, size_t), __libc_free(void *);
 
 static long asked, refuse_at, asked_between, freed_between;
 static int marked, refused, between_marks, met_both;
@@ -27,27 +24,21 @@ static void *mark;
 
 // The status that the program ends with, where it asked for this one.
 static int told(int status) {
-    if (status == 0 && refuse_at && !refused)
-        return 99;
-    return status == 0 && met_both ? 98 : status;
+    return status != 0 ? status : refuse_at && !refused ? 99 : met_both ? 98 : 0;
 }
 
-// A program with threads ends by this call.
+// A program with threads ends by this call, any other one returns from main.
 void _exit(int status) {
-    for (;;)
-        syscall(SYS_exit_group, told(status));
+    for (;;) syscall(SYS_exit_group, told(status));
 }
 
-// Any other one returns from main.
 static void end(int status, void *unused) {
     (void)unused;
-    if (told(status) != status)
-        _exit(status);
+    if (told(status) != status) _exit(status);
 }
 
 __attribute__((constructor)) static void begin(void) {
-    const char *text = getenv("REFUSE_AT");
-    refuse_at = text ? atol(text) : 0;
+    refuse_at = getenv("REFUSE_AT") ? atol(getenv("REFUSE_AT")) : 0;
     marked = getenv("REFUSE_MARKED") != NULL;
     on_exit(end, NULL);
 }
@@ -57,25 +48,19 @@ static int is_mark(size_t size) {
 }
 
 static int refuses(size_t size) {
-    if (size == REFUSED_MARK)
-        return refused;
+    if (size == REFUSED_MARK) return refused;
     if (!marked)
         return !is_mark(size) && refuse_at && __atomic_add_fetch(&asked, 1, __ATOMIC_SEQ_CST) == refuse_at && (refused = 1);
-    if (size == FIRST_MARK)
-        return asked_between = freed_between = 0, between_marks = 1;
-    if (size == FREED_MARK)
-        return freed_between == 0;
-    if (size == SECOND_MARK)
-        return met_both |= between_marks, between_marks = 0, asked_between != 0;
-    if (between_marks)
-        __atomic_add_fetch(&asked_between, 1, __ATOMIC_SEQ_CST), refused = 1;
+    if (size == FIRST_MARK) return asked_between = freed_between = 0, between_marks = 1;
+    if (size == FREED_MARK) return freed_between == 0;
+    if (size == SECOND_MARK) return met_both |= between_marks, between_marks = 0, asked_between != 0;
+    if (between_marks) __atomic_add_fetch(&asked_between, 1, __ATOMIC_SEQ_CST), refused = 1;
     return between_marks;
 }
 
 void *malloc(size_t size) {
     void *block = refuses(size) ? NULL : __libc_malloc(size);
-    if (is_mark(size))
-        mark = block;
+    if (is_mark(size)) mark = block;
     return block;
 }
 
