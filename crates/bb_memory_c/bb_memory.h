@@ -308,9 +308,10 @@ bb_figure bb_pool_party_holds(bb_pool_party *, bb_address place);
 uint32_t bb_pool_party_info(bb_pool_party *, struct bb_pool_info *);
 bb_figure bb_pool_party_place_at(const bb_pool_party *, uint32_t number);
 bb_figure bb_pool_party_number_at(const bb_pool_party *, bb_address place);
-// The party caches at most `most` of the buckets that it gives back from now on. Its next requests take the one that was cached
-// last, without an atomic step. To other parties a cached bucket is held, so give the pool more buckets than all its parties may
-// cache. What was cached before is given back first; refused, all stays. `flush` gives back what is cached.
+// The party caches at most `most` of the buckets that it gives back from now on, and never more than the pool has. Its next
+// requests take the one that was cached last, without an atomic step. To other parties a cached bucket is held, so give the pool
+// more buckets than all its parties may cache. What was cached before is given back first; refused, all stays. `flush` gives
+// back what is cached.
 BB_MUST_USE uint32_t bb_pool_party_cache(bb_pool_party *, uint32_t most);
 uint32_t bb_pool_party_flush(bb_pool_party *);
 // As `bb_pool_init_at_least`.

@@ -128,9 +128,10 @@ flushed joined = with_entries joined.party (caching.returns_of joined.party.numb
 abbrev pub emptied : CachingParty → ℕ → CachingParty
 emptied joined most = record { party = flushed joined; cached = []; most = most }
 
--- What is answered where the party is to cache at most so many: memory for their list may be refused, and then all stays.
+-- What is answered where the party is to cache at most so many, and no more than the pool has: memory for their list may be
+-- refused, and then all stays.
 pub record TellsCache (joined : CachingParty) (most code : ℕ) (after : CachingParty) : Type 0 where
-  pub done : code ≡ ok → after ≡ emptied joined most
+  pub done : code ≡ ok → after ≡ emptied joined (min most (geometry_of joined).buckets)
   pub else_memory : code ≢ ok → (code ≡ malloc_refused) × (after ≡ joined)
 
 -- ALL THAT A PARTY HOLDS
