@@ -42,8 +42,8 @@
 //  4. Threads that call at once use a party each, or share a handle under a lock. A handle goes to another thread where a lock,
 //     an atomic, or a thread's start or join orders the calls.
 //  5. `place_at`, `number_at` and `bb_shared_pool_info` may run beside other calls with their handle but those that empty it.
-//  6. A call that takes two handles gets two. Two shared pools, or bumps, of which a party or a detached bucket is left begin at
-//     different places: by its place another's party or bucket is refused (BB_OTHER_POOL).
+//  6. A call that takes two handles gets two. Where a party or a detached bucket of a shared pool or bump is left, no other one
+//     begins at its place: by that place another's party or bucket is refused (BB_OTHER_POOL).
 //  7. Call nothing in a signal handler, nor in a child that a process of several threads forked. After any other fork either
 //     parent or child goes on with a region that both map.
 //  8. A region serves one allocator at a time, and is yours while chunks in it are used. It may be a chunk of another one.

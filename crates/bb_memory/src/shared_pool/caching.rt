@@ -72,8 +72,8 @@ impl Model for CachingParty {
 
 impl CachingParty {
     /// Makes a caching party of this party. Each bucket that the party holds is out, as none is cached yet. At most `most`
-    /// buckets will be cached; with 0 each call does what the pool's call does. The list of cached buckets takes memory here, and
-    /// no other call takes any. A refusal, for want of memory, hands the party back unchanged.
+    /// buckets will be cached; with 0 each call does what the pool's call does. The list of cached buckets takes memory here and
+    /// in `cache_at_most`; no other call takes any. A refusal, for want of memory, hands the party back unchanged.
     #[inline(always)]
     #[tactic(auto, unfolding(crate::specs::SharedPoolCaching::IsOut))]
     pub fn new(alloc: Global, party: PoolParty, most: u32) -> Result<Self, PoolParty>
