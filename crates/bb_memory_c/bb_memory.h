@@ -42,8 +42,8 @@
 //  4. Threads that call at once use a party each, or share a handle under a lock. A handle goes to another thread where a lock,
 //     an atomic, or a thread's start or join orders the calls.
 //  5. `place_at`, `number_at` and `bb_shared_pool_info` may run beside other calls with their handle but those that empty it.
-//  6. A call that takes two handles gets two. Two shared pools, or bumps, of which a party or a detached bucket is left begin at
-//     different places: by its place another's party or bucket is refused (BB_OTHER_POOL).
+//  6. A call that takes two handles gets two. Where a party or a detached bucket of a shared pool or bump is left, no other one
+//     begins at its place: by that place another's party or bucket is refused (BB_OTHER_POOL).
 //  7. Call nothing in a signal handler, nor in a child that a process of several threads forked. After any other fork either
 //     parent or child goes on with a region that both map.
 //  8. A region serves one allocator at a time, and is yours while chunks in it are used. It may be a chunk of another one.
@@ -308,9 +308,10 @@ bb_figure bb_pool_party_holds(bb_pool_party *, bb_address place);
 uint32_t bb_pool_party_info(bb_pool_party *, struct bb_pool_info *);
 bb_figure bb_pool_party_place_at(const bb_pool_party *, uint32_t number);
 bb_figure bb_pool_party_number_at(const bb_pool_party *, bb_address place);
-// The party caches at most `most` of the buckets that it gives back from now on. Its next requests take the one that was cached
-// last, without an atomic step. To other parties a cached bucket is held, so give the pool more buckets than all its parties may
-// cache. What was cached before is given back first; refused, all stays. `flush` gives back what is cached.
+// The party caches at most `most` of the buckets that it gives back from now on, and never more than the pool has. Its next
+// requests take the one that was cached last, without an atomic step. To other parties a cached bucket is held, so give the pool
+// more buckets than all its parties may cache. What was cached before is given back first; refused, all stays. `flush` gives
+// back what is cached.
 BB_MUST_USE uint32_t bb_pool_party_cache(bb_pool_party *, uint32_t most);
 uint32_t bb_pool_party_flush(bb_pool_party *);
 // As `bb_pool_init_at_least`.

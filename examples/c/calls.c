@@ -300,7 +300,7 @@ static void run_memory(void) {
             WITHIN(64, bb_shared_bump_join(&shared_bump, &bump_party));
             WITHIN(336 + 16 * buckets + 12 * parties, bb_shared_pool_init(&shared_pool, 8, 8, 4096, 8 * buckets, parties));
             WITHIN(352 + buckets, bb_shared_pool_join(&shared_pool, &pool_party));
-            WITHIN(128 + 4 * parties, bb_pool_party_cache(&pool_party, parties));
+            WITHIN(128 + 4 * buckets, bb_pool_party_cache(&pool_party, UINT32_MAX));
             EXPECT(bb_pool_destroy(&pool) == BB_OK);
             EXPECT(bb_shared_bump_destroy(&shared_bump) == BB_OK && bb_bump_party_destroy(&bump_party) == BB_OK);
             EXPECT(bb_shared_pool_destroy(&shared_pool) == BB_OK && bb_pool_party_destroy(&pool_party) == BB_OK);

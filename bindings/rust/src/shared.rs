@@ -270,9 +270,9 @@ impl Drop for DetachedBucket<'_> {
 }
 
 impl<'region> PoolParty<'region> {
-    /// Has the party cache at most `most` of the buckets that it gives back from now on: its next requests take the one that was
-    /// cached last, without an atomic step. To other parties a cached bucket is held. What was cached before is given back.
-    /// `MallocRefused` changes nothing.
+    /// Has the party cache at most `most` of the buckets that it gives back from now on, and never more than the pool has: its
+    /// next requests take the one that was cached last, without an atomic step. To other parties a cached bucket is held. What
+    /// was cached before is given back. `MallocRefused` changes nothing.
     pub fn cache(&self, most: u32) -> Result<(), InitError> {
         // SAFETY: the function is of this kind, and no other call has the handle.
         InitError::unless_ok(unsafe { ffi::bb_pool_party_cache(self.owned.handle(), most) })

@@ -1,60 +1,54 @@
 -- Each bucket of a shared pool has a word of its own, and what a step on that word makes of the flags.
-use Rattle.std.proofs.Common.{◌≡◌, ℕ, zero, suc, List, [], ◌∷◌, set, get_or, replicate, Bool, true, false, Some, Option}
-use Rattle.std.proofs.Common.{refl, sym, ap, ◌∙◌, subst, arith}
-use Rattle.std.specs.Prelude.{slice_get, slice_set, unwrap_or}
-use Rattle.std.proofs.lemmas.Option.{slice_get_within, unwrap_or-slice_get}
-use Rattle.std.proofs.lemmas.List.{length-replicate}
-use native.Mathlib.Decide.{ℕ_discrete}
+use Rattle.std.proofs.Common.{◌≡◌, ℕ, zero, suc, ◌+◌, List, [], ◌∷◌, ◌++◌, length, set, get_or, replicate}
+use Rattle.std.proofs.Common.{Bool, true, false, Some, refl, sym, ap, ◌∙◌, subst, arith}
+use Rattle.std.specs.Prelude.{map, slice_get, slice_set}
+use Rattle.std.proofs.lemmas.Option.{slice_get_within, get_or_from_slice_get}
+use Rattle.std.proofs.lemmas.List.{get_or-append-add, get_or-map, map-set, replicate-append-replicate, set-get_or}
 use Rattle.atomic_table.specs.Table.{State, Me, Allows}
-use Rattle.bb_memory_traits.proofs.SliceGets.{slice_get-replicate, slice_get-replicated, slice_get-set_other, slice_get-set_same}
-use Rattle.bb_memory.specs.SharedPoolRule.{HaveFlags, as_word, bucket_of, word_of, words_for, SeatView}
+use Rattle.bb_memory.specs.SharedPoolRule.{as_word, bucket_of, word_of, words_of, words_for, SeatView}
 
 -- WORDS AND FLAGS
 
 -- what is found in the word of a flag
-pub found_in : (words : List ℕ) (flags : List Bool) (bucket : ℕ) (flag : Bool) → HaveFlags words flags →
+pub found_in : (words : List ℕ) (flags : List Bool) (bucket : ℕ) (flag : Bool) → words ≡ words_of flags →
     slice_get flags bucket ≡ Some flag → get_or words (word_of bucket) 0 ≡ as_word flag
 found_in words flags bucket flag have at =
-    sym (unwrap_or-slice_get words (word_of bucket) 0) ∙ ap (λ (word : Option ℕ). unwrap_or word 0) (have bucket flag at)
+    ap (λ (all : List ℕ). get_or all (word_of bucket) 0) have
+    ∙ get_or-append-add (replicate 8 0) (map as_word flags) bucket 0
+    ∙ get_or-map as_word flags bucket false 0 (slice_get_within flags bucket flag at)
+    ∙ ap as_word (get_or_from_slice_get flags bucket flag false at)
+
+-- a write behind the words in front
+set-append-add : (front words : List ℕ) (i word : ℕ) → set (front ++ words) (length front + i) word ≡ front ++ set words i word
+set-append-add [] words i word = let none : 0 + i ≡ i = omega arith in ap (λ (k : ℕ). set words k word) none
+set-append-add (first ∷ front) words i word =
+    let more : suc (length front) + i ≡ suc (length front + i) = omega arith in
+    ap (λ (k : ℕ). set (first ∷ (front ++ words)) k word) more
+    ∙ ap (λ (all : List ℕ). first ∷ all) (set-append-add front words i word)
 
 -- the word of a flag that becomes another
-pub changed : (words : List ℕ) (flags : List Bool) (bucket : ℕ) (was flag : Bool) → HaveFlags words flags →
-    slice_get flags bucket ≡ Some was → HaveFlags (set words (word_of bucket) (as_word flag)) (slice_set flags bucket flag)
-changed words flags bucket was flag have at other its is = elim (ℕ_discrete other bucket) [
-  | yes same ↦
-      let there = ap (λ (b : ℕ). slice_get (slice_set flags bucket flag) b) same in
-      ap (λ (b : ℕ). slice_get (set words (word_of bucket) (as_word flag)) (word_of b)) same
-      ∙ slice_get-set_same words (word_of bucket) (as_word flag) (as_word was) (have bucket was at)
-      ∙ ap (λ (f : Bool). Some (as_word f))
-      (one_flag flag its (sym (slice_get-set_same flags bucket flag was at) ∙ sym there ∙ is))
-  | no differ ↦
-      slice_get-set_other words (word_of bucket) (word_of other) (as_word flag) (λ both. differ (omega arith))
-      ∙ have other its (sym (slice_get-set_other flags bucket other flag differ) ∙ is)
-]
-  where
-    one_flag : (one other : Bool) → ◌≡◌ {A = Option Bool} (Some one) (Some other) → one ≡ other
-    one_flag one other at = cc
+pub changed : (words : List ℕ) (flags : List Bool) (bucket : ℕ) (flag : Bool) → words ≡ words_of flags →
+    set words (word_of bucket) (as_word flag) ≡ words_of (slice_set flags bucket flag)
+changed words flags bucket flag have =
+    ap (λ (all : List ℕ). set all (word_of bucket) (as_word flag)) have
+    ∙ set-append-add (replicate 8 0) (map as_word flags) bucket (as_word flag)
+    ∙ ap (λ (all : List ℕ). replicate 8 0 ++ all) (sym (map-set as_word flags bucket flag))
 
 -- a taken flag that is made so again stays
-flag_again : (flags : List Bool) (i : ℕ) → slice_get flags i ≡ Some true → slice_set flags i true ≡ flags
-flag_again [] i at = refl
-flag_again (true ∷ flags) zero at = refl
-flag_again (false ∷ flags) zero at = absurd (cc)
-flag_again (flag ∷ flags) (suc i) at = ap (λ (rest : List Bool). flag ∷ rest) (flag_again flags i at)
-
-pub taken_again : (words : List ℕ) (flags : List Bool) (bucket : ℕ) → HaveFlags words flags →
-    slice_get flags bucket ≡ Some true → HaveFlags (set words (word_of bucket) 1) flags
+pub taken_again : (words : List ℕ) (flags : List Bool) (bucket : ℕ) → words ≡ words_of flags →
+    slice_get flags bucket ≡ Some true → set words (word_of bucket) 1 ≡ words_of flags
 taken_again words flags bucket have at =
-    subst (λ (f : List Bool). HaveFlags (set words (word_of bucket) 1) f) (flag_again flags bucket at)
-    (changed words flags bucket true true have at)
+    let again = ap (λ (flag : Bool). slice_set flags bucket flag) (sym (get_or_from_slice_get flags bucket true false at)) in
+    changed words flags bucket true have ∙ ap words_of (again ∙ set-get_or flags bucket false)
 
--- all flags free are words that are zero
-pub all_free : (buckets : ℕ) → HaveFlags (replicate (words_for buckets) 0) (replicate buckets false)
-all_free buckets bucket flag at =
-    let here = slice_get_within (replicate buckets false) bucket flag at in
-    let count = length-replicate buckets false in
-    slice_get-replicate (words_for buckets) (word_of bucket) 0 (omega arith)
-    ∙ ap (λ (f : Bool). Some (as_word f)) (slice_get-replicated buckets bucket false flag at)
+-- words that are zero are all flags free
+zeros : (n : ℕ) → replicate n 0 ≡ map as_word (replicate n false)
+zeros zero = refl
+zeros (suc n) = ap (λ (all : List ℕ). 0 ∷ all) (zeros n)
+
+pub all_free : (buckets : ℕ) → replicate (words_for buckets) 0 ≡ words_of (replicate buckets false)
+all_free buckets =
+    sym (replicate-append-replicate 8 buckets 0) ∙ ap (λ (all : List ℕ). replicate 8 0 ++ all) (zeros buckets)
 
 -- STEPS AT THE WORD OF A BUCKET
 

@@ -1,5 +1,6 @@
 -- Detaching and attaching a bucket keep words and logs in agreement.
 use Rattle.std.proofs.Common.{◌≡◌, ℕ, ◌<◌, None, List, [], ◌∷◌, ◌++◌, Bool, get_or, refl, sym, ◌∙◌, subst}
+use Rattle.std.proofs.lemmas.List.{set-get_or}
 use mathlib.Core.Option.{none}
 use Rattle.atomic_table.specs.Table.{Me, keeps, step, Allows}
 use Rattle.bb_memory_base.specs.PoolMachine.{PoolScene}
@@ -10,12 +11,11 @@ use Rattle.bb_memory_base.specs.declared.steps.pool.PoolOutcome.TheVariants.{Det
 use Rattle.bb_memory_base.proofs.PoolLogFacts.{interleaved_log}
 use Rattle.bb_memory_base.proofs.PoolLogSteps.{detach_agrees, detached_after, attach_agrees}
 use Rattle.bb_memory_traits.proofs.SliceGets.{length-set_at, slice_get-set_same}
-use Rattle.bb_memory.specs.SharedPoolRule.{HaveFlags, word_of, SeatView, WordsAndLogsAgree}
+use Rattle.bb_memory.specs.SharedPoolRule.{word_of, SeatView, WordsAndLogsAgree}
 use Rattle.bb_memory_bump.specs.Seats.{alone, alone_with, number_of, view_log}
 use Rattle.bb_memory.specs.SharedPoolRule.{HasAttachedAt, TellsDetach, detaches, attaches}
 use Rattle.bb_memory.proofs.FlagWords.{at_word}
 use Rattle.bb_memory_bump.proofs.Seatings.{seated_with}
-use Rattle.bb_memory.proofs.SharedPoolMeetings.{same_word}
 use Rattle.bb_memory.proofs.SharedPoolDetached.{no_hold_left, no_hold_other, still_detached, fewer_detached_one, more_detached}
 use Rattle.bb_memory.proofs.SharedPoolDetached.{detached_of_seat}
 use Rattle.bb_memory.proofs.SharedPoolTries.{idle_after_one}
@@ -49,7 +49,7 @@ detaches_one scene slots seat party bucket log others held state rule homes at f
         flags = rule.flags;
         logs = logs;
         agree = agree;
-        words = subst (λ (w : List ℕ). HaveFlags w rule.flags) (sym (same_word state.words (word_of bucket))) rule.words;
+        words = set-get_or state.words (word_of bucket) 0 ∙ rule.words;
         one_a_party = length-set_at rule.logs party longer ∙ rule.one_a_party;
         seated = seated_with scene.parties rule.logs state.views seat scene party log longer [] (bucket ∷ []) rule.seated at;
         detached = more_detached rule.flags rule.logs logs state.views seat bucket old new refl refl at
@@ -94,7 +94,7 @@ attaches_one scene slots seat word party bucket log idle state rule homes at fit
         flags = rule.flags;
         logs = logs;
         agree = agree;
-        words = subst (λ (w : List ℕ). HaveFlags w rule.flags) (sym (same_word state.words word)) rule.words;
+        words = set-get_or state.words word 0 ∙ rule.words;
         one_a_party = length-set_at rule.logs party longer ∙ rule.one_a_party;
         seated = seated_with scene.parties rule.logs state.views seat scene party log longer (bucket ∷ []) [] rule.seated at;
         detached = fewer_detached_one rule.flags rule.logs logs state.views seat bucket old new refl refl at rule.detached

@@ -13,9 +13,9 @@ use Rattle.bb_memory_base.specs.PoolLogs.{held_after, loss_at, next_bucket, pass
 use Rattle.bb_memory_base.specs.declared.steps.pool.PoolStep.TheVariants.{Try, GiveBack, TryAt}
 use Rattle.bb_memory_base.specs.declared.steps.pool.PoolOutcome.TheVariants.{Takes, Gives, Misses}
 use Rattle.bb_memory_base.proofs.PoolLogSteps.{give_agrees, lose_agrees, miss_agrees, take_agrees, take_at_agrees}
-use Rattle.bb_memory_base.proofs.PoolLogFacts.{free_not_held, held_is_taken, taken_is_held_alone, length-flags, interleaved_log}
+use Rattle.bb_memory_base.proofs.PoolLogFacts.{free_not_held, taken_is_held_alone, length-flags, interleaved_log}
 use Rattle.bb_memory_traits.proofs.SliceGets.{slice_get-set_same, length-set_at}
-use Rattle.bb_memory.specs.SharedPoolRule.{HaveFlags, as_word, bucket_of, word_of, IsSeatOf, SeatView, WordsAndLogsAgree}
+use Rattle.bb_memory.specs.SharedPoolRule.{as_word, bucket_of, word_of, words_of, IsSeatOf, SeatView, WordsAndLogsAgree}
 use Rattle.bb_memory_bump.specs.Seats.{alone, number_of, view_log}
 use Rattle.bb_memory.specs.SharedPoolRule.{HasMissedAt, TellsLookAt, TellsReturn, TellsTry, TellsTryAt}
 use Rattle.bb_memory.specs.SharedPoolRule.{looks_at, returns, tries, tries_at}
@@ -67,7 +67,7 @@ entered : (scene : PoolScene) (state : State ℕ SeatView) (rule : WordsAndLogsA
     (log : PoolLog) (entry : PoolEntry) (words : List ℕ) (flags : List Bool) →
     get_elem? state.views seat ≡ some (alone scene party log) →
     LogsAgree scene flags (with_entry rule.logs party log entry) →
-    HaveFlags words flags →
+    words ≡ words_of flags →
     ((b : ℕ) → IsDetachedAfter rule.flags rule.logs b → IsDetachedAfter flags (with_entry rule.logs party log entry) b) →
     WordsAndLogsAgree scene
     record { words = words; homes = state.homes; views = set state.views seat (alone scene party (log ++ entry ∷ [])) }
@@ -133,7 +133,7 @@ module _ (tells : Telling) (scene : PoolScene) (seat party bucket : ℕ) (log : 
         keeps,
         tt,
         entered scene state rule seat party log entry (set state.words (word_of bucket) 1) flags at agree
-            (changed state.words rule.flags bucket false true rule.words free)
+            (changed state.words rule.flags bucket true rule.words)
             (kept_at_taking rule.flags rule.logs party log entry bucket mine.1 free no_other),
         told_taking (told scene flags rule.logs party log entry mine.1 agree)
             (free_not_held scene rule.flags rule.logs party log bucket rule.agree mine.1 free),
@@ -276,8 +276,7 @@ returns_one scene slots seat party bucket log held state rule homes at fits =
       keeps,
       tt,
       entered scene state rule seat party log entry (set state.words (word_of bucket) 0) flags at agree
-          (changed state.words rule.flags bucket true false rule.words
-          (held_is_taken scene rule.flags rule.logs party log bucket rule.agree mine.1 held))
+          (changed state.words rule.flags bucket false rule.words)
           (kept_at_return rule.flags rule.logs party log entry bucket mine.1 held (λ b. no_hold_left bucket b)),
       told scene flags rule.logs party log entry mine.1 agree,
     )

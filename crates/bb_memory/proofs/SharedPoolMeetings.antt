@@ -1,5 +1,6 @@
 -- What a load by a seat of several parties finds: how they agree with the flags, and what two of them have of one another.
-use Rattle.std.proofs.Common.{◌≡◌, ℕ, zero, suc, List, [], ◌∷◌, set, get_or, refl, sym, ap, subst}
+use Rattle.std.proofs.Common.{◌≡◌, ℕ, List, [], ◌∷◌, set, get_or, refl, sym, subst}
+use Rattle.std.proofs.lemmas.List.{set-get_or}
 use mathlib.Core.Option.{none, some}
 use lib.ListN.{get_elem?}
 use Rattle.atomic_table.specs.Table.{State, Me, keeps, step, Allows}
@@ -24,12 +25,6 @@ told_by scene state rule seat view at = record {
   once = once_in scene.parties rule.logs state.views seat view rule.seated at;
 }
 
--- a word that is stored again stays
-pub same_word : (words : List ℕ) (i : ℕ) → set words i (get_or words i 0) ≡ words
-same_word [] i = refl
-same_word (word ∷ words) zero = refl
-same_word (word ∷ words) (suc i) = ap (λ (rest : List ℕ). word ∷ rest) (same_word words i)
-
 -- a load that changes nothing
 pub unchanged : (scene : PoolScene) (state : State ℕ SeatView) (seat word : ℕ) (view : SeatView) →
     get_elem? state.views seat ≡ some view → WordsAndLogsAgree scene state →
@@ -39,7 +34,7 @@ pub unchanged : (scene : PoolScene) (state : State ℕ SeatView) (seat word : �
       views = set state.views seat view;
     }
 unchanged scene state seat word view at rule =
-    let words = same_word state.words word in
+    let words = set-get_or state.words word 0 in
     let views = set_again state.views seat view at in
     subst (λ (s : List ℕ × List SeatView). WordsAndLogsAgree scene record { words = s.0; homes = state.homes; views = s.1 })
     (λ i. (sym words i, sym views i)) rule

@@ -1,5 +1,5 @@
 -- How parties go to seats of their own, and two of them to one seat.
-use Rattle.std.proofs.Common.{◌≡◌, ◌≤◌, ℕ, arith, List, [], ◌++◌, replicate, false, refl, sym, subst}
+use Rattle.std.proofs.Common.{◌≡◌, ◌≤◌, ℕ, arith, List, [], ◌++◌, replicate, false, refl, ◌∙◌}
 use Rattle.std.specs.Prelude.{All}
 use Rattle.std.proofs.lemmas.List.{length-replicate}
 use Rattle.std.proofs.lemmas.List.Elements.{All-replicate}
@@ -7,7 +7,7 @@ use Rattle.atomic_table.specs.Table.{Splits, Joins, State, opening}
 use Rattle.bb_memory_base.specs.PoolMachine.{PoolScene}
 use Rattle.bb_memory_base.specs.PoolLogs.{PoolEntry, PoolLog}
 use Rattle.bb_memory_base.proofs.PoolLogSteps.{opening_agrees}
-use Rattle.bb_memory.specs.SharedPoolRule.{HaveFlags, words_for, AreDetached, SeatView, WordsAndLogsAgree, all_parties, nobody}
+use Rattle.bb_memory.specs.SharedPoolRule.{words_for, AreDetached, SeatView, WordsAndLogsAgree, all_parties, nobody}
 use Rattle.bb_memory_bump.specs.Seats.{AreSeated, both_detached, both_of, first_detached, first_of, others_detached, others_of}
 use Rattle.bb_memory.proofs.FlagWords.{all_free}
 use Rattle.bb_memory_bump.proofs.Seatings.{seated_joined, seated_opening, seated_others, seated_split}
@@ -71,8 +71,7 @@ opens scene words are some_party =
       flags = replicate scene.geometry.buckets false;
       logs = logs;
       agree = opening_agrees scene logs (all_empty scene.parties);
-      words = subst (λ (w : List ℕ). HaveFlags w (replicate scene.geometry.buckets false)) (sym are)
-          (all_free scene.geometry.buckets);
+      words = are ∙ all_free scene.geometry.buckets;
       one_a_party = length-replicate {A = PoolLog} scene.parties [];
       seated = seated_opening PoolEntry scene.parties scene;
       detached = record { each = λ bucket some. absurd (omega arith); once = λ bucket. omega arith };

@@ -1,6 +1,6 @@
 -- The rule of a shared pool's words, what its seats and fields stand for, and what each step on a word tells the party that
 -- makes it.
-use Rattle.std.specs.Prelude.{◌≡◌, ℕ, ◌+◌, ◌-◌, Bool, true, false, List, Some, slice_get, ◌<◌, ◌≤◌, [], All}
+use Rattle.std.specs.Prelude.{◌≡◌, ℕ, ◌+◌, ◌-◌, Bool, true, false, List, map, replicate, ◌<◌, ◌≤◌, [], All}
 use Rattle.std.specs.Prelude.{None, get_or, length, ◌≢◌, ◌∷◌, ◌++◌}
 use Rattle.std.specs.declared.vec.Vec.{Vec}
 use mathlib.Core.Path.{refl}
@@ -41,10 +41,9 @@ abbrev pub as_word : Bool → ℕ
 as_word false = 0
 as_word true = 1
 
--- the words have the flags, each in its bucket's word
-abbrev pub HaveFlags : List ℕ → List Bool → Type 0
-HaveFlags words flags = (bucket : ℕ) (flag : Bool) → slice_get flags bucket ≡ Some flag →
-    slice_get words (word_of bucket) ≡ Some (as_word flag)
+-- All words of a table with these flags. The first 8, which are no flag, are zero, as they were made.
+abbrev pub words_of : List Bool → List ℕ
+words_of flags = replicate 8 0 ++ map as_word flags
 
 -- SEATS
 
@@ -152,13 +151,13 @@ pub record AreDetached (flags : List Bool) (logs : List PoolLog) (views : List S
   pub each : (bucket : ℕ) → 0 < times_detached bucket views → IsDetachedAfter flags logs bucket
   pub once : (bucket : ℕ) → times_detached bucket views ≤ 1
 
--- There is a log for each party, and the machine's logs agree with the flags that the words have. Each party stands in exactly
--- one view, with that log; a dropped party's view stays, and so does that of a detached bucket.
+-- There is a log for each party, and the machine's logs agree with the flags that the words have. No word has anything else. Each
+-- party stands in exactly one view, with that log; a dropped party's view stays, and so does that of a detached bucket.
 pub record WordsAndLogsAgree (scene : PoolScene) (state : State ℕ SeatView) : Type 0 where
   pub flags : List Bool
   pub logs : List PoolLog
   pub agree : LogsAgree scene flags logs
-  pub words : HaveFlags state.words flags
+  pub words : state.words ≡ words_of flags
   pub one_a_party : length logs ≡ scene.parties
   pub seated : AreSeated scene.parties logs state.views
   pub detached : AreDetached flags logs state.views

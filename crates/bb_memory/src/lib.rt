@@ -11,6 +11,7 @@
 //!   - `bucket`: what a request answers. `by_number`: buckets by number and by place.
 //!   - `caching`: parties that keep the buckets that they gave back last for their next requests.
 //!   - `detached`: buckets on their way from one party to another.
+//!   - `figures`: how many buckets are held, and how many requests were refused, for any thread.
 //!   - `fixed_size`: the pool of at most a constant of buckets.
 //!
 //! The examples in the comments of this crate stand in `crates/examples/src/comments.rt`, where they are proved; its first

@@ -1,7 +1,11 @@
 -- A shared bump and its parties behind handles, and what C is told.
-use Rattle.std.specs.Prelude.{◌≡◌, ◌≢◌, ◌<◌, ◌≤◌, ◌↔◌, ℕ, All, List, length}
-use Rattle.bb_memory_traits.specs.Chunk.{Region, IsRegion}
-use Rattle.bb_memory.specs.SharedBump.{AreFresh, BumpParty, HasLoaded, SharedBump, scene_at}
+use Rattle.std.specs.Prelude.{◌≡◌, ◌≢◌, ◌+◌, ◌<◌, ◌≤◌, ◌%◌, ◌↔◌, ℕ, All, IfOk, List, Result, length}
+use Rattle.bb_memory_traits.specs.Chunk.{Chunk, Region, IsInside, IsRegion}
+use Rattle.bb_memory_traits.specs.declared.layout.Layout.{Layout}
+use Rattle.bb_memory_traits.specs.declared.allocator.AllocationError.{AllocationError}
+use Rattle.bb_memory_base.specs.BumpLogs.{BumpLog}
+use Rattle.bb_memory.specs.SharedBump.{AreFresh, BumpParty, HasLoaded, IsFoundBy, MayTake, SharedBump, floor_of, scene_at}
+use Rattle.bb_memory.specs.SharedBump.{with_entries}
 use Rattle.bb_memory_c.specs.Answers.{ok, malloc_refused, parties_joined}
 use Rattle.bb_memory_c.specs.Calls.{AreKnown, IsOneOf, Parties, left_at}
 use Rattle.bb_memory_c.specs.OneOwner.{bump_info}
@@ -34,6 +38,16 @@ pub record AreFreshOver (region : Region) (count : ℕ) (all : BumpParties) : Ty
 pub record IsShareable (region : Region) (parties : ℕ) : Type 0 where
   pub is_region : IsRegion region
   pub some : 1 ≤ parties
+
+-- A request of a party is answered the chunk that it won, or why it won none. Each position that it finds is at least the
+-- party's floor, so its chunk begins there or behind.
+pub record GivesChunk (party : BumpParty) (layout : Layout) (result : Result Chunk AllocationError) (after : BumpParty)
+    : Type 0 where
+  pub answer : MayTake party layout result after
+  pub found : (added : BumpLog) → after ≡ with_entries party added → IsFoundBy party added
+  pub floor : IfOk result (λ chunk. party.allocator.scene.region.start + floor_of party ≤ chunk.place)
+  pub inside : IfOk result (IsInside party.allocator.scene.region)
+  pub aligned : IfOk result (λ chunk. chunk.place % layout.align ≡ 0)
 
 -- the party's figures are shown by what one load found, and the handle stands for what the party is then
 abbrev pub ShowsLoad : BumpParty → BumpInfo → BumpParty → Type 0

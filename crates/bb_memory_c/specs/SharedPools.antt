@@ -1,6 +1,6 @@
 -- A shared pool, its parties, and detached buckets that go from party to party, behind handles: what their calls are answered.
 use Rattle.std.specs.Prelude.{◌≡◌, ◌≢◌, ◌-◌, ◌<◌, ◌≤◌, ◌↔◌, ◌++◌, [], ℕ, zero, suc, All, Bool, false, List, Result, Ok}
-use Rattle.std.specs.Prelude.{Option, Some, None, IfSome, MatchOption, count_by, fold, length, if◌then◌else◌}
+use Rattle.std.specs.Prelude.{Option, Some, None, IfOk, IfSome, MatchOption, count_by, fold, length, min, if◌then◌else◌}
 use Rattle.std.specs.Result.{result_map_both}
 use Rattle.bb_memory_traits.specs.Chunk.{Region, Chunk, IsInside, first_place}
 use Rattle.bb_memory_traits.specs.PoolObject.{IsCut, PoolGeometry, bucket_place}
@@ -8,8 +8,8 @@ use Rattle.bb_memory_base.specs.PoolLogs.{PoolLog, IsHeldAfter, held_after}
 use Rattle.bb_memory_traits.specs.declared.layout.Layout.{Layout}
 use Rattle.bb_memory_traits.specs.declared.allocator.AllocationError.{AllocationError}
 use Rattle.bb_memory.specs.IndexSets.{Has}
-use Rattle.bb_memory.specs.SharedPool.{AreFresh, PoolParty, SharedPool, TakenBucket, attach_entry, chunk_of, detach_entry}
-use Rattle.bb_memory.specs.SharedPool.{return_entry, taken_bucket, with_entries}
+use Rattle.bb_memory.specs.SharedPool.{AreFresh, PoolParty, Serves, SharedPool, TakenBucket, attach_entry, chunk_of}
+use Rattle.bb_memory.specs.SharedPool.{detach_entry, return_entry, taken_bucket, with_entries}
 use Rattle.bb_memory.specs.SharedPoolCaching.{CachingParty, IsOut, ReturnsCaching, TakesCaching}
 use Rattle.bb_memory.specs.SharedPoolCaching as caching
 use Rattle.bb_memory_c.specs.Answers.{answer_of, refused, detached_empty, detached_full, ok, not_held, one_party, other_pool}
@@ -102,11 +102,19 @@ pub record HoldsAt (joined : CachingParty) (place number : ℕ) : Type 0 where
 abbrev pub HoldsPlace : CachingParty → ℕ → Type 0
 HoldsPlace joined place = (number : ℕ) × HoldsAt joined place number
 
+-- A request took a bucket or none. The bucket is out then, and wasn't before; all others are held as they were.
+pub record TakesOut (joined : CachingParty) (layout : Layout) (result : Result TakenBucket AllocationError)
+    (after : CachingParty) : Type 0 where
+  pub answer : TakesCaching joined layout result after
+  pub serves : Serves joined.party.allocator joined.party layout result after.party
+  pub taken : IfOk result (λ bucket. IsOut after bucket.number)
+  pub fresh : IfOk result (λ bucket. (other : ℕ) → IsOut joined other → other ≢ bucket.number)
+
 -- a request is answered the chunk in the bucket that it took, or why it took none
 abbrev pub GivesChunk : CachingParty → Layout → Result Chunk AllocationError → CachingParty → Type 0
 GivesChunk joined layout answer after =
     (taken : Result TakenBucket AllocationError) × (answer ≡ result_map_both chunk_of (λ error. error) taken)
-    × TakesCaching joined layout taken after
+    × TakesOut joined layout taken after
 
 -- the bucket at the place was given back
 abbrev pub GivesBack : CachingParty → ℕ → CachingParty → Type 0
@@ -120,9 +128,10 @@ flushed joined = with_entries joined.party (caching.returns_of joined.party.numb
 abbrev pub emptied : CachingParty → ℕ → CachingParty
 emptied joined most = record { party = flushed joined; cached = []; most = most }
 
--- What is answered where the party is to cache at most so many: memory for their list may be refused, and then all stays.
+-- What is answered where the party is to cache at most so many, and no more than the pool has: memory for their list may be
+-- refused, and then all stays.
 pub record TellsCache (joined : CachingParty) (most code : ℕ) (after : CachingParty) : Type 0 where
-  pub done : code ≡ ok → after ≡ emptied joined most
+  pub done : code ≡ ok → after ≡ emptied joined (min most (geometry_of joined).buckets)
   pub else_memory : code ≢ ok → (code ≡ malloc_refused) × (after ≡ joined)
 
 -- ALL THAT A PARTY HOLDS

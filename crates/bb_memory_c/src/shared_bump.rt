@@ -2,12 +2,12 @@
 ghost use Rattle.std.specs.Prelude.{◌≡◌, IfSome, vec_capacity};
 ghost use Rattle.std.specs.Arc.{arc_value};
 ghost use Rattle.bb_memory_traits.specs.Chunk.{region_at};
-ghost use Rattle.bb_memory.specs.SharedBump.{BumpParty, MayTake};
+ghost use Rattle.bb_memory.specs.SharedBump.{BumpParty};
 ghost use Rattle.bb_memory_c.specs.Answers.{uninitialized};
 ghost use Rattle.bb_memory_c.specs.Calls.{Answers, AnswersFree, AnswersInfo, AnswersJoin, AnswersLeave, AnswersMake};
 ghost use Rattle.bb_memory_c.specs.Calls.{AnswersRequest, IfBoth, IsThere, left_at, with_party};
-ghost use Rattle.bb_memory_c.specs.SharedBumps.{AreFreshOver, AreUnjoined, BumpParties, IsAt, IsShareable, Knows, ShowsLoad};
-ghost use Rattle.bb_memory_c.specs.SharedBumps.{TellsReset};
+ghost use Rattle.bb_memory_c.specs.SharedBumps.{AreFreshOver, AreUnjoined, BumpParties, GivesChunk, IsAt, IsShareable, Knows};
+ghost use Rattle.bb_memory_c.specs.SharedBumps.{ShowsLoad, TellsReset};
 
 use crate::answer::{Answer, BumpInfo};
 use crate::call::{free, info, is_made, join, keep, leave, request};
@@ -37,7 +37,7 @@ impl Model for JoinedBump {
 }
 
 impl Gives<BumpInfo> for JoinedBump {
-    ghost may_give = { MayTake };
+    ghost may_give = { GivesChunk };
 
     ghost may_show = { ShowsLoad };
 
@@ -220,7 +220,7 @@ pub extern "C" fn bb_bump_party_allocate(
     size: usize,
     align: usize,
 ) -> Answer
-    ensures { AnswersRequest handle.old.value handle.new.value size align result MayTake }
+    ensures { AnswersRequest handle.old.value handle.new.value size align result GivesChunk }
 {
     request(handle, size, align)
 }

@@ -334,8 +334,9 @@ pub extern "C" fn bb_pool_party_destroy(alloc: Global, handle: &mut PoolPartyHan
     free(handle, alloc)
 }
 
-/// Has the party cache at most `most` of the buckets that it gives back, for its next requests. What it caches already is given
-/// back first. A cached bucket stays held, so other parties are refused where each bucket is cached or out.
+/// Has the party cache at most `most` of the buckets that it gives back, and at most as many as the pool has, for its next
+/// requests. What it caches already is given back first. A cached bucket stays held, so other parties are refused where each
+/// bucket is cached or out.
 #[unsafe(no_mangle)]
 pub extern "C" fn bb_pool_party_cache(alloc: Global, handle: &mut PoolPartyHandle, most: u32) -> u32
     ensures { Answers handle.old.value handle.new.value (result ≡ uninitialized)
@@ -344,6 +345,7 @@ pub extern "C" fn bb_pool_party_cache(alloc: Global, handle: &mut PoolPartyHandl
     let Some(joined) = handle.made_mut() else {
         return code::UNINITIALIZED;
     };
+    let most = most.min(joined.pool.number_of_buckets());
     match joined.party.cache_at_most(alloc, &*joined.pool, most) {
         Ok(()) => code::OK,
         Err(_) => code::MALLOC_REFUSED,

@@ -2,8 +2,8 @@
 ghost use Rattle.std.specs.Prelude.{◌≡◌, ◌≢◌, ◌<◌, ◌≤◌, ◌∷◌, ◌++◌, [], ℕ, List, Contains, IfErr, IfOk, Ok, length, vec_capacity};
 ghost use Rattle.bb_memory_traits.specs.PoolObject.{IsWithin};
 ghost use Rattle.bb_memory_base.specs.PoolLogs.{IsHeldAfter};
-ghost use Rattle.bb_memory.specs.SharedPool.{IsSameParty, Serves, attach_entry, detach_entry, return_entry, taken_bucket};
-ghost use Rattle.bb_memory.specs.SharedPool.{with_entries};
+ghost use Rattle.bb_memory.specs.SharedPool.{AreBothOf, AreInterleaved, IsSameParty, Serves, attach_entry, detach_entry};
+ghost use Rattle.bb_memory.specs.SharedPool.{return_entry, taken_bucket, with_entries};
 ghost use Rattle.bb_memory.specs.SharedPoolCaching.{AreCached, IsOut, ReturnsCaching, TakesCaching, returns_of};
 
 use super::bucket::Bucket;
@@ -72,8 +72,8 @@ impl Model for CachingParty {
 
 impl CachingParty {
     /// Makes a caching party of this party. Each bucket that the party holds is out, as none is cached yet. At most `most`
-    /// buckets will be cached; with 0 each call does what the pool's call does. The list of cached buckets takes memory here, and
-    /// no other call takes any. A refusal, for want of memory, hands the party back unchanged.
+    /// buckets will be cached; with 0 each call does what the pool's call does. The list of cached buckets takes memory here and
+    /// in `cache_at_most`; no other call takes any. A refusal, for want of memory, hands the party back unchanged.
     #[inline(always)]
     #[tactic(auto, unfolding(crate::specs::SharedPoolCaching::IsOut))]
     pub fn new(alloc: Global, party: PoolParty, most: u32) -> Result<Self, PoolParty>
@@ -276,6 +276,25 @@ impl CachingParty {
             → IsOut self.old other }
     {
         return_all(pool, &mut self.party, &mut self.cached);
+    }
+
+    /// Two parties meet, as [`SharedPoolAllocator::meet`](super::SharedPoolAllocator::meet) has it: no bucket is held by both. So
+    /// none that is out at one of them is out or cached at the other. Nothing changes. The parties have to be this pool's.
+    #[tactic(auto, unfolding(crate::specs::SharedPoolCaching::IsOut))]
+    pub fn meet<const CAPPED: usize, const MOST: usize>(
+        &mut self,
+        pool: &SharedBucketPool<CAPPED, MOST>,
+        other: &mut CachingParty,
+    )
+        requires parties { AreBothOf pool.now self.old.party other.old.party }
+        ensures kept { (self.new ≡ self.old) × (other.new ≡ other.old) }
+        ensures differ { self.old.party.number ≢ other.old.party.number }
+        ensures apart { (bucket : ℕ) → IsHeldAfter self.old.party.log bucket
+            → ¬ IsHeldAfter other.old.party.log bucket }
+        ensures out_apart { (bucket : ℕ) → IsOut self.old bucket → ¬ IsOut other.old bucket }
+        ensures interleaved { AreInterleaved self.old.party other.old.party }
+    {
+        pool.meet(&mut self.party, &mut other.party);
     }
 
     /// Gives all cached buckets back to the pool, as `flush` does, and returns the party, which holds just the buckets that are

@@ -22,8 +22,8 @@ impl<const CAPPED: usize, const MOST: usize> SharedBucketPool<CAPPED, MOST> {
     #[inline(never)]
     pub(super) fn count_refusal(&self) {
         let buckets = self.number_of_buckets() as u64;
-        self.flags.refused.fetch_add(1, Ordering::Relaxed);
-        self.flags.greatest.fetch_max(buckets, Ordering::Relaxed);
+        self.flags.refused.fetch_add(1, Ordering::SeqCst);
+        self.flags.greatest.fetch_max(buckets, Ordering::SeqCst);
     }
 
     /// Figures, for any thread and while parties call. Each flag is loaded once. A detached bucket is held, though by no party.
@@ -34,14 +34,11 @@ impl<const CAPPED: usize, const MOST: usize> SharedBucketPool<CAPPED, MOST> {
     {
         let buckets = self.number_of_buckets();
         let held = self.flags.count_taken().min(buckets);
-        let before = self
-            .flags
-            .greatest
-            .fetch_max(held as u64, Ordering::Relaxed);
+        let before = self.flags.greatest.fetch_max(held as u64, Ordering::SeqCst);
         SharedPoolFigures {
             held,
             greatest_held: held.max(before.min(buckets as u64) as u32),
-            refused: self.flags.refused.load(Ordering::Relaxed),
+            refused: self.flags.refused.load(Ordering::SeqCst),
         }
     }
 }

@@ -1,4 +1,4 @@
-//! Next fit: requests whose search begins where the party's last one ended.
+//! Next fit: requests whose search begins at the party's hint.
 ghost use Rattle.std.specs.Prelude.{◌≡◌, ℕ, ◌+◌, ◌<◌, ◌^◌, IfSome, MatchOption};
 ghost use Rattle.bb_memory_base.specs.PoolLogs.{PoolLog};
 ghost use Rattle.bb_memory_bump.specs.Seats.{Stays, number_of, view_log};

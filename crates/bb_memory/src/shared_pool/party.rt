@@ -28,7 +28,7 @@ impl Hint {
 }
 
 /// One user of a shared pool. It goes with its thread, and each call that takes or gives back a bucket asks for it. The list
-/// of its steps, its log, is known to contracts alone.
+/// of its steps, its log, is known to contracts alone. A dropped party meets no more, so no later meeting is of all parties.
 #[derive(Drop)]
 pub struct PoolParty {
     pub(super) number: u32,

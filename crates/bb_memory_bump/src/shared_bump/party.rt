@@ -7,7 +7,7 @@ use atomic_table::Seat;
 use std::marker::Model;
 
 /// One user of a shared bump. It goes with its thread, and each call that steps on the position asks for it. The list of its
-/// steps, its log, is known to contracts alone.
+/// steps, its log, is known to contracts alone. A dropped party meets no more, so no later meeting is of all parties.
 #[derive(Drop)]
 pub struct BumpParty {
     pub(super) number: u32,
