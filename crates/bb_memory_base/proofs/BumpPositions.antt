@@ -1,25 +1,21 @@
 -- What a log says of the position.
-use Rattle.std.proofs.Common.{◌≡◌, ℕ, ◌<◌, ◌≤◌, List, [], ◌∷◌, length, refl, sym, ap, ◌∙◌, subst, arith, Bool, true, false}
+use Rattle.std.proofs.Common.{◌≡◌, ℕ, ◌≤◌, List, [], ◌∷◌, length, refl, sym, ap, ◌∙◌, subst, arith, Bool, true, false}
 use Rattle.std.proofs.Common.{Option, Some, None}
 use Rattle.std.specs.Prelude.{if◌then◌else◌, IfSome}
-use Rattle.std.specs.List.{All, AllByRecursion}
+use Rattle.std.specs.List.{AllByRecursion}
 use Rattle.std.proofs.lemmas.List.{length-replicate}
-use Rattle.std.proofs.lemmas.List.Elements.{All-from_recursion}
 use Rattle.bb_memory_traits.specs.Chunk.{Region, Chunk}
 use Rattle.bb_memory_traits.specs.BumpObject.{StandsFor}
-use Rattle.bb_memory_base.specs.BumpMachine.{OngoingCall, BumpState, BumpMove, BumpScene, IsInCall, IsFitting, opening_state}
+use Rattle.bb_memory_base.specs.BumpMachine.{BumpState, BumpMove, BumpScene, opening_state}
 use Rattle.bb_memory_base.specs.BumpMachine.{bump_step, bump_after, left_by, BumpStep}
 use Rattle.bb_memory_base.specs.BumpLogs.{BumpEntry, BumpLog, entry_at, bump_history, history_of, is_by, entries_by, OpensWith}
 use Rattle.bb_memory_base.specs.BumpLogs.{live_after, IsAllowed, AllAllowed, HasLog, LogsAgree, Interleaving, CommonInterleaving}
-use Rattle.bb_memory_base.specs.BumpLogs.{HasPositionUpTo, position_in, greater_of, greatest_in, seen_in, call_in}
+use Rattle.bb_memory_base.specs.BumpLogs.{HasPositionUpTo, position_in, greater_of, greatest_in, seen_in}
 use Rattle.bb_memory_traits.proofs.LiveLists.{StandsFor-within}
-use Rattle.bb_memory_traits.proofs.SliceGets.{slice_get-replicated}
 use Rattle.bb_memory_base.proofs.BumpSteps.{StepView, step_view, wins, clears, passes}
-use Rattle.bb_memory_base.proofs.BumpRuns.{chunk_at-above, calls_stand, fitting_after, fitting_at_opening}
+use Rattle.bb_memory_base.proofs.BumpRuns.{chunk_at-above, calls_stand}
 use Rattle.bb_memory_base.proofs.BumpStretches.{healthy_after, stretch_rises}
-use Rattle.bb_memory_base.proofs.BumpLosses.{SeesNoMore, stretch_sees}
 use Rattle.bb_memory_base.proofs.BumpAllowed.{first_allowed, rest_allowed, no_clear_when_allowed, parties_stay, owner_of}
-use Rattle.bb_memory_base.proofs.BumpLogs.{agreed_call}
 
 -- POSITIONS IN A LOG
 
@@ -79,11 +75,6 @@ log_below scene position logs party log agree at =
     let mine = subst (AllByRecursion (HasPositionUpTo left scene.region)) (agree.each party log at) own in
     subst (λ (bound : ℕ). AllByRecursion (HasPositionUpTo bound scene.region) log) agree.leaves mine
 
-pub position_above_log : (scene : BumpScene) (position : ℕ) (logs : List BumpLog) (party : ℕ) (log : BumpLog) →
-    LogsAgree scene position logs → HasLog logs party log → All (HasPositionUpTo position scene.region) log
-position_above_log scene position logs party log agree at =
-    All-from_recursion (HasPositionUpTo position scene.region) log (log_below scene position logs party log agree at)
-
 pub position_risen : (scene : BumpScene) (position : ℕ) (logs : List BumpLog) → LogsAgree scene position logs →
     scene.opening ≤ position
 position_risen scene position logs agree =
@@ -95,35 +86,6 @@ pub position_within : (scene : BumpScene) (position : ℕ) (logs : List BumpLog)
 position_within scene position logs within agree =
     let healthy = healthy_after scene agree.steps within in
     omega (arith, StandsFor-within scene.region (left_by scene agree.steps).position healthy.live healthy.stands, agree.leaves)
-
--- CALLS UNDER WAY
-
-nobody_at_opening : (scene : BumpScene) (party : ℕ) (call : OngoingCall) → IsInCall (opening_state scene) party call →
-    call.seen ≤ scene.opening
-nobody_at_opening scene party call is =
-    let none : None ≡ Some call = slice_get-replicated scene.parties party None (Some call) is in absurd (cc)
-
--- a call that is under way has seen no more than the position
-pub call_sees : (scene : BumpScene) (position : ℕ) (logs : List BumpLog) (party : ℕ) (log : BumpLog)
-    (call : OngoingCall) → LogsAgree scene position logs →
-    HasLog logs party log → party < scene.parties → call_in log ≡ Some call → call.seen ≤ position
-call_sees scene position logs party log call agree at inside is =
-    let state = opening_state scene in
-    let none = no_clear_when_allowed scene.region state agree.steps agree.allowed in
-    let fresh : SeesNoMore (opening_state scene) party = λ other now. nobody_at_opening scene party other now in
-    omega (
-      arith,
-      stretch_sees scene.region state agree.steps party none fresh call
-          (agreed_call scene position logs party log (Some call) agree at inside is),
-      agree.leaves,
-    )
-
-pub call_fits : (scene : BumpScene) (position : ℕ) (logs : List BumpLog) (party : ℕ) (log : BumpLog)
-    (call : OngoingCall) → LogsAgree scene position logs →
-    HasLog logs party log → party < scene.parties → call_in log ≡ Some call → IsFitting scene.region call
-call_fits scene position logs party log call agree at inside is =
-    fitting_after scene.region (opening_state scene) agree.steps (fitting_at_opening scene) party call
-    (agreed_call scene position logs party log (Some call) agree at inside is)
 
 -- WHAT A PARTY HAS SEEN
 

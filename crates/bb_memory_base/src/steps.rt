@@ -4,7 +4,7 @@ mod bump_world;
 mod pool;
 mod pool_world;
 
-pub use bump::{BumpOutcome, BumpStep, bump_log_theorem, bump_theorem};
+pub use bump::{BumpOutcome, BumpStep, bump_theorem};
 pub use bump_world::BumpWorld;
-pub use pool::{Flag, PoolOutcome, PoolStep, pool_log_theorem, pool_theorem};
+pub use pool::{Flag, PoolOutcome, PoolStep, pool_theorem};
 pub use pool_world::PoolWorld;
