@@ -4,7 +4,7 @@ ghost use Rattle.bb_memory_traits.specs.Chunk.{region_at, AreApart, Chunk, IsSou
 ghost use Rattle.bb_memory_traits.specs.PoolObject.{IsCut, IsHeld};
 ghost use Rattle.bb_memory_base.specs.PoolLogs.{AreAsked, IsPoolRun, PoolLog, IsHeldAfter};
 ghost use Rattle.bb_memory_traits.specs.declared.layout.Layout.{Layout};
-ghost use Rattle.bb_memory_core.specs.Pool.{IsCutAtMost, AreAStrideApart, MayBeCut};
+ghost use Rattle.bb_memory_core.specs.Pool.{AreAStrideApart, MayBeCut};
 ghost use Rattle.bb_memory.specs.SharedPool.{AreFresh, AreInterleaved, HasFoundAllHeld, IsHistoryRun};
 ghost use Rattle.bb_memory.specs.SharedPool.{IsParty, PoolParty, TakenBucket, chunk_of, refused_pass};
 ghost use Rattle.bb_memory.specs.SharedPoolNextFit.{HasMissedAll, refused_search};
@@ -81,28 +81,6 @@ impl SharedPoolAllocator {
     {
         let whole = Geometry::new(bucket_layout, start, size);
         Self::make(alloc, whole, parties)
-    }
-
-    /// A pool as `new` makes it, of at most `most` buckets: of a region that has room for more it uses the first ones alone. A
-    /// constant that is known when the program is compiled can be a part of the type instead, as of
-    /// [`SharedFixedSizePoolAllocator`]. Its conditions and its refusal are those of `new`.
-    pub fn new_at_most(
-        alloc: Global,
-        bucket_layout: Layout,
-        start: usize,
-        size: usize,
-        parties: u32,
-        most: u32,
-    ) -> Result<(Self, Vec<PoolParty>), AllocationError>
-        requires cut { MayBeCut (region_at start size) bucket_layout }
-        requires parties { 1 ≤ parties }
-        ensures geometry { IfOk result (λ made. IsCutAtMost most
-            (region_at start size) bucket_layout made.0.scene.geometry) }
-        ensures parties { IfOk result (λ made. AreFresh made.0 parties made.1.items) }
-        ensures refused { IfErr result (λ error. error ≡ AllocationError.OutOfMemory) }
-    {
-        let geometry = Geometry::cut_at_most(bucket_layout, start, size, most);
-        Self::make(alloc, geometry, parties)
     }
 
     /// Where the first bucket is: the region's start, rounded up to the bucket's alignment.

@@ -1,10 +1,7 @@
 -- Reads of a list at a position, after a write or a push and in a list of one value.
 use Rattle.std.proofs.Common.{◌≡◌, ◌≢◌, ℕ, zero, suc, ◌<◌, List, [], ◌∷◌, ◌++◌, length}
-use Rattle.std.proofs.Common.{replicate, refl, sym, ap, arith, Option, Some, None, IsSome, ◌⊎◌, inl, inr}
-use Rattle.std.specs.Prelude.{slice_get, slice_set, option_copied}
-use Rattle.std.specs.Slice.{IsItemAt}
-use Rattle.std.proofs.lemmas.Option.{slice_get_past, slice_get_read}
-use denote.Ref.{Bor}
+use Rattle.std.proofs.Common.{replicate, refl, ap, arith, Some, IsSome, ◌⊎◌, inl, inr}
+use Rattle.std.specs.Prelude.{slice_get, slice_set}
 
 -- after a write, an element is the one that was written, or was there
 pub slice_get-set : {X : Type 0} (xs : List X) (i j : ℕ) (v x : X) → slice_get (slice_set xs i v) j ≡ Some x →
@@ -68,9 +65,3 @@ slice_get-pushed [] zero x y at = inr (cc)
 slice_get-pushed [] (suc i) x y at = absurd (cc)
 slice_get-pushed (z ∷ xs) zero x y at = inl at
 slice_get-pushed (z ∷ xs) (suc i) x y at = slice_get-pushed xs i x y at
-
--- what a call of `get` lends is what stands there
-pub slice_get-lent : {X : Type 0} (xs : List X) (i : ℕ) (lent : Option (Bor X)) → IsItemAt xs i lent →
-    option_copied lent ≡ slice_get xs i
-slice_get-lent xs i None is = sym (slice_get_past xs i is.3)
-slice_get-lent xs i (Some x) is = sym (slice_get_read xs (length xs) i x.now refl is.3.0 is.1)

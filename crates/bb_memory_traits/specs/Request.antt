@@ -1,8 +1,7 @@
--- Promises of calls that ask for a chunk, give one back or ask for a longer one: all that `allocate`, `deallocate` and `grow`
--- say, for calls that do as these do and more.
-use Rattle.std.specs.Prelude.{◌≡◌, ℕ, ◌%◌, ◌<◌, ◌≤◌, Bool, List, [], ◌∷◌, ◌++◌, Some, Result, IfOk, OnErr, slice_get, slice_set}
+-- Promises of calls that ask for a chunk or for a longer one: all that `allocate` and `grow` say, for calls that do as these do
+-- and more.
+use Rattle.std.specs.Prelude.{◌≡◌, ℕ, ◌%◌, ◌<◌, ◌≤◌, List, [], ◌∷◌, ◌++◌, Some, Result, IfOk, OnErr, slice_get, slice_set}
 use Rattle.bb_memory_traits.specs.Chunk.{Region, Chunk, IsInside, Layout, AllocationError, Fits}
-use Rattle.bb_memory_traits.specs.Object.{released}
 use Rattle.bb_memory_traits.specs.declared.allocator.AllocationGrowError.{AllocationGrowError}
 
 -- `old` was asked for a chunk of the layout, gave this answer, and is `new` then. The words are those of `BaseAllocator`.
@@ -23,18 +22,6 @@ pub record Requested {Allocator Geometry Note : Type 0} (stands_for : Allocator 
   pub geometry : geometry_of new ≡ geometry_of old
   pub note : note_of new ≡ note_after (geometry_of old) layout (note_of old)
   pub value : takes old layout result new
-
--- `old` was given back the chunk at the place, and is `new` then. The words are those of `BaseAllocator`.
-pub record Returned {Allocator Geometry Note : Type 0} (empties : Bool) (stands_for : Allocator → List Chunk → Type 0)
-    (geometry_of : Allocator → Geometry) (note_of : Allocator → Note) (frees : Allocator → ℕ → Layout → Allocator → Type 0)
-    (old : Allocator) (place : ℕ) (layout : Layout) (new : Allocator) : Type 0 where
-  -- each live list that `old` stood for, with a chunk at the place
-  pub released : (live : List Chunk) (position : ℕ) (chunk : Chunk) → stands_for old live
-      → slice_get live position ≡ Some chunk → chunk.place ≡ place → stands_for new (released empties live position)
-  -- the allocator
-  pub geometry : geometry_of new ≡ geometry_of old
-  pub note : note_of new ≡ note_of old
-  pub value : frees old place layout new
 
 -- `old` was asked to grow the chunk at the place, for which so much is reserved, from one layout to another, gave this answer,
 -- and is `new` then. The words are those of `Allocator`.

@@ -1,10 +1,8 @@
 //! The promises of allocators over a region, and runs of commands over any of them.
-mod places;
 mod run;
 
 use crate::layout::{Chunk, Layout};
 use crate::region::Region;
-pub use places::{deallocate_beside, may_release_law};
 pub use run::{run_base, run_full};
 use thiserror::Error;
 

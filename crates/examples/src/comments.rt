@@ -5,8 +5,7 @@ ghost use Rattle.std.specs.Prelude.{◌≡◌, ◌≢◌, ◌<◌, []};
 ghost use Rattle.bb_memory.specs.OneChunk.{StandsFor};
 
 use bb_memory::allocator::{
-    AllocationError, Allocator, BaseAllocator, Command, deallocate_beside, may_release_law,
-    run_base, run_full,
+    AllocationError, Allocator, BaseAllocator, Command, run_base, run_full,
 };
 use bb_memory::bump_allocator::BumpAllocator;
 use bb_memory::heap_allocator::HeapAllocator;
@@ -76,16 +75,6 @@ pub fn run_of_one_chunk(alloc: Global) -> Result<(), AllocError> {
     let size = one.size();
     prove!(size == 1024);
     Ok(())
-}
-
-pub fn places_kept<A: Allocator>(allocator: &mut A, place: usize, other: usize, layout: Layout)
-    requires { A.may_release allocator.old place × A.may_release allocator.old other × (other ≢ place) }
-{
-    may_release_law::<A>();
-    allocator.stands_for_some_list();
-    let _ = allocator.allocate(layout);
-    deallocate_beside(allocator, place, layout);
-    allocator.deallocate(other, layout);
 }
 
 pub fn bump() -> Result<(), AllocationError> {
