@@ -160,14 +160,10 @@ pub fn write_words(
 ) -> Result<(), AllocError>
     ensures { OnOk result (line.new.items ≡ line.old.items ++ words_then name.now numbers end.now) }
 {
-    let Ok(()) = line.extend_from_slice(name) else {
-        return Err(AllocError);
-    };
+    line.extend_from_slice(name)?;
     let mut left = numbers;
     while let Some((number, rest)) = left.split_first() {
-        let Ok(()) = write_figure(b" ", number, line) else {
-            return Err(AllocError);
-        };
+        write_figure(b" ", number, line)?;
         left = rest;
     }
     line.extend_from_slice(end)
@@ -183,9 +179,7 @@ pub fn write_figures(figures: &[Figure], end: &[u8], line: &mut Vec<u8>) -> Resu
 {
     let mut left = figures;
     while let Some((Figure(label, value), rest)) = left.split_first() {
-        let Ok(()) = write_figure(label, *value, line) else {
-            return Err(AllocError);
-        };
+        write_figure(label, *value, line)?;
         left = rest;
     }
     line.extend_from_slice(end)
@@ -195,9 +189,7 @@ pub fn write_figures(figures: &[Figure], end: &[u8], line: &mut Vec<u8>) -> Resu
 fn write_figure(label: &[u8], value: usize, line: &mut Vec<u8>) -> Result<(), AllocError>
     ensures { OnOk result (line.new.items ≡ line.old.items ++ (label.now ++ decimal value)) }
 {
-    let Ok(()) = line.extend_from_slice(label) else {
-        return Err(AllocError);
-    };
+    line.extend_from_slice(label)?;
     match write!(line, "{value}") {
         Ok(()) => Ok(()),
         Err(_) => Err(AllocError),

@@ -107,20 +107,14 @@ fn answer<K: Driven>(
     ensures { IfOk result (λ text. (first : K) × (last : K) × K.rules.starts header first
         × IsPlayed K.rules first script.now text.items last) }
 {
-    let Ok(mut driven) = K::make(alloc, header) else {
-        return Err(AllocError);
-    };
+    let mut driven = K::make(alloc, header)?;
     let mut waiting = Vec::new(alloc);
     let mut text = Vec::new(alloc);
     for line in script {
-        let Ok(()) = take(alloc, &mut driven, line, &mut waiting, &mut text) else {
-            return Err(AllocError);
-        };
+        take(alloc, &mut driven, line, &mut waiting, &mut text)?;
     }
-    match tell(alloc, &mut driven, &waiting, &mut text) {
-        Ok(()) => Ok(text),
-        Err(_) => Err(AllocError),
-    }
+    tell(alloc, &mut driven, &waiting, &mut text)?;
+    Ok(text)
 }
 
 /// Takes a line: a command waits, and a `show` has what waits run, and then the state written.
@@ -136,14 +130,9 @@ fn take<K: Driven>(
         × (text.new.items ≡ text.old.items ++ added)) }
 {
     match line {
-        Line::Command(command) => match waiting.push(*command) {
-            Ok(()) => Ok(()),
-            Err(_) => Err(AllocError),
-        },
+        Line::Command(command) => Ok(waiting.push(*command)?),
         Line::Show => {
-            let Ok(()) = tell(alloc, driven, waiting, text) else {
-                return Err(AllocError);
-            };
+            tell(alloc, driven, waiting, text)?;
             waiting.clear();
             driven.write_state(text)
         }
@@ -161,13 +150,9 @@ fn tell<K: Driven>(
         × K.rules.runs driven.old commands.now replies driven.new
         × (text.new.items ≡ text.old.items ++ flat_map K.rules.reply_text replies)) }
 {
-    let Ok(replies) = driven.run(alloc, commands) else {
-        return Err(AllocError);
-    };
+    let replies = driven.run(alloc, commands)?;
     for reply in &replies {
-        let Ok(()) = K::reply_text(reply).write(text) else {
-            return Err(AllocError);
-        };
+        K::reply_text(reply).write(text)?;
     }
     Ok(())
 }

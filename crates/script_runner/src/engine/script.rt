@@ -32,9 +32,7 @@ pub fn read_script<K: Driven>(
         let Some(line) = read_line::<K>(line) else {
             return Ok(Err(index));
         };
-        let Ok(()) = script.push(line) else {
-            return Err(AllocError);
-        };
+        script.push(line)?;
         index += 1;
         left = rest;
     }

@@ -93,9 +93,7 @@ impl<A: Scripted> Driven for Live<A> {
     }
 
     fn make(alloc: Global, header: A::Header) -> Result<Self, AllocError> {
-        let Ok(allocator) = A::make(alloc, header) else {
-            return Err(AllocError);
-        };
+        let allocator = A::make(alloc, header)?;
         let live = Vec::new(alloc);
         Ok(Live { allocator, live })
     }

@@ -37,9 +37,7 @@ impl Driven for LoanPool {
     }
 
     fn make(alloc: Global, header: PoolPlan) -> Result<Self, AllocError> {
-        let Ok(pool) = <PoolAllocator<Global> as Scripted>::make(alloc, header) else {
-            return Err(AllocError);
-        };
+        let pool = <PoolAllocator<Global> as Scripted>::make(alloc, header)?;
         let book = LoanBook::new(alloc, pool);
         Ok(book)
     }
@@ -68,9 +66,7 @@ impl Driven for LoanPool {
     }
 
     fn run(&mut self, alloc: Global, calls: &[LoanCall]) -> Result<Vec<LoanReply>, AllocError> {
-        let Ok(replies) = run_loans(alloc, self, calls) else {
-            return Err(AllocError);
-        };
+        let replies = run_loans(alloc, self, calls)?;
         if replies.contains(&LoanReply::Refused(LoanError::Memory)) {
             return Err(AllocError);
         }

@@ -83,17 +83,12 @@ impl Driven for PoolWorld {
     }
 
     fn write_state(&self, line: &mut Vec<u8>) -> Result<(), AllocError> {
-        let Ok(()) = line.extend_from_slice(b"held") else {
-            return Err(AllocError);
-        };
+        line.extend_from_slice(b"held")?;
         for bucket in 0..self.number_of_buckets() {
-            let written = match self.holder(bucket) {
-                Some(party) => write_words(b"", Numbers::One(party as usize), b"", line),
-                None => line.extend_from_slice(b" -"),
-            };
-            let Ok(()) = written else {
-                return Err(AllocError);
-            };
+            match self.holder(bucket) {
+                Some(party) => write_words(b"", Numbers::One(party as usize), b"", line)?,
+                None => line.extend_from_slice(b" -")?,
+            }
         }
         line.extend_from_slice(b"\n")
     }

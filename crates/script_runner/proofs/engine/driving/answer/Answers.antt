@@ -11,20 +11,20 @@ loop-line-preserved g c =
     let script = c.args.script.now in
     let i = c.loop-line.line-index in
     let line = c.line-item.result in
-    let (added, step, grown) = c.in-Ok-take.ensures in
+    let (added, step, grown) = c.in_ok-take.ensures in
     let longer : take (i + 1) script ≡ take i script ++ line ∷ [] =
     take_more script i line c.loop-line-test.true ∙ ap (λ x. take i script ++ x ∷ []) (sym c.line-item.is) in
     rw (longer, grown)
-    (told_more g.K.Driven.rules c.in-Ok.driven c.loop-line.driven c.take.new.driven [] c.loop-line.waiting.items
+    (told_more g.K.Driven.rules c.in_ok-driven.driven c.loop-line.driven c.take.new.driven [] c.loop-line.waiting.items
     c.take.new.waiting.items (take i script) line c.loop-line.text.items added c.loop-line.invariant step)
 
-pub returns-in-Ok-tell : goal.returns-in-Ok-tell
-returns-in-Ok-tell g c =
-    let (replies, runs, told) = c.in-Ok-tell.ensures in
+pub returns : goal.returns
+returns g c =
+    let (replies, runs, told) = c.in_ok-tell.ensures in
     let all = take_all c.loop-line.line-index c.args.script.now c.loop-line-test.false in (
-      c.in-Ok.driven,
+      c.in_ok-driven.driven,
       c.tell.new.driven,
-      c.in-Ok.ensures,
+      c.in_ok-driven.ensures,
       (
         c.loop-line.driven,
         c.loop-line.waiting.items,

@@ -3,10 +3,10 @@ use Rattle.std.specs.List.{flat_map}
 use Rattle.script_runner.proofs.Telling.{on_ok}
 use Rattle.script_runner.proofs.engine.driving.take.Goals as goal
 
-pub returns-in-Ok-tell : goal.returns-in-Ok-tell
-returns-in-Ok-tell g c =
+pub returns-in_ok-tell-in-Show : goal.returns-in_ok-tell-in-Show
+returns-in_ok-tell-in-Show g c =
     let rules = g.K.Driven.rules in
-    let (replies, runs, told) = c.in-Ok-tell.ensures in
+    let (replies, runs, told) = c.in_ok-tell-in-Show.ensures in
     let state : List ℕ = rules.state_text c.tell.new.driven in
     let lines : List ℕ = flat_map rules.reply_text replies in
     let step = rw c.deref.ensures.value at runs in

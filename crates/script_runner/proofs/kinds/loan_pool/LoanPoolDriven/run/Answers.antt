@@ -3,8 +3,8 @@ use Rattle.script_runner.proofs.kinds.loan_pool.LoanPoolDriven.run.Goals as goal
 
 pub returns : goal.returns
 returns c = record {
-  run = c.in-Ok.ensures.run;
+  run = c.in_ok-replies.ensures.run;
   remembered = search rules;
-  geometry = c.in-Ok.ensures.geometry;
-  stands = c.in-Ok.ensures.stands;
+  geometry = c.in_ok-replies.ensures.geometry;
+  stands = c.in_ok-replies.ensures.stands;
 }

@@ -1,11 +1,12 @@
-use Rattle.std.proofs.Common.{arith, ◌≡◌, ◌<◌, ◌++◌, ◌∙◌, ap, sym, length, [], codes}
+use Rattle.std.proofs.Common.{arith, ◌≡◌, ◌<◌, ◌++◌, ◌∙◌, ap, length, [], codes}
 use Rattle.std.proofs.lemmas.List.{append-nil}
 use Rattle.script_runner.specs.Words.{words, words_text}
 use Rattle.script_runner.specs.declared.words.Numbers.TheVariants.{One}
 use Rattle.script_runner.specs.Steps.{holder_text}
 use Rattle.script_runner.proofs.Telling.{holders_more}
 use Rattle.script_runner.proofs.kinds.pool_steps.PoolWorldDriven.write_state.Goals as goal
-use Rattle.script_runner.proofs.kinds.pool_steps.PoolWorldDriven.write_state.Goals.{in-Some, in-None}
+use Rattle.script_runner.proofs.kinds.pool_steps.PoolWorldDriven.write_state.Goals.{in-Some+in_ok-write_words-in-Some as in-Some}
+use Rattle.script_runner.proofs.kinds.pool_steps.PoolWorldDriven.write_state.Goals.{in-None+in_ok-extend_from_slice-in-None as in-None}
 
 pub loop-bucket-preserved : goal.loop-bucket-preserved
 loop-bucket-preserved c =
@@ -16,12 +17,10 @@ loop-bucket-preserved c =
     let more : c.match-holder.line.items ≡ before ++ holder_text c.holder.result =
     elim c.match-holder.branch [
       | in-Some w ↦
-          let wrote = rw (sym w.written-is ∙ c.in-Ok-written.is) at w.write_words-written.ensures in
-          rw w.in-Some.is (ap (λ l. l.items) w.line-is ∙ (wrote
+          rw w.in-Some.is (ap (λ l. l.items) w.line-is ∙ (w.in_ok-write_words-in-Some.ensures
           ∙ ap (λ l. before ++ l) (append-nil (words_text (words [] (One w.in-Some.party))))))
       | in-None w ↦
-          let wrote = rw (sym w.written-is ∙ c.in-Ok-written.is) at w.extend_from_slice-written.ensures.items in
-          rw w.in-None.is (ap (λ l. l.items) w.line-is ∙ wrote)
+          rw w.in-None.is (ap (λ l. l.items) w.line-is ∙ w.in_ok-extend_from_slice-in-None.ensures.items)
     ] in
     holders_more (c.args.line.now.items ++ codes "held") before c.match-holder.line.items flags bucket below
     c.loop-bucket.invariant (rw c.holder.ensures at more)
