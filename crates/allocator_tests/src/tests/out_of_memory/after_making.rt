@@ -1,7 +1,0 @@
-//! Calls that take no memory, each on values that were made before. The sweep runs these tests with each request refused, too,
-//! that comes after the making, and every call has to answer as it does with memory, without a request.
-mod calls;
-mod held_buckets;
-mod others;
-mod shared;
-mod values;

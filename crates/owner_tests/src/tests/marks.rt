@@ -1,0 +1,30 @@
+//! Marks by which a test and the sweep of refused memory tell each other where the making ends and the calls do, and whether
+//! memory was refused. They are requests of sizes that no other has: `.ci/refuse.c` says which of them is refused when.
+use std::alloc::Global;
+
+const FIRST_MARK: usize = 100_003;
+
+const SECOND_MARK: usize = 100_019;
+
+const REFUSED_MARK: usize = 100_049;
+
+/// Tests that a request of so many bytes is granted, here or at a second trial: a sweep that refuses one request alone refuses no
+/// mark.
+fn is_granted(alloc: Global, bytes: usize) -> bool {
+    Vec::<u8>::with_capacity(alloc, bytes).is_ok() || Vec::<u8>::with_capacity(alloc, bytes).is_ok()
+}
+
+/// Ends the making. Returns whether memory is refused from here on.
+pub(super) fn refuse_memory(alloc: Global) -> bool {
+    !is_granted(alloc, FIRST_MARK)
+}
+
+/// Ends the calls, so that memory is there again. Returns whether none of them asked for any.
+pub(super) fn none_was_asked(alloc: Global) -> bool {
+    is_granted(alloc, SECOND_MARK)
+}
+
+/// Tests that a request for memory was refused since the test began. A test accepts want of memory only where this is true.
+pub(super) fn some_was_refused(alloc: Global) -> bool {
+    !is_granted(alloc, REFUSED_MARK)
+}

@@ -1,0 +1,53 @@
+//! Loan books, of which a loan alone takes memory.
+use crate::tests::checks::{check, layout, none_asked, refused, same};
+use crate::tests::kinds::pool_over;
+use crate::tests::marks::{none_was_asked, refuse_memory, some_was_refused};
+use crate::tests::out_of_memory::loans::{FULL, NO_MEMORY, one_book, reply};
+use loan_book::LoanCall::{GiveBack, IsOut, Loan, Publish};
+use loan_book::LoanReply::{Kept, Out, Published, Refused, Returned};
+use loan_book::{LoanBook, LoanError};
+
+/// Publishes and gives back a sample, and makes a book.
+#[test]
+fn a_loan_book(rt: HostRuntime) {
+    let alloc = rt.alloc();
+    let mut book = one_book(alloc);
+    if reply(&mut book, Loan(64)) == NO_MEMORY {
+        return refused(&rt, alloc);
+    }
+    refuse_memory(alloc);
+    let unknown = Refused(LoanError::UnknownSample);
+    same(&rt, reply(&mut book, Publish(1, 2)), unknown);
+    same(&rt, reply(&mut book, Publish(0, 2)), Published);
+    same(&rt, reply(&mut book, GiveBack(0)), Kept);
+    same(&rt, reply(&mut book, IsOut(0)), Out(true));
+    same(&rt, reply(&mut book, GiveBack(0)), Returned);
+    same(&rt, reply(&mut one_book(alloc), IsOut(0)), Out(false));
+    none_asked(&rt, alloc);
+}
+
+/// Fills a pool of sixteen chunks and the book's room for records. Without memory a further loan is refused for its record's,
+/// before the allocator is asked; with memory the allocator refuses it.
+#[test]
+fn a_loan_of_a_full_pool(rt: HostRuntime) {
+    let alloc = rt.alloc();
+    let Some(pool) = pool_over(alloc, layout(&rt, 64, 8), 4096, 1024) else {
+        return refused(&rt, alloc);
+    };
+    let mut book = LoanBook::new(alloc, pool);
+    for _ in 0..16 {
+        if reply(&mut book, Loan(64)) == NO_MEMORY {
+            return refused(&rt, alloc);
+        }
+    }
+    let is_refused = refuse_memory(alloc);
+    let told = reply(&mut book, Loan(64));
+    check(&rt, none_was_asked(alloc) != is_refused);
+    let wanted = if some_was_refused(alloc) {
+        NO_MEMORY
+    } else {
+        FULL
+    };
+    same(&rt, told, wanted);
+    same(&rt, reply(&mut book, Loan(64)), FULL);
+}

@@ -1,0 +1,164 @@
+//! Calls that clear bytes. The region's bytes are all 7 at first.
+use crate::tests::checks::{check, chunk, layout, none_asked, refused, same};
+use crate::tests::kinds::{Of, fixed_over, fresh};
+use crate::tests::marks::refuse_memory;
+use crate::tests::owner::Owner;
+use bb_memory_bump::bump_allocator::BumpAllocator;
+use bb_memory_core::one_chunk_allocator::OneChunkAllocator;
+use bb_memory_core::pool_allocator::{FixedSizePoolAllocator, PoolAllocator};
+use bb_memory_traits::allocator::{
+    AllocationError, AllocationGrowError, Allocator, BaseAllocator, Command, Reply,
+};
+use std::alloc::Global;
+use std::process::Abort;
+use uses::chunk_budget::ChunkBudget;
+
+/// Asks for a chunk, and returns where it begins.
+fn takes<A: BaseAllocator + Drop>(
+    rt: &impl Abort,
+    owner: &mut Owner<A>,
+    (size, align): (usize, usize),
+    zeroed: bool,
+) -> usize {
+    match owner.allocate(layout(rt, size, align), zeroed) {
+        Reply::Chunk(chunk) => chunk.place(),
+        _ => panic!(rt; "no chunk is given"),
+    }
+}
+
+/// Resizes the first chunk between 4-aligned sizes, and checks its new length. The place stays.
+fn resizes<A: Allocator + Drop>(
+    rt: &impl Abort,
+    owner: &mut Owner<A>,
+    (place, old, new): (usize, usize, usize),
+    len: usize,
+) {
+    let (old, new) = (layout(rt, old, 4), layout(rt, new, 4));
+    let told = if new.size() > old.size() {
+        owner.grow(0, old, new, true)
+    } else {
+        owner.reply(Command::Shrink(0, old, new))
+    };
+    same(rt, told, Reply::Chunk(chunk(rt, place, len)));
+}
+
+// row: bump-allocate-zeroed
+#[test]
+fn a_bump_clears_its_chunk(rt: HostRuntime) {
+    let mut bump = fresh::<BumpAllocator>(&rt, rt.alloc(), [4096, 1024, 0, 0]);
+    let made = bump.allocator();
+    same(&rt, made.start_address(), 4096);
+    same(&rt, takes(&rt, &mut bump, (10, 1), false), 4096);
+    same(&rt, takes(&rt, &mut bump, (16, 8), true), 4112);
+    check(&rt, bump.has_zeros(4112, 4128));
+    let used = bump.allocator();
+    same(&rt, (used.used_space(), used.free_space()), (32, 992));
+    same(&rt, used.total_space(), 1024);
+    none_asked(&rt, rt.alloc());
+}
+
+// row: one-zeroed-refused
+#[test]
+fn a_refused_request_clears_nothing(rt: HostRuntime) {
+    let mut one = fresh::<OneChunkAllocator>(&rt, rt.alloc(), [4096, 1024, 0, 0]);
+    let refused = Reply::Refused(AllocationError::OutOfMemory);
+    same(&rt, one.allocate(layout(&rt, 1025, 1), true), refused);
+    check(&rt, one.has_zeros(0, 0));
+    none_asked(&rt, rt.alloc());
+}
+
+// row: one-grow-zeroed
+#[test]
+fn a_grown_chunk_is_cleared_behind_its_old_size(rt: HostRuntime) {
+    let mut one = fresh::<OneChunkAllocator>(&rt, rt.alloc(), [4096, 1024, 0, 0]);
+    same(&rt, takes(&rt, &mut one, (48, 4), false), 4096);
+    resizes(&rt, &mut one, (4096, 48, 64), 1024);
+    check(&rt, one.has_zeros(4144, 5120));
+    none_asked(&rt, rt.alloc());
+}
+
+// row: one-doc-example
+#[test]
+fn one_chunk_is_shrunk_and_grown(rt: HostRuntime) {
+    let mut one = fresh::<OneChunkAllocator>(&rt, rt.alloc(), [4096, 1024, 0, 0]);
+    same(&rt, takes(&rt, &mut one, (48, 4), false), 4096);
+    resizes(&rt, &mut one, (4096, 64, 32), 32);
+    resizes(&rt, &mut one, (4096, 48, 64), 1024);
+    same(&rt, one.reserved(0), Some(1024));
+    same(&rt, one.reply(Command::Release(0)), Reply::Released);
+    check(&rt, one.allocator().has_chunk_available());
+    check(&rt, one.has_zeros(4144, 5120));
+    none_asked(&rt, rt.alloc());
+}
+
+// row: fixed-doc-example
+#[test]
+fn a_bucket_is_grown_and_shrunk(rt: HostRuntime) {
+    let mut pool = fresh::<FixedSizePoolAllocator<512>>(&rt, rt.alloc(), [4096, 1024, 128, 8]);
+    let place = takes(&rt, &mut pool, (48, 4), false);
+    resizes(&rt, &mut pool, (place, 48, 64), 64);
+    resizes(&rt, &mut pool, (place, 64, 32), 32);
+    same(&rt, pool.reply(Command::Release(0)), Reply::Released);
+    let cleared = place.saturating_add(48);
+    check(&rt, pool.has_zeros(cleared, cleared.saturating_add(16)));
+    none_asked(&rt, rt.alloc());
+}
+
+// row: fixed-grow-zeroed-refused
+#[test]
+fn a_refused_growth_clears_nothing(rt: HostRuntime) {
+    let mut pool = fresh::<FixedSizePoolAllocator<512>>(&rt, rt.alloc(), [4096, 1024, 128, 8]);
+    takes(&rt, &mut pool, (48, 4), false);
+    let (old, new) = (layout(&rt, 48, 4), layout(&rt, 129, 4));
+    let refused = Reply::GrowRefused(AllocationGrowError::OutOfMemory);
+    same(&rt, pool.grow(0, old, new, true), refused);
+    check(&rt, pool.has_zeros(0, 0));
+    none_asked(&rt, rt.alloc());
+}
+
+/// Takes all buckets of a pool at 4096, each of which is at a place of its own, and then one of them again, cleared.
+fn fills(rt: &impl Abort, alloc: Global, of: Of, (stride, count): (usize, usize)) {
+    let mut pool = fresh::<PoolAllocator<Global>>(rt, alloc, of);
+    same(rt, pool.allocator().number_of_buckets() as usize, count);
+    same(rt, pool.allocator().bucket_size(), of[2]);
+    for _ in 0..count {
+        takes(rt, &mut pool, (of[2], of[3]), false);
+    }
+    check(rt, pool.are_at(4096, stride, count));
+    same(rt, pool.reserved(0), Some(of[2]));
+    same(rt, pool.reply(Command::Release(1)), Reply::Released);
+    let place = takes(rt, &mut pool, (9, 1), true);
+    check(rt, pool.has_zeros(place, place.saturating_add(9)));
+    none_asked(rt, alloc);
+}
+
+// row: pool-eight-buckets, pool-rounded-stride
+#[test]
+fn each_bucket_has_its_place(rt: HostRuntime) {
+    fills(&rt, rt.alloc(), [4096, 1024, 128, 8], (128, 8));
+    fills(&rt, rt.alloc(), [4096, 64, 12, 8], (16, 4));
+}
+
+/// A spent budget refuses before its pool, and a resize spends nothing.
+#[test]
+fn a_budget_of_one_chunk(rt: HostRuntime) {
+    let alloc = rt.alloc();
+    let Some(pool) = fixed_over::<16>(layout(&rt, 128, 8), 4096, 1024) else {
+        return check(&rt, false);
+    };
+    let Some(mut budget) = Owner::new(alloc, ChunkBudget::new(pool, 1), 4096, 1024) else {
+        return refused(&rt, alloc);
+    };
+    refuse_memory(alloc);
+    let large = layout(&rt, 129, 1);
+    let too_large = Reply::Refused(AllocationError::SizeTooLarge);
+    same(&rt, budget.allocate(large, false), too_large);
+    let place = takes(&rt, &mut budget, (10, 4), false);
+    resizes(&rt, &mut budget, (place, 10, 20), 20);
+    same(&rt, budget.allocator().out(), 1);
+    let spent = Reply::Refused(AllocationError::OutOfMemory);
+    same(&rt, budget.allocate(large, false), spent);
+    same(&rt, budget.reply(Command::Release(0)), Reply::Released);
+    same(&rt, budget.allocator().out(), 0);
+    none_asked(&rt, alloc);
+}

@@ -1,0 +1,222 @@
+//! Readers and writers that fail at each of their calls in turn, and a script that is cut at every byte.
+use super::checks::check_at;
+use super::table::ends;
+use script_runner::{Status, run};
+use std::alloc::Global;
+use std::io;
+use std::io::{ErrorKind, Read, Write};
+use std::process::Abort;
+
+/// The script of row `bump-first-path`, and what it writes.
+const FIRST_PATH: &[u8] =
+    b"bump 4096 1024\nalloc 48 4\nshow\nalloc 10 32\nalloc 950 1\nalloc 1 1\nshow\n";
+
+const FIRST_PATH_LINES: &[u8] = b"chunk 4096 48\n\
+BumpAllocator { start: 4096, size: 1024, current_position: 48 }\n\
+used 48 free 976 total 1024\n\
+chunk 4160 10\n\
+chunk 4170 950\n\
+OutOfMemory\n\
+BumpAllocator { start: 4096, size: 1024, current_position: 1024 }\n\
+used 1024 free 0 total 1024\n";
+
+/// A script, with its output, how many writes that takes, and its status.
+type Row = (&'static [u8], &'static [u8], usize, Status);
+
+const SCRIPTS: [Row; 2] = [
+    (FIRST_PATH, FIRST_PATH_LINES, 49, Status::Done),
+    (
+        b"bump 4096 8\nbad\n",
+        b"line 2: refused\n",
+        4,
+        Status::Unreadable,
+    ),
+];
+
+/// An error of a reader or a writer.
+#[derive(Clone, Copy)]
+enum Fault {
+    Other,
+    OutOfMemory,
+    Interrupted,
+}
+
+/// Returns the error of a fault.
+fn error_of(fault: Fault) -> io::Error {
+    match fault {
+        Fault::Other => io::Error::from(ErrorKind::Other),
+        Fault::OutOfMemory => io::Error::from(ErrorKind::OutOfMemory),
+        Fault::Interrupted => io::Error::from(ErrorKind::Interrupted),
+    }
+}
+
+/// Gives its bytes seven at a time, and fails at one of its reads.
+#[derive(Drop)]
+struct FailingReader<'a> {
+    left: &'a [u8],
+    reads: usize,
+    /// The number of the read that is answered with this error, counted from 1.
+    fails_read: (usize, Fault),
+}
+
+impl Read for FailingReader<'_> {
+    fn read(&mut self, buf: &mut [u8]) -> io::Result<usize> {
+        self.reads = self.reads.saturating_add(1);
+        if self.reads == self.fails_read.0 {
+            return Err(error_of(self.fails_read.1));
+        }
+        let most = buf.len().min(7);
+        self.left.read(&mut buf[..most])
+    }
+}
+
+/// Keeps what it is given, at most five bytes a write, and counts its calls. One of its writes may be answered with an error,
+/// and so may its flushes.
+#[derive(Drop)]
+struct CountingWriter<'a> {
+    kept: &'a mut Vec<u8>,
+    writes: usize,
+    flushes: usize,
+    /// The number of the write that is answered with this error, counted from 1.
+    fails_write: (usize, Fault),
+    fails_flush: bool,
+}
+
+impl Write for CountingWriter<'_> {
+    fn write(&mut self, buf: &[u8]) -> io::Result<usize> {
+        self.writes = self.writes.saturating_add(1);
+        if self.writes == self.fails_write.0 {
+            return Err(error_of(self.fails_write.1));
+        }
+        let most = buf.len().min(5);
+        self.kept.write(&buf[..most])
+    }
+
+    fn flush(&mut self) -> io::Result<()> {
+        self.flushes = self.flushes.saturating_add(1);
+        if self.fails_flush {
+            return Err(error_of(Fault::Other));
+        }
+        Ok(())
+    }
+}
+
+/// Runs the script of row `bump-first-path` over a failing reader, and checks status and output.
+fn reads(rt: &impl Abort, alloc: Global, fails_read: (usize, Fault), ends: Status, lines: &[u8]) {
+    let mut told = Vec::new(alloc);
+    let reader = FailingReader {
+        left: FIRST_PATH,
+        reads: 0,
+        fails_read,
+    };
+    let ended = run(alloc, reader, &mut told);
+    check_at(rt, ended == ends && told.as_slice() == lines, fails_read.0);
+}
+
+/// Fails each read in turn. The script has 70 bytes: ten reads, and one that finds its end.
+fn each_read_fails(rt: &impl Abort, alloc: Global, fault: Fault, ends: Status) {
+    for at in 1..12 {
+        reads(rt, alloc, (at, fault), ends, b"");
+    }
+    reads(rt, alloc, (12, fault), Status::Done, FIRST_PATH_LINES);
+}
+
+// row: reader-fails-in-turn
+#[test]
+fn reader_fails_in_turn(rt: HostRuntime) {
+    each_read_fails(&rt, rt.alloc(), Fault::Other, Status::InputFailed);
+    each_read_fails(&rt, rt.alloc(), Fault::OutOfMemory, Status::OutOfMemory);
+    let interrupted = (3, Fault::Interrupted);
+    reads(&rt, rt.alloc(), interrupted, Status::Done, FIRST_PATH_LINES);
+}
+
+/// Runs a script over a writer. Checks that it ends with this status after so many writes and flushes, and that the output begins
+/// the row's lines, and is these lines before a flush.
+fn writes(
+    rt: &impl Abort,
+    alloc: Global,
+    row: &Row,
+    (fails_write, fails_flush): ((usize, Fault), bool),
+    ends: (Status, usize, usize),
+) {
+    let mut kept = Vec::new(alloc);
+    let mut writer = CountingWriter {
+        kept: &mut kept,
+        writes: 0,
+        flushes: 0,
+        fails_write,
+        fails_flush,
+    };
+    let status = run(alloc, row.0, &mut writer);
+    let found = (status, writer.writes, writer.flushes);
+    let is_whole = kept.len() == row.1.len();
+    let begins = row.1.starts_with(kept.as_slice()) && (is_whole || found.2 == 0);
+    check_at(rt, found == ends && begins, fails_write.0);
+}
+
+/// Fails the write of this number, and interrupts it.
+fn write_fails(rt: &impl Abort, alloc: Global, at: usize, row: &Row) {
+    let failed = (Status::OutputFailed, at, 0);
+    writes(rt, alloc, row, ((at, Fault::Other), false), failed);
+    let done = (row.3, row.2.saturating_add(1), 1);
+    writes(rt, alloc, row, ((at, Fault::Interrupted), false), done);
+}
+
+/// A failed write is the last call, and an interrupted write is tried again.
+// row: writer-fails-in-turn
+#[test]
+fn writer_fails_in_turn(rt: HostRuntime) {
+    let none = (0, Fault::Other);
+    for row in &SCRIPTS {
+        for at in 0..row.2 {
+            write_fails(&rt, rt.alloc(), at.saturating_add(1), row);
+        }
+        writes(&rt, rt.alloc(), row, (none, false), (row.3, row.2, 1));
+        let failed = (Status::OutputFailed, row.2, 1);
+        writes(&rt, rt.alloc(), row, (none, true), failed);
+    }
+}
+
+/// Cut in front of the bytes from the first number up to the second, the script has this line unreadable. So has `alloc 10 3`,
+/// as 3 is no power of two.
+const UNREADABLE_CUTS: [(usize, usize, &[u8]); 7] = [
+    (0, 11, b"line 1: refused\n"),
+    (16, 25, b"line 2: refused\n"),
+    (27, 30, b"line 3: refused\n"),
+    (32, 42, b"line 4: refused\n"),
+    (44, 54, b"line 5: refused\n"),
+    (56, 64, b"line 6: refused\n"),
+    (66, 69, b"line 7: refused\n"),
+];
+
+/// Cut in front of the bytes from the first number up to the second, the script is done with so many bytes of the whole script's
+/// lines. So is `bump 4096 1`, as that is a region, too.
+const DONE_CUTS: [(usize, usize, usize); 7] = [
+    (11, 16, 0),
+    (25, 27, 14),
+    (30, 32, 106),
+    (42, 44, 120),
+    (54, 56, 135),
+    (64, 66, 147),
+    (69, 71, FIRST_PATH_LINES.len()),
+];
+
+/// Checks that the script, cut in front of each byte from `from` up to `to`, ends so.
+fn cuts(rt: &impl Abort, alloc: Global, from: usize, to: usize, (status, lines): (Status, &[u8])) {
+    for cut in from..to {
+        let script = FIRST_PATH.get(..cut).unwrap_or(b"");
+        check_at(rt, ends(alloc, script, status, lines), cut);
+    }
+}
+
+// row: script-cut-at-every-byte
+#[test]
+fn script_cut_at_every_byte(rt: HostRuntime) {
+    for row in &UNREADABLE_CUTS {
+        cuts(&rt, rt.alloc(), row.0, row.1, (Status::Unreadable, row.2));
+    }
+    for row in &DONE_CUTS {
+        let lines = FIRST_PATH_LINES.get(..row.2).unwrap_or(b"no such lines");
+        cuts(&rt, rt.alloc(), row.0, row.1, (Status::Done, lines));
+    }
+}

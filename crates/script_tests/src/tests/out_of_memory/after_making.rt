@@ -1,0 +1,51 @@
+//! Steps of both machines without memory, in worlds of more parties than a script has, or of steps that no script has.
+use super::worlds::made;
+use crate::tests::checks::{chunk, layout, none_asked, same};
+use crate::tests::marks::refuse_memory;
+use bb_memory_base::steps::PoolOutcome::{Attaches, Detaches, Gives, Misses, Passed, Takes};
+use bb_memory_base::steps::PoolStep::{Attach, Detach, GiveBack, Try, TryAt};
+use bb_memory_base::steps::{BumpOutcome, BumpStep, BumpWorld, PoolWorld};
+
+/// The last of 1,000 parties takes a chunk.
+#[test]
+fn a_bump_of_a_thousand_parties(rt: HostRuntime) {
+    let alloc = rt.alloc();
+    let Some(mut world) = made(&rt, alloc, BumpWorld::new(alloc, 4096, 64, 1000)) else {
+        return;
+    };
+    refuse_memory(alloc);
+    let (party, layout) = (999, layout(&rt, 40, 1));
+    let passed = world.step(BumpStep::Load { party: 1000 });
+    same(&rt, passed, BumpOutcome::Passed);
+    let sees = world.step(BumpStep::Read { party, layout });
+    same(&rt, sees, BumpOutcome::Sees(0));
+    let wins = world.step(BumpStep::Exchange { party });
+    same(&rt, wins, BumpOutcome::Wins(chunk(&rt, 4096, 40)));
+    same(&rt, world.used_space(), 40);
+    none_asked(&rt, alloc);
+}
+
+/// A held bucket is missed, and nobody holds a detached one.
+#[test]
+fn a_bucket_is_detached_and_attached(rt: HostRuntime) {
+    let alloc = rt.alloc();
+    let Some(mut world) = made(&rt, alloc, PoolWorld::new(alloc, 2, 1000)) else {
+        return;
+    };
+    refuse_memory(alloc);
+    let (bucket, party) = (1, 0);
+    same(&rt, world.step(Detach { party, bucket }), Passed);
+    same(&rt, world.step(TryAt { party, bucket }), Takes(1));
+    same(&rt, world.step(TryAt { party, bucket }), Misses(1));
+    same(&rt, world.step(TryAt { party, bucket: 2 }), Passed);
+    same(&rt, world.holder(1), Some(0));
+    same(&rt, world.step(Detach { party, bucket }), Detaches(1));
+    same(&rt, world.holder(1), None);
+    same(&rt, world.step(GiveBack { party, bucket }), Passed);
+    let party = 999;
+    same(&rt, world.step(Attach { party, bucket }), Attaches(1));
+    same(&rt, world.step(Attach { party, bucket }), Passed);
+    same(&rt, world.step(GiveBack { party, bucket }), Gives(1));
+    same(&rt, world.step(Try { party: 1000 }), Passed);
+    none_asked(&rt, alloc);
+}

@@ -1,0 +1,51 @@
+//! Tables of scripts. Each line is a row: `NAME | SCRIPT | OUTPUT`, where `; ` stands for a line feed.
+use super::checks::check_named;
+use script_runner::{Status, run};
+use std::alloc::{AllocError, Global};
+use std::process::Abort;
+
+/// Splits a row behind its first field.
+pub(super) fn field_and_rest(row: &str) -> (&str, &str) {
+    row.split_once(" | ").unwrap_or((row, ""))
+}
+
+/// Returns a field as lines.
+pub(super) fn lines(alloc: Global, text: &str) -> Result<String, AllocError> {
+    let mut lines = text.replace(alloc, "; ", "\n")?;
+    if !text.is_empty() {
+        lines.push('\n')?;
+    }
+    Ok(lines)
+}
+
+/// Runs a script, and adds its output. Returns its status.
+pub(super) fn add_answer(alloc: Global, script: &[u8], told: &mut Vec<u8>) -> Status {
+    run(alloc, script, told)
+}
+
+/// Returns whether a script ends with this status and writes just these lines.
+pub(super) fn ends(alloc: Global, script: &[u8], status: Status, lines: &[u8]) -> bool {
+    let mut told = Vec::new(alloc);
+    let ended = add_answer(alloc, script, &mut told);
+    ended == status && told.as_slice() == lines
+}
+
+/// Returns whether a row's script ends with this status and writes just the row's output.
+fn keeps_row(alloc: Global, status: Status, row: &str) -> bool {
+    let (script, wrote) = field_and_rest(row);
+    let Ok(script) = lines(alloc, script) else {
+        return false;
+    };
+    match lines(alloc, wrote) {
+        Ok(wrote) => ends(alloc, script.as_bytes(), status, wrote.as_bytes()),
+        Err(_) => false,
+    }
+}
+
+/// Runs the script of each row, and checks its status and its output.
+pub(super) fn check_rows(rt: &impl Abort, alloc: Global, ends: Status, table: &str) {
+    for row in table.lines() {
+        let (name, row) = field_and_rest(row);
+        check_named(rt, keeps_row(alloc, ends, row), name);
+    }
+}

@@ -1,0 +1,9 @@
+//! Typed calls through wrappers that say no more than safety needs, so that a test's own proof carries none of the library's.
+mod buckets;
+mod bumps;
+mod checks;
+mod laws;
+mod marks;
+mod out_of_memory;
+mod slots;
+mod threads;

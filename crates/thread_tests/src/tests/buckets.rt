@@ -1,0 +1,172 @@
+//! Shared pools of buckets of 128 bytes at 4096, and calls that promise no more than a further call needs.
+ghost use Rattle.std.specs.Prelude.{◌≡◌, ◌<◌, ℕ, All, IfOk, IfSome};
+ghost use Rattle.bb_memory_base.specs.PoolLogs.{IsHeldAfter};
+
+use super::checks::refused;
+use super::marks::refuse_memory;
+use bb_memory::layout::Layout;
+use bb_memory::pool_allocator::PoolAllocator;
+use bb_memory::shared_pool::{AllocationError, Bucket, PoolParty, SharedPoolAllocator};
+use std::alloc::Global;
+use std::process::Abort;
+
+/// A bucket's number, and its chunk's place and length.
+pub(super) type Found = (u32, usize, usize);
+
+/// Makes a pool over so many bytes, or fails where there is no such pool, or memory was refused.
+fn pool_of(
+    alloc: Global,
+    size: usize,
+    parties: u32,
+) -> Option<(SharedPoolAllocator, Vec<PoolParty>)>
+    ensures count { IfSome result (λ made. made.0.scene.parties ≡ parties) }
+    ensures parties { IfSome result (λ made. All (λ party. party.allocator ≡ made.0) made.1.items) }
+{
+    let bucket = Layout::from_size_align(128, 8).ok()?;
+    if parties == 0 || !PoolAllocator::can_make(bucket, 4096, size) {
+        return None;
+    }
+    match SharedPoolAllocator::new(alloc, bucket, 4096, size, parties) {
+        Ok((pool, parties)) => Some((pool, parties)),
+        Err(_) => None,
+    }
+}
+
+/// Makes a pool over so many bytes, a second time where memory was refused. It may be refused from here on.
+pub(super) fn pool_at_last(
+    rt: &impl Abort,
+    alloc: Global,
+    size: usize,
+    parties: u32,
+) -> (SharedPoolAllocator, Vec<PoolParty>)
+    ensures count { result.0.scene.parties ≡ parties }
+    ensures parties { All (λ party. party.allocator ≡ result.0) result.1.items }
+{
+    if let Some(made) = pool_of(alloc, size, parties) {
+        refuse_memory(alloc);
+        return made;
+    }
+    refused(rt, alloc);
+    pool_of(alloc, size, parties).expect(rt, "there is memory for a pool")
+}
+
+/// Takes the last of these parties out.
+pub(super) fn last_of(
+    rt: &impl Abort,
+    pool: &SharedPoolAllocator,
+    parties: &mut Vec<PoolParty>,
+) -> PoolParty
+    requires { All (λ party. party.allocator ≡ pool.now) parties.old.items }
+    ensures others { All (λ party. party.allocator ≡ pool.now) parties.new.items }
+    ensures own { result.allocator ≡ pool.now }
+{
+    let _ = pool;
+    parties.pop().expect(rt, "there is a party")
+}
+
+/// Makes a pool over so many bytes, with its two parties.
+pub(super) fn two(
+    rt: &impl Abort,
+    alloc: Global,
+    size: usize,
+) -> (SharedPoolAllocator, PoolParty, PoolParty)
+    ensures others { 1 < result.0.scene.parties }
+    ensures first { result.1.allocator ≡ result.0 }
+    ensures second { result.2.allocator ≡ result.0 }
+{
+    let (pool, mut parties) = pool_at_last(rt, alloc, size, 2);
+    let second = last_of(rt, &pool, &mut parties);
+    let first = last_of(rt, &pool, &mut parties);
+    (pool, first, second)
+}
+
+/// Asks for a bucket, by a next-fit search or by a pass.
+pub(super) fn request<'a>(
+    pool: &'a SharedPoolAllocator,
+    party: &mut PoolParty,
+    layout: Layout,
+    next_fit: bool,
+) -> Result<Bucket<'a>, AllocationError>
+    requires party { party.old.allocator ≡ pool.now }
+    ensures party { party.new.allocator ≡ pool.now }
+    ensures bucket { IfOk result (λ bucket. bucket.allocator ≡ pool.now) }
+    ensures held { IfOk result (λ bucket. IsHeldAfter party.new.log bucket.number) }
+    ensures others_kept { (other : ℕ) → IsHeldAfter party.old.log other
+        → IsHeldAfter party.new.log other }
+{
+    if next_fit {
+        pool.allocate_next_fit(party, layout)
+    } else {
+        pool.allocate(party, layout)
+    }
+}
+
+/// Takes a bucket by a pass.
+pub(super) fn hold<'a>(
+    rt: &impl Abort,
+    pool: &'a SharedPoolAllocator,
+    party: &mut PoolParty,
+    layout: Layout,
+) -> Bucket<'a>
+    requires party { party.old.allocator ≡ pool.now }
+    ensures party { party.new.allocator ≡ pool.now }
+    ensures bucket { result.allocator ≡ pool.now }
+    ensures held { IsHeldAfter party.new.log result.number }
+{
+    match request(pool, party, layout, false) {
+        Ok(bucket) => bucket,
+        Err(_) => panic!(rt; "no bucket is free"),
+    }
+}
+
+pub(super) fn found(bucket: &Bucket<'_>) -> Found {
+    let chunk = bucket.chunk();
+    (bucket.number(), chunk.place(), chunk.len())
+}
+
+/// Asks for a bucket by a pass, and drops its token.
+pub(super) fn take(
+    pool: &SharedPoolAllocator,
+    party: &mut PoolParty,
+    layout: Layout,
+) -> Result<Found, AllocationError>
+    requires { party.old.allocator ≡ pool.now }
+    ensures party { party.new.allocator ≡ pool.now }
+    ensures kept { (other : ℕ) → IsHeldAfter party.old.log other → IsHeldAfter party.new.log other }
+{
+    match request(pool, party, layout, false) {
+        Ok(bucket) => Ok(found(&bucket)),
+        Err(error) => Err(error),
+    }
+}
+
+/// Asks for a bucket by a next-fit search, and drops its token.
+pub(super) fn fit(
+    pool: &SharedPoolAllocator,
+    party: &mut PoolParty,
+    layout: Layout,
+) -> Result<Found, AllocationError>
+    requires { party.old.allocator ≡ pool.now }
+    ensures party { party.new.allocator ≡ pool.now }
+    ensures kept { (other : ℕ) → IsHeldAfter party.old.log other → IsHeldAfter party.new.log other }
+{
+    match request(pool, party, layout, true) {
+        Ok(bucket) => Ok(found(&bucket)),
+        Err(error) => Err(error),
+    }
+}
+
+pub(super) fn give(pool: &SharedPoolAllocator, party: &mut PoolParty, bucket: Bucket<'_>)
+    requires party { party.old.allocator ≡ pool.now }
+    requires bucket { bucket.allocator ≡ pool.now }
+    requires held { IsHeldAfter party.old.log bucket.number }
+    ensures { party.new.allocator ≡ pool.now }
+{
+    pool.deallocate_bucket(party, bucket);
+}
+
+/// Returns how many buckets are held, how many were found held at most, and how many requests were refused for want of one.
+pub(super) fn counts(pool: &SharedPoolAllocator) -> (u32, u32, u64) {
+    let figures = pool.figures();
+    (figures.held, figures.greatest_held, figures.refused)
+}

@@ -1,0 +1,156 @@
+//! Shared bumps, and calls that promise no more than a further call needs.
+ghost use Rattle.std.specs.Prelude.{◌≡◌, All, IfOk, IfSome};
+
+use super::checks::{check, fail, refused, same};
+use super::marks::refuse_memory;
+use bb_memory::bump_allocator::{AllocationError, BaseAllocator, BumpAllocator};
+use bb_memory::layout::Layout;
+use bb_memory::shared_bump::{BumpParty, SharedBumpAllocator};
+use std::alloc::Global;
+use std::process::Abort;
+
+/// A start, a size and the used space.
+pub(super) type Of = (usize, usize, usize);
+
+/// Makes a bump, if there is one such.
+fn bump_of((start, size, used): Of) -> Option<BumpAllocator> {
+    if !BumpAllocator::can_make(start, size) {
+        return None;
+    }
+    let mut bump = BumpAllocator::new(start, size);
+    // Size 0 is refused, and uses nothing.
+    let _ = bump.allocate(Layout::from_size_align(used, 1).ok()?);
+    Some(bump)
+}
+
+fn figures_of(bump: &BumpAllocator) -> Of {
+    (bump.start_address(), bump.total_space(), bump.used_space())
+}
+
+/// Checks that a bump is the one that was made, by its figures and by its text.
+fn is_unchanged(rt: &impl Abort, alloc: Global, bump: &BumpAllocator, of: Of) {
+    same(rt, figures_of(bump), of);
+    let (start, size, used) = of;
+    let text = format!(in alloc;
+        "BumpAllocator {{ start: {start}, size: {size}, current_position: {used} }}"
+    );
+    match (format!(in alloc; "{bump}"), text) {
+        (Ok(told), Ok(text)) => check(rt, told.as_str() == text.as_str()),
+        _ => fail(rt, "there is memory for a text"),
+    }
+}
+
+/// Shares a bump, a second time where memory was refused: then it comes back unchanged. Memory may be refused from here on.
+pub(super) fn share(
+    rt: &impl Abort,
+    alloc: Global,
+    of: Of,
+    parties: u32,
+) -> (SharedBumpAllocator, Vec<BumpParty>)
+    ensures { All (λ party. party.allocator ≡ result.0) result.1.items }
+{
+    let bump = bump_of(of).expect(rt, "there is such a bump");
+    match shared(alloc, bump, parties) {
+        Ok(made) => {
+            refuse_memory(alloc);
+            made
+        }
+        Err(bump) => {
+            refused(rt, alloc);
+            is_unchanged(rt, alloc, &bump, of);
+            match shared(alloc, bump, parties) {
+                Ok(made) => made,
+                Err(_) => panic!(rt; "there is memory to share a bump"),
+            }
+        }
+    }
+}
+
+/// Shares a bump. A refusal hands it back.
+fn shared(
+    alloc: Global,
+    bump: BumpAllocator,
+    parties: u32,
+) -> Result<(SharedBumpAllocator, Vec<BumpParty>), BumpAllocator>
+    ensures { IfOk result (λ made. All (λ party. party.allocator ≡ made.0) made.1.items) }
+{
+    if parties == 0 {
+        return Err(bump);
+    }
+    match bump.share(alloc, parties) {
+        Ok(made) => Ok(made),
+        Err((bump, _)) => Err(bump),
+    }
+}
+
+/// Takes the last of these parties out.
+pub(super) fn last_of(
+    rt: &impl Abort,
+    shared: &SharedBumpAllocator,
+    parties: &mut Vec<BumpParty>,
+) -> BumpParty
+    requires { All (λ party. party.allocator ≡ shared.now) parties.old.items }
+    ensures others { All (λ party. party.allocator ≡ shared.now) parties.new.items }
+    ensures own { result.allocator ≡ shared.now }
+{
+    let _ = shared;
+    parties.pop().expect(rt, "there is a party")
+}
+
+/// Shares a bump between two parties.
+pub(super) fn two(
+    rt: &impl Abort,
+    alloc: Global,
+    of: Of,
+) -> (SharedBumpAllocator, BumpParty, BumpParty)
+    ensures first { result.1.allocator ≡ result.0 }
+    ensures second { result.2.allocator ≡ result.0 }
+{
+    let (shared, mut parties) = share(rt, alloc, of, 2);
+    let second = last_of(rt, &shared, &mut parties);
+    let first = last_of(rt, &shared, &mut parties);
+    (shared, first, second)
+}
+
+/// Asks for a chunk. Returns its place and length. Where there is no such layout the answer is one that no bump gives.
+pub(super) fn take(
+    shared: &SharedBumpAllocator,
+    party: &mut BumpParty,
+    size: usize,
+    align: usize,
+) -> Result<(usize, usize), AllocationError>
+    requires { party.old.allocator ≡ shared.now }
+    ensures { party.new.allocator ≡ shared.now }
+{
+    let Ok(layout) = Layout::from_size_align(size, align) else {
+        return Err(AllocationError::SizeTooLarge);
+    };
+    match shared.allocate(party, layout) {
+        Ok(chunk) => Ok((chunk.place(), chunk.len())),
+        Err(error) => Err(error),
+    }
+}
+
+/// Returns the used space and the free space.
+pub(super) fn spaces(shared: &SharedBumpAllocator, party: &mut BumpParty) -> (usize, usize)
+    requires { party.old.allocator ≡ shared.now }
+    ensures { party.new.allocator ≡ shared.now }
+{
+    (shared.used_space(party), shared.free_space(party))
+}
+
+pub(super) fn meet(shared: &SharedBumpAllocator, a: &mut BumpParty, b: &mut BumpParty)
+    requires a { a.old.allocator ≡ shared.now }
+    requires b { b.old.allocator ≡ shared.now }
+    ensures a { a.new.allocator ≡ shared.now }
+    ensures b { b.new.allocator ≡ shared.now }
+{
+    shared.meet(a, b);
+}
+
+/// Hands the bump back by one party.
+pub(super) fn end(shared: SharedBumpAllocator, party: BumpParty) -> Of
+    requires { party.allocator ≡ shared }
+{
+    figures_of(&shared.into_owner(party))
+}

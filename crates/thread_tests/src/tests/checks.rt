@@ -1,0 +1,41 @@
+//! Checks, proved once: a test's own proof carries no more of a check than its call.
+use super::marks::{none_was_asked, some_was_refused};
+use bb_memory::layout::{Chunk, Layout};
+use std::alloc::Global;
+use std::fmt::Debug;
+use std::process::Abort;
+
+/// Checks a condition.
+pub(super) fn check(rt: &impl Abort, found: bool) {
+    assert!(rt; found);
+}
+
+/// Checks an answer. A failure says both.
+pub(super) fn same<T: PartialEq + Debug + Copy>(rt: &impl Abort, found: T, wanted: T) {
+    assert_eq!(rt; found, wanted);
+}
+
+/// Ends the test.
+pub(super) fn fail(rt: &impl Abort, cause: &str) {
+    panic!(rt; "{cause}");
+}
+
+/// Checks that memory was refused.
+pub(super) fn refused(rt: &impl Abort, alloc: Global) {
+    assert!(rt; some_was_refused(alloc), "no memory was refused");
+}
+
+/// Checks that no call asked for memory since the making, and ends the time in which it may be refused.
+pub(super) fn none_asked(rt: &impl Abort, alloc: Global) {
+    assert!(rt; none_was_asked(alloc), "a call asked for memory");
+}
+
+/// Makes a layout, which has to be there.
+pub(super) fn layout(rt: &impl Abort, size: usize, align: usize) -> Layout {
+    Layout::from_size_align(size, align).expect(rt, "there is such a layout")
+}
+
+/// Makes a chunk, which has to be there.
+pub(super) fn chunk(rt: &impl Abort, place: usize, len: usize) -> Chunk {
+    Chunk::new(place, len).expect(rt, "there is such a chunk")
+}

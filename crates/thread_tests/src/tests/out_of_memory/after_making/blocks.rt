@@ -1,0 +1,19 @@
+//! A heap block.
+use crate::tests::checks::{check, none_asked, same};
+use crate::tests::marks::{refuse_memory, some_was_freed};
+use crate::tests::out_of_memory::blocks::{counted, digits, made, shrunk};
+use bb_memory::heap_allocator::HeapAllocator;
+use bb_memory::layout::Layout;
+
+/// A block is written, shrunk and deallocated, which gives its memory back.
+#[test]
+fn a_heap_block(rt: HostRuntime) {
+    let alloc = rt.alloc();
+    let block = made(&rt, alloc, 4, false);
+    refuse_memory(alloc);
+    let block = shrunk(&rt, alloc, counted(block, 1), 2);
+    same(&rt, digits(&block), (2, 12));
+    HeapAllocator::new(alloc).deallocate(block, Layout::empty());
+    check(&rt, some_was_freed(alloc));
+    none_asked(&rt, alloc);
+}

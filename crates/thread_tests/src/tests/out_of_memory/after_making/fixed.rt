@@ -1,0 +1,118 @@
+//! A shared pool of at most four buckets of 128 bytes.
+ghost use Rattle.std.specs.Prelude.{◌≡◌, All, IfOk, IfSome};
+
+use crate::tests::checks::{chunk, fail, layout, none_asked, refused, same};
+use crate::tests::marks::refuse_memory;
+use bb_memory::allocator::{AllocationError, AllocationGrowError};
+use bb_memory::layout::{Chunk, Layout};
+use bb_memory::pool_allocator::FixedSizePoolAllocator;
+use bb_memory::shared_pool::{Bucket, PoolParty, SharedFixedSizePoolAllocator};
+use std::alloc::Global;
+use std::process::Abort;
+
+type Four = SharedFixedSizePoolAllocator<4>;
+
+/// Makes a pool over 1,024 bytes at 4096 for one party, or fails where memory was refused.
+fn four(alloc: Global) -> Option<(Four, Vec<PoolParty>)>
+    ensures { IfSome result (λ made. All (λ party. party.allocator ≡ made.0) made.1.items) }
+{
+    let bucket = Layout::from_size_align(128, 8).ok()?;
+    if !FixedSizePoolAllocator::<4>::can_make(bucket, 4096, 1024) {
+        return None;
+    }
+    match SharedFixedSizePoolAllocator::new(alloc, bucket, 4096, 1024, 1) {
+        Ok((pool, parties)) => Some((pool, parties)),
+        Err(_) => None,
+    }
+}
+
+/// Makes the pool, a second time where memory was refused. Memory may be refused from here on.
+fn four_at_last(rt: &impl Abort, alloc: Global) -> (Four, Vec<PoolParty>)
+    ensures { All (λ party. party.allocator ≡ result.0) result.1.items }
+{
+    if let Some(made) = four(alloc) {
+        refuse_memory(alloc);
+        return made;
+    }
+    refused(rt, alloc);
+    four(alloc).expect(rt, "there is memory for a pool")
+}
+
+fn last_of(rt: &impl Abort, pool: &Four, mut parties: Vec<PoolParty>) -> PoolParty
+    requires { All (λ party. party.allocator ≡ pool.now) parties.items }
+    ensures { result.allocator ≡ pool.entry.now }
+{
+    let _ = pool;
+    parties.pop().expect(rt, "there is a party")
+}
+
+fn take<'a>(
+    pool: &'a Four,
+    party: &mut PoolParty,
+    layout: Layout,
+) -> Result<Bucket<'a>, AllocationError>
+    requires { party.old.allocator ≡ pool.now }
+    ensures party { party.new.allocator ≡ pool.now }
+    ensures bucket { IfOk result (λ bucket. bucket.allocator ≡ pool.now) }
+{
+    pool.allocate(party, layout)
+}
+
+/// Takes a bucket, and returns its number.
+fn number(pool: &Four, party: &mut PoolParty, layout: Layout) -> Result<u32, AllocationError>
+    requires { party.old.allocator ≡ pool.now }
+    ensures { party.new.allocator ≡ pool.now }
+{
+    match take(pool, party, layout) {
+        Ok(bucket) => Ok(bucket.number()),
+        Err(error) => Err(error),
+    }
+}
+
+/// Grows a bucket's chunk, and checks the answer.
+fn grow(
+    rt: &impl Abort,
+    pool: &Four,
+    bucket: &mut Bucket<'_>,
+    old: Layout,
+    new: Layout,
+    wanted: Result<Chunk, AllocationGrowError>,
+)
+    requires { bucket.old.allocator ≡ pool.now }
+    ensures { bucket.new.allocator ≡ pool.now }
+{
+    if bucket.chunk().place() % old.align() != 0 {
+        return fail(rt, "the bucket isn't aligned");
+    }
+    same(rt, pool.grow(bucket, old, new), wanted);
+}
+
+/// Takes all four buckets, and grows the chunk of the first one.
+fn fills(rt: &impl Abort, pool: &Four, mut party: PoolParty)
+    requires { party.allocator ≡ pool.now }
+{
+    let (small, medium, large) = (layout(rt, 48, 4), layout(rt, 64, 4), layout(rt, 129, 4));
+    let Ok(mut first) = take(pool, &mut party, small) else {
+        return fail(rt, "no bucket is free");
+    };
+    same(rt, (first.number(), first.chunk().place()), (0, 4096));
+    same(rt, number(pool, &mut party, small), Ok(1));
+    same(rt, number(pool, &mut party, small), Ok(2));
+    same(rt, number(pool, &mut party, small), Ok(3));
+    let fifth = number(pool, &mut party, small);
+    same(rt, fifth, Err(AllocationError::OutOfMemory));
+    let grown = chunk(rt, 4096, 64);
+    grow(rt, pool, &mut first, small, medium, Ok(grown));
+    let full = Err(AllocationGrowError::OutOfMemory);
+    grow(rt, pool, &mut first, medium, large, full);
+    same(rt, first.chunk(), grown);
+}
+
+// row: shared-fixed-four-buckets, refused-shared-pools
+#[test]
+fn four_of_eight_buckets(rt: HostRuntime) {
+    let (pool, parties) = four_at_last(&rt, rt.alloc());
+    same(&rt, (pool.number_of_buckets(), pool.size()), (4, 1024));
+    fills(&rt, &pool, last_of(&rt, &pool, parties));
+    none_asked(&rt, rt.alloc());
+}

@@ -1,0 +1,131 @@
+//! Parties of one thread that share a pool of buckets of 128 bytes. A request answers a bucket's number, place and length.
+use crate::tests::buckets::{counts, fit, found, give, hold, last_of, pool_at_last, take, two};
+use crate::tests::checks::{layout, none_asked, same};
+use bb_memory::allocator::AllocationError::{AlignmentFailure, OutOfMemory, SizeTooLarge};
+
+// row: shared-pool-dropped-bucket, refused-shared-pools
+#[test]
+fn a_dropped_token_leaves_its_bucket_held(rt: HostRuntime) {
+    let (small, (pool, mut all)) = (layout(&rt, 48, 4), pool_at_last(&rt, rt.alloc(), 256, 1));
+    let mut party = last_of(&rt, &pool, &mut all);
+    let first = hold(&rt, &pool, &mut party, small);
+    same(&rt, found(&first), (0, 4096, 48));
+    same(&rt, take(&pool, &mut party, small), Ok((1, 4224, 48)));
+    same(&rt, take(&pool, &mut party, small), Err(OutOfMemory));
+    give(&pool, &mut party, first);
+    same(&rt, take(&pool, &mut party, small), Ok((0, 4096, 48)));
+    same(&rt, take(&pool, &mut party, small), Err(OutOfMemory));
+    none_asked(&rt, rt.alloc());
+}
+
+#[test]
+fn two_parties_of_one_bucket(rt: HostRuntime) {
+    let (small, (pool, mut a, mut b)) = (layout(&rt, 48, 4), two(&rt, rt.alloc(), 128));
+    let (large, wide) = (layout(&rt, 129, 16), layout(&rt, 48, 16));
+    same(&rt, take(&pool, &mut a, large), Err(SizeTooLarge));
+    same(&rt, fit(&pool, &mut a, wide), Err(AlignmentFailure));
+    let held = hold(&rt, &pool, &mut a, small);
+    same(&rt, take(&pool, &mut b, small), Err(OutOfMemory));
+    same(&rt, fit(&pool, &mut b, small), Err(OutOfMemory));
+    give(&pool, &mut a, held);
+    same(&rt, take(&pool, &mut b, small), Ok((0, 4096, 48)));
+    none_asked(&rt, rt.alloc());
+}
+
+/// The last party's part of the pool is its last bucket.
+#[test]
+fn as_many_parties_as_buckets(rt: HostRuntime) {
+    let (pool, mut all) = pool_at_last(&rt, rt.alloc(), 65536, 512);
+    let (small, mut party) = (layout(&rt, 48, 4), last_of(&rt, &pool, &mut all));
+    same(&rt, pool.number_of_buckets(), pool.number_of_parties());
+    same(&rt, (pool.size(), pool.bucket_size()), (65536, 128));
+    same(&rt, (pool.start_address(), pool.max_alignment()), (4096, 8));
+    same(&rt, pool.number_at(4097), None);
+    same(&rt, pool.number_at(4224), Some(1));
+    same(&rt, pool.place_at(511), Some(69504));
+    same(&rt, pool.place_at(512), None);
+    same(&rt, fit(&pool, &mut party, small), Ok((511, 69504, 48)));
+    same(&rt, fit(&pool, &mut party, small), Ok((0, 4096, 48)));
+    none_asked(&rt, rt.alloc());
+}
+
+#[test]
+fn a_detached_bucket_is_nobodys(rt: HostRuntime) {
+    let (small, (pool, mut a, mut b)) = (layout(&rt, 48, 4), two(&rt, rt.alloc(), 128));
+    let held = hold(&rt, &pool, &mut a, small);
+    let detached = pool.detach(&mut a, held);
+    same(&rt, (detached.number(), detached.len()), (0, 48));
+    same(&rt, take(&pool, &mut a, small), Err(OutOfMemory));
+    same(&rt, fit(&pool, &mut b, small), Err(OutOfMemory));
+    let attached = pool.attach(&mut b, detached);
+    same(&rt, found(&attached), (0, 4096, 48));
+    give(&pool, &mut b, attached);
+    let held = hold(&rt, &pool, &mut a, small);
+    drop(pool.detach(&mut a, held));
+    same(&rt, take(&pool, &mut b, small), Err(OutOfMemory));
+    none_asked(&rt, rt.alloc());
+}
+
+/// A search begins in the party's part. It goes on where the last one ended, or at the least bucket that came back since, and
+/// then at bucket 0.
+#[test]
+fn a_search_goes_on(rt: HostRuntime) {
+    let (small, (pool, mut a, mut b)) = (layout(&rt, 48, 4), two(&rt, rt.alloc(), 1024));
+    same(&rt, fit(&pool, &mut a, small), Ok((0, 4096, 48)));
+    same(&rt, fit(&pool, &mut b, small), Ok((4, 4608, 48)));
+    let least = hold(&rt, &pool, &mut b, small);
+    same(&rt, found(&least), (1, 4224, 48));
+    same(&rt, fit(&pool, &mut a, small), Ok((2, 4352, 48)));
+    give(&pool, &mut b, least);
+    same(&rt, fit(&pool, &mut b, small), Ok((1, 4224, 48)));
+    same(&rt, fit(&pool, &mut b, small), Ok((3, 4480, 48)));
+    same(&rt, fit(&pool, &mut a, small), Ok((5, 4736, 48)));
+    same(&rt, fit(&pool, &mut a, small), Ok((6, 4864, 48)));
+    same(&rt, fit(&pool, &mut a, small), Ok((7, 4992, 48)));
+    same(&rt, fit(&pool, &mut b, small), Err(OutOfMemory));
+    none_asked(&rt, rt.alloc());
+}
+
+#[test]
+fn a_meeting_keeps_where_a_search_begins(rt: HostRuntime) {
+    let (small, (pool, mut a, mut b)) = (layout(&rt, 48, 4), two(&rt, rt.alloc(), 1024));
+    same(&rt, fit(&pool, &mut a, small), Ok((0, 4096, 48)));
+    same(&rt, fit(&pool, &mut b, small), Ok((4, 4608, 48)));
+    pool.meet(&mut a, &mut b);
+    same(&rt, fit(&pool, &mut b, small), Ok((5, 4736, 48)));
+    same(&rt, fit(&pool, &mut a, small), Ok((1, 4224, 48)));
+    none_asked(&rt, rt.alloc());
+}
+
+#[test]
+fn all_parties_meet(rt: HostRuntime) {
+    let (pool, mut parties) = pool_at_last(&rt, rt.alloc(), 384, 3);
+    pool.meet_all(&mut parties);
+    let (small, mut party) = (layout(&rt, 48, 4), last_of(&rt, &pool, &mut parties));
+    same(&rt, (party.number(), parties.len()), (2, 2));
+    same(&rt, fit(&pool, &mut party, small), Ok((2, 4352, 48)));
+    none_asked(&rt, rt.alloc());
+}
+
+/// The figures say how many buckets are held, how many were found held at most, and how many requests were refused.
+#[test]
+fn figures_count_what_is_held(rt: HostRuntime) {
+    let (small, (pool, mut a, mut b)) = (layout(&rt, 48, 4), two(&rt, rt.alloc(), 256));
+    same(&rt, counts(&pool), (0, 0, 0));
+    let first = hold(&rt, &pool, &mut a, small);
+    let large = layout(&rt, 129, 4);
+    same(&rt, take(&pool, &mut b, large), Err(SizeTooLarge));
+    same(&rt, counts(&pool), (1, 1, 0));
+    let detached = pool.detach(&mut a, first);
+    same(&rt, counts(&pool), (1, 1, 0));
+    let first = pool.attach(&mut b, detached);
+    give(&pool, &mut b, first);
+    same(&rt, counts(&pool), (0, 1, 0));
+    let first = hold(&rt, &pool, &mut a, small);
+    same(&rt, take(&pool, &mut b, small), Ok((1, 4224, 48)));
+    same(&rt, take(&pool, &mut b, small), Err(OutOfMemory));
+    same(&rt, fit(&pool, &mut b, small), Err(OutOfMemory));
+    give(&pool, &mut a, first);
+    same(&rt, counts(&pool), (1, 2, 2));
+    none_asked(&rt, rt.alloc());
+}

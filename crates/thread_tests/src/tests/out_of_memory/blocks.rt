@@ -1,0 +1,161 @@
+//! Heap blocks. Where memory is refused, no block is made, and a growth hands its block back unchanged: then the call is made
+//! again. Alignments decide nothing.
+use crate::tests::checks::{fail, layout, refused, same};
+use bb_memory::heap_allocator::{
+    AllocationError, AllocationGrowError, AllocationShrinkError, HeapAllocator, HeapBlock,
+};
+use bb_memory::layout::Layout;
+use std::alloc::Global;
+use std::process::Abort;
+
+/// A block, or the old one with the cause of a refusal.
+type Resized<E> = Result<HeapBlock, (HeapBlock, E)>;
+
+fn allocate(alloc: Global, asked: Layout, zeroed: bool) -> Result<HeapBlock, AllocationError> {
+    let heap = HeapAllocator::new(alloc);
+    if zeroed {
+        heap.allocate_zeroed(asked)
+    } else {
+        heap.allocate(asked)
+    }
+}
+
+/// Makes a block, at a second trial where memory was refused.
+pub(super) fn made(rt: &impl Abort, alloc: Global, size: usize, zeroed: bool) -> HeapBlock {
+    let asked = layout(rt, size, 4096);
+    match allocate(alloc, asked, zeroed) {
+        Err(AllocationError::OutOfMemory) => {
+            refused(rt, alloc);
+            allocate(alloc, asked, zeroed).expect(rt, "there is memory for a block")
+        }
+        other => other.expect(rt, "the block isn't empty"),
+    }
+}
+
+/// Returns the length of a block, and its bytes as digits.
+pub(super) fn digits(block: &HeapBlock) -> (usize, usize) {
+    let mut digits: usize = 0;
+    for byte in block.as_slice() {
+        digits = digits.saturating_mul(10).saturating_add(*byte as usize);
+    }
+    (block.len(), digits)
+}
+
+/// Writes numbers into a block, counting from `first`.
+pub(super) fn counted(mut block: HeapBlock, first: u8) -> HeapBlock {
+    let mut number = first;
+    for byte in block.as_mut_slice() {
+        *byte = number;
+        number = number.saturating_add(1);
+    }
+    block
+}
+
+fn grow(
+    alloc: Global,
+    block: HeapBlock,
+    new: Layout,
+    zeroed: bool,
+) -> Resized<AllocationGrowError> {
+    let Ok(old) = Layout::from_size_align(block.len(), 1) else {
+        return Err((block, AllocationGrowError::GrowWouldShrink));
+    };
+    let heap = HeapAllocator::new(alloc);
+    if zeroed {
+        heap.grow_zeroed(block, old, new)
+    } else {
+        heap.grow(block, old, new)
+    }
+}
+
+/// Grows a block, at a second trial where memory was refused: then the block is as before.
+fn grown(rt: &impl Abort, alloc: Global, block: HeapBlock, size: usize, zeroed: bool) -> HeapBlock {
+    let (new, before) = (layout(rt, size, 4096), digits(&block));
+    match grow(alloc, block, new, zeroed) {
+        Ok(block) => block,
+        Err((block, error)) => {
+            same(rt, error, AllocationGrowError::OutOfMemory);
+            refused(rt, alloc);
+            same(rt, digits(&block), before);
+            match grow(alloc, block, new, zeroed) {
+                Ok(block) => block,
+                Err(_) => panic!(rt; "there is memory for a block"),
+            }
+        }
+    }
+}
+
+pub(super) fn shrink(
+    alloc: Global,
+    block: HeapBlock,
+    new: Layout,
+) -> Resized<AllocationShrinkError> {
+    match Layout::from_size_align(block.len(), 1) {
+        Ok(old) => HeapAllocator::new(alloc).shrink(block, old, new),
+        Err(_) => Err((block, AllocationShrinkError::AlignmentFailure)),
+    }
+}
+
+/// Shrinks a block.
+pub(super) fn shrunk(rt: &impl Abort, alloc: Global, block: HeapBlock, size: usize) -> HeapBlock {
+    match shrink(alloc, block, layout(rt, size, 4096)) {
+        Ok(block) => block,
+        Err(_) => panic!(rt; "the block wasn't shrunk"),
+    }
+}
+
+/// Checks that a shrink is refused, and hands the block back unchanged.
+fn not_shrunk(
+    rt: &impl Abort,
+    alloc: Global,
+    block: HeapBlock,
+    size: usize,
+    wanted: AllocationShrinkError,
+) -> HeapBlock {
+    let before = digits(&block);
+    match shrink(alloc, block, layout(rt, size, 1)) {
+        Ok(_) => panic!(rt; "the block was shrunk"),
+        Err((block, error)) => {
+            same(rt, (digits(&block), error), (before, wanted));
+            block
+        }
+    }
+}
+
+// row: heap-grow-and-shrink, refused-heap-allocate, refused-heap-grow
+#[test]
+fn a_block_is_grown_and_shrunk(rt: HostRuntime) {
+    let alloc = rt.alloc();
+    match allocate(alloc, layout(&rt, 0, 1), false) {
+        Ok(_) => fail(&rt, "a block of no bytes was made"),
+        Err(error) => same(&rt, error, AllocationError::SizeIsZero),
+    }
+    let block = counted(made(&rt, alloc, 4, false), 1);
+    same(&rt, digits(&block), (4, 1234));
+    let block = grown(&rt, alloc, block, 6, false);
+    same(&rt, digits(&block), (6, 123_400));
+    let block = shrunk(&rt, alloc, block, 2);
+    same(&rt, digits(&block), (2, 12));
+    let block = not_shrunk(&rt, alloc, block, 0, AllocationShrinkError::SizeIsZero);
+    same(&rt, digits(&block), (2, 12));
+}
+
+// row: heap-zeroed-and-refused, refused-heap-allocate, refused-heap-grow
+#[test]
+fn a_block_is_zeroed_and_refused(rt: HostRuntime) {
+    let alloc = rt.alloc();
+    let block = counted(made(&rt, alloc, 3, true), 5);
+    let block = match grow(alloc, block, layout(&rt, 3, 1), false) {
+        Ok(_) => panic!(&rt; "a block was grown to its own size"),
+        Err((block, error)) => {
+            same(&rt, error, AllocationGrowError::GrowWouldShrink);
+            block
+        }
+    };
+    same(&rt, digits(&block), (3, 567));
+    let block = grown(&rt, alloc, block, 5, true);
+    same(&rt, digits(&block), (5, 56_700));
+    let block = not_shrunk(&rt, alloc, block, 5, AllocationShrinkError::ShrinkWouldGrow);
+    let block = shrunk(&rt, alloc, block, 1);
+    same(&rt, digits(&block), (1, 5));
+}

@@ -1,0 +1,114 @@
+//! Caching parties, with ample memory and with any one request refused: `new` and `cache_at_most` alone take memory.
+ghost use Rattle.std.specs.Prelude.{◌≡◌};
+
+use crate::tests::buckets::two;
+use crate::tests::checks::{check, layout, refused};
+use bb_memory::allocator::AllocationError;
+use bb_memory::layout::Layout;
+use bb_memory::shared_pool::{CachingParty, PoolParty, SharedPoolAllocator};
+use std::alloc::Global;
+use std::process::Abort;
+
+/// Takes two buckets and gives them back. The other party finds the cached one held until it is flushed.
+fn fills(
+    rt: &impl Abort,
+    pool: &SharedPoolAllocator,
+    caching: &mut CachingParty,
+    other: &mut PoolParty,
+    small: Layout,
+) -> Result<(), AllocationError>
+    requires caching { caching.old.party.allocator ≡ pool.now }
+    requires other { other.old.allocator ≡ pool.now }
+{
+    let first = caching.allocate(pool, small)?;
+    let second = caching.allocate(pool, small)?;
+    let (cached, beyond) = (first.number(), second.number());
+    caching.deallocate(pool, first);
+    check(rt, caching.number_of_cached() == 1);
+    check(rt, pool.allocate(other, small).is_err());
+    caching.deallocate(pool, second);
+    check(rt, pool.allocate(other, small)?.number() == beyond);
+    let again = caching.allocate(pool, small)?;
+    check(rt, again.number() == cached);
+    caching.deallocate(pool, again);
+    check(rt, pool.allocate(other, small).is_err());
+    caching.flush(pool);
+    check(rt, caching.number_of_cached() == 0);
+    check(rt, pool.allocate(other, small)?.number() == cached);
+    Ok(())
+}
+
+#[test]
+fn one_of_two_buckets_is_cached(rt: HostRuntime) {
+    let (alloc, small) = (rt.alloc(), layout(&rt, 48, 4));
+    let (pool, mut other, party) = two(&rt, alloc, 256);
+    match CachingParty::new(alloc, party, 1) {
+        Ok(mut made) => check(&rt, fills(&rt, &pool, &mut made, &mut other, small).is_ok()),
+        Err(party) => {
+            refused(&rt, alloc);
+            check(&rt, party.number() == 1);
+        }
+    }
+}
+
+/// Takes two buckets and gives them back.
+fn keeps_two(
+    pool: &SharedPoolAllocator,
+    caching: &mut CachingParty,
+    small: Layout,
+) -> Result<(), AllocationError>
+    requires { caching.old.party.allocator ≡ pool.now }
+    ensures { caching.new.party.allocator ≡ pool.now }
+{
+    let first = caching.allocate(pool, small)?;
+    let second = caching.allocate(pool, small)?;
+    caching.deallocate(pool, first);
+    caching.deallocate(pool, second);
+    Ok(())
+}
+
+/// Has a party that caches one bucket cache at most two from then on: the one is back then. A refusal changes nothing.
+fn caches_two(
+    rt: &impl Abort,
+    alloc: Global,
+    pool: &SharedPoolAllocator,
+    caching: &mut CachingParty,
+    small: Layout,
+) -> Result<(), AllocationError>
+    requires { caching.old.party.allocator ≡ pool.now }
+    ensures { caching.new.party.allocator ≡ pool.now }
+{
+    let taken = caching.allocate(pool, small)?;
+    caching.deallocate(pool, taken);
+    if caching.cache_at_most(alloc, pool, 2).is_err() {
+        check(
+            rt,
+            some_was_refused(alloc) && caching.number_of_cached() == 1,
+        );
+        return Ok(());
+    }
+    check(rt, caching.number_of_cached() == 0);
+    keeps_two(pool, caching, small)?;
+    check(rt, caching.number_of_cached() == 2);
+    Ok(())
+}
+
+#[test]
+fn two_of_two_buckets_are_cached(rt: HostRuntime) {
+    let (alloc, small) = (rt.alloc(), layout(&rt, 48, 4));
+    let Some((pool, other, party)) = two_of(alloc) else {
+        return ends_unmade(&rt, alloc);
+    };
+    let (Ok(mut one), Ok(mut other)) = (
+        CachingParty::new(alloc, party, 1),
+        CachingParty::new(alloc, other, 0),
+    ) else {
+        return check(&rt, some_was_refused(alloc));
+    };
+    check(&rt, caches_two(&rt, alloc, &pool, &mut one, small).is_ok());
+    one.meet(&pool, &mut other);
+    check(
+        &rt,
+        one.party().number() == 1 && other.party().number() == 0,
+    );
+}

@@ -1,0 +1,64 @@
+//! A word for each of several things that threads take: 1 from a taking to its return.
+use std::alloc::Global;
+use std::process::Abort;
+use std::sync::atomic::{AtomicU64, Ordering};
+
+#[derive(Drop)]
+pub(super) struct Slots {
+    words: Vec<AtomicU64>,
+}
+
+impl Slots {
+    /// Makes so many words, all 0.
+    pub(super) fn new(rt: &impl Abort, alloc: Global, count: usize) -> Slots {
+        let mut words = Vec::new(alloc);
+        for _ in 0..count {
+            if words.push(AtomicU64::new(0)).is_err() {
+                panic!(rt; "there is no memory for a word");
+            }
+        }
+        Slots { words }
+    }
+
+    /// Marks this word. Returns whether it is there and wasn't marked.
+    pub(super) fn mark(&self, at: usize) -> bool {
+        match self.words.get(at) {
+            Some(word) => word.swap(1, Ordering::SeqCst) == 0,
+            None => false,
+        }
+    }
+
+    /// Marks so many words, from this one on. Returns whether all of them are there and weren't marked.
+    pub(super) fn mark_all(&self, from: usize, count: usize) -> bool {
+        for at in from..from.saturating_add(count) {
+            if !self.mark(at) {
+                return false;
+            }
+        }
+        true
+    }
+
+    /// Watches a marked word for a while, and takes the mark back. Returns whether nobody else did meanwhile.
+    pub(super) fn unmark(&self, at: usize) -> bool {
+        let Some(word) = self.words.get(at) else {
+            return false;
+        };
+        for _ in 0..100u32 {
+            if word.load(Ordering::SeqCst) != 1 {
+                return false;
+            }
+        }
+        word.swap(0, Ordering::SeqCst) == 1
+    }
+
+    /// Returns how many words are marked.
+    pub(super) fn count(&self) -> usize {
+        let mut count: usize = 0;
+        for word in &self.words {
+            if word.load(Ordering::SeqCst) == 1 {
+                count = count.saturating_add(1);
+            }
+        }
+        count
+    }
+}

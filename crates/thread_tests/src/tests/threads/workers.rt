@@ -1,0 +1,26 @@
+//! The workers of `uses`, and the room that is left when all of them are back.
+use crate::tests::checks::same;
+use bb_memory::bump_allocator::BumpAllocator;
+use bb_memory::layout::Layout;
+use std::alloc::Global;
+use std::test::Fail;
+use std::thread::Threads;
+use uses::bump_workers::carved_by_four;
+use uses::pool_workers::four_workers;
+
+/// Returns how much of 1024 bytes is used when four threads have asked for so many each, or none where memory was refused.
+fn used_by_four<R: Threads + Sync>(rt: &R, alloc: Global, size: usize) -> Option<usize> {
+    let asked = Layout::from_size_align(size, 4).ok()?;
+    let again = carved_by_four(rt, alloc, BumpAllocator::new(4096, 1024), asked).ok()?;
+    Some(again.used_space())
+}
+
+/// Where four chunks fit all four are served, and else three, whichever of the four comes last. Each worker keeps a bucket.
+#[test]
+fn four_work(rt: HostRuntime) -> Result<(), Fail> {
+    same(&rt, used_by_four(&rt, rt.alloc(), 100), Some(400));
+    same(&rt, used_by_four(&rt, rt.alloc(), 300), Some(900));
+    let (pool, _) = four_workers(&rt, rt.alloc(), Layout::from_size_align(100, 4)?)?;
+    same(&rt, pool.figures().held, 4);
+    Ok(())
+}
