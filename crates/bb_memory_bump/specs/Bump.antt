@@ -7,7 +7,7 @@ use Rattle.bb_memory_traits.specs.BumpObject.{StandsFor, bump_object, chunk_at_o
 use Rattle.bb_memory_traits.specs.Object.{AllocatorStep, Step}
 use Rattle.bb_memory_traits.specs.declared.layout.Layout.{Layout}
 use Rattle.bb_memory_traits.specs.declared.allocator.AllocationError.{AllocationError}
-use Rattle.bb_memory_traits.specs.declared.allocator.AllocationError.TheVariants.{SizeIsZero}
+use Rattle.bb_memory_traits.specs.declared.allocator.AllocationError.TheVariants.{OutOfMemory, SizeIsZero}
 use Rattle.bb_memory_traits.specs.declared.allocator.Command.{Command}
 use Rattle.bb_memory_traits.specs.declared.allocator.Reply.{Reply}
 
@@ -30,6 +30,8 @@ pub record Takes (old : Bump) (layout : Layout) (answer : Result Chunk Allocatio
   pub accepted : IsOk answer ↔ ((0 < layout.size) × (chunk_end (chunk_at_or_after (old.region.start + old.used) layout)
       ≤ region_end old.region))
   pub size_is_zero : (answer ≡ Err SizeIsZero) ↔ (layout.size ≡ 0)
+  pub out_of_memory : (answer ≡ Err OutOfMemory) ↔ ((0 < layout.size)
+      × (region_end old.region < chunk_end (chunk_at_or_after (old.region.start + old.used) layout)))
   -- the chunk
   pub begins : IfOk answer (λ chunk. chunk.place ≡ least_place (old.region.start + old.used) layout.align)
   pub exact_size : IfOk answer (λ chunk. chunk.len ≡ layout.size)
