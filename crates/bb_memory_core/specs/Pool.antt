@@ -135,6 +135,7 @@ pub record TakesBucket (old : CountedPool) (layout : Layout) (answer : Result Ch
   pub others_kept : (place : ℕ) → HoldsPlace old.pool place → HoldsPlace new.pool place
   pub bucket_aligned : IfOk answer (λ chunk. chunk.place % old.pool.geometry.bucket.align ≡ 0)
   -- a bucket that is given counts, and a refusal doesn't
+  pub one_more : IfOk answer (λ chunk. held_count new.pool ≡ held_count old.pool + 1)
   pub greatest : new.greatest ≡ max old.greatest (held_count new.pool)
   pub greatest_unchanged : OnErr answer (new.greatest ≡ old.greatest)
   pub one_read : IsWithin old.pool.geometry.bucket layout → 0 < words → new.reads ≡ 1
@@ -142,12 +143,15 @@ pub record TakesBucket (old : CountedPool) (layout : Layout) (answer : Result Ch
   pub uncounted : words ≡ 0 → new.reads ≡ old.reads
   pub unchanged : words ≡ 0 → OnErr answer (new ≡ old)
 
--- What a pool is after a release by the value alone: that bucket is free, each other one as it was, and the greatest number too.
+-- What a pool is after a release by the value alone: that bucket, which was held, is free, and so one less is held. Each other
+-- place is held or free as it was, and the greatest number stays.
 pub record FreesBucket (old : CountedPool) (place : ℕ) (new : CountedPool) : Type 0 where
   pub freed : Frees old.pool place new.pool
   pub others_kept : (other : ℕ) → HoldsPlace old.pool other → other ≢ place → HoldsPlace new.pool other
+  pub others_free : (other : ℕ) → ¬ HoldsPlace old.pool other → ¬ HoldsPlace new.pool other
   pub given_back : ¬ HoldsPlace new.pool place
   pub room : (i : ℕ) × Lacks new.pool.held i
+  pub one_less : held_count old.pool ≡ held_count new.pool + 1
   pub greatest : new.greatest ≡ old.greatest
 
 -- a step of a pool with the chunks that it has out, where a set of so many numbers counts its reads in so many words
