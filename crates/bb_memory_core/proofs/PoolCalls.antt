@@ -25,6 +25,7 @@ use Rattle.bb_memory_core.specs.Pool.{FreesBucket, counted, held_count, reads_of
 use Rattle.bb_memory_core.proofs.Cuts.{number-at}
 use Rattle.bb_memory_core.proofs.Pools.{Has-set_true, IsPool-with_flag, bucket-below, filled-at, held-inside, lacked-free}
 use Rattle.bb_memory_core.proofs.Pools.{one_bucket, stands-given, stands-freed, stands-resized}
+use Rattle.bb_memory_core.proofs.Tallies.{member_count-taken, member_count-released}
 
 -- POWERS OF TWO
 
@@ -177,6 +178,7 @@ TakesBucket-is old layout (Ok chunk) new words is most at_least (i, within, lack
       ];
       others_kept = Takes-others_kept pool layout (Ok chunk) new.pool (i, within, lacks, given, after);
       bucket_aligned = ap (λ (c : Chunk). c.place % pool.geometry.bucket.align) given ∙ bucket_place-aligned pool.geometry i;
+      one_more = ap held_count after ∙ member_count-taken pool.held i lacks;
       greatest = greatest;
       greatest_unchanged = tt;
       one_read = λ _ some. reads ∙ reads_one pool.geometry.bucket words layout within some;
@@ -196,6 +198,7 @@ TakesBucket-is old layout (Err error) new words is most at_least takes reads gre
       apart = tt;
       others_kept = λ place holds. subst (λ (p : Pool). HoldsPlace p place) (sym still) holds;
       bucket_aligned = tt;
+      one_more = tt;
       greatest = greatest;
       greatest_unchanged = kept;
       one_read = λ within some. reads ∙ reads_one old.pool.geometry.bucket words layout within some;
@@ -226,12 +229,21 @@ module _ (pool : Pool) (place i : ℕ) (is : IsPool pool) (has : Has pool.held i
       let apart : j ≢ i = λ same. differ (at ∙ ap (bucket_place pool.geometry) same ∙ sym there) in
       held_at_bucket (with_flag pool i false) other j (slice_get-set_other pool.held i j false apart ∙ other_has) at
 
+  no_more : (j : ℕ) → Has (slice_set pool.held i false) j → j ≢ i
+  no_more j still same =
+      let gone = slice_get-set_same pool.held i false true has in
+      let e : Some true ≡ Some false = sym still ∙ ap (slice_get (slice_set pool.held i false)) same ∙ gone in cc
+
+  others_free : (other : ℕ) → ¬ HoldsPlace pool other → ¬ HoldsPlace (with_flag pool i false) other
+  others_free other free holds =
+      let (j, still, at) = bucket_held_at (with_flag pool i false) other holds in
+      let before = sym (slice_get-set_other pool.held i j false (no_more j still)) ∙ still in
+      free (held_at_bucket pool other j before at)
+
   given_back : ¬ HoldsPlace (with_flag pool i false) place
   given_back holds =
       let (j, still, at) = bucket_held_at (with_flag pool i false) place holds in
-      let same = one_bucket pool.geometry is.geometry j i (sym at ∙ there) in
-      let gone = slice_get-set_same pool.held i false true has in
-      absurd (let e : Some true ≡ Some false = sym still ∙ ap (slice_get (slice_set pool.held i false)) same ∙ gone in cc)
+      absurd (no_more j still (one_bucket pool.geometry is.geometry j i (sym at ∙ there)))
 
   -- all that a release says by the value
   pub FreesBucket-is : (reads greatest : ℕ) →
@@ -240,8 +252,10 @@ module _ (pool : Pool) (place i : ℕ) (is : IsPool pool) (has : Has pool.held i
     freed = λ j other at.
         ap (λ n. with_flag pool n false) (one_bucket pool.geometry is.geometry i j (sym there ∙ at));
     others_kept = others_kept;
+    others_free = others_free;
     given_back = given_back;
     room = (i, slice_get-set_same pool.held i false true has);
+    one_less = sym (member_count-released pool.held i has);
     greatest = refl;
   }
 

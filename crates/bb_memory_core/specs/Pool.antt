@@ -4,11 +4,12 @@ use Rattle.std.specs.Prelude.{get_or, nat_eq, nat_le, List, All, length, max, mi
 use Rattle.std.specs.Prelude.{IfOk, OnErr, Some, slice_get, Option, IfSome, IfNone}
 use Rattle.std.specs.List.{list_any, range_with_len}
 use Rattle.bb_memory_traits.specs.Chunk.{Region, IsRegion, Chunk, IsSound, first_place}
-use Rattle.bb_memory_traits.specs.Object.{PlacesDiffer, note_after_run}
+use Rattle.bb_memory_traits.specs.Object.{AllocatorStep, PlacesDiffer, note_after_run}
 use Rattle.bb_memory_traits.specs.PoolObject.{PoolGeometry, stride, bucket_place, IsCut, IsPoolGeometry, IsHeld, IsWithin}
 use Rattle.bb_memory_traits.specs.PoolObject.{chunk_in, at_most}
 use Rattle.bb_memory_traits.specs.declared.layout.Layout.{Layout}
 use Rattle.bb_memory_traits.specs.declared.allocator.Command.{Command}
+use Rattle.bb_memory_traits.specs.declared.allocator.Reply.{Reply}
 use Rattle.bb_memory_traits.specs.declared.allocator.AllocationError.{AllocationError}
 use Rattle.bb_memory_traits.specs.declared.allocator.AllocationError.TheVariants.{SizeIsZero, SizeTooLarge, AlignmentFailure}
 use Rattle.bb_memory_traits.specs.declared.allocator.AllocationError.TheVariants.{OutOfMemory}
@@ -134,6 +135,7 @@ pub record TakesBucket (old : CountedPool) (layout : Layout) (answer : Result Ch
   pub others_kept : (place : ℕ) → HoldsPlace old.pool place → HoldsPlace new.pool place
   pub bucket_aligned : IfOk answer (λ chunk. chunk.place % old.pool.geometry.bucket.align ≡ 0)
   -- a bucket that is given counts, and a refusal doesn't
+  pub one_more : IfOk answer (λ chunk. held_count new.pool ≡ held_count old.pool + 1)
   pub greatest : new.greatest ≡ max old.greatest (held_count new.pool)
   pub greatest_unchanged : OnErr answer (new.greatest ≡ old.greatest)
   pub one_read : IsWithin old.pool.geometry.bucket layout → 0 < words → new.reads ≡ 1
@@ -141,13 +143,23 @@ pub record TakesBucket (old : CountedPool) (layout : Layout) (answer : Result Ch
   pub uncounted : words ≡ 0 → new.reads ≡ old.reads
   pub unchanged : words ≡ 0 → OnErr answer (new ≡ old)
 
--- What a pool is after a release by the value alone: that bucket is free, each other one as it was, and the greatest number too.
+-- What a pool is after a release by the value alone: that bucket, which was held, is free, and so one less is held. Each other
+-- place is held or free as it was, and the greatest number stays.
 pub record FreesBucket (old : CountedPool) (place : ℕ) (new : CountedPool) : Type 0 where
   pub freed : Frees old.pool place new.pool
   pub others_kept : (other : ℕ) → HoldsPlace old.pool other → other ≢ place → HoldsPlace new.pool other
+  pub others_free : (other : ℕ) → ¬ HoldsPlace old.pool other → ¬ HoldsPlace new.pool other
   pub given_back : ¬ HoldsPlace new.pool place
   pub room : (i : ℕ) × Lacks new.pool.held i
+  pub one_less : held_count old.pool ≡ held_count new.pool + 1
   pub greatest : new.greatest ≡ old.greatest
+
+-- a step of a pool with the chunks that it has out, where a set of so many numbers counts its reads in so many words
+abbrev pub PoolStep : (List Chunk → Command → Reply → List Chunk → Type 0) → (ℕ → ℕ) →
+    (CountedPool × List Chunk) → Command → Reply → (CountedPool × List Chunk) → Type 0
+PoolStep Steps words = AllocatorStep Steps
+    (λ old layout answer new. TakesBucket old layout answer new (words old.pool.geometry.buckets))
+    (λ old place _ new. FreesBucket old place new)
 
 -- INDEX WORDS
 

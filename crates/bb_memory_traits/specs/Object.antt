@@ -94,14 +94,34 @@ note_after_command after note other = note
 abbrev pub note_after_run : {Note : Type 0} → (Layout → Note → Note) → Note → List Command → Note
 note_after_run after note commands = fold (note_after_command after) note commands
 
--- The reply to an applied command, and what the command leaves, by the words of `BaseAllocator`: the reply and the live list
--- are a step of these, a chunk that was replied to a request fits, the allocator stands for the list, has the geometry that it
--- had, and keeps the command's note. The list is at most one longer, and has lost no room.
+-- What a command makes of an allocator, by the value, where this live list is out: a request as `takes` says of its answer, and a
+-- release as `frees` says of the place of the chunk at the position, with some layout. Every other command leaves the value.
+abbrev pub ValueStep : {Allocator : Type 0} → (Allocator → Layout → Result Chunk AllocationError → Allocator → Type 0) →
+    (Allocator → ℕ → Layout → Allocator → Type 0) → List Chunk → Command → Reply → Allocator → Allocator → Type 0
+ValueStep takes frees live (Allocate layout) (reply.Chunk chunk) old new = takes old layout (Ok chunk) new
+ValueStep takes frees live (Allocate layout) (reply.Refused error) old new = takes old layout (Err error) new
+ValueStep takes frees live (Release position) reply.Released old new =
+    (chunk : Chunk) × (layout : Layout) × (slice_get live position ≡ Some chunk) × frees old chunk.place layout new
+ValueStep takes frees live command other old new = new ≡ old
+
+-- a step of an allocator with the chunks that it has out: the live list goes on by a step of an object, and the allocator by the
+-- value
+abbrev pub AllocatorStep : {Allocator : Type 0} → (List Chunk → Command → Reply → List Chunk → Type 0) →
+    (Allocator → Layout → Result Chunk AllocationError → Allocator → Type 0) →
+    (Allocator → ℕ → Layout → Allocator → Type 0) →
+    (Allocator × List Chunk) → Command → Reply → (Allocator × List Chunk) → Type 0
+AllocatorStep Steps takes frees old command answer new =
+    Steps old.1 command answer new.1 × ValueStep takes frees old.1 command answer old.0 new.0
+
+-- The reply to an applied command, and what the command leaves, by the words of `BaseAllocator`: the reply, the allocator and the
+-- live list are a step of these, a chunk that was replied to a request fits, the allocator stands for the list, has the geometry
+-- that it had, and keeps the command's note. The list is at most one longer, and has lost no room.
 pub record Applies {Allocator Geometry Note Alloc : Type 0} (stands_for : Allocator → List Chunk → Type 0)
     (geometry_of : Allocator → Geometry) (region_of : Geometry → Region) (note_of : Allocator → Note)
-    (note_after : Geometry → Layout → Note → Note) (Steps : List Chunk → Command → Reply → List Chunk → Type 0)
+    (note_after : Geometry → Layout → Note → Note)
+    (Steps : (Allocator × List Chunk) → Command → Reply → (Allocator × List Chunk) → Type 0)
     (command : Command) (answer : Reply) (old new : Allocator) (live left : Vec Chunk Alloc) : Type 0 where
-  pub step : Steps live.items command answer left.items
+  pub step : Steps (old, live.items) command answer (new, left.items)
   pub fits : (layout : Layout) (chunk : Chunk) → command ≡ Allocate layout → answer ≡ reply.Chunk chunk
       → Fits (region_of (geometry_of old)) layout chunk
   pub stands : stands_for new left.items
@@ -110,14 +130,14 @@ pub record Applies {Allocator Geometry Note Alloc : Type 0} (stands_for : Alloca
   pub len : vec_len left ≤ vec_len live + 1
   pub capacity : vec_capacity live ≤ vec_capacity left
 
--- The replies of an allocator to a list of commands, and what it leaves. The replies and the live list are a run by these steps;
--- the allocator stands for the list that is left, which is sound, and has the geometry that it had; each chunk that was replied
--- to a request fits. Where memory was refused, nothing was applied.
+-- The replies of an allocator to a list of commands, and what it leaves. The replies, the allocator and the live list are a run
+-- by these steps; the allocator stands for the list that is left, which is sound, and has the geometry that it had; each chunk
+-- that was replied to a request fits. Where memory was refused, nothing was applied.
 pub record AnswersRun {Allocator Geometry Alloc Error : Type 0} (stands_for : Allocator → List Chunk → Type 0)
     (geometry_of : Allocator → Geometry) (region_of : Geometry → Region)
-    (Steps : List Chunk → Command → Reply → List Chunk → Type 0) (commands : List Command)
+    (Steps : (Allocator × List Chunk) → Command → Reply → (Allocator × List Chunk) → Type 0) (commands : List Command)
     (answer : Result (Vec Reply Alloc) Error) (old new : Allocator) (live left : List Chunk) : Type 0 where
-  pub run : IfOk answer (λ replies. IsRun Steps live commands replies.items left)
+  pub run : IfOk answer (λ replies. IsRun Steps (old, live) commands replies.items (new, left))
   pub stands : OnOk answer (stands_for new left)
   pub sound : OnOk answer (IsSound (region_of (geometry_of old)) left)
   pub fits : IfOk answer (λ replies. EachGiven (Fits (region_of (geometry_of old))) commands replies.items)

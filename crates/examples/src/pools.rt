@@ -69,6 +69,21 @@ pub fn greatest_kept(pool: &mut FixedSizePoolAllocator<16>) -> Result<(), Alloca
     Ok(())
 }
 
+/// One bucket more is held after an accepted request, and one less after a return.
+pub fn held_counted(
+    pool: &mut FixedSizePoolAllocator<16>,
+    layout: Layout,
+) -> Result<(), AllocationError> {
+    let before = pool.held_buckets();
+    let chunk = pool.allocate(layout)?;
+    let more = pool.held_buckets() - before;
+    prove!(more == 1);
+    pool.deallocate(chunk.place(), layout);
+    let after = pool.held_buckets();
+    prove!(after == before);
+    Ok(())
+}
+
 /// Takes one more bucket. The place `out` is still held then, and the new chunk has another one.
 fn one_more(
     pool: &mut FixedSizePoolAllocator<16>,
@@ -83,11 +98,13 @@ fn one_more(
     pool.allocate(layout)
 }
 
-/// Gives two places back, one after the other.
+/// Gives two places back, one after the other. The first one stays free when the other one goes back.
 fn give_two(pool: &mut FixedSizePoolAllocator<16>, one: usize, other: usize)
     requires one { HoldsPlace pool.old.pool one }
     requires other { HoldsPlace pool.old.pool other }
     requires differ { one ≢ other }
+    ensures one { ¬ HoldsPlace pool.new.pool one }
+    ensures other { ¬ HoldsPlace pool.new.pool other }
 {
     pool.deallocate(one, Layout::empty());
     pool.deallocate(other, Layout::empty());

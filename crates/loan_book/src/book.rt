@@ -159,7 +159,7 @@ impl<A: Allocator> LoanBook<A> {
     }
 
     /// Returns a sample once. Where that was the last return that it waited for, its chunk goes back to the allocator, and
-    /// the answer is true. A sample that was never published waits for one return.
+    /// the answer is true. A sample that was never published waits for one return. The allocator is asked for nothing.
     ///
     /// It is refused, with `UnknownSample`, exactly where no sample of this id is out. A refusal leaves everything as it
     /// was.
@@ -169,6 +169,7 @@ impl<A: Allocator> LoanBook<A> {
             ↔ (¬ IsOut self.old.book id) }
         ensures leaves { IfOk result (λ left. IsTrue left ↔ (¬ IsOut self.new.book id)) }
         ensures stands { StillStands A.stands_for A.geometry self.old self.new }
+        ensures unasked { A.note self.new.allocator ≡ A.note self.old.allocator }
         ensures same_allocator { IfOk result
             (λ left. left ≡ false → self.new.allocator ≡ self.old.allocator) }
         ensures unchanged { OnErr result (self.new ≡ self.old) }
@@ -248,6 +249,7 @@ impl<A: Allocator> LoanBook<A> {
         requires { position < length self.old.book.out }
         ensures book { self.new.book ≡ without self.old.book position }
         ensures stands { StillStands A.stands_for A.geometry self.old self.new }
+        ensures unasked { A.note self.new.allocator ≡ A.note self.old.allocator }
     {
         let sample = self.out.remove(position).unwrap();
         self.allocator

@@ -6,7 +6,7 @@ use Rattle.std.proofs.lemmas.List.{append_assoc, append-nil, take-append-drop, t
 use Rattle.script_runner.specs.Inputs.{Ends, IsAnswered, IsOutput, IsUnreadable, IsLeft, BeginsOutput}
 use Rattle.script_runner.specs.declared.status.Status.{Status}
 use Rattle.script_runner.specs.declared.status.Status.TheVariants.{Done, Unreadable, InputFailed, OutputFailed, OutOfMemory}
-use Rattle.script_runner.specs.Scripts.{AppendsPart, IsCutShort, Sends}
+use Rattle.script_runner.specs.Scripts.{AppendsPart, Sends}
 use Rattle.script_runner.specs.Words.{unreadable_text}
 
 -- known bytes grow by no byte
@@ -70,8 +70,9 @@ ends_failed : (input : List ℕ) (old new : Option (List ℕ)) (text : List ℕ)
 ends_failed input old new text (sent, begins, wrote) output = record {
   done = λ is. absurd (cc);
   unreadable = λ is. absurd (cc);
-  cut_short = λ short. inr (sent, (text, output, begins), wrote);
   input_read = λ is. cc;
+  out_of_memory = λ is. absurd (cc);
+  output_failed = λ is. (sent, (text, output, begins), wrote);
 }
 
 -- a script is answered, or a write fails
@@ -80,8 +81,9 @@ pub ends_done : (input : List ℕ) (old new : Option (List ℕ)) (text : List �
 ends_done input old new text ends answered (inl (is, wrote)) = rw is (record {
   done = λ same. (text, answered, wrote);
   unreadable = λ same. absurd (cc);
-  cut_short = elim [ inl same ↦ absurd (cc) | inr same ↦ absurd (cc) ];
   input_read = λ same. cc;
+  out_of_memory = λ same. absurd (cc);
+  output_failed = λ same. absurd (cc);
 })
 ends_done input old new text ends answered (inr (is, part)) = rw is (ends_failed input old new text part (inl answered))
 
@@ -91,8 +93,9 @@ pub ends_unreadable : (input : List ℕ) (old new : Option (List ℕ)) (number :
 ends_unreadable input old new number ends unread (inl (is, wrote)) = rw is (record {
   done = λ same. absurd (cc);
   unreadable = λ same. (number, unread, wrote);
-  cut_short = elim [ inl same ↦ absurd (cc) | inr same ↦ absurd (cc) ];
   input_read = λ same. cc;
+  out_of_memory = λ same. absurd (cc);
+  output_failed = λ same. absurd (cc);
 })
 ends_unreadable input old new number ends unread (inr (is, part)) =
     rw is (ends_failed input old new (unreadable_text number) part (inr (number, unread, refl)))
@@ -102,8 +105,9 @@ pub ends_refused : (input : List ℕ) (old : Option (List ℕ)) → Ends input o
 ends_refused input old = record {
   done = λ is. absurd (cc);
   unreadable = λ is. absurd (cc);
-  cut_short = λ short. inl (keeps_same old);
   input_read = λ is. cc;
+  out_of_memory = λ is. keeps_same old;
+  output_failed = λ is. absurd (cc);
 }
 
 -- how a run ends where so much of the input was left, and what it writes
@@ -113,8 +117,9 @@ pub record Written (left old new : Option (List ℕ)) (status : Status) : Type 0
   pub unreadable : status ≡ Unreadable → (input : List ℕ) × (number : ℕ) × IsLeft input left × IsUnreadable input number
       × Appends old new (unreadable_text number)
   pub input_failed : status ≡ InputFailed → Keeps old new
-  pub cut_short : IsCutShort status → Keeps old new
-      ⊎ ((input : List ℕ) × (sent : List ℕ) × IsLeft input left × BeginsOutput input sent × Appends old new sent)
+  pub out_of_memory : status ≡ OutOfMemory → Keeps old new
+  pub output_failed : status ≡ OutputFailed → (input : List ℕ) × (sent : List ℕ) × IsLeft input left
+      × BeginsOutput input sent × Appends old new sent
 
 -- an input that was read to its end is all that was left
 pub left_all : (left : Option (List ℕ)) (before after : List ℕ) → before ≡ []
@@ -129,23 +134,23 @@ ended left old new input status all ends = record {
   done = λ is. let (text, answered, wrote) = ends.done is in (input, text, all, answered, wrote);
   unreadable = λ is. let (number, unread, wrote) = ends.unreadable is in (input, number, all, unread, wrote);
   input_failed = λ is. absurd (ends.input_read is);
-  cut_short = λ short. elim (ends.cut_short short) [
-    | inl kept ↦ inl kept
-    | inr (sent, begins, wrote) ↦ inr (input, sent, all, begins, wrote)
-  ];
+  out_of_memory = ends.out_of_memory;
+  output_failed = λ is. let (sent, begins, wrote) = ends.output_failed is in (input, sent, all, begins, wrote);
 }
 
 -- no input was read, and nothing is written
-unread : (left old : Option (List ℕ)) (status : Status) → status ≢ Done → status ≢ Unreadable → Written left old old status
-unread left old status not_done not_unreadable = record {
+unread : (left old : Option (List ℕ)) (status : Status) → status ≢ Done → status ≢ Unreadable → status ≢ OutputFailed
+    → Written left old old status
+unread left old status not_done not_unreadable not_output = record {
   done = λ is. absurd (not_done is);
   unreadable = λ is. absurd (not_unreadable is);
   input_failed = λ is. keeps_same old;
-  cut_short = λ short. inl (keeps_same old);
+  out_of_memory = λ is. keeps_same old;
+  output_failed = λ is. absurd (not_output is);
 }
 
 pub unread_input : (left old : Option (List ℕ)) → Written left old old InputFailed
-unread_input left old = unread left old InputFailed (λ is. cc) (λ is. cc)
+unread_input left old = unread left old InputFailed (λ is. cc) (λ is. cc) (λ is. cc)
 
 pub unread_memory : (left old : Option (List ℕ)) → Written left old old OutOfMemory
-unread_memory left old = unread left old OutOfMemory (λ is. cc) (λ is. cc)
+unread_memory left old = unread left old OutOfMemory (λ is. cc) (λ is. cc) (λ is. cc)

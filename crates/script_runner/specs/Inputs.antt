@@ -1,7 +1,7 @@
 -- What is written of an input.
 use Rattle.std.specs.Io.KnownBytes.{Keeps, Appends}
 use Rattle.std.specs.Prelude.{ℕ, ◌≡◌, ◌≢◌, ◌-◌, ◌⊎◌, List, [], ◌∷◌, All, Option, IfSome, take}
-use Rattle.script_runner.specs.Scripts.{IsCutShort, Kind, kind, SomeOf, header_words, Begins, AreScript, IsPlayed, IsLineText}
+use Rattle.script_runner.specs.Scripts.{Kind, kind, SomeOf, header_words, Begins, AreScript, IsPlayed, IsLineText}
 use Rattle.script_runner.specs.Words.{MayStand, words_text, lines_of, unreadable_text}
 use Rattle.script_runner.specs.Allocators.{live_rules, bump_rules, one_chunk_rules, fixed_rules, pool_rules}
 use Rattle.script_runner.specs.Steps.{bump_step_rules, pool_step_rules}
@@ -10,7 +10,7 @@ use Rattle.script_runner.specs.declared.engine.driving.Outcome.{Outcome}
 use Rattle.script_runner.specs.declared.engine.driving.Outcome.TheVariants as outcome
 use Rattle.script_runner.specs.declared.engine.script.Line.{Line}
 use Rattle.script_runner.specs.declared.status.Status.{Status}
-use Rattle.script_runner.specs.declared.status.Status.TheVariants.{Done, Unreadable, InputFailed}
+use Rattle.script_runner.specs.declared.status.Status.TheVariants.{Done, Unreadable, InputFailed, OutOfMemory, OutputFailed}
 
 -- the lines are a first line of this kind, that says this of what is to be made, and the rest
 pub record HasHeader (kind : Kind) (lines : List (List ℕ)) (header : kind.Header) (rest : List (List ℕ)) : Type 0 where
@@ -69,8 +69,9 @@ BeginsOutput input sent = (text : List ℕ) × IsOutput input text × Begins sen
 pub record Ends (input : List ℕ) (old new : Option (List ℕ)) (status : Status) : Type 0 where
   pub done : status ≡ Done → (text : List ℕ) × IsAnswered input text × Appends old new text
   pub unreadable : status ≡ Unreadable → (number : ℕ) × IsUnreadable input number × Appends old new (unreadable_text number)
-  pub cut_short : IsCutShort status → Keeps old new ⊎ ((sent : List ℕ) × BeginsOutput input sent × Appends old new sent)
   pub input_read : status ≢ InputFailed
+  pub out_of_memory : status ≡ OutOfMemory → Keeps old new
+  pub output_failed : status ≡ OutputFailed → (sent : List ℕ) × BeginsOutput input sent × Appends old new sent
 
 -- the input is all that is left of a reader's bytes, where these are known
 abbrev pub IsLeft : List ℕ → Option (List ℕ) → Type 0

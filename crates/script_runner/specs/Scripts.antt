@@ -123,7 +123,3 @@ message_of Unreadable = None
 message_of InputFailed = Some (codes "input failed")
 message_of OutputFailed = Some (codes "output failed")
 message_of OutOfMemory = Some (codes "out of memory")
-
--- a failed write or refused memory ended it
-abbrev pub IsCutShort : Status → Type 0
-IsCutShort status = (status ≡ OutputFailed) ⊎ (status ≡ OutOfMemory)

@@ -1,7 +1,7 @@
 //! From the bytes of a script to the bytes that it is answered.
-ghost use Rattle.std.specs.Prelude.{◌≡◌, ◌⊎◌, ℕ, List};
+ghost use Rattle.std.specs.Prelude.{◌≡◌, ℕ, List};
 ghost use Rattle.std.specs.Io.KnownBytes.{Keeps, Appends};
-ghost use Rattle.script_runner.specs.Scripts.{IsCutShort, Sends};
+ghost use Rattle.script_runner.specs.Scripts.{Sends};
 ghost use Rattle.script_runner.specs.Inputs.{IsAnswered, IsUnreadable, BeginsOutput, IsLeft, IsOutcome, Ends, kinds};
 ghost use Rattle.script_runner.specs.Words.{lines_of, unreadable_text};
 
@@ -25,10 +25,11 @@ pub fn run<R: Read + Drop, W: Write>(alloc: Global, mut reader: R, writer: &mut 
         × Appends (W.contents writer.old) (W.contents writer.new) (unreadable_text number) }
     ensures input_failed { result ≡ Status.InputFailed
         → Keeps (W.contents writer.old) (W.contents writer.new) }
-    ensures cut_short { IsCutShort result → Keeps (W.contents writer.old) (W.contents writer.new)
-        ⊎ ((input : List ℕ) × (sent : List ℕ)
+    ensures out_of_memory { result ≡ Status.OutOfMemory
+        → Keeps (W.contents writer.old) (W.contents writer.new) }
+    ensures output_failed { result ≡ Status.OutputFailed → (input : List ℕ) × (sent : List ℕ)
         × IsLeft input (R.remaining reader) × BeginsOutput input sent
-        × Appends (W.contents writer.old) (W.contents writer.new) sent) }
+        × Appends (W.contents writer.old) (W.contents writer.new) sent }
 {
     let mut input = Vec::new(alloc);
     match reader.read_to_end(&mut input) {

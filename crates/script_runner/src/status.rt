@@ -13,7 +13,7 @@ pub enum Status {
     InputFailed,
     /// Writing failed: nothing, or a beginning of what the input calls for.
     OutputFailed,
-    /// Memory was refused: nothing, or a beginning of what the input calls for.
+    /// Memory was refused: nothing was written.
     OutOfMemory,
 }
 

@@ -28,6 +28,10 @@ pub record IsOfBytes (layout : Layout) (size : ℕ) : Type 0 where
 pub record MayAnswer (may_answer : Answers) (size : ℕ) (answer : Result Chunk AllocationError) : Type 0 where
   pub may : ¬ ((layout : Layout) → IsOfBytes layout size → ¬ may_answer layout answer)
 
+-- a single request for so many bytes made this note of the one before: not every layout of them rules it out
+pub record IsAskedOnce {Note : Type 0} (note_after : Layout → Note → Note) (size : ℕ) (old new : Note) : Type 0 where
+  pub once : ¬ ((layout : Layout) → IsOfBytes layout size → ¬ (new ≡ note_after layout old))
+
 -- a request may be answered by a longer chunk
 pub record MayGiveLonger (may_answer : Answers) (size : ℕ) : Type 0 where
   pub may : ¬ ((layout : Layout) (chunk : Chunk) → IsOfBytes layout size → size < chunk.len → ¬ may_answer layout (Ok chunk))
@@ -46,6 +50,12 @@ abbrev pub IsUnasked : InsertError → Type 0
 IsUnasked (insert.Layout error) = Unit {0}
 IsUnasked (insert.List error) = Unit {0}
 IsUnasked _ = ⊥
+
+-- the allocator's note after an answer: it is asked once, and not where the refusal is the layer's own
+abbrev pub NotesRequest : {Note : Type 0} → (Layout → Note → Note) → ℕ → Result (Unit {0}) InsertError → Note → Note → Type 0
+NotesRequest note_after size (Err (insert.Layout error)) old new = new ≡ old
+NotesRequest note_after size (Err (insert.List error)) old new = new ≡ old
+NotesRequest note_after size answer old new = IsAskedOnce note_after size old new
 
 -- a further chunk is out, of exactly so many bytes, which the allocator may give
 pub record HasOneMore (may_answer : Answers) (size : ℕ) (old new : List Chunk) : Type 0 where
@@ -89,8 +99,6 @@ pub record Leaves {A G : Type 0} (geometry_of : A → G) (old : Records A) (chun
   pub left : new ≡ record { allocator = new.allocator; chunks = chunks; records = records }
   pub geometry : geometry_of new.allocator ≡ geometry_of old.allocator
 
--- LIMITS
-
 -- A BUDGET OF CHUNKS
 
 -- the allocator below, how many chunks may be out, and how many are
@@ -108,6 +116,13 @@ pub record Limited (G : Type 0) : Type 0 where
 abbrev pub MayAnswerChunks : Type 0 → ℕ → List Chunk → Result Chunk AllocationError → Type 0
 MayAnswerChunks Below budget live answer =
     ((length live < budget) × Below) ⊎ ((budget ≤ length live) × (answer ≡ Err OutOfMemory))
+
+-- A request by the value, where the allocator below promises so: a spent budget is as it was, and else the allocator below was
+-- asked.
+pub record TakesWithin {A : Type 0} (takes : A → Layout → Result Chunk AllocationError → A → Type 0) (old : Budgeted A)
+    (layout : Layout) (answer : Result Chunk AllocationError) (new : Budgeted A) : Type 0 where
+  pub spent : old.budget ≤ old.out → new ≡ old
+  pub below : old.out < old.budget → takes old.inner layout answer new.inner
 
 -- TENANTS
 

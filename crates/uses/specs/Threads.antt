@@ -4,6 +4,7 @@ use Rattle.std.proofs.lemmas.List.Elements.{All-contains, All-get_or}
 use Rattle.std.proofs.lemmas.Grind.{common_steps}
 use Rattle.std.proofs.lemmas.Option.{gets}
 use Rattle.bb_memory_traits.specs.Chunk.{AreApart, Chunk, IsPart, Region, chunk_end}
+use Rattle.bb_memory_traits.specs.LeastPlace.{least_place}
 use Rattle.bb_memory_base.specs.PoolLogs.{IsHeldAfter}
 use Rattle.bb_memory_traits.specs.declared.allocator.AllocationError.{AllocationError}
 use Rattle.bb_memory_traits.specs.declared.layout.Layout.{Layout}
@@ -90,8 +91,9 @@ pub record Arena : Type 0 where
   pub whole : Chunk
   pub used : ℕ
 
--- a chunk of the arena was given for this layout: it lies in the arena's chunk, behind all that was used
+-- a chunk of the arena was given for this layout: it lies in the arena's chunk, at the first suitable place behind what was used
 pub record Serves (old : Arena) (layout : Layout) (new : Arena) (chunk : Chunk) : Type 0 where
+  pub begins : chunk.place ≡ least_place (old.whole.place + old.used) layout.align
   pub part : IsPart chunk old.whole
   pub behind : old.whole.place + old.used ≤ chunk.place
   pub aligned : chunk.place % layout.align ≡ 0

@@ -59,7 +59,7 @@ impl<A: BaseAllocator + Drop> ChunkBudget<A> {
 impl<A: BaseAllocator + Drop> BaseAllocator for ChunkBudget<A> {
     ghost use Rattle.std.specs.Prelude.{◌≡◌, ℕ, List, Some, length, slice_get, refl};
     ghost use Rattle.bb_memory_traits.specs.Chunk.{Chunk};
-    ghost use Rattle.uses.specs.Requests.{Limited, MayAnswerChunks};
+    ghost use Rattle.uses.specs.Requests.{Limited, MayAnswerChunks, TakesWithin};
 
     const RELEASE_EMPTIES: bool = A::RELEASE_EMPTIES;
 
@@ -86,7 +86,11 @@ impl<A: BaseAllocator + Drop> BaseAllocator for ChunkBudget<A> {
 
     ghost note_after = { λ _ _ note. note };
 
-    /// Allocates from the allocator below. It fails with `OutOfMemory` where the budget is spent.
+    ghost takes = { TakesWithin A.takes };
+
+    ghost frees = { λ old place layout new. A.frees old.inner place layout new.inner };
+
+    /// Allocates from the allocator below. It fails with `OutOfMemory` where the budget is spent, and then asks nothing.
     fn allocate(&mut self, layout: Layout) -> Result<Chunk, AllocationError> {
         if self.out == self.budget {
             return Err(AllocationError::OutOfMemory);
@@ -130,6 +134,12 @@ impl<A: Allocator + Drop> Allocator for ChunkBudget<A> {
     ghost may_grow = { A.may_grow };
 
     ghost may_shrink = { A.may_shrink };
+
+    ghost grows = { λ one place old new answer after.
+        A.grows one.inner place old new answer after.inner };
+
+    ghost shrinks = { λ one place old new answer after.
+        A.shrinks one.inner place old new answer after.inner };
 
     fn reserved(&self, place: usize) -> usize {
         self.inner.reserved(place)

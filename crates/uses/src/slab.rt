@@ -1,9 +1,10 @@
 //! Records of bytes, each in a chunk of its own.
-ghost use Rattle.std.specs.Prelude.{◌≡◌, ◌∷◌, ◌++◌, ◌<◌, [], ℕ, List, Some, Ok, length, remove, slice_get, slice_set};
+ghost use Rattle.std.specs.Prelude.{◌≡◌, ◌∷◌, ◌++◌, ◌<◌, [], ℕ, List, Some, Ok};
+ghost use Rattle.std.specs.Prelude.{length, remove, slice_get, slice_set};
 ghost use Rattle.bb_memory_traits.specs.Chunk.{Chunk, IsSound};
 ghost use Rattle.bb_memory_traits.specs.declared.layout.Layout.{Layout};
 ghost use Rattle.bb_memory_traits.specs.HeldBytes.{HeldBytes, held_region};
-ghost use Rattle.uses.specs.Requests.{HoldsThen, IsOfBytes, Leaves, MayGiveLonger, Stores, records_in};
+ghost use Rattle.uses.specs.Requests.{HoldsThen, IsOfBytes, Leaves, MayGiveLonger, NotesRequest, Stores, records_in};
 
 use bb_memory_traits::allocator::{AllocationError, Allocator, BaseAllocator};
 use bb_memory_traits::layout::{Chunk, Layout, LayoutError};
@@ -77,9 +78,11 @@ impl<A: Allocator + Drop> Slab<A> {
 
     /// Stores one more record, behind the others. A refusal keeps all. It is refused in this order: with `Layout` where no layout
     /// has as many bytes, with `List` where memory was, with `Refused` as the allocator refuses to give as many, and with
-    /// `NoExactChunk` where it gives more.
+    /// `NoExactChunk` where it gives more. The allocator is asked once, and only behind the first two tests.
     pub fn insert(&mut self, bytes: &[u8]) -> Result<(), InsertError>
-        ensures { Stores A.geometry A.may_allocate self.old bytes.now result self.new }
+        ensures stores { Stores A.geometry A.may_allocate self.old bytes.now result self.new }
+        ensures asked_once { NotesRequest (A.note_after (A.geometry self.old.allocator))
+            (length bytes.now) result (A.note self.old.allocator) (A.note self.new.allocator) }
     {
         let layout = Layout::from_size_align(bytes.len(), 1).map_err(InsertError::Layout)?;
         self.chunks.reserve(1).map_err(InsertError::List)?;
@@ -116,11 +119,12 @@ impl<A: Allocator + Drop> Slab<A> {
         overwrite(&mut self.region, &self.chunks, position, bytes);
     }
 
-    /// Takes a record out, and gives its chunk back. Those behind it move up.
+    /// Takes a record out, and gives its chunk back. Those behind it move up. The allocator is asked for nothing.
     pub fn remove(&mut self, position: usize)
         requires { position < length self.old.records }
-        ensures { Leaves A.geometry self.old (remove self.old.chunks position)
+        ensures leaves { Leaves A.geometry self.old (remove self.old.chunks position)
             (remove self.old.records position) self.new }
+        ensures unasked { A.note self.new.allocator ≡ A.note self.old.allocator }
     {
         give_back(&mut self.allocator, chunk_at(&self.chunks, position));
         records_law::<A>();
@@ -168,6 +172,7 @@ pub fn return_last<A: Allocator>(inner: &mut A, chunk: Chunk, layout: Layout)
     ensures stands { (live : List Chunk) → A.stands_for inner.old (live ++ chunk ∷ [])
         → A.stands_for inner.new live }
     ensures geometry { A.geometry inner.new ≡ A.geometry inner.old }
+    ensures unasked { A.note inner.new ≡ A.note inner.old }
 {
     append_law::<Chunk>();
     inner.deallocate(chunk.place(), layout);
@@ -179,6 +184,7 @@ pub(crate) fn give_back<A: Allocator>(inner: &mut A, chunk: Chunk)
     ensures stands { (live : List Chunk) (position : ℕ) → A.stands_for inner.old live
         → slice_get live position ≡ Some chunk → A.stands_for inner.new (remove live position) }
     ensures geometry { A.geometry inner.new ≡ A.geometry inner.old }
+    ensures unasked { A.note inner.new ≡ A.note inner.old }
 {
     inner.deallocate(chunk.place(), Layout::empty());
 }

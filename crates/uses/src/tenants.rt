@@ -199,7 +199,8 @@ impl<A: Allocator + Drop> Tenants<A> {
     /// Asks for a chunk for a tenant. It is refused in this order: with `NoTenant` where no tenant has the number, with
     /// `OverLimit` exactly where the asked bytes would exceed the tenant's limit, with `List` where memory was refused, with
     /// `Refused` as the allocator refuses the layout, and with `TooLong` where it gives a chunk so much longer that the limit
-    /// would be exceeded, which goes back. A refusal keeps all.
+    /// would be exceeded, which goes back. A refusal keeps all. The allocator is asked once, and only behind the first three
+    /// tests.
     pub fn allocate(&mut self, tenant: usize, layout: Layout) -> Result<Chunk, LeaseError>
         ensures given { IfOk result (λ chunk. A.may_allocate (A.geometry self.old.allocator)
             (chunks_of self.old.leases) layout (Ok chunk)) }
@@ -214,6 +215,9 @@ impl<A: Allocator + Drop> Tenants<A> {
             (A.may_allocate (A.geometry self.old.allocator) (chunks_of self.old.leases))
             self.old tenant layout) }
         ensures unasked { IfErr result (λ error. IsRefusedUnasked error → self.new ≡ self.old) }
+        ensures asked_once { IfErr result (λ error. ¬ IsRefusedUnasked error)
+            → A.note self.new.allocator ≡ A.note_after
+            (A.geometry self.old.allocator) layout (A.note self.old.allocator) }
         ensures unchanged { OnErr result
             (self.new ≡ record self.old { allocator = self.new.allocator }) }
         ensures geometry { A.geometry self.new.allocator ≡ A.geometry self.old.allocator }
@@ -239,6 +243,7 @@ impl<A: Allocator + Drop> Tenants<A> {
         ensures left { IfOk result
             (λ left. used_by tenant self.now.leases + left ≡ limit_of self.now.limits tenant) }
         ensures enough { OnOk result (HasLeft self.now tenant layout.size) }
+        ensures unasked { IfErr result IsRefusedUnasked }
         ensures refused { IfErr result (IsWhyNotLeased
             (A.may_allocate (A.geometry self.now.allocator) (chunks_of self.now.leases))
             self.now tenant layout) }
@@ -253,13 +258,15 @@ impl<A: Allocator + Drop> Tenants<A> {
         Ok(left)
     }
 
-    /// Gives back the chunk at a place, which the tenant holds. Else it is refused, and changes nothing.
+    /// Gives back the chunk at a place, which the tenant holds. Else it is refused, and changes nothing. The allocator is asked
+    /// for nothing.
     pub fn deallocate(&mut self, tenant: usize, place: usize) -> Result<(), NotHeld>
         ensures held { IsOk result ↔ IsSome (lease_at tenant place self.old.leases) }
         ensures returned { IfSome (lease_at tenant place self.old.leases) (λ position.
             self.new ≡ without_lease self.old self.new.allocator position) }
         ensures unchanged { OnErr result (self.new ≡ self.old) }
         ensures geometry { A.geometry self.new.allocator ≡ A.geometry self.old.allocator }
+        ensures unasked { A.note self.new.allocator ≡ A.note self.old.allocator }
     {
         let Some(position) = lease_of(&self.leases, tenant, place) else {
             return Err(NotHeld {});
@@ -273,6 +280,7 @@ impl<A: Allocator + Drop> Tenants<A> {
         requires { position < length self.old.leases }
         ensures returned { self.new ≡ without_lease self.old self.new.allocator position }
         ensures geometry { A.geometry self.new.allocator ≡ A.geometry self.old.allocator }
+        ensures unasked { A.note self.new.allocator ≡ A.note self.old.allocator }
     {
         let lease = self.leases[position];
         give_back(&mut self.allocator, &self.leases, position, lease);
@@ -317,6 +325,7 @@ fn give_back<A: Allocator>(allocator: &mut A, leases: &Vec<Lease>, position: usi
     requires there { slice_get leases.now.items position ≡ Some lease }
     ensures stands { A.stands_for allocator.new (chunks_of (remove leases.now.items position)) }
     ensures geometry { A.geometry allocator.new ≡ A.geometry allocator.old }
+    ensures unasked { A.note allocator.new ≡ A.note allocator.old }
 {
     chunks_law();
     slab::give_back(allocator, lease.chunk);

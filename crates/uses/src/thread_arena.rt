@@ -78,6 +78,9 @@ impl ThreadArena {
             × (chunk_end (chunk_at_or_after (self.old.whole.place + self.old.used) layout)
             ≤ chunk_end self.old.whole)) }
         ensures size_is_zero { (result ≡ Err AllocationError.SizeIsZero) ↔ (layout.size ≡ 0) }
+        ensures out_of_memory { (result ≡ Err AllocationError.OutOfMemory) ↔ ((0 < layout.size)
+            × (chunk_end self.old.whole
+            < chunk_end (chunk_at_or_after (self.old.whole.place + self.old.used) layout))) }
     {
         self.bump.allocate(layout)
     }

@@ -5,7 +5,7 @@ ghost use Rattle.bb_memory_traits.specs.Chunk.{Chunk};
 ghost use Rattle.bb_memory_traits.specs.Object.{AnswersRun, Step, ResizableStep};
 ghost use Rattle.bb_memory_traits.specs.PoolObject.{bucket_place, pool_object};
 ghost use Rattle.bb_memory_core.specs.Pool.{TellsNumber, TellsPlace};
-ghost use Rattle.bb_memory_core.specs.Pool.{held_count, FreesBucket, HoldsPlace, IsPool, StandsFor};
+ghost use Rattle.bb_memory_core.specs.Pool.{held_count, FreesBucket, HoldsPlace, IsPool, PoolStep, StandsFor};
 ghost use Rattle.bb_memory_core.specs.IndexSets.{Has, Lacks, member_count};
 ghost use Rattle.bb_memory_core.specs.Pool.{Takes, pool_of, reads_after, reads_of};
 
@@ -381,7 +381,8 @@ pub fn run_pool<S: IndexSet>(
     requires { StandsFor allocator.old.pool live.old.items }
     ensures run { AnswersRun (λ pool. StandsFor pool.pool)
         (λ pool. pool.pool.geometry)
-        (λ geometry. geometry.region) (ResizableStep (pool_object allocator.old.pool.geometry))
+        (λ geometry. geometry.region)
+        (PoolStep (ResizableStep (pool_object allocator.old.pool.geometry)) S.words)
         commands.now result allocator.old allocator.new live.old.items live.new.items }
     ensures reads { OnOk result (allocator.new.reads ≡ reads_after
         allocator.old.pool.geometry.bucket (S.words allocator.old.pool.geometry.buckets)
@@ -400,7 +401,8 @@ pub fn run_base_pool<S: IndexSet>(
     requires { StandsFor allocator.old.pool live.old.items }
     ensures run { AnswersRun (λ pool. StandsFor pool.pool)
         (λ pool. pool.pool.geometry)
-        (λ geometry. geometry.region) (Step (pool_object allocator.old.pool.geometry).base)
+        (λ geometry. geometry.region)
+        (PoolStep (Step (pool_object allocator.old.pool.geometry).base) S.words)
         commands.now result allocator.old allocator.new live.old.items live.new.items }
     ensures reads { OnOk result (allocator.new.reads ≡ reads_after
         allocator.old.pool.geometry.bucket (S.words allocator.old.pool.geometry.buckets)

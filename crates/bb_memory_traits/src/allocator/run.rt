@@ -1,8 +1,8 @@
 //! Runs of commands over any allocator.
 ghost use Rattle.std.specs.Prelude.{◌≡◌, ◌<◌, OnOk, IfSome, None, vec_len, vec_capacity};
 ghost use Rattle.bb_memory_traits.specs.Chunk.{Chunk};
-ghost use Rattle.bb_memory_traits.specs.Object.{object_of, AnswersRun, Applies, Step, note_after_run};
-ghost use Rattle.bb_memory_traits.specs.Object.{MayBeGrown, ResizableStep, resizable_object_of};
+ghost use Rattle.bb_memory_traits.specs.Object.{object_of, AllocatorStep, AnswersRun, Applies, Step};
+ghost use Rattle.bb_memory_traits.specs.Object.{MayBeGrown, ResizableStep, note_after_run, resizable_object_of};
 
 use super::{Allocator, BaseAllocator, Command, Reply};
 use crate::layout::{Chunk, Layout};
@@ -17,7 +17,8 @@ fn apply_request<A: BaseAllocator>(
     requires stands { A.stands_for allocator.old live.old.items }
     requires room { vec_len live.old < vec_capacity live.old }
     ensures { Applies A.stands_for A.geometry A.region_of A.note A.note_after
-        (Step (object_of A.RELEASE_EMPTIES (A.may_allocate (A.geometry allocator.old))))
+        (AllocatorStep (Step (object_of A.RELEASE_EMPTIES
+        (A.may_allocate (A.geometry allocator.old)))) A.takes A.frees)
         (Command.Allocate layout) result allocator.old allocator.new live.old live.new }
 {
     match allocator.allocate(layout) {
@@ -37,7 +38,8 @@ fn apply_release<A: BaseAllocator>(
 ) -> Reply
     requires stands { A.stands_for allocator.old live.old.items }
     ensures { Applies A.stands_for A.geometry A.region_of A.note A.note_after
-        (Step (object_of A.RELEASE_EMPTIES (A.may_allocate (A.geometry allocator.old))))
+        (AllocatorStep (Step (object_of A.RELEASE_EMPTIES
+        (A.may_allocate (A.geometry allocator.old)))) A.takes A.frees)
         (Command.Release position) result allocator.old allocator.new live.old live.new }
 {
     let Some(chunk) = live.get(position).copied() else {
@@ -57,7 +59,8 @@ fn apply_base<A: BaseAllocator>(allocator: &mut A, live: &mut Vec<Chunk>, comman
     requires stands { A.stands_for allocator.old live.old.items }
     requires room { vec_len live.old < vec_capacity live.old }
     ensures { Applies A.stands_for A.geometry A.region_of A.note A.note_after
-        (Step (object_of A.RELEASE_EMPTIES (A.may_allocate (A.geometry allocator.old))))
+        (AllocatorStep (Step (object_of A.RELEASE_EMPTIES
+        (A.may_allocate (A.geometry allocator.old)))) A.takes A.frees)
         command result allocator.old allocator.new live.old live.new }
 {
     match command {
@@ -69,7 +72,8 @@ fn apply_base<A: BaseAllocator>(allocator: &mut A, live: &mut Vec<Chunk>, comman
 
 /// Applies the commands in order, and answers one reply a command. `live` has the chunks that are out: a new chunk is
 /// appended to it, and a release takes its chunk out and closes up, or empties it where `RELEASE_EMPTIES` is true. A
-/// command that names no position of `live` is passed over, and so is every resize.
+/// command that names no position of `live` is passed over, and so is every resize. Each command does to the allocator what the
+/// call alone does.
 ///
 /// The allocator has to stand for the live list. Memory for the replies and for `live` is reserved first, from `live`'s
 /// allocator. `AllocError` comes only where memory was refused, and then no command is applied, and the allocator and the list
@@ -90,7 +94,8 @@ pub fn run_base<A: BaseAllocator>(
 ) -> Result<Vec<Reply>, AllocError>
     requires { A.stands_for allocator.old live.old.items }
     ensures run { AnswersRun A.stands_for A.geometry A.region_of
-        (Step (object_of A.RELEASE_EMPTIES (A.may_allocate (A.geometry allocator.old))))
+        (AllocatorStep (Step (object_of A.RELEASE_EMPTIES
+        (A.may_allocate (A.geometry allocator.old)))) A.takes A.frees)
         commands.now result allocator.old allocator.new live.old.items live.new.items }
     ensures note { OnOk result (A.note allocator.new ≡ note_after_run
         (A.note_after (A.geometry allocator.old)) (A.note allocator.old) commands.now) }
@@ -123,9 +128,10 @@ fn apply_grow<A: Allocator>(
 ) -> Reply
     requires stands { A.stands_for allocator.old live.old.items }
     ensures { Applies A.stands_for A.geometry A.region_of A.note A.note_after
-        (ResizableStep (resizable_object_of
+        (AllocatorStep (ResizableStep (resizable_object_of
         (A.may_allocate (A.geometry allocator.old)) (A.reserved_at (A.figures allocator.old))
         (A.may_grow (A.figures allocator.old)) (A.may_shrink (A.figures allocator.old))))
+        A.takes A.frees)
         (Command.Grow position old new) result allocator.old allocator.new live.old live.new }
 {
     let Some(chunk) = aligned_at(live, position, old) else {
@@ -150,9 +156,10 @@ fn apply_shrink<A: Allocator>(
 ) -> Reply
     requires stands { A.stands_for allocator.old live.old.items }
     ensures { Applies A.stands_for A.geometry A.region_of A.note A.note_after
-        (ResizableStep (resizable_object_of
+        (AllocatorStep (ResizableStep (resizable_object_of
         (A.may_allocate (A.geometry allocator.old)) (A.reserved_at (A.figures allocator.old))
         (A.may_grow (A.figures allocator.old)) (A.may_shrink (A.figures allocator.old))))
+        A.takes A.frees)
         (Command.Shrink position old new) result allocator.old allocator.new live.old live.new }
 {
     let Some(chunk) = aligned_at(live, position, old) else {
@@ -175,9 +182,10 @@ fn apply_full<A: Allocator>(allocator: &mut A, live: &mut Vec<Chunk>, command: C
     requires stands { A.stands_for allocator.old live.old.items }
     requires room { vec_len live.old < vec_capacity live.old }
     ensures { Applies A.stands_for A.geometry A.region_of A.note A.note_after
-        (ResizableStep (resizable_object_of
+        (AllocatorStep (ResizableStep (resizable_object_of
         (A.may_allocate (A.geometry allocator.old)) (A.reserved_at (A.figures allocator.old))
         (A.may_grow (A.figures allocator.old)) (A.may_shrink (A.figures allocator.old))))
+        A.takes A.frees)
         command result allocator.old allocator.new live.old live.new }
 {
     match command {
@@ -209,9 +217,10 @@ pub fn run_full<A: Allocator>(
 ) -> Result<Vec<Reply>, AllocError>
     requires { A.stands_for allocator.old live.old.items }
     ensures run { AnswersRun A.stands_for A.geometry A.region_of
-        (ResizableStep (resizable_object_of
+        (AllocatorStep (ResizableStep (resizable_object_of
         (A.may_allocate (A.geometry allocator.old)) (A.reserved_at (A.figures allocator.old))
         (A.may_grow (A.figures allocator.old)) (A.may_shrink (A.figures allocator.old))))
+        A.takes A.frees)
         commands.now result allocator.old allocator.new live.old.items live.new.items }
     ensures note { OnOk result (A.note allocator.new ≡ note_after_run
         (A.note_after (A.geometry allocator.old)) (A.note allocator.old) commands.now) }

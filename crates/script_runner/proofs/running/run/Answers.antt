@@ -11,7 +11,8 @@ returns-in-Ok g c =
       done = written.done;
       unreadable = written.unreadable;
       input_failed = written.input_failed;
-      cut_short = written.cut_short;
+      out_of_memory = written.out_of_memory;
+      output_failed = written.output_failed;
     }
 
 pub returns-in-Err : goal.returns-in-Err
@@ -21,7 +22,8 @@ returns-in-Err g c =
       done = written.done;
       unreadable = written.unreadable;
       input_failed = written.input_failed;
-      cut_short = written.cut_short;
+      out_of_memory = written.out_of_memory;
+      output_failed = written.output_failed;
     }
 
 pub returns : goal.returns
@@ -31,5 +33,6 @@ returns g c =
       done = written.done;
       unreadable = written.unreadable;
       input_failed = written.input_failed;
-      cut_short = written.cut_short;
+      out_of_memory = written.out_of_memory;
+      output_failed = written.output_failed;
     }

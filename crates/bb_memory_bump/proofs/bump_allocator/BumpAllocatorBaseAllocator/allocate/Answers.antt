@@ -59,6 +59,7 @@ returns-in_default-clause-value c =
     rw (← c.self.view_is) record {
       accepted = (λ given. absurd (cc given), λ room. absurd (omega (arith, full, room.1)));
       size_is_zero = (λ is. absurd (cc is), λ zero. absurd (omega (arith, zero)));
+      out_of_memory = (λ is. (omega arith, full), λ why. refl);
       begins = tt;
       exact_size = tt;
       behind = tt;

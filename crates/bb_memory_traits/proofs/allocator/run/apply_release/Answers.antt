@@ -6,4 +6,15 @@ pub deallocate-requires : goal.deallocate-requires
 deallocate-requires g c = grind (arith, elements)
 
 pub returns : goal.returns
-returns g c = grind (arith, elements)
+returns g c = record {
+  step = (
+    grind (arith, elements),
+    (c.in-Some.chunk, c.empty.result, grind (arith, elements), rw c.place.ensures.value at c.deallocate.ensures.value),
+  );
+  fits = grind (arith, elements);
+  stands = grind (arith, elements);
+  geometry = grind (arith, elements);
+  note = grind (arith, elements);
+  len = grind (arith, elements);
+  capacity = grind (arith, elements);
+}

@@ -1,7 +1,7 @@
 use Rattle.std.proofs.Common.{◌≡◌, ◌+◌, ◌∷◌, ◌++◌, [], take, ap, sym, ◌∙◌, subst, arith}
 use Rattle.std.proofs.lemmas.List.{take_more, take_all, length-take-le}
 use Rattle.bb_memory_traits.specs.Chunk.{Layout, Chunk, Fits, IsSound}
-use Rattle.bb_memory_traits.specs.Object.{object_of, Step, note_after_command}
+use Rattle.bb_memory_traits.specs.Object.{object_of, AllocatorStep, Step, note_after_command}
 use Rattle.bb_memory_traits.proofs.Runs.{IsRun-push, EachGiven-push, note-push}
 use Rattle.bb_memory_traits.proofs.allocator.run.run_base.Goals as goal
 
@@ -13,16 +13,18 @@ loop-command-preserved g c =
     let command = c.command-item.result in
     let done : take (i + 1) commands ≡ take i commands ++ command ∷ [] =
     take_more commands i command (omega arith) ∙ ap (λ x. take i commands ++ x ∷ []) (sym c.command-item.is) in
-    let live = c.loop-command.live.items in
-    let step_at = λ (geometry : A.Geometry). Step (object_of A.RELEASE_EMPTIES (A.may_allocate geometry)) in
-    let step = subst (λ geometry. step_at geometry live command c.apply_base-reply.result c.apply_base-reply.new.live.items)
-    c.loop-command.invariant.geometry c.apply_base-reply.ensures.step in
+    let before = c.loop-command.live.items in
+    let after = c.apply_base-reply.new.live.items in
+    let step_at = λ (geometry : A.Geometry).
+    AllocatorStep (Step (object_of A.RELEASE_EMPTIES (A.may_allocate geometry))) A.takes A.frees in
+    let step = subst (λ geometry. step_at geometry (c.loop-command.allocator, before) command c.apply_base-reply.result
+    (c.apply_base-reply.new.allocator, after)) c.loop-command.invariant.geometry c.apply_base-reply.ensures.step in
     let Here : Layout → Chunk → Type 0 = Fits (A.region_of (A.geometry c.args.allocator.now)) in
     record {
       run = rw (done, c.push_reserved.ensures.items)
-          (IsRun-push (step_at (A.geometry c.args.allocator.now)) c.args.live.now.items live
-          c.apply_base-reply.new.live.items (take i commands) c.loop-command.replies.items command
-          c.apply_base-reply.result c.loop-command.invariant.run step);
+          (IsRun-push (step_at (A.geometry c.args.allocator.now)) (c.args.allocator.now, c.args.live.now.items)
+          (c.loop-command.allocator, before) (c.apply_base-reply.new.allocator, after)
+          (take i commands) c.loop-command.replies.items command c.apply_base-reply.result c.loop-command.invariant.run step);
       fits = rw (done, c.push_reserved.ensures.items) (EachGiven-push Here (take i commands) c.loop-command.replies.items command
           c.apply_base-reply.result (omega (arith, length-take-le i commands (omega arith))) c.loop-command.invariant.fits
           (λ layout chunk asked given. subst (λ (geometry : A.Geometry). Fits (A.region_of geometry) layout chunk)

@@ -1,5 +1,5 @@
 use Rattle.std.proofs.Common.{◌≡◌, ◌+◌, ◌≤◌, take, length, vec_len, vec_capacity}
-use Rattle.bb_memory_traits.specs.Object.{object_of, Step, IsRun, EachGiven, note_after_run}
+use Rattle.bb_memory_traits.specs.Object.{object_of, AllocatorStep, Step, IsRun, EachGiven, note_after_run}
 use Rattle.bb_memory_traits.specs.Chunk.{Fits}
 use Rattle.bb_memory_traits.proofs.allocator.run.run_base.Given as goal
 
@@ -8,8 +8,9 @@ abbrev pub invariant-loop-command : goal.invariant-loop-command
 invariant-loop-command g l =
     let A = g.A.BaseAllocator in
     record {
-      run : IsRun (Step (object_of A.RELEASE_EMPTIES (A.may_allocate (A.geometry l.fn.allocator))))
-          l.fn.live.items (take l.command-index l.commands) l.replies.items l.live.items;
+      run : IsRun (AllocatorStep
+          (Step (object_of A.RELEASE_EMPTIES (A.may_allocate (A.geometry l.fn.allocator)))) A.takes A.frees)
+          (l.fn.allocator, l.fn.live.items) (take l.command-index l.commands) l.replies.items (l.allocator, l.live.items);
       fits : EachGiven (Fits (A.region_of (A.geometry l.fn.allocator))) (take l.command-index l.commands) l.replies.items;
       stands : A.stands_for l.allocator l.live.items;
       geometry : A.geometry l.allocator ≡ A.geometry l.fn.allocator;

@@ -1,7 +1,7 @@
 use Rattle.std.proofs.Common.{◌≡◌, ◌+◌, ◌∷◌, ◌++◌, [], take, ap, sym, ◌∙◌, subst, arith}
 use Rattle.std.proofs.lemmas.List.{take_more, take_all, length-take-le}
 use Rattle.bb_memory_traits.specs.Chunk.{Layout, Chunk, Fits, IsSound}
-use Rattle.bb_memory_traits.specs.Object.{note_after_command, ResizableStep, resizable_object_of}
+use Rattle.bb_memory_traits.specs.Object.{AllocatorStep, note_after_command, ResizableStep, resizable_object_of}
 use Rattle.bb_memory_traits.proofs.Runs.{IsRun-push, EachGiven-push, note-push}
 use Rattle.bb_memory_traits.proofs.allocator.run.run_full.Goals as goal
 
@@ -13,8 +13,8 @@ pub loop-command-preserved : goal.loop-command-preserved
 loop-command-preserved g c =
     let A = g.A.BaseAllocator in
     let B = g.A.Allocator in
-    let step_at = λ (x : A.Geometry × B.Figures). ResizableStep
-    (resizable_object_of (A.may_allocate x.0) (B.reserved_at x.1) (B.may_grow x.1) (B.may_shrink x.1)) in
+    let step_at = λ (x : A.Geometry × B.Figures). AllocatorStep (ResizableStep
+    (resizable_object_of (A.may_allocate x.0) (B.reserved_at x.1) (B.may_grow x.1) (B.may_shrink x.1))) A.takes A.frees in
     let same = c.loop-command.invariant.geometry in
     let figures = g.met.A.Allocator.fixed c.loop-command.allocator c.args.allocator.now same in
     let commands = c.args.commands.now in
@@ -22,16 +22,18 @@ loop-command-preserved g c =
     let command = c.command-item.result in
     let done : take (i + 1) commands ≡ take i commands ++ command ∷ [] =
     take_more commands i command (omega arith) ∙ ap (λ x. take i commands ++ x ∷ []) (sym c.command-item.is) in
-    let live = c.loop-command.live.items in
+    let before = c.loop-command.live.items in
     let reply = c.apply_full-reply.result in
-    let left = c.apply_full-reply.new.live.items in
-    let step = subst (λ (x : A.Geometry × B.Figures). step_at x live command reply left)
+    let after = c.apply_full-reply.new.live.items in
+    let step = subst (λ (x : A.Geometry × B.Figures). step_at x (c.loop-command.allocator, before) command reply
+    (c.apply_full-reply.new.allocator, after))
     (pair same figures) c.apply_full-reply.ensures.step in
     let Here : Layout → Chunk → Type 0 = Fits (A.region_of (A.geometry c.args.allocator.now)) in
     record {
       run = rw (done, c.push_reserved.ensures.items)
           (IsRun-push (step_at (A.geometry c.args.allocator.now, B.figures c.args.allocator.now))
-          c.args.live.now.items live left (take i commands) c.loop-command.replies.items command reply
+          (c.args.allocator.now, c.args.live.now.items) (c.loop-command.allocator, before)
+          (c.apply_full-reply.new.allocator, after) (take i commands) c.loop-command.replies.items command reply
           c.loop-command.invariant.run step);
       fits = rw (done, c.push_reserved.ensures.items) (EachGiven-push Here (take i commands) c.loop-command.replies.items command
           c.apply_full-reply.result (omega (arith, length-take-le i commands (omega arith))) c.loop-command.invariant.fits

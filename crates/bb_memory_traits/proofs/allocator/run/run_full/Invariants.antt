@@ -1,5 +1,5 @@
 use Rattle.std.proofs.Common.{◌≡◌, ◌+◌, ◌≤◌, take, length, vec_len, vec_capacity}
-use Rattle.bb_memory_traits.specs.Object.{IsRun, EachGiven, note_after_run, ResizableStep, resizable_object_of}
+use Rattle.bb_memory_traits.specs.Object.{AllocatorStep, IsRun, EachGiven, note_after_run, ResizableStep, resizable_object_of}
 use Rattle.bb_memory_traits.specs.Chunk.{Fits}
 use Rattle.bb_memory_traits.proofs.allocator.run.run_full.Given as goal
 
@@ -10,9 +10,9 @@ invariant-loop-command g l =
     let B = g.A.Allocator in
     let figures = B.figures l.fn.allocator in
     record {
-      run : IsRun (ResizableStep (resizable_object_of
-          (A.may_allocate (A.geometry l.fn.allocator)) (B.reserved_at figures) (B.may_grow figures) (B.may_shrink figures)))
-          l.fn.live.items (take l.command-index l.commands) l.replies.items l.live.items;
+      run : IsRun (AllocatorStep (ResizableStep (resizable_object_of (A.may_allocate (A.geometry l.fn.allocator))
+          (B.reserved_at figures) (B.may_grow figures) (B.may_shrink figures))) A.takes A.frees)
+          (l.fn.allocator, l.fn.live.items) (take l.command-index l.commands) l.replies.items (l.allocator, l.live.items);
       fits : EachGiven (Fits (A.region_of (A.geometry l.fn.allocator))) (take l.command-index l.commands) l.replies.items;
       stands : A.stands_for l.allocator l.live.items;
       geometry : A.geometry l.allocator ≡ A.geometry l.fn.allocator;
