@@ -1,18 +1,17 @@
-"""The crates of crates.txt, and lanes. A lane is a copy of one crate over the libraries that were built below it, outside the
-repository: `rt` locks the folders that it works in, so crates are proved side by side, each in a lane of its own."""
+"""The crates of crates.txt, and lanes. A lane is a copy of one crate over the libraries that were built below it: `rt` locks the
+folders that it works in, so crates are proved side by side, each in a lane of its own."""
 import hashlib
 import os
 import pathlib
 import re
 import shutil
 import subprocess
-import tempfile
 
 TOP = pathlib.Path(__file__).resolve().parent.parent
 KIT = subprocess.run(["rt", "version"], stdout=subprocess.PIPE, text=True, check=True).stdout.strip()
 CORES = len(os.sched_getaffinity(0))
+TALK = {"stdout": subprocess.PIPE, "stderr": subprocess.STDOUT, "text": True, "errors": "replace"}
 LINES = {re.match(r"\w+", it)[0]: it for it in (TOP / "crates.txt").read_text().splitlines() if re.match(r"\w", it)}
-LANES = pathlib.Path(tempfile.gettempdir(), f"lanes-{os.getuid()}-{hashlib.sha256(bytes(TOP)).hexdigest()[:8]}")
 
 
 def below(name):
@@ -38,25 +37,19 @@ def made_of(name, top=TOP):
 
 
 def link(one, other):
-    """Gives a proved module or a library's file a second name, since `rt` replaces these and writes into none. Copies any other file."""
-    try:
-        return os.link(one, other) if one.endswith(".oantt") or "/rlib/" in one else shutil.copy2(one, other)
-    except OSError:
-        return shutil.copy2(one, other)
+    """Gives a file that `rt` replaces, and never writes into, a second name, and copies any other."""
+    (os.link if one.endswith(".oantt") or "/rlib/" in one else shutil.copy2)(one, other)
 
 
 def lane(name, number=0):
-    """Makes a lane of a crate, with what earlier checks kept of it, and returns the folder of the crate there."""
-    LANES.mkdir(mode=0o700, exist_ok=True)
-    assert LANES.stat().st_uid == os.getuid(), f"{LANES} is another user's"
-    room = LANES / f"{name}.{number}"
+    """Makes a lane of a crate in its out/, with what earlier checks kept of it, and returns the folder of the crate there."""
+    room = TOP / "crates" / name / "out" / f"lane{number}"
     shutil.rmtree(room, ignore_errors=True)
     for it in [*below(name), name]:
         shutil.copytree(TOP / "crates" / it, room / "crates" / it, ignore=shutil.ignore_patterns("out", "must-fail", "mutants"))
         for kept in ("rlib", "incremental")[: 1 + (it == name)]:
-            built = TOP / "crates" / it / "out" / kept
-            if built.is_dir():
-                shutil.copytree(built, room / "crates" / it / "out" / kept, copy_function=link)
+            if (TOP / "crates" / it / "out" / kept).is_dir():
+                shutil.copytree(TOP / "crates" / it / "out" / kept, room / "crates" / it / "out" / kept, copy_function=link)
     (room / "crates.txt").write_text("".join(f"{LINES[it]}\n" for it in [*below(name), name]))
     return room / "crates" / name
 

@@ -43,9 +43,7 @@ __attribute__((constructor)) static void begin(void) {
     on_exit(end, NULL);
 }
 
-static int is_mark(size_t size) {
-    return size == FIRST_MARK || size == SECOND_MARK || size == FREED_MARK || size == REFUSED_MARK;
-}
+static int is_mark(size_t it) { return it == FIRST_MARK || it == SECOND_MARK || it == FREED_MARK || it == REFUSED_MARK; }
 
 static int refuses(size_t size) {
     if (size == REFUSED_MARK) return refused;
@@ -69,9 +67,7 @@ void *calloc(size_t count, size_t size) { return refuses(count * size) ? NULL : 
 void *realloc(void *block, size_t size) { return refuses(size) ? NULL : __libc_realloc(block, size); }
 
 void free(void *block) {
-    if (block && block == mark)
-        mark = NULL;
-    else if (block && between_marks)
-        __atomic_add_fetch(&freed_between, 1, __ATOMIC_SEQ_CST);
+    if (block && block == mark) mark = NULL;
+    else if (block && between_marks) __atomic_add_fetch(&freed_between, 1, __ATOMIC_SEQ_CST);
     __libc_free(block);
 }
