@@ -1,5 +1,7 @@
 //! Rows of library calls. Almost all of them stand under `out_of_memory`: with ample memory they are rows as any other.
+mod arenas;
 mod checks;
+mod greatest;
 mod marks;
 mod out_of_memory;
 mod owner;
