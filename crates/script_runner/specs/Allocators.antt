@@ -135,7 +135,7 @@ BeginsPool plan pool = (geometry : PoolGeometry) × IsCut (region_at plan.start 
     × (pool ≡ counted (fresh_pool geometry) 0 0)
 
 -- The replies are a run of the pool with its live list, over the pool's geometry, and the pool stands for the list that is left.
--- So many buckets have so many words whose reads are counted: what was read is what the last request among the commands reads, if
+-- The reads of so many words are counted, for so many buckets: what was read is what the last request among the commands reads, if
 -- there is one.
 pub record PoolRuns (words : ℕ → ℕ) (old : CountedPool) (live : List Chunk) (commands : List Command)
     (replies : List Reply) (new : CountedPool) (left : List Chunk) : Type 0 where
