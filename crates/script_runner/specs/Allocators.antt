@@ -135,8 +135,8 @@ BeginsPool plan pool = (geometry : PoolGeometry) × IsCut (region_at plan.start 
     × (pool ≡ counted (fresh_pool geometry) 0 0)
 
 -- The replies are a run of the pool with its live list, over the pool's geometry, and the pool stands for the list that is left.
--- `words` returns the number of index words of a number of buckets. What was read is what the last request among the commands reads,
--- if there is one.
+-- `words` returns the number of index words of a number of buckets. The last request among the commands, if there is one, decides
+-- what was read.
 pub record PoolRuns (words : ℕ → ℕ) (old : CountedPool) (live : List Chunk) (commands : List Command)
     (replies : List Reply) (new : CountedPool) (left : List Chunk) : Type 0 where
   pub run : IsRun (PoolStep (ResizableStep (pool_object old.pool.geometry)) words) (old, live) commands replies (new, left)
