@@ -3,13 +3,10 @@ use Rattle.std.specs.Prelude.{◌≡◌, ℕ, ◌+◌, ◌<◌, ◌≤◌, ◌�
 use Rattle.std.specs.Fmt.{decimal}
 use Rattle.bb_memory_traits.specs.Chunk.{Region, IsRegion, region_at, region_end, Chunk, chunk_end}
 use Rattle.bb_memory_traits.specs.LeastPlace.{least_place}
-use Rattle.bb_memory_traits.specs.BumpObject.{StandsFor, bump_object, chunk_at_or_after}
-use Rattle.bb_memory_traits.specs.Object.{AllocatorStep, Step}
+use Rattle.bb_memory_traits.specs.BumpObject.{StandsFor, chunk_at_or_after}
 use Rattle.bb_memory_traits.specs.declared.layout.Layout.{Layout}
 use Rattle.bb_memory_traits.specs.declared.allocator.AllocationError.{AllocationError}
 use Rattle.bb_memory_traits.specs.declared.allocator.AllocationError.TheVariants.{OutOfMemory, SizeIsZero}
-use Rattle.bb_memory_traits.specs.declared.allocator.Command.{Command}
-use Rattle.bb_memory_traits.specs.declared.allocator.Reply.{Reply}
 
 -- the bump's region, and how much of it is used
 pub record Bump : Type 0 where
@@ -44,10 +41,6 @@ pub record Takes (old : Bump) (layout : Layout) (answer : Result Chunk Allocatio
 pub record Frees (old new : Bump) : Type 0 where
   pub value : new ≡ bump_of old.region.start old.region.size 0
   pub released : (live : List Chunk) → StandsFor old.region old.used live → StandsFor new.region new.used []
-
--- a step of a bump over a region with the chunks that it has out
-abbrev pub BumpStep : Region → (Bump × List Chunk) → Command → Reply → (Bump × List Chunk) → Type 0
-BumpStep region = AllocatorStep (Step (bump_object region)) Takes (λ old _ _ new. Frees old new)
 
 -- what Display writes
 abbrev pub bump_text : Bump → List ℕ

@@ -9,7 +9,7 @@ ghost use Rattle.bb_memory_traits.specs.declared.allocator.AllocationError.{Allo
 ghost use Rattle.bb_memory_traits.specs.declared.allocator.Command.{Command};
 ghost use Rattle.bb_memory_traits.specs.declared.allocator.Reply.{Reply};
 ghost use Rattle.bb_memory_traits.specs.declared.allocator.AllocationError.TheVariants.{OutOfMemory};
-ghost use Rattle.bb_memory_bump.specs.Bump.{Bump, BumpStep, bump_of};
+ghost use Rattle.bb_memory_bump.specs.Bump.{Bump, Frees, Takes, bump_of};
 ghost use Rattle.bb_memory_bump.specs.SharedBump.{fresh_party, scene_at};
 
 pub use crate::allocator::{AllocationError, BaseAllocator};
@@ -255,7 +255,8 @@ pub fn run_bump(
 ) -> Result<Vec<Reply>, AllocError>
     requires { StandsFor allocator.old.region allocator.old.used live.old.items }
     ensures { AnswersRun (λ bump. StandsFor bump.region bump.used) (λ bump. bump.region)
-        (λ region. region) (BumpStep allocator.old.region)
+        (λ region. region) (Step (bump_object allocator.old.region))
+        Takes (λ old _ _ new. Frees old new)
         commands.now result allocator.old allocator.new live.old.items live.new.items }
 {
     run_base(allocator, live, commands)

@@ -4,12 +4,10 @@ use Rattle.std.specs.Prelude.{OnErr, zero, suc, length, slice_get}
 use Rattle.std.specs.Option.{ForSome}
 use Rattle.bb_memory_traits.specs.Chunk.{Region, IsRegion, region_at, region_end, Chunk, chunk_end, first_place, IsSound}
 use Rattle.bb_memory_traits.specs.OneChunkObject.{HasRoom, LacksRoom, reserved_at}
-use Rattle.bb_memory_traits.specs.Object.{AllocatorStep, PlacesDiffer}
+use Rattle.bb_memory_traits.specs.Object.{PlacesDiffer}
 use Rattle.bb_memory_traits.specs.declared.layout.Layout.{Layout}
 use Rattle.bb_memory_traits.specs.declared.allocator.AllocationError.{AllocationError}
 use Rattle.bb_memory_traits.specs.declared.allocator.AllocationError.TheVariants.{OutOfMemory}
-use Rattle.bb_memory_traits.specs.declared.allocator.Command.{Command}
-use Rattle.bb_memory_traits.specs.declared.allocator.Reply.{Reply}
 use Rattle.std.proofs.Common.{arith, ap, refl, subst, ◌∙◌}
 use Rattle.std.proofs.lemmas.Option.{slice_get_within, get_or_from_slice_get}
 
@@ -57,11 +55,6 @@ pub record Takes (old : OneChunk) (layout : Layout) (answer : Result Chunk Alloc
 -- what the allocator is after a release: no place is kept
 abbrev pub Frees : OneChunk → OneChunk → Type 0
 Frees old new = new ≡ record old { kept = None }
-
--- a step of a one chunk with the chunk that it has out, where the live list goes on so
-abbrev pub OneChunkStep : (List Chunk → Command → Reply → List Chunk → Type 0) →
-    (OneChunk × List Chunk) → Command → Reply → (OneChunk × List Chunk) → Type 0
-OneChunkStep Steps = AllocatorStep Steps Takes (λ old _ _ new. Frees old new)
 
 -- What holds of every live list that a one chunk stands for.
 

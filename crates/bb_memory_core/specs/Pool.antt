@@ -4,12 +4,11 @@ use Rattle.std.specs.Prelude.{get_or, nat_eq, nat_le, List, All, length, max, mi
 use Rattle.std.specs.Prelude.{IfOk, OnErr, Some, slice_get, Option, IfSome, IfNone}
 use Rattle.std.specs.List.{list_any, range_with_len}
 use Rattle.bb_memory_traits.specs.Chunk.{Region, IsRegion, Chunk, IsSound, first_place}
-use Rattle.bb_memory_traits.specs.Object.{AllocatorStep, PlacesDiffer, note_after_run}
+use Rattle.bb_memory_traits.specs.Object.{PlacesDiffer, note_after_run}
 use Rattle.bb_memory_traits.specs.PoolObject.{PoolGeometry, stride, bucket_place, IsCut, IsPoolGeometry, IsHeld, IsWithin}
 use Rattle.bb_memory_traits.specs.PoolObject.{chunk_in, at_most}
 use Rattle.bb_memory_traits.specs.declared.layout.Layout.{Layout}
 use Rattle.bb_memory_traits.specs.declared.allocator.Command.{Command}
-use Rattle.bb_memory_traits.specs.declared.allocator.Reply.{Reply}
 use Rattle.bb_memory_traits.specs.declared.allocator.AllocationError.{AllocationError}
 use Rattle.bb_memory_traits.specs.declared.allocator.AllocationError.TheVariants.{SizeIsZero, SizeTooLarge, AlignmentFailure}
 use Rattle.bb_memory_traits.specs.declared.allocator.AllocationError.TheVariants.{OutOfMemory}
@@ -153,13 +152,6 @@ pub record FreesBucket (old : CountedPool) (place : ℕ) (new : CountedPool) : T
   pub room : (i : ℕ) × Lacks new.pool.held i
   pub one_less : held_count old.pool ≡ held_count new.pool + 1
   pub greatest : new.greatest ≡ old.greatest
-
--- a step of a pool with the chunks that it has out, where a set of so many numbers counts its reads in so many words
-abbrev pub PoolStep : (List Chunk → Command → Reply → List Chunk → Type 0) → (ℕ → ℕ) →
-    (CountedPool × List Chunk) → Command → Reply → (CountedPool × List Chunk) → Type 0
-PoolStep Steps words = AllocatorStep Steps
-    (λ old layout answer new. TakesBucket old layout answer new (words old.pool.geometry.buckets))
-    (λ old place _ new. FreesBucket old place new)
 
 -- INDEX WORDS
 

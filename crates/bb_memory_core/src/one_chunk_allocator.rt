@@ -8,7 +8,7 @@ ghost use Rattle.bb_memory_traits.specs.declared.allocator.AllocationGrowError.{
 ghost use Rattle.bb_memory_traits.specs.declared.allocator.AllocationShrinkError.{AllocationShrinkError};
 ghost use Rattle.bb_memory_traits.specs.declared.allocator.Command.{Command};
 ghost use Rattle.bb_memory_traits.specs.declared.allocator.Reply.{Reply};
-ghost use Rattle.bb_memory_core.specs.OneChunk.{OneChunk, IsOneChunk, OneChunkStep, one_chunk_of, StandsFor};
+ghost use Rattle.bb_memory_core.specs.OneChunk.{Frees, IsOneChunk, OneChunk, StandsFor, Takes, one_chunk_of};
 ghost use Rattle.bb_memory_traits.specs.OneChunkObject.{MayAllocate, MayGrow, MayShrink, reserved_at, one_chunk_object};
 
 pub use crate::allocator::{
@@ -295,7 +295,8 @@ pub fn run_one_chunk(
 ) -> Result<Vec<Reply>, AllocError>
     requires { StandsFor allocator.old live.old.items }
     ensures { AnswersRun StandsFor (λ one. one.region) (λ region. region)
-        (OneChunkStep (ResizableStep (one_chunk_object allocator.old.region)))
+        (ResizableStep (one_chunk_object allocator.old.region))
+        Takes (λ old _ _ new. Frees old new)
         commands.now result allocator.old allocator.new live.old.items live.new.items }
 {
     run_full(allocator, live, commands)
@@ -310,7 +311,8 @@ pub fn run_base_one_chunk(
 ) -> Result<Vec<Reply>, AllocError>
     requires { StandsFor allocator.old live.old.items }
     ensures { AnswersRun StandsFor (λ one. one.region) (λ region. region)
-        (OneChunkStep (Step (one_chunk_object allocator.old.region).base))
+        (Step (one_chunk_object allocator.old.region).base)
+        Takes (λ old _ _ new. Frees old new)
         commands.now result allocator.old allocator.new live.old.items live.new.items }
 {
     run_base(allocator, live, commands)

@@ -1,8 +1,9 @@
 -- Runs, one step longer, and what each step of one keeps.
-use Rattle.std.proofs.Common.{◌≡◌, zero, suc, List, [], ◌∷◌, ◌++◌, length, refl, sym, ap, ◌∙◌, subst, arith}
+use Rattle.std.proofs.Common.{◌≡◌, ℕ, zero, suc, List, [], ◌∷◌, ◌++◌, length, refl, sym, ap, ◌∙◌, subst, arith}
 use Rattle.std.proofs.lemmas.List.Sums.{fold_push}
-use Rattle.bb_memory_traits.specs.Chunk.{Chunk, Layout}
-use Rattle.bb_memory_traits.specs.Object.{IsRun, EachGiven, note_after_command, note_after_run}
+use Rattle.std.specs.Prelude.{Result}
+use Rattle.bb_memory_traits.specs.Chunk.{AllocationError, Chunk, Layout}
+use Rattle.bb_memory_traits.specs.Object.{AllocatorStep, IsRun, EachGiven, note_after_command, note_after_run}
 use Rattle.bb_memory_traits.specs.declared.allocator.Command.{Command}
 use Rattle.bb_memory_traits.specs.declared.allocator.Command.TheVariants.{Allocate}
 use Rattle.bb_memory_traits.specs.declared.allocator.Reply.{Reply}
@@ -18,6 +19,18 @@ IsRun-push step old mid new (c ∷ commands) (r ∷ replies) command reply (then
     (then, first, IsRun-push step then mid new commands replies command reply rest next)
 IsRun-push step old mid new [] (r ∷ replies) command reply none next = absurd none
 IsRun-push step old mid new (c ∷ commands) [] command reply none next = absurd none
+
+-- a run of an allocator with its live list is a run of the object on the list
+pub IsRun-listed : {Allocator : Type 0} (Steps : List Chunk → Command → Reply → List Chunk → Type 0)
+    (takes : Allocator → Layout → Result Chunk AllocationError → Allocator → Type 0)
+    (frees : Allocator → ℕ → Layout → Allocator → Type 0) (old new : Allocator × List Chunk) (commands : List Command)
+    (replies : List Reply) → IsRun (AllocatorStep Steps takes frees) old commands replies new →
+    IsRun Steps old.1 commands replies new.1
+IsRun-listed Steps takes frees old new [] [] same = ap (λ state. state.1) same
+IsRun-listed Steps takes frees old new (c ∷ commands) (r ∷ replies) (then, first, rest) =
+    (then.1, first.0, IsRun-listed Steps takes frees then new commands replies rest)
+IsRun-listed Steps takes frees old new [] (r ∷ replies) none = absurd none
+IsRun-listed Steps takes frees old new (c ∷ commands) [] none = absurd none
 
 -- what each step keeps holds after the run if it held before
 pub IsRun-keeps : {S C R : Type 0} (step : S → C → R → S → Type 0) (P : S → Type 0) →

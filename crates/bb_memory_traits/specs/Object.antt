@@ -130,14 +130,18 @@ pub record Applies {Allocator Geometry Note Alloc : Type 0} (stands_for : Alloca
   pub len : vec_len left ≤ vec_len live + 1
   pub capacity : vec_capacity live ≤ vec_capacity left
 
--- The replies of an allocator to a list of commands, and what it leaves. The replies, the allocator and the live list are a run
--- by these steps; the allocator stands for the list that is left, which is sound, and has the geometry that it had; each chunk
--- that was replied to a request fits. Where memory was refused, nothing was applied.
+-- The replies of an allocator to a list of commands, and what it leaves. The replies and the live list are a run by these steps,
+-- and so are they with the allocator's value. The allocator stands for the list that is left, which is sound, and has the geometry
+-- that it had; each chunk that was replied to a request fits. Where memory was refused, nothing was applied.
 pub record AnswersRun {Allocator Geometry Alloc Error : Type 0} (stands_for : Allocator → List Chunk → Type 0)
     (geometry_of : Allocator → Geometry) (region_of : Geometry → Region)
-    (Steps : (Allocator × List Chunk) → Command → Reply → (Allocator × List Chunk) → Type 0) (commands : List Command)
+    (Steps : List Chunk → Command → Reply → List Chunk → Type 0)
+    (takes : Allocator → Layout → Result Chunk AllocationError → Allocator → Type 0)
+    (frees : Allocator → ℕ → Layout → Allocator → Type 0) (commands : List Command)
     (answer : Result (Vec Reply Alloc) Error) (old new : Allocator) (live left : List Chunk) : Type 0 where
-  pub run : IfOk answer (λ replies. IsRun Steps (old, live) commands replies.items (new, left))
+  pub run : IfOk answer (λ replies. IsRun Steps live commands replies.items left)
+  pub values : IfOk answer (λ replies.
+      IsRun (AllocatorStep Steps takes frees) (old, live) commands replies.items (new, left))
   pub stands : OnOk answer (stands_for new left)
   pub sound : OnOk answer (IsSound (region_of (geometry_of old)) left)
   pub fits : IfOk answer (λ replies. EachGiven (Fits (region_of (geometry_of old))) commands replies.items)

@@ -1,11 +1,11 @@
 -- Scripts that drive an allocator: what all of them share, and the rules of each.
 use Rattle.std.specs.Fmt.{decimal}
 use Rattle.std.specs.Prelude.{ℕ, ◌≡◌, List, [], codes, length, true, ◌-◌, ◌++◌, Option, Some, None}
-use Rattle.bb_memory_traits.specs.BumpObject.{StandsFor as BumpStandsFor}
+use Rattle.bb_memory_traits.specs.BumpObject.{bump_object, StandsFor as BumpStandsFor}
 use Rattle.bb_memory_traits.specs.Chunk.{Chunk, IsRegion, region_at, first_place}
 use Rattle.bb_memory_traits.specs.OneChunkObject.{one_chunk_object}
 use Rattle.bb_memory_traits.specs.PoolObject.{PoolGeometry, IsCut, at_most, pool_object}
-use Rattle.bb_memory_traits.specs.Object.{IsRun, ResizableStep}
+use Rattle.bb_memory_traits.specs.Object.{ResizableStep, Step, IsRun}
 use Rattle.bb_memory_traits.specs.declared.allocator.AllocationError.{AllocationError}
 use Rattle.bb_memory_traits.specs.declared.allocator.AllocationError.TheVariants as refused
 use Rattle.bb_memory_traits.specs.declared.allocator.AllocationGrowError.TheVariants as grow
@@ -14,10 +14,10 @@ use Rattle.bb_memory_traits.specs.declared.allocator.Command.{Command}
 use Rattle.bb_memory_traits.specs.declared.allocator.Command.TheVariants.{Allocate, Release, Grow, Shrink}
 use Rattle.bb_memory_traits.specs.declared.allocator.Reply.{Reply}
 use Rattle.bb_memory_traits.specs.declared.allocator.Reply.TheVariants as reply
-use Rattle.bb_memory_bump.specs.Bump.{Bump, BumpStep, bump_text}
+use Rattle.bb_memory_bump.specs.Bump.{Bump, bump_text}
 use Rattle.bb_memory_core.specs.IndexSets.{index_words}
-use Rattle.bb_memory_core.specs.OneChunk.{OneChunk, OneChunkStep, StandsFor as OneChunkStandsFor}
-use Rattle.bb_memory_core.specs.Pool.{CountedPool, MayBeCut, PoolStep, StandsFor as PoolStandsFor, counted, fresh_pool, reads_after}
+use Rattle.bb_memory_core.specs.OneChunk.{OneChunk, StandsFor as OneChunkStandsFor}
+use Rattle.bb_memory_core.specs.Pool.{Pool, StandsFor as PoolStandsFor, fresh_pool, CountedPool, counted, reads_after, MayBeCut}
 use Rattle.script_runner.specs.Words.{Words, words, words_then, region_of, bounds_numbers, name_line}
 use Rattle.script_runner.specs.Scripts.{Rules}
 use Rattle.script_runner.specs.declared.kinds.pool.PoolPlan.{PoolPlan}
@@ -78,10 +78,10 @@ live_rules rules = record {
   state_text = λ state. rules.state_text state.allocator (length state.live);
 }
 
--- the replies are a run of the bump with its live list, over the bump's region, and the bump stands for the list that is left
+-- the replies are a run of the bump object over the bump's region, and the bump stands for the list that the run leaves
 pub record BumpRuns (old : Bump) (live : List Chunk) (commands : List Command)
     (replies : List Reply) (new : Bump) (left : List Chunk) : Type 0 where
-  pub run : IsRun (BumpStep old.region) (old, live) commands replies (new, left)
+  pub run : IsRun (Step (bump_object old.region)) live commands replies left
   pub region : new.region ≡ old.region
   pub stands : BumpStandsFor new.region new.used left
 
@@ -98,10 +98,10 @@ bump_rules = record {
       ++ (codes " total " ++ (decimal bump.region.size ++ codes "\n"))))));
 }
 
--- the replies are a run of the one chunk with its live list, over its region, and it stands for the list that is left
+-- the replies are a run of the one-chunk object over its region, and it stands for the list that the run leaves
 pub record OneChunkRuns (old : OneChunk) (live : List Chunk) (commands : List Command)
     (replies : List Reply) (new : OneChunk) (left : List Chunk) : Type 0 where
-  pub run : IsRun (OneChunkStep (ResizableStep (one_chunk_object old.region))) (old, live) commands replies (new, left)
+  pub run : IsRun (ResizableStep (one_chunk_object old.region)) live commands replies left
   pub region : new.region ≡ old.region
   pub stands : OneChunkStandsFor new left
 
@@ -134,15 +134,18 @@ abbrev pub BeginsPool : PoolPlan → CountedPool → Type 0
 BeginsPool plan pool = (geometry : PoolGeometry) × IsCut (region_at plan.start plan.size) plan.bucket geometry
     × (pool ≡ counted (fresh_pool geometry) 0 0)
 
--- The replies are a run of the pool with its live list, over the pool's geometry, and the pool stands for the list that is left.
--- `words` returns the number of index words of a number of buckets. The last request among the commands, if there is one, decides
--- what was read.
-pub record PoolRuns (words : ℕ → ℕ) (old : CountedPool) (live : List Chunk) (commands : List Command)
+-- the replies are a run of the pool object over the pool's geometry, and the pool stands for the list that the run leaves
+pub record PoolRuns (old : Pool) (live : List Chunk) (commands : List Command)
+    (replies : List Reply) (new : Pool) (left : List Chunk) : Type 0 where
+  pub run : IsRun (ResizableStep (pool_object old.geometry)) live commands replies left
+  pub geometry : new.geometry ≡ old.geometry
+  pub stands : PoolStandsFor new left
+
+-- the replies are such a run, and what was read is what the last request among the commands reads, if there is one
+pub record CountedPoolRuns (old : CountedPool) (live : List Chunk) (commands : List Command)
     (replies : List Reply) (new : CountedPool) (left : List Chunk) : Type 0 where
-  pub run : IsRun (PoolStep (ResizableStep (pool_object old.pool.geometry)) words) (old, live) commands replies (new, left)
-  pub geometry : new.pool.geometry ≡ old.pool.geometry
-  pub stands : PoolStandsFor new.pool left
-  pub reads : new.reads ≡ reads_after old.pool.geometry.bucket (words old.pool.geometry.buckets) old.reads commands
+  pub runs : PoolRuns old.pool live commands replies new.pool left
+  pub reads : new.reads ≡ reads_after old.pool.geometry.bucket (index_words old.pool.geometry.buckets) old.reads commands
 
 -- the figures that `show` writes of either pool with so many chunks live, and then the rest of the line
 abbrev pub pool_figures : PoolGeometry → ℕ → List ℕ → List ℕ
@@ -158,7 +161,7 @@ pool_rules = record {
   is_header = IsPoolPlan;
   header_numbers = pool_numbers;
   starts = BeginsPool;
-  runs = PoolRuns index_words;
+  runs = CountedPoolRuns;
   state_text = λ pool live. codes "pool start " ++ (decimal (first_place pool.pool.geometry.region pool.pool.geometry.bucket)
       ++ pool_figures pool.pool.geometry live (codes " reads " ++ (decimal pool.reads ++ codes "\n")));
 }
@@ -175,6 +178,6 @@ fixed_rules = record {
   is_header = IsPoolPlan;
   header_numbers = pool_numbers;
   starts = BeginsFixed;
-  runs = PoolRuns (λ _. 0);
+  runs = λ old live commands replies new left. PoolRuns old.pool live commands replies new.pool left;
   state_text = λ pool live. codes "fixed" ++ pool_figures pool.pool.geometry live (codes "\n");
 }

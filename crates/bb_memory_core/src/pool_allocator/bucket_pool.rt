@@ -5,7 +5,7 @@ ghost use Rattle.bb_memory_traits.specs.Chunk.{Chunk};
 ghost use Rattle.bb_memory_traits.specs.Object.{AnswersRun, Step, ResizableStep};
 ghost use Rattle.bb_memory_traits.specs.PoolObject.{bucket_place, pool_object};
 ghost use Rattle.bb_memory_core.specs.Pool.{TellsNumber, TellsPlace};
-ghost use Rattle.bb_memory_core.specs.Pool.{held_count, FreesBucket, HoldsPlace, IsPool, PoolStep, StandsFor};
+ghost use Rattle.bb_memory_core.specs.Pool.{held_count, FreesBucket, HoldsPlace, IsPool, StandsFor, TakesBucket};
 ghost use Rattle.bb_memory_core.specs.IndexSets.{Has, Lacks, member_count};
 ghost use Rattle.bb_memory_core.specs.Pool.{Takes, pool_of, reads_after, reads_of};
 
@@ -382,7 +382,10 @@ pub fn run_pool<S: IndexSet>(
     ensures run { AnswersRun (λ pool. StandsFor pool.pool)
         (λ pool. pool.pool.geometry)
         (λ geometry. geometry.region)
-        (PoolStep (ResizableStep (pool_object allocator.old.pool.geometry)) S.words)
+        (ResizableStep (pool_object allocator.old.pool.geometry))
+        (λ old layout answer new.
+        TakesBucket old layout answer new (S.words old.pool.geometry.buckets))
+        (λ old place _ new. FreesBucket old place new)
         commands.now result allocator.old allocator.new live.old.items live.new.items }
     ensures reads { OnOk result (allocator.new.reads ≡ reads_after
         allocator.old.pool.geometry.bucket (S.words allocator.old.pool.geometry.buckets)
@@ -402,7 +405,10 @@ pub fn run_base_pool<S: IndexSet>(
     ensures run { AnswersRun (λ pool. StandsFor pool.pool)
         (λ pool. pool.pool.geometry)
         (λ geometry. geometry.region)
-        (PoolStep (Step (pool_object allocator.old.pool.geometry).base) S.words)
+        (Step (pool_object allocator.old.pool.geometry).base)
+        (λ old layout answer new.
+        TakesBucket old layout answer new (S.words old.pool.geometry.buckets))
+        (λ old place _ new. FreesBucket old place new)
         commands.now result allocator.old allocator.new live.old.items live.new.items }
     ensures reads { OnOk result (allocator.new.reads ≡ reads_after
         allocator.old.pool.geometry.bucket (S.words allocator.old.pool.geometry.buckets)

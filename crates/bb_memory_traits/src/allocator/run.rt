@@ -94,8 +94,8 @@ pub fn run_base<A: BaseAllocator>(
 ) -> Result<Vec<Reply>, AllocError>
     requires { A.stands_for allocator.old live.old.items }
     ensures run { AnswersRun A.stands_for A.geometry A.region_of
-        (AllocatorStep (Step (object_of A.RELEASE_EMPTIES
-        (A.may_allocate (A.geometry allocator.old)))) A.takes A.frees)
+        (Step (object_of A.RELEASE_EMPTIES (A.may_allocate (A.geometry allocator.old))))
+        A.takes A.frees
         commands.now result allocator.old allocator.new live.old.items live.new.items }
     ensures note { OnOk result (A.note allocator.new ≡ note_after_run
         (A.note_after (A.geometry allocator.old)) (A.note allocator.old) commands.now) }
@@ -217,10 +217,10 @@ pub fn run_full<A: Allocator>(
 ) -> Result<Vec<Reply>, AllocError>
     requires { A.stands_for allocator.old live.old.items }
     ensures run { AnswersRun A.stands_for A.geometry A.region_of
-        (AllocatorStep (ResizableStep (resizable_object_of
+        (ResizableStep (resizable_object_of
         (A.may_allocate (A.geometry allocator.old)) (A.reserved_at (A.figures allocator.old))
         (A.may_grow (A.figures allocator.old)) (A.may_shrink (A.figures allocator.old))))
-        A.takes A.frees)
+        A.takes A.frees
         commands.now result allocator.old allocator.new live.old.items live.new.items }
     ensures note { OnOk result (A.note allocator.new ≡ note_after_run
         (A.note_after (A.geometry allocator.old)) (A.note allocator.old) commands.now) }

@@ -2,7 +2,7 @@ use Rattle.std.proofs.Common.{◌≡◌, ◌+◌, ◌∷◌, ◌++◌, [], take,
 use Rattle.std.proofs.lemmas.List.{take_more, take_all, length-take-le}
 use Rattle.bb_memory_traits.specs.Chunk.{Layout, Chunk, Fits, IsSound}
 use Rattle.bb_memory_traits.specs.Object.{object_of, AllocatorStep, Step, note_after_command}
-use Rattle.bb_memory_traits.proofs.Runs.{IsRun-push, EachGiven-push, note-push}
+use Rattle.bb_memory_traits.proofs.Runs.{IsRun-listed, IsRun-push, EachGiven-push, note-push}
 use Rattle.bb_memory_traits.proofs.allocator.run.run_base.Goals as goal
 
 pub loop-command-preserved : goal.loop-command-preserved
@@ -48,7 +48,10 @@ returns-clause-run g c =
     let sound = g.met.A.BaseAllocator.sound c.loop-command.allocator c.loop-command.live.items invariant.stands in
     let all = take_all c.loop-command.command-index c.args.commands.now (omega arith) in
     record {
-      run = rw all at invariant.run;
+      run = IsRun-listed (Step (object_of A.RELEASE_EMPTIES (A.may_allocate (A.geometry c.args.allocator.now)))) A.takes A.frees
+          (c.args.allocator.now, c.args.live.now.items) (c.loop-command.allocator, c.loop-command.live.items)
+          c.args.commands.now c.loop-command.replies.items (rw all at invariant.run);
+      values = rw all at invariant.run;
       stands = invariant.stands;
       sound = subst (λ (geometry : A.Geometry). IsSound (A.region_of geometry) c.loop-command.live.items)
           invariant.geometry sound;

@@ -2,7 +2,7 @@ use Rattle.std.proofs.Common.{◌≡◌, ◌+◌, ◌∷◌, ◌++◌, [], take,
 use Rattle.std.proofs.lemmas.List.{take_more, take_all, length-take-le}
 use Rattle.bb_memory_traits.specs.Chunk.{Layout, Chunk, Fits, IsSound}
 use Rattle.bb_memory_traits.specs.Object.{AllocatorStep, note_after_command, ResizableStep, resizable_object_of}
-use Rattle.bb_memory_traits.proofs.Runs.{IsRun-push, EachGiven-push, note-push}
+use Rattle.bb_memory_traits.proofs.Runs.{IsRun-listed, IsRun-push, EachGiven-push, note-push}
 use Rattle.bb_memory_traits.proofs.allocator.run.run_full.Goals as goal
 
 -- two equations as one of pairs
@@ -54,11 +54,17 @@ loop-command-preserved g c =
 pub returns-clause-run : goal.returns-clause-run
 returns-clause-run g c =
     let A = g.A.BaseAllocator in
+    let B = g.A.Allocator in
     let invariant = c.loop-command.invariant in
     let sound = g.met.A.BaseAllocator.sound c.loop-command.allocator c.loop-command.live.items invariant.stands in
     let all = take_all c.loop-command.command-index c.args.commands.now (omega arith) in
     record {
-      run = rw all at invariant.run;
+      run = IsRun-listed (ResizableStep (resizable_object_of (A.may_allocate (A.geometry c.args.allocator.now))
+          (B.reserved_at (B.figures c.args.allocator.now)) (B.may_grow (B.figures c.args.allocator.now))
+          (B.may_shrink (B.figures c.args.allocator.now)))) A.takes A.frees
+          (c.args.allocator.now, c.args.live.now.items) (c.loop-command.allocator, c.loop-command.live.items)
+          c.args.commands.now c.loop-command.replies.items (rw all at invariant.run);
+      values = rw all at invariant.run;
       stands = invariant.stands;
       sound = subst (λ (geometry : A.Geometry). IsSound (A.region_of geometry) c.loop-command.live.items)
           invariant.geometry sound;
