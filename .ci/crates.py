@@ -1,5 +1,6 @@
 """The crates of crates.txt, and lanes. A lane is a copy of one crate over the libraries that were built below it: `rt` locks the
 folders that it works in, so crates are proved side by side, each in a lane of its own."""
+import functools
 import hashlib
 import os
 import pathlib
@@ -8,9 +9,9 @@ import shutil
 import subprocess
 
 TOP = pathlib.Path(__file__).resolve().parent.parent
-KIT = subprocess.run(["rt", "version"], stdout=subprocess.PIPE, text=True, check=True).stdout.strip()
 CORES = len(os.sched_getaffinity(0))
 TALK = {"stdout": subprocess.PIPE, "stderr": subprocess.STDOUT, "text": True, "errors": "replace"}
+kit = functools.cache(lambda: subprocess.run(["rt", "version"], check=True, **TALK).stdout.strip())
 LINES = {re.match(r"\w+", it)[0]: it for it in (TOP / "crates.txt").read_text().splitlines() if re.match(r"\w", it)}
 
 
@@ -28,7 +29,7 @@ def sources(name, top=TOP):
 
 def made_of(name, top=TOP):
     """Returns a sum of all that the proof of a crate reads: the kit, and the lines and files of this crate and of those below."""
-    found = hashlib.sha256(KIT.encode())
+    found = hashlib.sha256(kit().encode())
     for it in [*below(name), name]:
         found.update(LINES[it].encode())
         for file in sources(it, top):
