@@ -130,9 +130,9 @@ pub record Applies {Allocator Geometry Note Alloc : Type 0} (stands_for : Alloca
   pub len : vec_len left ≤ vec_len live + 1
   pub capacity : vec_capacity live ≤ vec_capacity left
 
--- The replies of an allocator to a list of commands, and what it leaves. The replies and the live list are a run by these steps,
--- and so are they with the allocator's value. The allocator stands for the list that is left, which is sound, and has the geometry
--- that it had; each chunk that was replied to a request fits. Where memory was refused, nothing was applied.
+-- The replies of an allocator to a list of commands, and what it leaves. The replies and the live list are a run by these steps;
+-- so are the replies, the allocator's value and the list. The allocator stands for the list that is left, which is sound, and has
+-- the geometry that it had; each chunk that was replied to a request fits. Where memory was refused, nothing was applied.
 pub record AnswersRun {Allocator Geometry Alloc Error : Type 0} (stands_for : Allocator → List Chunk → Type 0)
     (geometry_of : Allocator → Geometry) (region_of : Geometry → Region)
     (Steps : List Chunk → Command → Reply → List Chunk → Type 0)
