@@ -6,18 +6,19 @@ use bb_memory_traits::allocator::{Command, run_base, run_full};
 use bb_memory_traits::layout::Layout;
 
 /// Takes two buckets, gives one back, and takes one more: one more is held than were.
-const TAKE: Command = Command::Allocate(Layout::empty());
-
-const COMMANDS: [Command; 4] = [TAKE, TAKE, Command::Release(0), TAKE];
+fn commands() -> [Command; 4] {
+    let take = Command::Allocate(Layout::empty());
+    [take, take, Command::Release(0), take]
+}
 
 #[test]
 fn a_pool_that_ran_twice(rt: HostRuntime) {
     let (alloc, bucket) = (rt.alloc(), layout(&rt, 16, 8));
     let pool = pool_over(alloc, bucket, 4096, 64);
     let (mut pool, mut live) = (pool.expect(&rt, "there is such a pool"), Vec::new(alloc));
-    check(&rt, run_base(&mut pool, &mut live, &COMMANDS).is_ok());
+    check(&rt, run_base(&mut pool, &mut live, &commands()).is_ok());
     same(&rt, pool.greatest_held(), 2);
-    check(&rt, run_pool(&mut pool, &mut live, &COMMANDS).is_ok());
+    check(&rt, run_pool(&mut pool, &mut live, &commands()).is_ok());
     same(&rt, pool.greatest_held(), 4);
 }
 
@@ -26,8 +27,11 @@ fn a_fixed_pool_that_ran_twice(rt: HostRuntime) {
     let (alloc, bucket) = (rt.alloc(), layout(&rt, 16, 8));
     let pool = fixed_over::<4>(bucket, 4096, 64);
     let (mut pool, mut live) = (pool.expect(&rt, "there is such a pool"), Vec::new(alloc));
-    check(&rt, run_full(&mut pool, &mut live, &COMMANDS).is_ok());
+    check(&rt, run_full(&mut pool, &mut live, &commands()).is_ok());
     same(&rt, pool.greatest_held(), 2);
-    check(&rt, run_fixed_pool(&mut pool, &mut live, &COMMANDS).is_ok());
+    check(
+        &rt,
+        run_fixed_pool(&mut pool, &mut live, &commands()).is_ok(),
+    );
     same(&rt, pool.greatest_held(), 4);
 }

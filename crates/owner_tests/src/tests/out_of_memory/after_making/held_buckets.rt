@@ -76,9 +76,17 @@ fn place_of(number: u32) -> usize {
 /// Gives a bucket back. A second return changes nothing.
 fn gives(rt: &impl Abort, pool: &mut impl Buckets, number: u32) {
     let place = place_of(number);
-    same(rt, pool.at(number, place), (Some(place), Some(number), true));
+    same(
+        rt,
+        pool.at(number, place),
+        (Some(place), Some(number), true),
+    );
     check(rt, pool.give(place) && !pool.give(place));
-    same(rt, pool.at(number, place), (Some(place), Some(number), false));
+    same(
+        rt,
+        pool.at(number, place),
+        (Some(place), Some(number), false),
+    );
 }
 
 /// Checks that nothing is held or given back where no bucket of 16 bytes begins.
