@@ -29,9 +29,7 @@ fn a_fixed_pool_that_ran_twice(rt: HostRuntime) {
     let (mut pool, mut live) = (pool.expect(&rt, "there is such a pool"), Vec::new(alloc));
     check(&rt, run_full(&mut pool, &mut live, &commands()).is_ok());
     same(&rt, pool.greatest_held(), 2);
-    check(
-        &rt,
-        run_fixed_pool(&mut pool, &mut live, &commands()).is_ok(),
-    );
+    let told = run_fixed_pool(&mut pool, &mut live, &commands());
+    check(&rt, told.is_ok());
     same(&rt, pool.greatest_held(), 4);
 }

@@ -38,21 +38,7 @@ fn take(
     Ok((chunk.place(), chunk.len()))
 }
 
-/// Fills an arena of 100 bytes at 4096, begins it anew, and fills it at once.
-fn is_filled(rt: &impl Abort, arena: &mut ThreadArena)
-    ensures { arena.new.party ≡ arena.old.party }
-{
-    same(rt, take(rt, arena, 48, 4), Ok((4096, 48)));
-    same(rt, take(rt, arena, 10, 32), Ok((4160, 10)));
-    same(rt, take(rt, arena, 0, 1), Err(SizeIsZero));
-    same(rt, take(rt, arena, 27, 1), Err(OutOfMemory));
-    same(rt, take(rt, arena, 26, 1), Ok((4170, 26)));
-    same(rt, take(rt, arena, 1, 1), Err(OutOfMemory));
-    arena.reset();
-    same(rt, take(rt, arena, 100, 1), Ok((4096, 100)));
-}
-
-/// The rest of the bump is an arena, too, and a byte more is refused.
+/// One arena is filled, reset and filled at once. The rest of the bump is an arena, too, and a byte more is refused.
 #[test]
 fn arenas_of_two_parties(rt: HostRuntime) {
     let (shared, one, other) = two(&rt, rt.alloc(), (4096, 1024, 0));
@@ -60,7 +46,14 @@ fn arenas_of_two_parties(rt: HostRuntime) {
     let mut other = arena(&rt, &shared, other, 200, 64);
     same(&rt, one.whole(), chunk(&rt, 4096, 100));
     same(&rt, other.whole(), chunk(&rt, 4224, 200));
-    is_filled(&rt, &mut one);
+    same(&rt, take(&rt, &mut one, 48, 4), Ok((4096, 48)));
+    same(&rt, take(&rt, &mut one, 10, 32), Ok((4160, 10)));
+    same(&rt, take(&rt, &mut one, 0, 1), Err(SizeIsZero));
+    same(&rt, take(&rt, &mut one, 27, 1), Err(OutOfMemory));
+    same(&rt, take(&rt, &mut one, 26, 1), Ok((4170, 26)));
+    same(&rt, take(&rt, &mut one, 1, 1), Err(OutOfMemory));
+    one.reset();
+    same(&rt, take(&rt, &mut one, 100, 1), Ok((4096, 100)));
     same(&rt, take(&rt, &mut other, 1, 1), Ok((4224, 1)));
     meet(&shared, &mut one, &mut other);
     same(&rt, take(&rt, &mut other, 1, 1), Ok((4225, 1)));

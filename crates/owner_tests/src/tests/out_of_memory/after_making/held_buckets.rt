@@ -10,13 +10,15 @@ use std::process::Abort;
 
 type Pool = PoolAllocator<Global>;
 
+/// The place of a number, the number of a place, and whether the bucket there is held.
+type At = (Option<usize>, Option<u32>, bool);
+
 /// A pool of either kind.
 trait Buckets: BaseAllocator + Drop {
     /// Returns how many buckets are held, how many were at most, and whether there is room for one more.
     fn counts(&self) -> (u32, u32, bool);
 
-    /// Returns the place of a number, the number of a place, and whether the bucket there is held.
-    fn at(&self, number: u32, place: usize) -> (Option<usize>, Option<u32>, bool);
+    fn at(&self, number: u32, place: usize) -> At;
 
     /// Calls `deallocate_if_held`.
     fn give(&mut self, place: usize) -> bool;
@@ -27,7 +29,7 @@ impl Buckets for Pool {
         (self.held_buckets(), self.greatest_held(), self.has_room())
     }
 
-    fn at(&self, number: u32, place: usize) -> (Option<usize>, Option<u32>, bool) {
+    fn at(&self, number: u32, place: usize) -> At {
         let (at, number) = (self.place_at(number), self.number_at(place));
         (at, number, self.holds(place))
     }
@@ -42,7 +44,7 @@ impl<const N: usize> Buckets for FixedSizePoolAllocator<N> {
         (self.held_buckets(), self.greatest_held(), self.has_room())
     }
 
-    fn at(&self, number: u32, place: usize) -> (Option<usize>, Option<u32>, bool) {
+    fn at(&self, number: u32, place: usize) -> At {
         let (at, number) = (self.place_at(number), self.number_at(place));
         (at, number, self.holds(place))
     }
@@ -76,17 +78,10 @@ fn place_of(number: u32) -> usize {
 /// Gives a bucket back. A second return changes nothing.
 fn gives(rt: &impl Abort, pool: &mut impl Buckets, number: u32) {
     let place = place_of(number);
-    same(
-        rt,
-        pool.at(number, place),
-        (Some(place), Some(number), true),
-    );
+    let (at, found) = (Some(place), Some(number));
+    same(rt, pool.at(number, place), (at, found, true));
     check(rt, pool.give(place) && !pool.give(place));
-    same(
-        rt,
-        pool.at(number, place),
-        (Some(place), Some(number), false),
-    );
+    same(rt, pool.at(number, place), (at, found, false));
 }
 
 /// Checks that nothing is held or given back where no bucket of 16 bytes begins.
