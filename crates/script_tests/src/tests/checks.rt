@@ -16,7 +16,7 @@ pub(super) fn same<T: PartialEq + Debug + Copy>(rt: &impl Abort, found: T, wante
 }
 
 /// Checks a condition. A failure says its name or number.
-pub(super) fn check_at<D: Display>(rt: &impl Abort, found: bool, at: D) {
+pub(super) fn check_at<D: Display + Drop>(rt: &impl Abort, found: bool, at: D) {
     assert!(rt; found, "at {at}");
 }
 

@@ -143,6 +143,7 @@ fn shrink(
     new: Layout,
 ) -> Result<Chunk, AllocationShrinkError>
     requires { bucket.old.allocator ≡ pool.now }
+    ensures { bucket.new.allocator ≡ pool.now }
 {
     if bucket.chunk().place() % old.align() != 0 || old.size() > pool.bucket_size() {
         panic!(rt; "no bucket is aligned so, or as large");
