@@ -10,28 +10,25 @@ use std::process::Abort;
 
 type Pool = PoolAllocator<Global>;
 
+/// How many buckets are held, how many were at most, and whether there is room for one more.
+type Counts = (u32, u32, bool);
+
 /// The place of a number, the number of a place, and whether the bucket there is held.
 type At = (Option<usize>, Option<u32>, bool);
 
 /// A pool of either kind.
 trait Buckets: BaseAllocator + Drop {
-    /// Returns how many buckets are held, how many were at most, and whether there is room for one more.
-    fn counts(&self) -> (u32, u32, bool);
-
-    fn at(&self, number: u32, place: usize) -> At;
+    fn told(&self, number: u32, place: usize) -> (Counts, At);
 
     /// Calls `deallocate_if_held`.
     fn give(&mut self, place: usize) -> bool;
 }
 
 impl Buckets for Pool {
-    fn counts(&self) -> (u32, u32, bool) {
-        (self.held_buckets(), self.greatest_held(), self.has_room())
-    }
-
-    fn at(&self, number: u32, place: usize) -> At {
+    fn told(&self, number: u32, place: usize) -> (Counts, At) {
+        let counts = (self.held_buckets(), self.greatest_held(), self.has_room());
         let (at, number) = (self.place_at(number), self.number_at(place));
-        (at, number, self.holds(place))
+        (counts, (at, number, self.holds(place)))
     }
 
     fn give(&mut self, place: usize) -> bool {
@@ -40,13 +37,10 @@ impl Buckets for Pool {
 }
 
 impl<const N: usize> Buckets for FixedSizePoolAllocator<N> {
-    fn counts(&self) -> (u32, u32, bool) {
-        (self.held_buckets(), self.greatest_held(), self.has_room())
-    }
-
-    fn at(&self, number: u32, place: usize) -> At {
+    fn told(&self, number: u32, place: usize) -> (Counts, At) {
+        let counts = (self.held_buckets(), self.greatest_held(), self.has_room());
         let (at, number) = (self.place_at(number), self.number_at(place));
-        (at, number, self.holds(place))
+        (counts, (at, number, self.holds(place)))
     }
 
     fn give(&mut self, place: usize) -> bool {
@@ -54,9 +48,8 @@ impl<const N: usize> Buckets for FixedSizePoolAllocator<N> {
     }
 }
 
-/// Checks how many buckets are held, how many were at most, and whether there is room for one more.
 fn counts(rt: &impl Abort, pool: &impl Buckets, held: u32, greatest: u32, buckets: u32) {
-    same(rt, pool.counts(), (held, greatest, held < buckets));
+    same(rt, pool.told(0, 0).0, (held, greatest, held < buckets));
 }
 
 /// Allocates a bucket, whose place and number agree. By the count of held ones it is another one each time.
@@ -65,9 +58,9 @@ fn takes(rt: &impl Abort, pool: &mut impl Buckets, size: usize) {
         panic!(rt; "no bucket is free");
     };
     let place = chunk.place();
-    let (_, number, held) = pool.at(0, place);
+    let (_, number, held) = pool.told(0, place).1;
     check(rt, held && number.is_some());
-    same(rt, pool.at(number.unwrap_or(0), place).0, Some(place));
+    same(rt, pool.told(number.unwrap_or(0), place).1.0, Some(place));
 }
 
 /// Returns where the bucket of 16 bytes of a number begins.
@@ -79,16 +72,16 @@ fn place_of(number: u32) -> usize {
 fn gives(rt: &impl Abort, pool: &mut impl Buckets, number: u32) {
     let place = place_of(number);
     let (at, found) = (Some(place), Some(number));
-    same(rt, pool.at(number, place), (at, found, true));
+    same(rt, pool.told(number, place).1, (at, found, true));
     check(rt, pool.give(place) && !pool.give(place));
-    same(rt, pool.at(number, place), (at, found, false));
+    same(rt, pool.told(number, place).1, (at, found, false));
 }
 
 /// Checks that nothing is held or given back where no bucket of 16 bytes begins.
 fn has_none_between(rt: &impl Abort, pool: &mut impl Buckets, buckets: u32) {
     for wild in [0, 1, 4080, 4095, 4097, 4104, usize::MAX, place_of(buckets)] {
-        same(rt, pool.at(buckets, wild), (None, None, false));
-        same(rt, pool.at(u32::MAX, wild), (None, None, false));
+        same(rt, pool.told(buckets, wild).1, (None, None, false));
+        same(rt, pool.told(u32::MAX, wild).1, (None, None, false));
         check(rt, !pool.give(wild));
     }
 }
