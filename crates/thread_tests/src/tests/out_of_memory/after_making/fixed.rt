@@ -26,14 +26,6 @@ fn four(alloc: Global) -> Option<(Four, Vec<PoolParty>)>
     }
 }
 
-fn last_of(rt: &impl Abort, pool: &Four, mut parties: Vec<PoolParty>) -> PoolParty
-    requires { All (λ party. party.allocator ≡ pool.now) parties.items }
-    ensures { result.allocator ≡ pool.entry.now }
-{
-    let _ = pool;
-    parties.pop().expect(rt, "there is a party")
-}
-
 /// Takes a bucket, and returns its number.
 fn number(pool: &Four, party: &mut PoolParty, layout: Layout) -> Result<u32, AllocationError>
     requires { party.old.allocator ≡ pool.now }
@@ -64,9 +56,10 @@ fn grow(
 }
 
 /// Takes all four buckets, and grows the chunk of the first one.
-fn fills(rt: &impl Abort, pool: &Four, mut party: PoolParty)
-    requires { party.allocator ≡ pool.now }
+fn fills(rt: &impl Abort, pool: &Four, mut parties: Vec<PoolParty>)
+    requires { All (λ party. party.allocator ≡ pool.now) parties.items }
 {
+    let mut party = parties.pop().expect(rt, "there is a party");
     let (small, medium, large) = (layout(rt, 48, 4), layout(rt, 64, 4), layout(rt, 129, 4));
     let Ok(mut first) = pool.allocate(&mut party, small) else {
         return fail(rt, "no bucket is free");
@@ -92,6 +85,6 @@ fn four_of_eight_buckets(rt: HostRuntime) {
     };
     refuse_memory(rt.alloc());
     same(&rt, (pool.number_of_buckets(), pool.size()), (4, 1024));
-    fills(&rt, &pool, last_of(&rt, &pool, parties));
+    fills(&rt, &pool, parties);
     none_asked(&rt, rt.alloc());
 }
