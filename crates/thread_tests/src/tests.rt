@@ -1,4 +1,5 @@
 //! Typed calls through wrappers that say no more than safety needs, so that a test's own proof carries none of the library's.
+mod arenas;
 mod buckets;
 mod bumps;
 mod checks;

@@ -3,7 +3,7 @@ ghost use Rattle.std.specs.Prelude.{◌≡◌, [], IfSome};
 ghost use Rattle.bb_memory_traits.specs.Chunk.{region_at};
 ghost use Rattle.bb_memory_core.specs.Pool.{StandsFor};
 
-use super::checks::{check_at, none_asked, refused, same};
+use super::checks::{check, check_at, none_asked, refused, same};
 use super::marks::refuse_memory;
 use super::owner::Owner;
 use bb_memory_bump::bump_allocator::BumpAllocator;
@@ -203,7 +203,7 @@ fn keeps_as_run<A: Kind>(rt: &impl Abort, alloc: Global, of: Of, row: &[Step]) {
         Ok(replies) => replies,
         Err(_) => {
             refused(rt, alloc);
-            same(rt, owner.live().len(), 0);
+            check(rt, owner.are_at(0, 0, 0));
             A::run(&mut owner, &commands).expect(rt, "there is memory for a run")
         }
     };

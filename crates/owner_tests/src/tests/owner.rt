@@ -75,10 +75,6 @@ impl<A: BaseAllocator + Drop> Owner<A> {
         true
     }
 
-    pub(super) fn live(&self) -> &[Chunk] {
-        &self.live
-    }
-
     /// Returns whether just `count` chunks are live, at `place` and each `stride` bytes further on.
     pub(super) fn are_at(&self, place: usize, stride: usize, count: usize) -> bool {
         let mut place = place;

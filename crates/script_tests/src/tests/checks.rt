@@ -2,7 +2,7 @@
 use super::marks::{none_was_asked, some_was_refused};
 use bb_memory_base::layout::{Chunk, Layout};
 use std::alloc::Global;
-use std::fmt::Debug;
+use std::fmt::{Debug, Display};
 use std::process::Abort;
 
 /// Checks a condition.
@@ -15,13 +15,8 @@ pub(super) fn same<T: PartialEq + Debug + Copy>(rt: &impl Abort, found: T, wante
     assert_eq!(rt; found, wanted);
 }
 
-/// Checks a condition. A failure says the name.
-pub(super) fn check_named(rt: &impl Abort, found: bool, name: &str) {
-    assert!(rt; found, "{name}");
-}
-
-/// Checks a condition. A failure names the number.
-pub(super) fn check_at(rt: &impl Abort, found: bool, at: usize) {
+/// Checks a condition. A failure says its name or number.
+pub(super) fn check_at<D: Display + Drop>(rt: &impl Abort, found: bool, at: D) {
     assert!(rt; found, "at {at}");
 }
 

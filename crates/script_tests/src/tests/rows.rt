@@ -1,5 +1,5 @@
 //! Scripts with what they write, each row by its name. The worked scripts of `docs/script-format.md` are rows, too.
-use super::checks::check_named;
+use super::checks::check_at;
 use super::table::{check_rows, ends};
 use bb_memory_base::steps::{bump_theorem, pool_theorem};
 use script_runner::{Status, equality_law, lines_law};
@@ -128,7 +128,7 @@ const OTHER_BYTES: [(&str, &[u8], Status, &[u8]); 3] = [
 #[test]
 fn scripts_of_other_bytes(rt: HostRuntime) {
     for row in &OTHER_BYTES {
-        check_named(&rt, ends(rt.alloc(), row.1, row.2, row.3), row.0);
+        check_at(&rt, ends(rt.alloc(), row.1, row.2, row.3), row.0);
     }
 }
 

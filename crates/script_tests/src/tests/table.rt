@@ -1,5 +1,5 @@
 //! Tables of scripts. Each line is a row: `NAME | SCRIPT | OUTPUT`, where `; ` stands for a line feed.
-use super::checks::check_named;
+use super::checks::check_at;
 use script_runner::{Status, run};
 use std::alloc::{AllocError, Global};
 use std::process::Abort;
@@ -46,6 +46,6 @@ fn keeps_row(alloc: Global, status: Status, row: &str) -> bool {
 pub(super) fn check_rows(rt: &impl Abort, alloc: Global, ends: Status, table: &str) {
     for row in table.lines() {
         let (name, row) = field_and_rest(row);
-        check_named(rt, keeps_row(alloc, ends, row), name);
+        check_at(rt, keeps_row(alloc, ends, row), name);
     }
 }

@@ -1,5 +1,5 @@
 //! Shared pools of buckets of 128 bytes at 4096, and calls that promise no more than a further call needs.
-ghost use Rattle.std.specs.Prelude.{◌≡◌, ◌<◌, ℕ, All, IfOk, IfSome};
+ghost use Rattle.std.specs.Prelude.{◌≡◌, ◌<◌, ℕ, All, IfSome};
 ghost use Rattle.bb_memory_base.specs.PoolLogs.{IsHeldAfter};
 
 use super::checks::refused;
@@ -80,27 +80,6 @@ pub(super) fn two(
     (pool, first, second)
 }
 
-/// Asks for a bucket, by a next-fit search or by a pass.
-pub(super) fn request<'a>(
-    pool: &'a SharedPoolAllocator,
-    party: &mut PoolParty,
-    layout: Layout,
-    next_fit: bool,
-) -> Result<Bucket<'a>, AllocationError>
-    requires party { party.old.allocator ≡ pool.now }
-    ensures party { party.new.allocator ≡ pool.now }
-    ensures bucket { IfOk result (λ bucket. bucket.allocator ≡ pool.now) }
-    ensures held { IfOk result (λ bucket. IsHeldAfter party.new.log bucket.number) }
-    ensures others_kept { (other : ℕ) → IsHeldAfter party.old.log other
-        → IsHeldAfter party.new.log other }
-{
-    if next_fit {
-        pool.allocate_next_fit(party, layout)
-    } else {
-        pool.allocate(party, layout)
-    }
-}
-
 /// Takes a bucket by a pass.
 pub(super) fn hold<'a>(
     rt: &impl Abort,
@@ -113,7 +92,7 @@ pub(super) fn hold<'a>(
     ensures bucket { result.allocator ≡ pool.now }
     ensures held { IsHeldAfter party.new.log result.number }
 {
-    match request(pool, party, layout, false) {
+    match pool.allocate(party, layout) {
         Ok(bucket) => bucket,
         Err(_) => panic!(rt; "no bucket is free"),
     }
@@ -134,7 +113,7 @@ pub(super) fn take(
     ensures party { party.new.allocator ≡ pool.now }
     ensures kept { (other : ℕ) → IsHeldAfter party.old.log other → IsHeldAfter party.new.log other }
 {
-    match request(pool, party, layout, false) {
+    match pool.allocate(party, layout) {
         Ok(bucket) => Ok(found(&bucket)),
         Err(error) => Err(error),
     }
@@ -150,7 +129,7 @@ pub(super) fn fit(
     ensures party { party.new.allocator ≡ pool.now }
     ensures kept { (other : ℕ) → IsHeldAfter party.old.log other → IsHeldAfter party.new.log other }
 {
-    match request(pool, party, layout, true) {
+    match pool.allocate_next_fit(party, layout) {
         Ok(bucket) => Ok(found(&bucket)),
         Err(error) => Err(error),
     }

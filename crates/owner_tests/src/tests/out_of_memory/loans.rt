@@ -1,5 +1,6 @@
 //! Loan books. A refused loan leaves the book unchanged: just the samples of before are out.
-use crate::tests::checks::{check, chunk, refused, same};
+use crate::tests::checks::{check, chunk, layout, refused, same};
+use crate::tests::kinds::pool_over;
 use bb_memory_core::one_chunk_allocator::OneChunkAllocator;
 use bb_memory_traits::allocator::{AllocationError, Allocator};
 use bb_memory_traits::layout::Chunk;
@@ -42,21 +43,21 @@ pub(super) const NO_MEMORY: LoanReply = Refused(LoanError::Memory);
 /// The refusal by a full allocator.
 pub(super) const FULL: LoanReply = Refused(LoanError::Allocation(AllocationError::OutOfMemory));
 
-/// Loans so many bytes, a second time where memory was refused: then just the samples of before are out.
-fn loan(
+/// Loans so many bytes, a second time where memory was refused: then the samples of before are out, and the next one isn't.
+fn loan<A: Allocator + Drop>(
     rt: &impl Abort,
     alloc: Global,
-    book: &mut LoanBook<OneChunkAllocator>,
+    book: &mut LoanBook<A>,
     size: usize,
-    is_out: bool,
+    next: u64,
 ) -> LoanReply {
     let told = reply(book, Loan(size));
     if told != NO_MEMORY {
         return told;
     }
     refused(rt, alloc);
-    same(rt, reply(book, IsOut(0)), Out(is_out));
-    same(rt, reply(book, IsOut(1)), Out(false));
+    same(rt, reply(book, IsOut(0)), Out(next > 0));
+    same(rt, reply(book, IsOut(next)), Out(false));
     reply(book, Loan(size))
 }
 
@@ -65,9 +66,9 @@ fn loan(
 fn loan_over_one_chunk(rt: HostRuntime) {
     let (alloc, whole) = (rt.alloc(), chunk(&rt, 4096, 64));
     let mut book = one_book(alloc);
-    let first = loan(&rt, alloc, &mut book, 64, false);
+    let first = loan(&rt, alloc, &mut book, 64, 0);
     same(&rt, first, Loaned(0, whole));
-    same(&rt, loan(&rt, alloc, &mut book, 1, true), FULL);
+    same(&rt, loan(&rt, alloc, &mut book, 1, 1), FULL);
     same(&rt, reply(&mut book, GiveBack(0)), Returned);
     same(&rt, reply(&mut book, Loan(1)), Loaned(1, whole));
 }
@@ -95,4 +96,43 @@ fn a_list_of_loans_keeps_the_book(rt: HostRuntime) {
     refused(&rt, alloc);
     same(&rt, reply(&mut book, IsOut(0)), Out(false));
     same(&rt, is_made(alloc, &mut book, whole), Some(true));
+}
+
+/// Checks that a loan gave a chunk of 64 bytes under this number.
+fn is_loaned(rt: &impl Abort, told: LoanReply, wanted: u64) {
+    match told {
+        Loaned(id, chunk) => same(rt, (id, chunk.len()), (wanted, 64)),
+        _ => panic!(rt; "nothing is loaned"),
+    }
+}
+
+/// Gives each of these samples back by one return.
+fn leave<A: Allocator + Drop>(rt: &impl Abort, book: &mut LoanBook<A>, ids: &[u64]) {
+    for id in ids {
+        same(rt, reply(book, GiveBack(*id)), Returned);
+        same(rt, reply(book, IsOut(*id)), Out(false));
+    }
+}
+
+/// Of sixteen samples some go back, and the others are published. Then six more are loaned.
+#[test]
+fn samples_go_back_in_any_order(rt: HostRuntime) {
+    let (alloc, bucket) = (rt.alloc(), layout(&rt, 64, 8));
+    let Some(pool) = pool_over(alloc, bucket, 4096, 1024) else {
+        return refused(&rt, alloc);
+    };
+    let mut book = LoanBook::new(alloc, pool);
+    for id in 0..16 {
+        is_loaned(&rt, loan(&rt, alloc, &mut book, 64, id), id);
+    }
+    leave(&rt, &mut book, &[7, 0, 15, 8, 1, 14]);
+    for id in [2, 3, 4, 5, 6, 9, 10, 11, 12, 13] {
+        same(&rt, reply(&mut book, IsOut(id)), Out(true));
+        same(&rt, reply(&mut book, Publish(id, 2)), Published);
+    }
+    for id in 16..22 {
+        is_loaned(&rt, reply(&mut book, Loan(64)), id);
+    }
+    same(&rt, reply(&mut book, GiveBack(9)), Kept);
+    leave(&rt, &mut book, &[9]);
 }

@@ -159,3 +159,18 @@ fn a_block_is_zeroed_and_refused(rt: HostRuntime) {
     let block = shrunk(&rt, alloc, block, 1);
     same(&rt, digits(&block), (1, 5));
 }
+
+/// Blocks of many sizes are made, or grown from a byte, and their bytes are zero.
+#[test]
+fn heap_of_many_sizes(rt: HostRuntime) {
+    let alloc = rt.alloc();
+    for size in [5, 6, 7, 64, 1024, 4096, 65_536, 1_048_575, 1_048_576] {
+        for zeroed in [false, true] {
+            let block = made(&rt, alloc, size, zeroed);
+            same(&rt, digits(&block), (size, 0));
+            let block = grown(&rt, alloc, made(&rt, alloc, 1, zeroed), size, zeroed);
+            same(&rt, digits(&block), (size, 0));
+            same(&rt, digits(&shrunk(&rt, alloc, block, 4)), (4, 0));
+        }
+    }
+}

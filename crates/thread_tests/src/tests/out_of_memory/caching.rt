@@ -81,10 +81,8 @@ fn caches_two(
     let taken = caching.allocate(pool, small)?;
     caching.deallocate(pool, taken);
     if caching.cache_at_most(alloc, pool, 2).is_err() {
-        check(
-            rt,
-            some_was_refused(alloc) && caching.number_of_cached() == 1,
-        );
+        refused(rt, alloc);
+        check(rt, caching.number_of_cached() == 1);
         return Ok(());
     }
     check(rt, caching.number_of_cached() == 0);
@@ -96,14 +94,12 @@ fn caches_two(
 #[test]
 fn two_of_two_buckets_are_cached(rt: HostRuntime) {
     let (alloc, small) = (rt.alloc(), layout(&rt, 48, 4));
-    let Some((pool, other, party)) = two_of(alloc) else {
-        return ends_unmade(&rt, alloc);
-    };
+    let (pool, other, party) = two(&rt, alloc, 256);
     let (Ok(mut one), Ok(mut other)) = (
         CachingParty::new(alloc, party, 1),
         CachingParty::new(alloc, other, 0),
     ) else {
-        return check(&rt, some_was_refused(alloc));
+        return refused(&rt, alloc);
     };
     check(&rt, caches_two(&rt, alloc, &pool, &mut one, small).is_ok());
     one.meet(&pool, &mut other);

@@ -1,7 +1,7 @@
 //! Threads over one shared pool of at most eight buckets.
 ghost use Rattle.std.specs.Prelude.{◌≡◌, All};
 
-use crate::tests::buckets::{last_of, pool_at_last, request, take as ask};
+use crate::tests::buckets::{last_of, pool_at_last, take as ask};
 use crate::tests::checks::{check, layout, same};
 use crate::tests::slots::Slots;
 use bb_memory::layout::Layout;
@@ -28,7 +28,12 @@ fn take_one(rt: &impl Abort, pool: &SharedPoolAllocator, work: &Work, party: &mu
     requires { party.old.allocator ≡ pool.now }
     ensures { party.new.allocator ≡ pool.now }
 {
-    if let Ok(bucket) = request(pool, party, work.layout, work.next_fit) {
+    let given = if work.next_fit {
+        pool.allocate_next_fit(party, work.layout)
+    } else {
+        pool.allocate(party, work.layout)
+    };
+    if let Ok(bucket) = given {
         let at = bucket.number() as usize;
         check(rt, work.buckets.mark(at));
         if work.returns {

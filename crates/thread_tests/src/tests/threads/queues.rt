@@ -43,28 +43,7 @@ impl<P: MessagePool> Protocol<DetachedBucket> for OfPool<P> {
     ghost allows = { λ before message. P.pool ≡ Some message.allocator };
 }
 
-/// Puts a message into the queue. The bucket of one that finds no room is given back.
-fn put<P: MessagePool>(
-    pool: &SharedPoolAllocator,
-    party: &mut PoolParty,
-    queue: &mut Producer<DetachedBucket, Global, OfPool<P>>,
-    message: DetachedBucket,
-) -> bool
-    requires pool { P.pool ≡ Some pool.now }
-    requires party { party.old.allocator ≡ pool.now }
-    requires message { message.allocator ≡ pool.now }
-    ensures { party.new.allocator ≡ pool.now }
-{
-    match queue.push(message) {
-        Ok(()) => true,
-        Err(PushError::Full(message)) => {
-            receive(pool, party, message);
-            false
-        }
-    }
-}
-
-/// Sends a message, if there is a bucket for it and room in the queue.
+/// Sends a message, if there is a bucket for it and room in the queue. The bucket of one that finds no room is given back.
 fn send_one<P: MessagePool>(
     pool: &SharedPoolAllocator,
     party: &mut PoolParty,
@@ -76,9 +55,15 @@ fn send_one<P: MessagePool>(
     requires party { party.old.allocator ≡ pool.now }
     ensures { party.new.allocator ≡ pool.now }
 {
-    match send(pool, party, asked) {
-        Ok(message) => put::<P>(pool, party, queue, message),
-        Err(_) => false,
+    let Ok(message) = send(pool, party, asked) else {
+        return false;
+    };
+    match queue.push(message) {
+        Ok(()) => true,
+        Err(PushError::Full(message)) => {
+            receive(pool, party, message);
+            false
+        }
     }
 }
 

@@ -1,63 +1,97 @@
 //! Held buckets: their count, the greatest one so far, buckets by number, and the reads of a request.
 use crate::tests::checks::{check, layout, none_asked, refused, same};
-use crate::tests::kinds::pool_over;
+use crate::tests::kinds::{fixed_over, pool_over};
 use crate::tests::marks::refuse_memory;
-use bb_memory_core::pool_allocator::{AllocationError, BaseAllocator, PoolAllocator};
+use bb_memory_core::pool_allocator::{
+    AllocationError, BaseAllocator, FixedSizePoolAllocator, PoolAllocator,
+};
 use std::alloc::Global;
 use std::process::Abort;
 
 type Pool = PoolAllocator<Global>;
 
-/// Makes a pool of so many buckets from 4096 on, a second time where memory was refused. It may be refused from here on.
-fn pool_of(rt: &impl Abort, alloc: Global, size: usize, buckets: usize) -> Pool {
-    let (bucket, total) = (layout(rt, size, size), size.saturating_mul(buckets));
-    if let Some(pool) = pool_over(alloc, bucket, 4096, total) {
-        refuse_memory(alloc);
-        return pool;
-    }
-    refused(rt, alloc);
-    pool_over(alloc, bucket, 4096, total).expect(rt, "there is memory for a pool")
+/// How many buckets are held, how many were at most, and whether there is room for one more.
+type Counts = (u32, u32, bool);
+
+/// The place of a number, the number of a place, and whether the bucket there is held.
+type At = (Option<usize>, Option<u32>, bool);
+
+/// A pool of either kind.
+trait Buckets: BaseAllocator + Drop {
+    fn told(&self, number: u32, place: usize) -> (Counts, At);
+
+    /// Calls `deallocate_if_held`.
+    fn give(&mut self, place: usize) -> bool;
 }
 
-/// Checks how many buckets are held, how many were at most, and whether there is room for one more.
-fn counts(rt: &impl Abort, pool: &Pool, held: u32, greatest: u32, buckets: u32) {
-    same(rt, pool.held_buckets(), held);
-    same(rt, pool.greatest_held(), greatest);
-    same(rt, pool.has_room(), held < buckets);
+impl Buckets for Pool {
+    fn told(&self, number: u32, place: usize) -> (Counts, At) {
+        let counts = (self.held_buckets(), self.greatest_held(), self.has_room());
+        let (at, number) = (self.place_at(number), self.number_at(place));
+        (counts, (at, number, self.holds(place)))
+    }
+
+    fn give(&mut self, place: usize) -> bool {
+        self.deallocate_if_held(place)
+    }
+}
+
+impl<const N: usize> Buckets for FixedSizePoolAllocator<N> {
+    fn told(&self, number: u32, place: usize) -> (Counts, At) {
+        let counts = (self.held_buckets(), self.greatest_held(), self.has_room());
+        let (at, number) = (self.place_at(number), self.number_at(place));
+        (counts, (at, number, self.holds(place)))
+    }
+
+    fn give(&mut self, place: usize) -> bool {
+        self.deallocate_if_held(place)
+    }
+}
+
+fn counts(rt: &impl Abort, pool: &impl Buckets, held: u32, greatest: u32, buckets: u32) {
+    same(rt, pool.told(0, 0).0, (held, greatest, held < buckets));
 }
 
 /// Allocates a bucket, whose place and number agree. By the count of held ones it is another one each time.
-fn takes(rt: &impl Abort, pool: &mut Pool, size: usize) {
+fn takes(rt: &impl Abort, pool: &mut impl Buckets, size: usize) {
     let Ok(chunk) = pool.allocate(layout(rt, size, size)) else {
         panic!(rt; "no bucket is free");
     };
     let place = chunk.place();
-    let number = pool.number_at(place).unwrap_or(u32::MAX);
-    same(rt, pool.place_at(number), Some(place));
-    check(rt, pool.holds(place));
+    let (_, number, held) = pool.told(0, place).1;
+    check(rt, held && number.is_some());
+    same(rt, pool.told(number.unwrap_or(0), place).1.0, Some(place));
+}
+
+/// Returns where the bucket of 16 bytes of a number begins.
+fn place_of(number: u32) -> usize {
+    (number as usize).saturating_mul(16).saturating_add(4096)
 }
 
 /// Gives a bucket back. A second return changes nothing.
-fn gives(rt: &impl Abort, pool: &mut Pool, number: u32) {
-    let place = pool.place_at(number).unwrap_or(0);
-    check(rt, pool.holds(place) && pool.deallocate_if_held(place));
-    check(rt, !pool.holds(place) && !pool.deallocate_if_held(place));
+fn gives(rt: &impl Abort, pool: &mut impl Buckets, number: u32) {
+    let place = place_of(number);
+    let (at, found) = (Some(place), Some(number));
+    same(rt, pool.told(number, place).1, (at, found, true));
+    check(rt, pool.give(place) && !pool.give(place));
+    same(rt, pool.told(number, place).1, (at, found, false));
 }
 
 /// Checks that nothing is held or given back where no bucket of 16 bytes begins.
-fn has_none_between(rt: &impl Abort, pool: &mut Pool, buckets: u32) {
-    let end = (buckets as usize).saturating_mul(16).saturating_add(4096);
-    for wild in [0, 1, 4080, 4095, 4097, 4104, usize::MAX, end] {
-        check(rt, pool.number_at(wild).is_none() && !pool.holds(wild));
-        check(rt, !pool.deallocate_if_held(wild));
+fn has_none_between(rt: &impl Abort, pool: &mut impl Buckets, buckets: u32) {
+    for wild in [0, 1, 4080, 4095, 4097, 4104, usize::MAX, place_of(buckets)] {
+        same(rt, pool.told(buckets, wild).1, (None, None, false));
+        same(rt, pool.told(u32::MAX, wild).1, (None, None, false));
+        check(rt, !pool.give(wild));
     }
-    same(rt, pool.place_at(buckets), None);
-    same(rt, pool.place_at(u32::MAX), None);
 }
 
 /// Takes all buckets of 16 bytes and gives them back. The greatest number of held ones stays.
-fn goes_round(rt: &impl Abort, alloc: Global, buckets: u32) {
-    let mut pool = pool_of(rt, alloc, 16, buckets as usize);
+fn goes_round(rt: &impl Abort, alloc: Global, made: Option<impl Buckets>, buckets: u32) {
+    let Some(mut pool) = made else {
+        return refused(rt, alloc);
+    };
+    refuse_memory(alloc);
     for held in 0..buckets {
         counts(rt, &pool, held, held, buckets);
         takes(rt, &mut pool, 16);
@@ -75,9 +109,69 @@ fn goes_round(rt: &impl Abort, alloc: Global, buckets: u32) {
 /// More buckets than a word has bits; one; and none.
 #[test]
 fn a_pool_counts_what_it_holds(rt: HostRuntime) {
-    for buckets in [70, 64, 1, 0] {
-        goes_round(&rt, rt.alloc(), buckets);
+    let (alloc, bucket) = (rt.alloc(), layout(&rt, 16, 16));
+    for buckets in [70u32, 64, 1, 0] {
+        let size = (buckets as usize).saturating_mul(16);
+        let pool = pool_over(alloc, bucket, 4096, size);
+        goes_round(&rt, alloc, pool, buckets);
     }
+}
+
+/// A fixed pool has no more buckets than its constant.
+#[test]
+fn fixed_counts_what_it_holds(rt: HostRuntime) {
+    for (size, buckets) in [(1120, 66u32), (1056, 66), (48, 3), (0, 0)] {
+        let pool = fixed_over::<66>(layout(&rt, 16, 16), 4096, size);
+        goes_round(&rt, rt.alloc(), pool, buckets);
+    }
+}
+
+/// Gives so many of the first five buckets back.
+fn give_some(rt: &impl Abort, pool: &mut impl Buckets, many: u32) {
+    let mut given = 0u32;
+    for number in 0..5 {
+        if given < many && pool.give(place_of(number)) {
+            given = given.saturating_add(1);
+        }
+    }
+    same(rt, given, many);
+}
+
+/// Takes and gives back buckets of a pool that has five. Neither a return nor a refusal changes the greatest number.
+fn keeps_the_greatest(rt: &impl Abort, alloc: Global, made: Option<impl Buckets>) {
+    let Some(mut pool) = made else {
+        return refused(rt, alloc);
+    };
+    refuse_memory(alloc);
+    for (taken, given, held, greatest) in [
+        (3u32, 0, 3, 3),
+        (0, 2, 1, 3),
+        (1, 0, 2, 3),
+        (0, 2, 0, 3),
+        (4, 0, 4, 4),
+        (1, 0, 5, 5),
+        (0, 5, 0, 5),
+    ] {
+        for _ in 0..taken {
+            takes(rt, &mut pool, 16);
+        }
+        give_some(rt, &mut pool, given);
+        check(rt, pool.allocate(layout(rt, 17, 8)).is_err());
+        counts(rt, &pool, held, greatest, 5);
+    }
+    none_asked(rt, alloc);
+}
+
+#[test]
+fn pool_keeps_the_greatest(rt: HostRuntime) {
+    let (alloc, bucket) = (rt.alloc(), layout(&rt, 16, 16));
+    keeps_the_greatest(&rt, alloc, pool_over(alloc, bucket, 4096, 80));
+}
+
+#[test]
+fn fixed_keeps_the_greatest(rt: HostRuntime) {
+    let pool = fixed_over::<66>(layout(&rt, 16, 16), 4096, 80);
+    keeps_the_greatest(&rt, rt.alloc(), pool);
 }
 
 /// Asks for a byte, which reads one index word. It is given at `place`, or refused where this is `None`.
@@ -92,7 +186,10 @@ fn by_one_read(rt: &impl Abort, pool: &mut Pool, place: Option<usize>) {
 
 /// Takes all buckets of one byte, by one read each. Then the bucket at `place` goes back, and is the one that is given next.
 fn fills(rt: &impl Abort, alloc: Global, buckets: u32, place: usize) {
-    let mut pool = pool_of(rt, alloc, 1, buckets as usize);
+    let Some(mut pool) = pool_over(alloc, layout(rt, 1, 1), 4096, buckets as usize) else {
+        return refused(rt, alloc);
+    };
+    refuse_memory(alloc);
     for held in 0..buckets {
         counts(rt, &pool, held, held, buckets);
         takes(rt, &mut pool, 1);

@@ -23,10 +23,6 @@ fn grow(position: usize, old: (usize, usize), new: (usize, usize)) -> Command {
     Command::Grow(position, layout(old), layout(new))
 }
 
-fn shrink(position: usize, old: (usize, usize), new: (usize, usize)) -> Command {
-    Command::Shrink(position, layout(old), layout(new))
-}
-
 /// Wants a chunk. Where there is none such, no reply is the one that is wanted.
 fn chunk(place: usize, len: usize) -> Wanted {
     match Chunk::new(place, len) {
@@ -62,9 +58,10 @@ fn a_bump_is_filled(rt: HostRuntime) {
 // row: one-resizes, refused-run
 #[test]
 fn one_chunk_is_resized(rt: HostRuntime) {
+    let shrink = Command::Shrink(0, layout((64, 4)), layout((32, 4)));
     let row = [
         (allocate(48, 4), chunk(4100, 1021)),
-        (shrink(0, (64, 4), (32, 4)), chunk(4100, 32)),
+        (shrink, chunk(4100, 32)),
         (grow(0, (48, 4), (64, 4)), chunk(4100, 1021)),
         (grow(0, (64, 4), (64, 4)), GROW_WOULD_SHRINK),
         (grow(0, (48, 4), (64, 8)), GROW_NOT_ALIGNED),

@@ -82,11 +82,14 @@ fn a_grown_chunk_is_cleared_behind_its_old_size(rt: HostRuntime) {
 fn one_chunk_is_shrunk_and_grown(rt: HostRuntime) {
     let mut one = fresh::<OneChunkAllocator>(&rt, rt.alloc(), [4096, 1024, 0, 0]);
     same(&rt, takes(&rt, &mut one, (48, 4), false), 4096);
+    let held = one.allocator();
+    check(&rt, held.holds(4096) && !held.holds(4097));
     resizes(&rt, &mut one, (4096, 64, 32), 32);
     resizes(&rt, &mut one, (4096, 48, 64), 1024);
     same(&rt, one.reserved(0), Some(1024));
     same(&rt, one.reply(Command::Release(0)), Reply::Released);
-    check(&rt, one.allocator().has_chunk_available());
+    let back = one.allocator();
+    check(&rt, back.has_chunk_available() && !back.holds(4096));
     check(&rt, one.has_zeros(4144, 5120));
     none_asked(&rt, rt.alloc());
 }

@@ -1,5 +1,5 @@
 //! A shared pool of at most four buckets of 128 bytes.
-ghost use Rattle.std.specs.Prelude.{◌≡◌, All, IfOk, IfSome};
+ghost use Rattle.std.specs.Prelude.{◌≡◌, All, IfSome};
 
 use crate::tests::checks::{chunk, fail, layout, none_asked, refused, same};
 use crate::tests::marks::refuse_memory;
@@ -26,44 +26,12 @@ fn four(alloc: Global) -> Option<(Four, Vec<PoolParty>)>
     }
 }
 
-/// Makes the pool, a second time where memory was refused. Memory may be refused from here on.
-fn four_at_last(rt: &impl Abort, alloc: Global) -> (Four, Vec<PoolParty>)
-    ensures { All (λ party. party.allocator ≡ result.0) result.1.items }
-{
-    if let Some(made) = four(alloc) {
-        refuse_memory(alloc);
-        return made;
-    }
-    refused(rt, alloc);
-    four(alloc).expect(rt, "there is memory for a pool")
-}
-
-fn last_of(rt: &impl Abort, pool: &Four, mut parties: Vec<PoolParty>) -> PoolParty
-    requires { All (λ party. party.allocator ≡ pool.now) parties.items }
-    ensures { result.allocator ≡ pool.entry.now }
-{
-    let _ = pool;
-    parties.pop().expect(rt, "there is a party")
-}
-
-fn take<'a>(
-    pool: &'a Four,
-    party: &mut PoolParty,
-    layout: Layout,
-) -> Result<Bucket<'a>, AllocationError>
-    requires { party.old.allocator ≡ pool.now }
-    ensures party { party.new.allocator ≡ pool.now }
-    ensures bucket { IfOk result (λ bucket. bucket.allocator ≡ pool.now) }
-{
-    pool.allocate(party, layout)
-}
-
 /// Takes a bucket, and returns its number.
 fn number(pool: &Four, party: &mut PoolParty, layout: Layout) -> Result<u32, AllocationError>
     requires { party.old.allocator ≡ pool.now }
     ensures { party.new.allocator ≡ pool.now }
 {
-    match take(pool, party, layout) {
+    match pool.allocate(party, layout) {
         Ok(bucket) => Ok(bucket.number()),
         Err(error) => Err(error),
     }
@@ -88,11 +56,12 @@ fn grow(
 }
 
 /// Takes all four buckets, and grows the chunk of the first one.
-fn fills(rt: &impl Abort, pool: &Four, mut party: PoolParty)
-    requires { party.allocator ≡ pool.now }
+fn fills(rt: &impl Abort, pool: &Four, mut parties: Vec<PoolParty>)
+    requires { All (λ party. party.allocator ≡ pool.now) parties.items }
 {
+    let mut party = parties.pop().expect(rt, "there is a party");
     let (small, medium, large) = (layout(rt, 48, 4), layout(rt, 64, 4), layout(rt, 129, 4));
-    let Ok(mut first) = take(pool, &mut party, small) else {
+    let Ok(mut first) = pool.allocate(&mut party, small) else {
         return fail(rt, "no bucket is free");
     };
     same(rt, (first.number(), first.chunk().place()), (0, 4096));
@@ -111,8 +80,11 @@ fn fills(rt: &impl Abort, pool: &Four, mut party: PoolParty)
 // row: shared-fixed-four-buckets, refused-shared-pools
 #[test]
 fn four_of_eight_buckets(rt: HostRuntime) {
-    let (pool, parties) = four_at_last(&rt, rt.alloc());
+    let Some((pool, parties)) = four(rt.alloc()) else {
+        return refused(&rt, rt.alloc());
+    };
+    refuse_memory(rt.alloc());
     same(&rt, (pool.number_of_buckets(), pool.size()), (4, 1024));
-    fills(&rt, &pool, last_of(&rt, &pool, parties));
+    fills(&rt, &pool, parties);
     none_asked(&rt, rt.alloc());
 }

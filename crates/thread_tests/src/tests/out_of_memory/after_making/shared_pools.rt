@@ -1,7 +1,12 @@
 //! Parties of one thread that share a pool of buckets of 128 bytes. A request answers a bucket's number, place and length.
+ghost use Rattle.std.specs.Prelude.{◌≡◌};
+
 use crate::tests::buckets::{counts, fit, found, give, hold, last_of, pool_at_last, take, two};
-use crate::tests::checks::{layout, none_asked, same};
+use crate::tests::checks::{chunk, layout, none_asked, same};
 use bb_memory::allocator::AllocationError::{AlignmentFailure, OutOfMemory, SizeTooLarge};
+use bb_memory::layout::{Chunk, Layout};
+use bb_memory::shared_pool::{AllocationShrinkError, Bucket, SharedPoolAllocator, by_number};
+use std::process::Abort;
 
 // row: shared-pool-dropped-bucket, refused-shared-pools
 #[test]
@@ -127,5 +132,43 @@ fn figures_count_what_is_held(rt: HostRuntime) {
     same(&rt, fit(&pool, &mut b, small), Err(OutOfMemory));
     give(&pool, &mut a, first);
     same(&rt, counts(&pool), (1, 2, 2));
+    none_asked(&rt, rt.alloc());
+}
+
+fn shrink(
+    rt: &impl Abort,
+    pool: &SharedPoolAllocator,
+    bucket: &mut Bucket<'_>,
+    old: Layout,
+    new: Layout,
+) -> Result<Chunk, AllocationShrinkError>
+    requires { bucket.old.allocator ≡ pool.now }
+    ensures { bucket.new.allocator ≡ pool.now }
+{
+    if bucket.chunk().place() % old.align() != 0 || old.size() > pool.bucket_size() {
+        panic!(rt; "no bucket is aligned so, or as large");
+    }
+    pool.shrink(bucket, old, new)
+}
+
+/// A chunk is shrunk. Then its bucket is made again by its number, and given back.
+#[test]
+fn a_bucket_by_its_number(rt: HostRuntime) {
+    let (small, (pool, mut party, _)) = (layout(&rt, 48, 4), two(&rt, rt.alloc(), 128));
+    let mut held = hold(&rt, &pool, &mut party, small);
+    let number = held.number();
+    let (shorter, wanted) = (layout(&rt, 16, 4), chunk(&rt, 4096, 16));
+    let told = shrink(&rt, &pool, &mut held, shorter, small);
+    same(&rt, told, Err(AllocationShrinkError::ShrinkWouldGrow));
+    same(
+        &rt,
+        shrink(&rt, &pool, &mut held, small, shorter),
+        Ok(wanted),
+    );
+    same(&rt, found(&held), (0, 4096, 16));
+    let again = by_number::bucket(&pool, &party, number, 0);
+    same(&rt, found(&again), (0, 4096, 0));
+    give(&pool, &mut party, again);
+    same(&rt, take(&pool, &mut party, small), Ok((0, 4096, 48)));
     none_asked(&rt, rt.alloc());
 }
