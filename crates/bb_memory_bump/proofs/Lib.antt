@@ -1,6 +1,3 @@
-pub mod Contained
-pub mod PartyNumbers
-pub mod Seatings
 mod SharedBumpAnswers
 mod SharedBumpClosings
 mod SharedBumpFloors

@@ -8,19 +8,19 @@ use Rattle.std.proofs.lemmas.List.Elements.{All-contains, All-contains_itself, A
 use Rattle.std.proofs.lemmas.List.Elements.{All-weaker, recursion_from_All}
 use Rattle.atomic_table.specs.Seated.{TableId}
 use Rattle.atomic_table.specs.Table.{Me}
-use Rattle.bb_memory_base.specs.BumpMachine.{BumpScene}
-use Rattle.bb_memory_base.specs.BumpLogs.{BumpLog, HasLog, Interleaving, seen_in}
-use Rattle.bb_memory_base.proofs.BumpLogs.{opening_agrees}
-use Rattle.bb_memory_base.proofs.BumpPositions.{interleaved, seen_below}
-use Rattle.bb_memory_base.proofs.BumpWholes.{opened_below, whole_bounds}
-use Rattle.bb_memory_bump.specs.Seats.{HaveLogs, alone, numbered, standing_for, view_log}
+use Rattle.bb_memory_bump_machine.specs.BumpMachine.{BumpScene}
+use Rattle.bb_memory_bump_machine.specs.BumpLogs.{BumpLog, HasLog, Interleaving, seen_in}
+use Rattle.bb_memory_bump_machine.proofs.BumpLogs.{opening_agrees}
+use Rattle.bb_memory_bump_machine.proofs.BumpPositions.{interleaved, seen_below}
+use Rattle.bb_memory_bump_machine.proofs.BumpWholes.{opened_below, whole_bounds}
+use Rattle.bb_memory_seats.specs.Seats.{HaveLogs, alone, numbered, standing_for, view_log}
 use Rattle.bb_memory_bump.specs.SharedBump.{AgreeAt, BumpParty, HaveMet, IsSharedScene, SharedBump, floor_of, greatest_seen}
 use Rattle.bb_memory_bump.specs.SharedBump.{meeting_at, seen_by}
 use Rattle.bb_memory_bump.specs.SharedBumpRule.{IsPartySeat, NumberedLog, SeatView, gathered, meeting_of, met_by, numbered_of}
 use Rattle.bb_memory_bump.specs.SharedBumpRule.{party_in, scene_of, sight}
 use Rattle.bb_memory_bump.specs.SharedBumpRule.{TellsMeeting}
-use Rattle.bb_memory_bump.proofs.PartyNumbers.{all_there, has_number, logs_had, numbers_differ, owner}
-use Rattle.bb_memory_bump.proofs.Contained.{contains-none}
+use Rattle.bb_memory_seats.proofs.PartyNumbers.{all_there, has_number, logs_had, numbers_differ, owner}
+use Rattle.bb_memory_lists.proofs.Contained.{contains-none}
 use Rattle.bb_memory_bump.proofs.SharedBumpParties.{party_seat}
 
 -- GATHERING

@@ -8,25 +8,25 @@ use lib.ListN.{get_elem?}
 use Rattle.atomic_table.specs.Table.{State, Me, keeps, Allows, step, carried_after}
 use Rattle.atomic_table.proofs.Lists.{exchanged}
 use Rattle.std.proofs.lemmas.Option.{same_Some}
-use Rattle.bb_memory_base.specs.BumpMachine.{BumpScene, OngoingCall, chunk_at, ending, exchange_move, fits, position_behind}
-use Rattle.bb_memory_base.specs.BumpMachine.{read_move, seeing}
-use Rattle.bb_memory_base.specs.BumpLogs.{BumpLog, entry_of, HasLog, Interleaving, LogsAgree, call_in, greater_of, position_in}
-use Rattle.bb_memory_base.specs.BumpLogs.{seen_in, with_entry}
+use Rattle.bb_memory_bump_machine.specs.BumpMachine.{BumpScene, OngoingCall, chunk_at, ending, exchange_move, fits, position_behind}
+use Rattle.bb_memory_bump_machine.specs.BumpMachine.{read_move, seeing}
+use Rattle.bb_memory_bump_machine.specs.BumpLogs.{BumpLog, entry_of, HasLog, Interleaving, LogsAgree, call_in, greater_of, position_in}
+use Rattle.bb_memory_bump_machine.specs.BumpLogs.{seen_in, with_entry}
 use Rattle.bb_memory_traits.specs.declared.layout.Layout.{Layout}
-use Rattle.bb_memory_base.specs.declared.steps.bump.BumpStep.{BumpStep}
-use Rattle.bb_memory_base.specs.declared.steps.bump.BumpStep.TheVariants.{Read, Exchange, Load}
-use Rattle.bb_memory_base.specs.declared.steps.bump.BumpOutcome.{BumpOutcome}
-use Rattle.bb_memory_base.specs.declared.steps.bump.BumpOutcome.TheVariants.{Sees, RefusedAtRead, Wins, Loses, RefusedAtLoss}
-use Rattle.bb_memory_base.specs.declared.steps.bump.BumpOutcome.TheVariants.{Loaded}
-use Rattle.bb_memory_traits.proofs.SliceGets.{length-set_at, slice_get-set_same}
-use Rattle.bb_memory_base.proofs.BumpLogs.{read_agrees, exchange_agrees, load_agrees}
-use Rattle.bb_memory_base.proofs.BumpPositions.{alone_exact, interleaved, position_within, seen_below}
-use Rattle.bb_memory_base.proofs.BumpRuns.{chunk_at-above}
-use Rattle.bb_memory_base.proofs.BumpWholes.{greater_of-above}
-use Rattle.bb_memory_bump.specs.Seats.{alone}
+use Rattle.bb_memory_bump_machine.specs.declared.steps.bump.BumpStep.{BumpStep}
+use Rattle.bb_memory_bump_machine.specs.declared.steps.bump.BumpStep.TheVariants.{Read, Exchange, Load}
+use Rattle.bb_memory_bump_machine.specs.declared.steps.bump.BumpOutcome.{BumpOutcome}
+use Rattle.bb_memory_bump_machine.specs.declared.steps.bump.BumpOutcome.TheVariants.{Sees, RefusedAtRead, Wins, Loses, RefusedAtLoss}
+use Rattle.bb_memory_bump_machine.specs.declared.steps.bump.BumpOutcome.TheVariants.{Loaded}
+use Rattle.bb_memory_lists.proofs.SliceGets.{length-set_at, slice_get-set_same}
+use Rattle.bb_memory_bump_machine.proofs.BumpLogs.{read_agrees, exchange_agrees, load_agrees}
+use Rattle.bb_memory_bump_machine.proofs.BumpPositions.{alone_exact, interleaved, position_within, seen_below}
+use Rattle.bb_memory_bump_machine.proofs.BumpRuns.{chunk_at-above}
+use Rattle.bb_memory_bump_machine.proofs.BumpWholes.{greater_of-above}
+use Rattle.bb_memory_seats.specs.Seats.{alone}
 use Rattle.bb_memory_bump.specs.SharedBumpRule.{SeatView, WordsAndLogsAgree, sight}
 use Rattle.bb_memory_bump.specs.SharedBumpRule.{Tells, exchanges, loads, reads}
-use Rattle.bb_memory_bump.proofs.Seatings.{seated_step}
+use Rattle.bb_memory_seats.proofs.Seatings.{seated_step}
 use Rattle.bb_memory_bump.proofs.SharedBumpFloors.{met_set}
 use Rattle.bb_memory_bump.proofs.SharedLogs.{seen_next}
 

@@ -3,15 +3,15 @@ use Rattle.std.proofs.Common.{◌≡◌, ℕ, List, [], ◌∷◌, set, get_or, 
 use mathlib.Core.Option.{none, some}
 use lib.ListN.{get_elem?}
 use Rattle.atomic_table.specs.Table.{State, Me, keeps, Allows, step}
-use Rattle.bb_memory_base.specs.BumpMachine.{BumpScene}
-use Rattle.bb_memory_base.specs.BumpLogs.{BumpLog}
-use Rattle.bb_memory_base.proofs.BumpMeetings.{chunks_apart}
-use Rattle.bb_memory_base.proofs.BumpPositions.{both_interleaved, position_within, seen_below}
-use Rattle.bb_memory_base.proofs.BumpWholes.{ends_by}
-use Rattle.bb_memory_bump.specs.Seats.{numbered, standing_for}
+use Rattle.bb_memory_bump_machine.specs.BumpMachine.{BumpScene}
+use Rattle.bb_memory_bump_machine.specs.BumpLogs.{BumpLog}
+use Rattle.bb_memory_bump_machine.proofs.BumpMeetings.{chunks_apart}
+use Rattle.bb_memory_bump_machine.proofs.BumpPositions.{both_interleaved, position_within, seen_below}
+use Rattle.bb_memory_bump_machine.proofs.BumpWholes.{ends_by}
+use Rattle.bb_memory_seats.specs.Seats.{numbered, standing_for}
 use Rattle.bb_memory_bump.specs.SharedBumpRule.{NumberedLog, SeatView, WordsAndLogsAgree, meeting_of, met_by, sight}
 use Rattle.bb_memory_bump.specs.SharedBumpRule.{TellsMeeting, TellsTwo, meets}
-use Rattle.bb_memory_bump.proofs.Seatings.{once_in, seated_again, two_parties}
+use Rattle.bb_memory_seats.proofs.Seatings.{once_in, seated_again, two_parties}
 use Rattle.bb_memory_bump.proofs.SharedBumpFloors.{met_set}
 
 -- what the rule tells a seat

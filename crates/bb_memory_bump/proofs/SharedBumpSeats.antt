@@ -7,12 +7,12 @@ use Rattle.std.specs.List.{AllByRecursion}
 use Rattle.std.proofs.lemmas.List.{length-replicate}
 use Rattle.std.proofs.lemmas.List.Elements.{All-from_recursion}
 use Rattle.atomic_table.specs.Table.{Splits, Joins, opening}
-use Rattle.bb_memory_base.specs.BumpMachine.{BumpScene}
-use Rattle.bb_memory_base.specs.BumpLogs.{BumpEntry, BumpLog}
-use Rattle.bb_memory_base.proofs.BumpLogs.{opening_agrees}
-use Rattle.bb_memory_bump.specs.Seats.{first_of, others_of}
+use Rattle.bb_memory_bump_machine.specs.BumpMachine.{BumpScene}
+use Rattle.bb_memory_bump_machine.specs.BumpLogs.{BumpEntry, BumpLog}
+use Rattle.bb_memory_bump_machine.proofs.BumpLogs.{opening_agrees}
+use Rattle.bb_memory_seats.specs.Seats.{first_of, others_of}
 use Rattle.bb_memory_bump.specs.SharedBumpRule.{SeatView, WordsAndLogsAgree, all_parties, gathered, met_by, nobody, sight}
-use Rattle.bb_memory_bump.proofs.Seatings.{seated_joined, seated_opening, seated_others}
+use Rattle.bb_memory_seats.proofs.Seatings.{seated_joined, seated_opening, seated_others}
 use Rattle.bb_memory_bump.proofs.SharedBumpFloors.{HaveMetBelow, met_push, met_set}
 
 pub gives_first : (scene : BumpScene) (seat : ℕ) (view : SeatView) →

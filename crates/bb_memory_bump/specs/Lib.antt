@@ -1,4 +1,3 @@
 pub mod Bump
-pub mod Seats
 pub mod SharedBump
 pub mod SharedBumpRule

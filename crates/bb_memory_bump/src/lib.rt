@@ -1,7 +1,6 @@
 //! Bump allocators over a region that is handed in as numbers, a start and a size in bytes: for one owner, and for threads.
 //!
-//! The modules, in the order in which to read them; `allocator`, `layout`, `region` and `steps` are passed on from
-//! `bb_memory_base`:
+//! The modules, in the order in which to read them; `allocator`, `layout` and `region` are passed on from `bb_memory_traits`:
 //!
 //! - `bump_allocator`: one chunk after another, all given back at once.
 //! - `shared_bump`: the bump that threads share.
@@ -9,13 +8,13 @@
 //!   - `party`: one user's right to step. `request`: the loop of a request. `meeting`: any number of parties at one seat.
 //!   - `all_parties`: what a user has who met all of them.
 //!
-//! Crate `bb_memory` passes all of it on, and adds the pools that threads share.
+//! Crate `bb_memory` passes all of it on.
 //!
 //! The examples in the comments of this crate stand in `crates/examples/src/comments.rt`, where they are proved; its first
 //! lines have the imports, and the attribute that computes least places.
 #![tactic(auto)]
 
-pub use bb_memory_base::{allocator, layout, region, steps};
+pub use bb_memory_traits::{allocator, layout, region};
 
 pub mod bump_allocator;
 pub mod shared_bump;

@@ -3,8 +3,8 @@ ghost use Rattle.std.specs.Prelude.{◌≡◌, ◌≢◌, ◌+◌, ◌-◌, ◌�
 ghost use Rattle.std.specs.Prelude.{ℕ, OnErr, Some, length, slice_get, Contains};
 ghost use Rattle.bb_memory_traits.specs.Chunk.{IsRegion, region_at, AreApart, Chunk, IsInside, IsSound};
 ghost use Rattle.bb_memory_traits.specs.BumpObject.{StandsFor};
-ghost use Rattle.bb_memory_base.specs.BumpLogs.{BumpLog, chunks_won, history_of, losses_in, Interleaving};
-ghost use Rattle.bb_memory_base.specs.BumpLogs.{IsCallRun, OpensWith, calls_of, live_after};
+ghost use Rattle.bb_memory_bump_machine.specs.BumpLogs.{BumpLog, chunks_won, history_of, losses_in, Interleaving};
+ghost use Rattle.bb_memory_bump_machine.specs.BumpLogs.{IsCallRun, OpensWith, calls_of, live_after};
 ghost use Rattle.bb_memory_bump.specs.SharedBump.{AgreeAt, AreBothOf, AreFresh, AreInterleaved, BumpParty, HasChunksWithin};
 ghost use Rattle.bb_memory_bump.specs.SharedBump.{HaveChunksApart};
 ghost use Rattle.bb_memory_bump.specs.SharedBump.{HasLoaded, HaveMet, IsAnsweredAt, IsFoundBy, IsInterleaved, IsParty};

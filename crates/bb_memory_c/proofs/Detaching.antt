@@ -1,7 +1,7 @@
 -- What is answered where a party detaches a bucket.
 use Rattle.std.proofs.Common.{◌≡◌, ◌≤◌, ℕ, None, arith, refl}
-use Rattle.bb_memory.specs.SharedPool.{TakenBucket}
-use Rattle.bb_memory.specs.SharedPoolCaching.{CachingParty}
+use Rattle.bb_memory_shared_pools.specs.SharedPool.{TakenBucket}
+use Rattle.bb_memory_shared_pools.specs.SharedPoolCaching.{CachingParty}
 use Rattle.bb_memory_c.specs.Answers.{ok}
 use Rattle.bb_memory_c.specs.SharedPools.{Detached, HasDetached, HasOthers, HoldsAt, TellsDetach, geometry_of, holding}
 

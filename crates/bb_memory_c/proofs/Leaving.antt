@@ -3,11 +3,11 @@ use Rattle.std.proofs.Common.{◌≡◌, ℕ, zero, suc, ◌+◌, ◌<◌, ◌�
 use Rattle.std.proofs.Common.{inl, inr, arith, append-nil, append_assoc}
 use Rattle.std.specs.Prelude.{◌==◌, if◌then◌else◌}
 use Rattle.std.proofs.lemmas.Bool.{cases_Bool, cases_eq, cases_lt, false≢true}
-use Rattle.bb_memory_base.specs.PoolLogs.{IsHeldAfter, PoolLog}
-use Rattle.bb_memory_base.proofs.PoolHolders.{held_through}
-use Rattle.bb_memory_base.proofs.PoolSteps.{test_same, test_apart}
-use Rattle.bb_memory.specs.SharedPool.{PoolParty, return_entry, with_entries}
-use Rattle.bb_memory.proofs.SharedPoolTries.{held-append}
+use Rattle.bb_memory_pool_machine.specs.PoolLogs.{IsHeldAfter, PoolLog}
+use Rattle.bb_memory_pool_machine.proofs.PoolHolders.{held_through}
+use Rattle.bb_memory_pool_machine.proofs.PoolSteps.{test_same, test_apart}
+use Rattle.bb_memory_shared_pools.specs.SharedPool.{PoolParty, return_entry, with_entries}
+use Rattle.bb_memory_shared_pools.proofs.SharedPoolTries.{held-append}
 use Rattle.bb_memory_c.specs.SharedPools.{AreFlagged, GivesAllBack, holds_bucket, return_of, returns_of}
 
 -- ONE RETURN

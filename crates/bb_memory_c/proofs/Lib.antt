@@ -1,10 +1,10 @@
-pub mod Walks
-pub mod Owners
-pub mod Crossing
-pub mod Leaving
-pub mod Layouts
-pub mod Made
-pub mod Makers
-pub mod Flags
-pub mod Unjoined
-pub mod Detaching
+mod Crossing
+mod Detaching
+mod Flags
+mod Layouts
+mod Leaving
+mod Made
+mod Makers
+mod Owners
+mod Unjoined
+mod Walks

@@ -5,7 +5,7 @@ use Rattle.std.proofs.lemmas.Bool.{false≢true}
 use Rattle.std.proofs.lemmas.Option.{same_Some, slice_get-get_or}
 use Rattle.std.proofs.lemmas.List.{length-append}
 use Rattle.std.proofs.lemmas.List.Elements.{All-push, All-same}
-use Rattle.bb_memory.specs.SharedPool.{AreFresh, PoolParty, SharedPool, fresh_party}
+use Rattle.bb_memory_shared_pools.specs.SharedPool.{AreFresh, PoolParty, SharedPool, fresh_party}
 use Rattle.bb_memory_c.specs.SharedPools.{AreUnjoined, IsIdleAt}
 
 fresh-idle : (pool : SharedPool) (number : ℕ) → IsIdleAt pool (fresh_party pool number)

@@ -9,7 +9,7 @@ use Rattle.bb_memory_traits.specs.declared.allocator.AllocationError.{Allocation
 use Rattle.bb_memory.specs.Bump.{Bump, Takes as TakesOfBump}
 use Rattle.bb_memory.specs.OneChunk.{OneChunk, Takes as TakesChunk}
 use Rattle.bb_memory.specs.Pool.{CountedPool, TakesBucket, counted, fresh_pool, held_count}
-use Rattle.bb_memory_core.specs.IndexSets.{index_words}
+use Rattle.bb_memory_index_set.specs.IndexSets.{index_words}
 use Rattle.bb_memory_c.specs.Answers.{TellsResized, figure_of, grow_code, no_figure, not_held, shrink_code}
 use Rattle.bb_memory_c.specs.declared.answer.Answer.{Answer}
 use Rattle.bb_memory_c.specs.declared.answer.BumpInfo.{BumpInfo}

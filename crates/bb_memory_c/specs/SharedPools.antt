@@ -4,14 +4,14 @@ use Rattle.std.specs.Prelude.{Option, Some, None, IfOk, IfSome, MatchOption, cou
 use Rattle.std.specs.Result.{result_map_both}
 use Rattle.bb_memory_traits.specs.Chunk.{Region, Chunk, IsInside, first_place}
 use Rattle.bb_memory_traits.specs.PoolObject.{IsCut, PoolGeometry, bucket_place}
-use Rattle.bb_memory_base.specs.PoolLogs.{PoolLog, IsHeldAfter, held_after}
+use Rattle.bb_memory_pool_machine.specs.PoolLogs.{PoolLog, IsHeldAfter, held_after}
 use Rattle.bb_memory_traits.specs.declared.layout.Layout.{Layout}
 use Rattle.bb_memory_traits.specs.declared.allocator.AllocationError.{AllocationError}
 use Rattle.bb_memory.specs.IndexSets.{Has}
-use Rattle.bb_memory.specs.SharedPool.{AreFresh, PoolParty, Serves, SharedPool, TakenBucket, attach_entry, chunk_of}
-use Rattle.bb_memory.specs.SharedPool.{detach_entry, return_entry, taken_bucket, with_entries}
-use Rattle.bb_memory.specs.SharedPoolCaching.{CachingParty, IsOut, ReturnsCaching, TakesCaching}
-use Rattle.bb_memory.specs.SharedPoolCaching as caching
+use Rattle.bb_memory_shared_pools.specs.SharedPool.{AreFresh, PoolParty, Serves, SharedPool, TakenBucket, attach_entry, chunk_of}
+use Rattle.bb_memory_shared_pools.specs.SharedPool.{detach_entry, return_entry, taken_bucket, with_entries}
+use Rattle.bb_memory_shared_pools.specs.SharedPoolCaching.{CachingParty, IsOut, ReturnsCaching, TakesCaching}
+use Rattle.bb_memory_shared_pools.specs.SharedPoolCaching as caching
 use Rattle.bb_memory_c.specs.Answers.{answer_of, refused, detached_empty, detached_full, ok, not_held, one_party, other_pool}
 use Rattle.bb_memory_c.specs.Answers.{figure_of, invalid_argument, malloc_refused, no_figure, no_reader, readers_left}
 use Rattle.bb_memory_c.specs.Answers.{size_too_large}

@@ -3,8 +3,8 @@ ghost use Rattle.std.specs.Prelude.{◌≡◌};
 ghost use Rattle.bb_memory_c.specs.Answers.{answer_by, answer_of, figure_of, grow_code, no_figure, refused, shrink_code};
 
 use crate::code;
-use bb_memory::allocator::{AllocationError, AllocationGrowError, AllocationShrinkError};
-use bb_memory::layout::Chunk;
+use bb_memory_traits::allocator::{AllocationError, AllocationGrowError, AllocationShrinkError};
+use bb_memory_traits::layout::Chunk;
 
 /// A code, and with code 0 the place of the chunk that was given. With any other code it is 0. Both fields fit into registers.
 #[repr(C)]

@@ -11,8 +11,8 @@ use crate::call::{free, info, is_made, keep, request};
 use crate::code;
 use crate::handle::{BumpHandle, Handle};
 use crate::kind::Gives;
-use bb_memory::bump_allocator::{AllocationError, BaseAllocator, BumpAllocator};
-use bb_memory::layout::{Chunk, Layout};
+use bb_memory_bump::bump_allocator::{AllocationError, BaseAllocator, BumpAllocator};
+use bb_memory_traits::layout::{Chunk, Layout};
 use std::alloc::Global;
 
 /// Makes a bump over the region of `size` bytes at `start`, behind a handle that has to be empty. The start has to be greater

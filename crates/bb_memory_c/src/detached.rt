@@ -10,8 +10,8 @@ use crate::call::{free, is_made, keep};
 use crate::code;
 use crate::handle::{DetachedHandle, Handle, PoolPartyHandle};
 use crate::shared_pool::JoinedPool;
-use bb_memory::layout::Chunk;
-use bb_memory::shared_pool::{DetachedBucket, by_number};
+use bb_memory_traits::layout::Chunk;
+use bb_memory_shared_pools::shared_pool::{DetachedBucket, by_number};
 use std::alloc::Global;
 use std::marker::Model;
 
@@ -33,7 +33,7 @@ impl Model for Detached {
 
 impl JoinedPool {
     /// Detaches the bucket at this place, with a chunk of `len` bytes. It is then in `detached`, which has to have none.
-    #[tactic(auto, unfolding(bb_memory::specs::SharedPoolCaching::IsOut))]
+    #[tactic(auto, unfolding(bb_memory_shared_pools::specs::SharedPoolCaching::IsOut))]
     pub(crate) fn detach(&mut self, place: usize, len: usize, detached: &mut Detached) -> u32
         ensures { TellsDetach self.old detached.old place len result self.new detached.new }
     {

@@ -7,8 +7,8 @@ ghost use Rattle.bb_memory_traits.specs.declared.allocator.AllocationError.{Allo
 ghost use Rattle.bb_memory.specs.Pool.{TellsNumber, TellsPlace};
 ghost use Rattle.bb_memory_c.specs.Calls.{TakesParty};
 
-use bb_memory::allocator::AllocationError;
-use bb_memory::layout::{Chunk, Layout};
+use bb_memory_traits::allocator::AllocationError;
+use bb_memory_traits::layout::{Chunk, Layout};
 use std::alloc::Global;
 
 /// Gives chunks, and fills a C struct of type `I` with its figures.

@@ -2,8 +2,8 @@
 ghost use Rattle.std.specs.Prelude.{◌≡◌, IfErr, IfNone, IfOk, IfSome, vec_capacity};
 ghost use Rattle.std.specs.Arc.{arc_value};
 ghost use Rattle.bb_memory_traits.specs.Chunk.{region_at};
-ghost use Rattle.bb_memory_base.specs.PoolLogs.{IsHeldAfter};
-ghost use Rattle.bb_memory.specs.SharedPoolCaching.{CachingParty, IsOut, ReturnsCaching};
+ghost use Rattle.bb_memory_pool_machine.specs.PoolLogs.{IsHeldAfter};
+ghost use Rattle.bb_memory_shared_pools.specs.SharedPoolCaching.{CachingParty, IsOut, ReturnsCaching};
 ghost use Rattle.bb_memory_c.specs.Answers.{ok, uninitialized};
 ghost use Rattle.bb_memory_c.specs.Calls.{Answers, AnswersFree, AnswersInfo, AnswersJoin, AnswersLeave, AnswersNumber};
 ghost use Rattle.bb_memory_c.specs.Calls.{AnswersPlace, AnswersPoolMake, AnswersRequest, AnswersReturn, AnswersWhether, HasRoom};
@@ -22,9 +22,9 @@ use crate::code;
 use crate::handle::{Handle, PoolPartyHandle, SharedPoolHandle};
 use crate::kind::{Bucketed, Gives, Keeps, Shares};
 use crate::layout::cut_into;
-use bb_memory::layout::{Chunk, Layout};
-use bb_memory::pool_allocator::AllocationError;
-use bb_memory::shared_pool::{CachingParty, PoolParty, SharedPoolAllocator, by_number};
+use bb_memory_traits::layout::{Chunk, Layout};
+use bb_memory_owned::pool_allocator::AllocationError;
+use bb_memory_shared_pools::shared_pool::{CachingParty, PoolParty, SharedPoolAllocator, by_number};
 use std::alloc::Global;
 use std::marker::Model;
 use std::sync::Arc;
@@ -121,7 +121,7 @@ impl JoinedPool {
     }
 
     /// Gives back the bucket of this number, which is out.
-    #[tactic(auto, unfolding(bb_memory::specs::SharedPoolCaching::IsOut))]
+    #[tactic(auto, unfolding(bb_memory_shared_pools::specs::SharedPoolCaching::IsOut))]
     fn give_back_bucket(&mut self, number: u32)
         requires { IsOut self.old number }
         ensures { ReturnsCaching self.old number self.new }

@@ -1,7 +1,6 @@
 pub mod BumpObject
 pub mod Chunk
 pub mod HeldBytes
-pub mod Hints
 pub mod LeastPlace
 pub mod Lending
 pub mod Object

@@ -6,7 +6,6 @@
 //! - `region`: the bytes of a region, lent chunk by chunk.
 //! - `allocator`: the traits that an allocator meets, why one refuses, and commands with their replies. In `allocator/run` runs
 //!   of commands over any allocator.
-//! - `lists`: laws of lists, for users.
 //!
 //! Crate `bb_memory_base` passes all of it on, and adds the machines of atomic steps.
 //!
@@ -16,5 +15,4 @@
 
 pub mod allocator;
 pub mod layout;
-pub mod lists;
 pub mod region;

@@ -10,7 +10,7 @@ use Rattle.std.proofs.lemmas.List.Elements.{All-push, All-append, All-set, All-t
 use Rattle.std.proofs.lemmas.List.Quantifiers.{all_pairs_push, all_pairs_remove}
 use Rattle.std.proofs.lemmas.Option.{slice_get_within, get_or_from_slice_get, slice_get-map}
 use Rattle.bb_memory_traits.specs.Chunk.{Chunk}
-use Rattle.bb_memory_traits.proofs.SliceGets.{length-set_at}
+use Rattle.bb_memory_lists.proofs.SliceGets.{length-set_at}
 use Rattle.loan_book.specs.Book.{Sample, returns_to_come, Book, IsBook, chunks_of, IsLoanBook, book_of, loaned_before}
 use Rattle.loan_book.specs.Calls.{with_sample, with_returns, without}
 

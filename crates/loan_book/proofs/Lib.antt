@@ -1,7 +1,7 @@
-pub mod BookLeads
-pub mod BookRuns
-pub mod BookSteps
-pub mod Books
-pub mod LoanedIds
-pub mod OneAnswers
-pub mod Searches
+mod BookLeads
+mod BookRuns
+mod BookSteps
+mod Books
+mod LoanedIds
+mod OneAnswers
+mod Searches

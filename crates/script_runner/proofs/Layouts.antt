@@ -1,4 +1,4 @@
--- Layouts made of two numbers, and what lines with layouts say.
+-- What lines with layouts say.
 use Rattle.std.proofs.Common.{◌≡◌, ℕ, List, codes, Option, None, Some, Result, Ok, Err, IsOk, IfOk, ◌↔◌, ap, ◌∙◌}
 use Rattle.std.proofs.lemmas.Bool.{false≢true}
 use Rattle.std.proofs.lemmas.Option.{none-some, same_Some}
@@ -7,22 +7,13 @@ use Rattle.std.specs.Option.{option_map}
 use Rattle.std.specs.Result.{result_ok}
 use Rattle.bb_memory_traits.specs.declared.allocator.Command.{Command}
 use Rattle.bb_memory_traits.specs.declared.allocator.Command.TheVariants.{Allocate, Release, Grow, Shrink}
-use Rattle.bb_memory_base.specs.declared.steps.bump.BumpStep.{BumpStep}
-use Rattle.bb_memory_base.specs.declared.steps.bump.BumpStep.TheVariants.{Read, Exchange, Load, Clear}
+use Rattle.bb_memory_bump_machine.specs.declared.steps.bump.BumpStep.{BumpStep}
+use Rattle.bb_memory_bump_machine.specs.declared.steps.bump.BumpStep.TheVariants.{Read, Exchange, Load, Clear}
 use Rattle.bb_memory_traits.specs.declared.layout.Layout.{Layout}
 use Rattle.bb_memory_traits.proofs.Layouts.{same_layout}
-use Rattle.script_runner.specs.declared.words.Numbers.TheVariants.{Two, Three, Five}
+use Rattle.script_words.specs.declared.words.Numbers.TheVariants.{Two, Three, Five}
 use Rattle.script_runner.specs.Allocators.{command_words}
 use Rattle.script_runner.specs.Steps.{bump_step_words}
-
--- what is made of the numbers of a layout is that layout
-pub result_ok-layout : {E : Type 0} (r : Result Layout E) (size align : ℕ) (layout : Layout)
-    → (IsOk r ↔ IsLayout size align) → IfOk r (λ l. (l.size ≡ size) × (l.align ≡ align))
-    → size ≡ layout.size → align ≡ layout.align → result_ok r ≡ Some layout
-result_ok-layout (Ok l) size align layout succeeds made same_size same_align =
-    ap Some (same_layout l layout (made.0 ∙ same_size) (made.1 ∙ same_align))
-result_ok-layout (Err e) size align layout succeeds made same_size same_align =
-    absurd (false≢true (succeeds.1 (rw (same_size, same_align) layout.valid)))
 
 -- what is made of two numbers is each layout of these numbers
 abbrev pub Makes : Option Layout → ℕ → ℕ → Type 0

@@ -5,8 +5,8 @@ use Rattle.std.specs.Prelude.{slice_get}
 use Rattle.std.proofs.lemmas.List.{take_at, length-map, append_assoc, map-append}
 use Rattle.std.proofs.lemmas.List.Elements.{All-map, All-weaker}
 use Rattle.std.proofs.lemmas.Option.{none-some}
-use Rattle.script_runner.proofs.LineWords.{words_same}
-use Rattle.script_runner.specs.Words.{Words, AreWords}
+use Rattle.script_words.proofs.LineWords.{words_same}
+use Rattle.script_words.specs.Words.{Words, AreWords}
 use Rattle.script_runner.specs.Scripts.{Rules, IsLine, line_text, IsLineText, IsFirstUnreadable}
 use Rattle.script_runner.specs.declared.engine.script.Line.{Line}
 use Rattle.script_runner.specs.declared.engine.script.Line.TheVariants.{Command, Show}

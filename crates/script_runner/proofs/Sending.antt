@@ -7,7 +7,7 @@ use Rattle.script_runner.specs.Inputs.{Ends, IsAnswered, IsOutput, IsUnreadable,
 use Rattle.script_runner.specs.declared.status.Status.{Status}
 use Rattle.script_runner.specs.declared.status.Status.TheVariants.{Done, Unreadable, InputFailed, OutputFailed, OutOfMemory}
 use Rattle.script_runner.specs.Scripts.{AppendsPart, Sends}
-use Rattle.script_runner.specs.Words.{unreadable_text}
+use Rattle.script_words.specs.Words.{unreadable_text}
 
 -- known bytes grow by no byte
 pub appends_nothing : (known : Option (List ℕ)) → Appends known known []

@@ -15,15 +15,16 @@ use Rattle.bb_memory_traits.specs.declared.allocator.Command.TheVariants.{Alloca
 use Rattle.bb_memory_traits.specs.declared.allocator.Reply.{Reply}
 use Rattle.bb_memory_traits.specs.declared.allocator.Reply.TheVariants as reply
 use Rattle.bb_memory_bump.specs.Bump.{Bump, bump_text}
-use Rattle.bb_memory_core.specs.IndexSets.{index_words}
-use Rattle.bb_memory_core.specs.OneChunk.{OneChunk, StandsFor as OneChunkStandsFor}
-use Rattle.bb_memory_core.specs.Pool.{Pool, StandsFor as PoolStandsFor, fresh_pool, CountedPool, counted, reads_after, MayBeCut}
-use Rattle.script_runner.specs.Words.{Words, words, words_then, region_of, bounds_numbers, name_line}
+use Rattle.bb_memory_index_set.specs.IndexSets.{index_words}
+use Rattle.bb_memory_owned.specs.OneChunk.{OneChunk, StandsFor as OneChunkStandsFor}
+use Rattle.bb_memory_owned.specs.Pool.{Pool, StandsFor as PoolStandsFor, fresh_pool, CountedPool, counted, reads_after}
+use Rattle.bb_memory_geometry.specs.Geometry.{MayBeCut}
+use Rattle.script_words.specs.Words.{Words, words, words_then, region_of, bounds_numbers, name_line}
 use Rattle.script_runner.specs.Scripts.{Rules}
 use Rattle.script_runner.specs.declared.kinds.pool.PoolPlan.{PoolPlan}
-use Rattle.script_runner.specs.declared.words.Bounds.{Bounds}
-use Rattle.script_runner.specs.declared.words.Numbers.{Numbers}
-use Rattle.script_runner.specs.declared.words.Numbers.TheVariants.{One, Two, Five, Four}
+use Rattle.script_words.specs.declared.words.Bounds.{Bounds}
+use Rattle.script_words.specs.declared.words.Numbers.{Numbers}
+use Rattle.script_words.specs.declared.words.Numbers.TheVariants.{One, Two, Five, Four}
 
 abbrev pub command_words : Command → Words
 command_words (Allocate layout) = words (codes "alloc") (Two layout.size layout.align)

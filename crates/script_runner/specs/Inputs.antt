@@ -2,7 +2,7 @@
 use Rattle.std.specs.Io.KnownBytes.{Keeps, Appends}
 use Rattle.std.specs.Prelude.{ℕ, ◌≡◌, ◌≢◌, ◌-◌, ◌⊎◌, List, [], ◌∷◌, All, Option, IfSome, take}
 use Rattle.script_runner.specs.Scripts.{Kind, kind, SomeOf, header_words, Begins, AreScript, IsPlayed, IsLineText}
-use Rattle.script_runner.specs.Words.{MayStand, words_text, lines_of, unreadable_text}
+use Rattle.script_words.specs.Words.{MayStand, words_text, lines_of, unreadable_text}
 use Rattle.script_runner.specs.Allocators.{live_rules, bump_rules, one_chunk_rules, fixed_rules, pool_rules}
 use Rattle.script_runner.specs.Steps.{bump_step_rules, pool_step_rules}
 use Rattle.script_runner.specs.LoanPool.{loan_pool_rules}

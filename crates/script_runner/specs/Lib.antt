@@ -3,4 +3,3 @@ pub mod Inputs
 pub mod LoanPool
 pub mod Scripts
 pub mod Steps
-pub mod Words

@@ -12,11 +12,11 @@ use crate::engine::driving::{Driven, Outcome, drive};
 use crate::kinds::allocators::Live;
 use crate::kinds::loan_pool::LoanPool;
 use crate::kinds::pool::Fixed;
-use crate::words::Numbers;
+use script_words::words::Numbers;
 use bb_memory_base::steps::{BumpWorld, PoolWorld};
 use bb_memory_bump::bump_allocator::BumpAllocator;
-use bb_memory_core::one_chunk_allocator::OneChunkAllocator;
-use bb_memory_core::pool_allocator::PoolAllocator;
+use bb_memory_owned::one_chunk_allocator::OneChunkAllocator;
+use bb_memory_owned::pool_allocator::PoolAllocator;
 use std::alloc::Global;
 
 /// The kinds of scripts, in the order in which a header is tried: a row for each, and then the rows behind it.
@@ -38,7 +38,7 @@ type FromLoanPool = (LoanPool, ());
 pub trait Kinds {
     ghost use Rattle.std.specs.Prelude.{◌≡◌, ◌∷◌, List, true};
     ghost use Rattle.script_runner.specs.Inputs.{IsOutcome};
-    ghost use Rattle.script_runner.specs.Words.{words, words_text, MayStand, lines_of};
+    ghost use Rattle.script_words.specs.Words.{words, words_text, MayStand, lines_of};
     ghost use Rattle.script_runner.specs.Scripts.{Kind, are_apart};
 
     ghost table: { List Kind };

@@ -9,7 +9,8 @@
 //!   `script` cuts the input into lines and reads them.
 //! - `kinds`, the table of the kinds and a file for each: the allocators, over what `allocators` shares; `bump_steps` and
 //!   `pool_steps`, the twins; `loan_pool`.
-//! - `words`: the name and the numbers of a line, and the layouts, regions and parties that these numbers write.
+//!
+//! The words of a line are those of crate `script_words`.
 #![tactic(auto)]
 
 mod engine;
@@ -17,7 +18,6 @@ mod kinds;
 mod laws;
 mod running;
 mod status;
-mod words;
 
 pub use laws::{equality_law, lines_law};
 pub use running::run;

@@ -3,13 +3,13 @@ ghost use Rattle.std.specs.Prelude.{◌≡◌, ℕ, List};
 ghost use Rattle.std.specs.Io.KnownBytes.{Keeps, Appends};
 ghost use Rattle.script_runner.specs.Scripts.{Sends};
 ghost use Rattle.script_runner.specs.Inputs.{IsAnswered, IsUnreadable, BeginsOutput, IsLeft, IsOutcome, Ends, kinds};
-ghost use Rattle.script_runner.specs.Words.{lines_of, unreadable_text};
+ghost use Rattle.script_words.specs.Words.{lines_of, unreadable_text};
 
 use crate::engine::driving::Outcome;
 use crate::engine::script::first_line;
 use crate::kinds::{AllKinds, Kinds};
 use crate::status::Status;
-use crate::words::{Numbers, words, write_words};
+use script_words::words::{Numbers, words, write_words};
 use std::alloc::Global;
 use std::io::{ErrorKind, Read, Write};
 

@@ -1,4 +1,3 @@
 pub mod ByteVectors
 pub mod Requests
 pub mod Rings
-pub mod Threads

@@ -8,7 +8,7 @@ ghost use Rattle.uses.specs.Requests.{HoldsThen, IsOfBytes, Leaves, MayGiveLonge
 
 use bb_memory_traits::allocator::{AllocationError, Allocator, BaseAllocator};
 use bb_memory_traits::layout::{Chunk, Layout, LayoutError};
-use bb_memory_traits::lists::append_law;
+use bb_memory_lists::lists::append_law;
 use bb_memory_traits::region::{Region, live_bytes_law};
 use std::alloc::{AllocError, Global};
 use std::marker::Model;
@@ -191,7 +191,7 @@ pub(crate) fn give_back<A: Allocator>(inner: &mut A, chunk: Chunk)
 
 /// An allocator that may give a longer chunk for a layout may give one for the layout's size, and taking a chunk out of a list
 /// takes its record out. It does nothing: its contract is the law.
-#[tactic(auto, using(bb_memory_traits::specs::Hints::parts_of_lists))]
+#[tactic(auto, using(bb_memory_lists::specs::Hints::parts_of_lists))]
 fn records_law<A: Allocator>()
     ensures longer { (geometry : A.Geometry) (live : List Chunk) (size : ℕ) (layout : Layout)
         (chunk : Chunk)

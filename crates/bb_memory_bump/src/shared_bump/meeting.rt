@@ -1,6 +1,6 @@
 //! Any number of parties at one seat.
 ghost use Rattle.std.specs.Prelude.{◌≡◌, ◌≤◌, ◌++◌, [], All, map};
-ghost use Rattle.bb_memory_bump.specs.Seats.{HasNow, Stays, standing_for};
+ghost use Rattle.bb_memory_seats.specs.Seats.{HasNow, Stays, standing_for};
 ghost use Rattle.bb_memory_bump.specs.SharedBump.{meeting_at};
 ghost use Rattle.bb_memory_bump.specs.SharedBumpRule.{MayMeet, met_by, numbered_of, sight};
 ghost use Rattle.bb_memory_bump.specs.SharedBumpRule.{HasFound};

@@ -4,9 +4,9 @@
 //! ends with that step and what it found. `deal`, `gather`, `find` and `meet` only load the word, and are in no log; `open` and
 //! `close` are before and after all sharing.
 ghost use Rattle.std.specs.Prelude.{◌≡◌, ◌≤◌, [], IfOk, Some};
-ghost use Rattle.bb_memory_base.specs.BumpMachine.{chunk_at, position_behind};
-ghost use Rattle.bb_memory_base.specs.BumpLogs.{call_in};
-ghost use Rattle.bb_memory_bump.specs.Seats.{IsDealt, MayGather, Stays, number_of, view_log};
+ghost use Rattle.bb_memory_bump_machine.specs.BumpMachine.{chunk_at, position_behind};
+ghost use Rattle.bb_memory_bump_machine.specs.BumpLogs.{call_in};
+ghost use Rattle.bb_memory_seats.specs.Seats.{IsDealt, MayGather, Stays, number_of, view_log};
 ghost use Rattle.bb_memory_bump.specs.SharedBumpRule.{AreTwoAt, IsIdleAt, IsOpened, IsSeatAt, StandsAt, gathered, meeting_of};
 ghost use Rattle.bb_memory_bump.specs.SharedBumpRule.{met_by, scene_of};
 ghost use Rattle.bb_memory_bump.specs.SharedBumpRule.{HasFound, MayAsk, TellsExchange, TellsLoad, TellsMeeting, TellsRead};

@@ -1,8 +1,8 @@
 //! Requests: a read, and exchanges until one wins or the layout no longer fits.
 ghost use Rattle.std.specs.Prelude.{◌≡◌, ◌≤◌, ◌%◌, false, IfSome, MatchOption};
 ghost use Rattle.bb_memory_traits.specs.Chunk.{IsInside};
-ghost use Rattle.bb_memory_base.specs.BumpMachine.{fits};
-ghost use Rattle.bb_memory_bump.specs.Seats.{Stays, number_of, view_log};
+ghost use Rattle.bb_memory_bump_machine.specs.BumpMachine.{fits};
+ghost use Rattle.bb_memory_seats.specs.Seats.{Stays, number_of, view_log};
 ghost use Rattle.bb_memory_bump.specs.SharedBumpRule.{met_by};
 ghost use Rattle.bb_memory_bump.specs.SharedBumpRule.{HasRefused, HasWon, IsFor, MayAsk};
 

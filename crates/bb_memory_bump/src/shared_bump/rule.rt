@@ -13,7 +13,7 @@ pub(crate) struct Scene {
 
 impl Model for Scene {
     ghost use Rattle.bb_memory_traits.specs.Chunk.{region_at};
-    ghost use Rattle.bb_memory_base.specs.BumpMachine.{BumpScene};
+    ghost use Rattle.bb_memory_bump_machine.specs.BumpMachine.{BumpScene};
     ghost use Rattle.bb_memory_bump.specs.SharedBump.{scene_at};
 
     ghost Value = { BumpScene };
@@ -99,7 +99,7 @@ impl Play<u8, View> for Meets {
 pub(crate) struct GiveFirst;
 
 impl Split<View> for GiveFirst {
-    ghost use Rattle.bb_memory_bump.specs.Seats.{first_of, others_of};
+    ghost use Rattle.bb_memory_seats.specs.Seats.{first_of, others_of};
 
     ghost left = { others_of };
 

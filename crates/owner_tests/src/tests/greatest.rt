@@ -1,7 +1,7 @@
 //! The greatest number of buckets that a pool of four held, behind each run.
 use super::checks::{check, layout, same};
 use super::kinds::{fixed_over, pool_over};
-use bb_memory_core::pool_allocator::{run_fixed_pool, run_pool};
+use bb_memory_owned::pool_allocator::{run_fixed_pool, run_pool};
 use bb_memory_traits::allocator::{Command, run_base, run_full};
 use bb_memory_traits::layout::Layout;
 

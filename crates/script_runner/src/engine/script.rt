@@ -1,10 +1,10 @@
 //! How an input is cut into lines, and what the lines behind the header say.
 ghost use Rattle.std.specs.Prelude.{◌≡◌, ◌<◌, ◌∷◌, [], length, IfOk, IfErr, IfSome, IfNone};
-ghost use Rattle.script_runner.specs.Words.{lines_of};
+ghost use Rattle.script_words.specs.Words.{lines_of};
 ghost use Rattle.script_runner.specs.Scripts.{IsLine, line_text, AreScript, IsFirstUnreadable, IsLineText};
 
 use crate::engine::driving::Driven;
-use crate::words::{is, split_before, words};
+use script_words::words::{is, split_before, words};
 use std::alloc::{AllocError, Global};
 
 /// A line behind the header.

@@ -3,7 +3,7 @@ ghost use Rattle.std.specs.Prelude.{◌≡◌};
 ghost use Rattle.script_runner.specs.Allocators.{refusal_name};
 
 use crate::engine::driving::Driven;
-use crate::words::{Numbers, Text, is, layout};
+use script_words::words::{Numbers, Text, is, layout};
 use bb_memory_traits::allocator::{
     AllocationError, AllocationGrowError, AllocationShrinkError, Command, Reply,
 };

@@ -1,7 +1,7 @@
 //! A bump world that a script drives by its steps.
 
 use crate::engine::driving::Driven;
-use crate::words::{Bounds, Numbers, PARTIES, Text, is, layout, party_of, region, write_words};
+use script_words::words::{Bounds, Numbers, PARTIES, Text, is, layout, party_of, region, write_words};
 use bb_memory_base::steps::{BumpOutcome, BumpStep, BumpWorld};
 use std::alloc::{AllocError, Global};
 

@@ -5,8 +5,8 @@ ghost use Rattle.script_runner.specs.LoanPool.{loan_refusal_name};
 use crate::engine::driving::Driven;
 use crate::kinds::allocators::{Scripted, refusal};
 use crate::kinds::pool::{PoolPlan, pool_plan};
-use crate::words::{Numbers, Text, is, small};
-use bb_memory_core::pool_allocator::PoolAllocator;
+use script_words::words::{Numbers, Text, is, small};
+use bb_memory_owned::pool_allocator::PoolAllocator;
 use loan_book::{LoanBook, LoanCall, LoanError, LoanReply, run_loans};
 use std::alloc::{AllocError, Global};
 

@@ -1,14 +1,14 @@
 //! A one chunk that a script drives.
 
 use crate::kinds::allocators::Scripted;
-use crate::words::{Bounds, Figure, Numbers, region, write_figures};
-use bb_memory_core::one_chunk_allocator::{OneChunkAllocator, run_one_chunk};
+use script_words::words::{Bounds, Figure, Numbers, region, write_figures};
+use bb_memory_owned::one_chunk_allocator::{OneChunkAllocator, run_one_chunk};
 use bb_memory_traits::allocator::{Command, Reply};
 use bb_memory_traits::layout::Chunk;
 use std::alloc::{AllocError, Global};
 
 impl Scripted for OneChunkAllocator {
-    ghost use Rattle.bb_memory_core.specs.OneChunk.{StandsFor};
+    ghost use Rattle.bb_memory_owned.specs.OneChunk.{StandsFor};
     ghost use Rattle.script_runner.specs.Allocators.{one_chunk_rules};
 
     type Header = Bounds;

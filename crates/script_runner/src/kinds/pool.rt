@@ -3,8 +3,8 @@ ghost use Rattle.std.specs.Prelude.{◌≡◌, IfSome, Some};
 ghost use Rattle.script_runner.specs.Allocators.{IsPoolPlan, pool_numbers};
 
 use crate::kinds::allocators::Scripted;
-use crate::words::{Figure, Numbers, is, layout, write_figures};
-use bb_memory_core::pool_allocator::{
+use script_words::words::{Figure, Numbers, is, layout, write_figures};
+use bb_memory_owned::pool_allocator::{
     FixedSizePoolAllocator, PoolAllocator, run_fixed_pool, run_pool,
 };
 use bb_memory_traits::allocator::{Command, Reply};
@@ -46,7 +46,7 @@ pub fn pool_plan(kind: &[u8], name: &[u8], numbers: Numbers) -> Option<PoolPlan>
 }
 
 impl Scripted for PoolAllocator<Global> {
-    ghost use Rattle.bb_memory_core.specs.Pool.{StandsFor};
+    ghost use Rattle.bb_memory_owned.specs.Pool.{StandsFor};
     ghost use Rattle.script_runner.specs.Allocators.{pool_rules};
 
     type Header = PoolPlan;
@@ -93,7 +93,7 @@ impl Scripted for PoolAllocator<Global> {
 pub type Fixed = FixedSizePoolAllocator<512>;
 
 impl Scripted for Fixed {
-    ghost use Rattle.bb_memory_core.specs.Pool.{StandsFor};
+    ghost use Rattle.bb_memory_owned.specs.Pool.{StandsFor};
     ghost use Rattle.script_runner.specs.Allocators.{fixed_rules};
 
     type Header = PoolPlan;

@@ -1,7 +1,7 @@
 //! A pool world that a script drives by its steps.
 
 use crate::engine::driving::Driven;
-use crate::words::{Numbers, PARTIES, Text, is, party_of, small, write_words};
+use script_words::words::{Numbers, PARTIES, Text, is, party_of, small, write_words};
 use bb_memory_base::steps::{PoolOutcome, PoolStep, PoolWorld};
 use std::alloc::{AllocError, Global};
 

@@ -3,10 +3,10 @@ ghost use Rattle.std.specs.Prelude.{◌≡◌};
 
 use super::bumps::two;
 use super::checks::{chunk, fail, layout, same};
-use bb_memory::bump_allocator::AllocationError::{self, OutOfMemory, SizeIsZero};
-use bb_memory::shared_bump::{BumpParty, SharedBumpAllocator};
+use bb_memory_bump::bump_allocator::AllocationError::{self, OutOfMemory, SizeIsZero};
+use bb_memory_bump::shared_bump::{BumpParty, SharedBumpAllocator};
 use std::process::Abort;
-use uses::thread_arena::{ThreadArena, meet};
+use thread_uses::thread_arena::{ThreadArena, meet};
 
 /// Makes an arena for a party.
 fn arena(

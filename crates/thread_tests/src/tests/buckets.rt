@@ -1,12 +1,12 @@
 //! Shared pools of buckets of 128 bytes at 4096, and calls that promise no more than a further call needs.
 ghost use Rattle.std.specs.Prelude.{◌≡◌, ◌<◌, ℕ, All, IfSome};
-ghost use Rattle.bb_memory_base.specs.PoolLogs.{IsHeldAfter};
+ghost use Rattle.bb_memory_pool_machine.specs.PoolLogs.{IsHeldAfter};
 
 use super::checks::refused;
 use super::marks::refuse_memory;
-use bb_memory::layout::Layout;
-use bb_memory::pool_allocator::PoolAllocator;
-use bb_memory::shared_pool::{AllocationError, Bucket, PoolParty, SharedPoolAllocator};
+use bb_memory_traits::layout::Layout;
+use bb_memory_owned::pool_allocator::PoolAllocator;
+use bb_memory_shared_pools::shared_pool::{AllocationError, Bucket, PoolParty, SharedPoolAllocator};
 use std::alloc::Global;
 use std::process::Abort;
 

@@ -1,6 +1,6 @@
 //! Checks, proved once: a test's own proof carries no more of a check than its call.
 use super::marks::{none_was_asked, some_was_refused};
-use bb_memory::layout::{Chunk, Layout};
+use bb_memory_traits::layout::{Chunk, Layout};
 use std::alloc::Global;
 use std::fmt::Debug;
 use std::process::Abort;

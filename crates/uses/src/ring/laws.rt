@@ -8,7 +8,7 @@ ghost use Rattle.loan_book.specs.Book.{Sample, returns_to_come};
 ghost use Rattle.uses.specs.Rings.{Returned, ids_of, readers_of};
 
 /// A sample behind the last is put in its place.
-#[tactic(auto, using(bb_memory_traits::specs::Hints::lists))]
+#[tactic(auto, using(bb_memory_lists::specs::Hints::lists))]
 pub(super) fn seam_law()
     ensures set { (samples : List Sample) (one other : Sample)
         → slice_set (samples ++ one ∷ []) (length samples) other ≡ samples ++ other ∷ [] }
@@ -17,7 +17,7 @@ pub(super) fn seam_law()
 {}
 
 /// The sample that was loaned last stands last, and nowhere else.
-#[tactic(auto, using(bb_memory_traits::specs::Hints::lists))]
+#[tactic(auto, using(bb_memory_lists::specs::Hints::lists))]
 pub(super) fn newest_law()
     ensures last { (book : Book) (chunk : Chunk) (position : ℕ) (sample : Sample) → IsBook book
         → IsAt (with_sample book chunk) book.loaned position sample → position ≡ length book.out }
@@ -29,7 +29,7 @@ pub(super) fn newest_law()
 }
 
 /// The sample that was loaned last is out, wasn't published yet, and is published in its place.
-#[tactic(auto, using(bb_memory_traits::specs::Hints::lists))]
+#[tactic(auto, using(bb_memory_lists::specs::Hints::lists))]
 pub(super) fn newest_state_law()
     ensures out { (book old : Book) (chunk : Chunk) → old ≡ with_sample book chunk
         → IsOut old book.loaned }
@@ -88,7 +88,7 @@ pub(super) fn returned_law(last: bool)
 }
 
 /// A sample that waits for another number of returns changes that number alone.
-#[tactic(auto, using(bb_memory_traits::specs::Hints::lists))]
+#[tactic(auto, using(bb_memory_lists::specs::Hints::lists))]
 fn waiting_law()
     ensures first { (samples : List Sample) (position : ℕ) (sample : Sample)
         → slice_get samples position ≡ Some sample

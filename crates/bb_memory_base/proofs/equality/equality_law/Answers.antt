@@ -2,7 +2,7 @@ use Rattle.std.proofs.Common.{◌≡◌, ◌↔◌, ℕ, Bool, true, false, eqb,
 use Rattle.std.proofs.lemmas.Grind.{common_steps}
 use Rattle.std.specs.Prelude.{◌&&◌}
 use Rattle.bb_memory_traits.specs.declared.allocator.Command.TheVariants as command
-use Rattle.bb_memory_base.specs.declared.steps.bump.BumpStep.TheVariants as step
+use Rattle.bb_memory_bump_machine.specs.declared.steps.bump.BumpStep.TheVariants as step
 use Rattle.bb_memory_traits.proofs.Layouts.{same_layout}
 use Rattle.bb_memory_base.proofs.equality.equality_law.Goals as goal
 

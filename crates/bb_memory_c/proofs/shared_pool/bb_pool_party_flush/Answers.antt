@@ -1,5 +1,5 @@
 use Rattle.std.proofs.Common.{◌∙◌, ap, rules}
-use Rattle.bb_memory.specs.SharedPoolCaching.{CachingParty, IsOut}
+use Rattle.bb_memory_shared_pools.specs.SharedPoolCaching.{CachingParty, IsOut}
 use Rattle.bb_memory_c.proofs.Flags.{flagged-still}
 use Rattle.bb_memory_c.proofs.Made.{answers}
 use Rattle.bb_memory_c.proofs.shared_pool.bb_pool_party_flush.Goals as goal

@@ -2,8 +2,8 @@ use Rattle.std.proofs.Common.{◌≡◌, ◌∙◌, ◌+◌, ◌<◌, Bool, List
 use Rattle.std.specs.Prelude.{get_or, if◌then◌else◌, slice_get}
 use Rattle.std.proofs.lemmas.Bool.{false≢true}
 use Rattle.std.proofs.lemmas.Option.{same_Some, slice_get-get_or}
-use Rattle.bb_memory_base.specs.PoolLogs.{IsHeldAfter}
-use Rattle.bb_memory.specs.SharedPool.{PoolParty, SharedPool, TakenBucket, return_entry, with_entries}
+use Rattle.bb_memory_pool_machine.specs.PoolLogs.{IsHeldAfter}
+use Rattle.bb_memory_shared_pools.specs.SharedPool.{PoolParty, SharedPool, TakenBucket, return_entry, with_entries}
 use Rattle.bb_memory_c.specs.SharedPools.{AreFlagged, GivesAllBack, return_of, returns_of}
 use Rattle.bb_memory_c.proofs.Leaving.{all-returned, next-held, next-returned, none-returned}
 use Rattle.bb_memory_c.proofs.shared_pool.give_all_back.Goals as goal

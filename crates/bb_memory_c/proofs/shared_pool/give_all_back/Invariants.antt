@@ -1,5 +1,5 @@
 use Rattle.std.proofs.Common.{◌≡◌}
-use Rattle.bb_memory.specs.SharedPool.{with_entries}
+use Rattle.bb_memory_shared_pools.specs.SharedPool.{with_entries}
 use Rattle.bb_memory_c.specs.SharedPools.{returns_of}
 use Rattle.bb_memory_c.proofs.shared_pool.give_all_back.Given as goal
 

@@ -1,6 +1,6 @@
 //! A refused `init` hands its pool back uninitialised.
 use crate::tests::checks::{layout, refused, same};
-use bb_memory_core::pool_allocator::{AllocationError, PoolAllocator};
+use bb_memory_owned::pool_allocator::{AllocationError, PoolAllocator};
 use bb_memory_traits::layout::Layout;
 use std::alloc::Global;
 use std::process::Abort;

@@ -2,12 +2,12 @@
 //! changes nothing, so the same call is made again.
 ghost use Rattle.std.specs.Prelude.{◌≡◌, [], IfSome};
 ghost use Rattle.bb_memory_traits.specs.Chunk.{region_at};
-ghost use Rattle.bb_memory_core.specs.Pool.{StandsFor};
+ghost use Rattle.bb_memory_owned.specs.Pool.{StandsFor};
 
 use crate::tests::checks::{check, layout, refused, same};
 use crate::tests::kinds::fixed_over;
 use crate::tests::owner::region_of;
-use bb_memory_core::pool_allocator::{FixedSizePoolAllocator, pool_object_law};
+use bb_memory_owned::pool_allocator::{FixedSizePoolAllocator, pool_object_law};
 use bb_memory_traits::layout::Layout;
 use loan_book::LoanBook;
 use std::alloc::Global;

@@ -1,7 +1,7 @@
 //! Loan books. A refused loan leaves the book unchanged: just the samples of before are out.
 use crate::tests::checks::{check, chunk, layout, refused, same};
 use crate::tests::kinds::pool_over;
-use bb_memory_core::one_chunk_allocator::OneChunkAllocator;
+use bb_memory_owned::one_chunk_allocator::OneChunkAllocator;
 use bb_memory_traits::allocator::{AllocationError, Allocator};
 use bb_memory_traits::layout::Chunk;
 use loan_book::LoanCall::{self, GiveBack, IsOut, Loan, Publish};

@@ -1,4 +1,4 @@
-use Rattle.script_runner.proofs.WholeLines.{lines_are, lines_only}
+use Rattle.script_words.proofs.WholeLines.{lines_are, lines_only}
 use Rattle.script_runner.proofs.laws.lines_law.Goals as goal
 
 pub returns : goal.returns

@@ -1,6 +1,6 @@
 use Rattle.std.proofs.Common.{refl}
 use Rattle.script_runner.specs.Inputs.{kinds}
-use Rattle.script_runner.specs.Words.{lines_of}
+use Rattle.script_words.specs.Words.{lines_of}
 use Rattle.script_runner.proofs.Tables.{unreadable_first, unreadable_empty, no_words}
 use Rattle.script_runner.proofs.running.outcome_of.Goals as goal
 

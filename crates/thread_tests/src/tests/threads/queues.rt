@@ -3,14 +3,14 @@ ghost use Rattle.std.specs.Prelude.{◌≡◌, ◌<◌, IfOk, Some};
 
 use crate::tests::buckets::{take, two};
 use crate::tests::checks::{layout, same};
-use bb_memory::layout::Layout;
-use bb_memory::shared_pool::{AllocationError, DetachedBucket, PoolParty, SharedPoolAllocator};
+use bb_memory_traits::layout::Layout;
+use bb_memory_shared_pools::shared_pool::{AllocationError, DetachedBucket, PoolParty, SharedPoolAllocator};
 use rtrb::{Consumer, Producer, Protocol, PushError, RingBuffer};
 use std::alloc::{AllocError, Global};
 use std::marker::{Brand, PhantomData};
 use std::thread;
 use std::thread::Threads;
-use uses::pool_messages::{receive, send};
+use thread_uses::pool_messages::{receive, send};
 
 /// How many messages are sent.
 const MESSAGES: u32 = 1000;
@@ -21,7 +21,7 @@ const TRIES: u32 = 10_000_000;
 /// The pool of a queue's messages, which a type names so.
 trait MessagePool {
     ghost use Rattle.std.specs.Prelude.{Option};
-    ghost use Rattle.bb_memory.specs.SharedPool.{SharedPool};
+    ghost use Rattle.bb_memory_shared_pools.specs.SharedPool.{SharedPool};
 
     ghost pool: { Option SharedPool };
 }

@@ -4,7 +4,7 @@ use Rattle.std.proofs.lemmas.Grind.{common_steps}
 use Rattle.std.proofs.lemmas.List.{map-append}
 use Rattle.std.proofs.lemmas.List.Elements.{All-pop, All-push}
 use Rattle.atomic_table.specs.Table.{Me}
-use Rattle.bb_memory_bump.specs.Seats.{first_of, others_of, standing_for, view_log}
+use Rattle.bb_memory_seats.specs.Seats.{first_of, others_of, standing_for, view_log}
 use Rattle.bb_memory_bump.specs.SharedBump.{BumpParty, SharedBump, meeting_at}
 use Rattle.bb_memory_bump.specs.SharedBumpRule.{NumberedLog, SeatView, meeting_of, met_by, numbered_of, party_in, scene_of, sight}
 use Rattle.bb_memory_bump.specs.SharedBumpRule.{TellsMeeting}

@@ -1,6 +1,6 @@
 use Rattle.std.proofs.Common.{◌<◌, ℕ, arith, ap}
 use Rattle.atomic_table.specs.Table.{Me}
-use Rattle.bb_memory_bump.specs.Seats.{number_of}
+use Rattle.bb_memory_seats.specs.Seats.{number_of}
 use Rattle.bb_memory_bump.specs.SharedBumpRule.{SeatView, party_in}
 use Rattle.bb_memory_bump.proofs.SharedBumpAnswers.{Says, nothing_found, nothing_lost, says_refused, says_won}
 use Rattle.bb_memory_bump.proofs.shared_bump.SharedBumpAllocator.allocate.Goals.{in-Some, in-None}

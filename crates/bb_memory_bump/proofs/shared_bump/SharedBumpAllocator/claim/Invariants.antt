@@ -1,7 +1,7 @@
 use Rattle.std.proofs.Common.{◌≡◌, ◌-◌, ◌%◌}
 use Rattle.bb_memory_traits.specs.Chunk.{IsInside}
-use Rattle.bb_memory_base.specs.BumpMachine.{chunk_at}
-use Rattle.bb_memory_bump.specs.Seats.{number_of, view_log}
+use Rattle.bb_memory_bump_machine.specs.BumpMachine.{chunk_at}
+use Rattle.bb_memory_seats.specs.Seats.{number_of, view_log}
 use Rattle.bb_memory_bump.specs.SharedBumpRule.{met_by}
 use Rattle.bb_memory_bump.proofs.SharedBumpRequests.{IsTrying}
 use Rattle.bb_memory_bump.proofs.shared_bump.SharedBumpAllocator.claim.Given as goal

@@ -1,5 +1,5 @@
 use Rattle.std.proofs.Common.{ap, sym, subst, ◌∙◌, arith}
-use Rattle.bb_memory_base.specs.BumpLogs.{seen_in}
+use Rattle.bb_memory_bump_machine.specs.BumpLogs.{seen_in}
 use Rattle.bb_memory_bump.proofs.SharedBumpClosings.{TellsLast, last_of}
 use Rattle.bb_memory_bump.proofs.shared_bump.SharedBumpAllocator.into_owner.Goals as goal
 

@@ -1,5 +1,5 @@
 use Rattle.std.proofs.Common.{ap, subst}
-use Rattle.bb_memory_base.specs.BumpLogs.{BumpLog}
+use Rattle.bb_memory_bump_machine.specs.BumpLogs.{BumpLog}
 use Rattle.bb_memory_bump.specs.SharedBump.{HaveChunksApart}
 use Rattle.bb_memory_bump.proofs.shared_bump.SharedBumpAllocator.meet.Goals as goal
 

@@ -4,7 +4,7 @@ use Rattle.std.specs.Prelude.{All, map}
 use Rattle.std.proofs.lemmas.List.{map-append}
 use Rattle.std.proofs.lemmas.List.Elements.{All-map, All-push}
 use Rattle.bb_memory_bump.specs.SharedBump.{BumpParty, IsSharedScene, SharedBump, meeting_at}
-use Rattle.bb_memory_bump.specs.Seats.{standing_for}
+use Rattle.bb_memory_seats.specs.Seats.{standing_for}
 use Rattle.bb_memory_bump.specs.SharedBumpRule.{NumberedLog, SeatView, met_by, numbered_of, party_in, scene_of, sight}
 use Rattle.bb_memory_bump.specs.SharedBumpRule.{TellsMeeting}
 use Rattle.bb_memory_bump.proofs.SharedBumpGatherings.{all_gathered, have_met, met_party, met_seat, none_met}

@@ -3,10 +3,10 @@ use Rattle.std.specs.Prelude.{All, slice_get}
 use Rattle.std.proofs.lemmas.List.Elements.{All-push}
 use Rattle.atomic_table.specs.Table.{Me}
 use Rattle.bb_memory_bump.specs.SharedBump.{BumpParty, IsSharedScene, SharedBump, fresh_party}
-use Rattle.bb_memory_bump.specs.Seats.{alone, first_of, others_of, standing_for, view_log}
+use Rattle.bb_memory_seats.specs.Seats.{alone, first_of, others_of, standing_for, view_log}
 use Rattle.bb_memory_bump.specs.SharedBumpRule.{NumberedLog, SeatView, met_by, party_in, scene_of, sight}
-use Rattle.bb_memory_base.proofs.BumpAllowed.{none_allowed}
-use Rattle.bb_memory_bump.proofs.Seatings.{fresh_more, given_more}
+use Rattle.bb_memory_bump_machine.proofs.BumpAllowed.{none_allowed}
+use Rattle.bb_memory_seats.proofs.Seatings.{fresh_more, given_more}
 use Rattle.bb_memory_bump.proofs.SharedBumpParties.{party_seat}
 use Rattle.bb_memory_bump.proofs.shared_bump.SharedBumpAllocator.seat_parties.Goals as goal
 

@@ -1,7 +1,7 @@
 use Rattle.std.proofs.Common.{◌≡◌, ◌-◌, ◌<◌, ◌≤◌, ℕ, [], All, Some, length, vec_len, vec_capacity}
 use Rattle.std.specs.Prelude.{slice_get}
 use Rattle.bb_memory_bump.specs.SharedBump.{fresh_party}
-use Rattle.bb_memory_bump.specs.Seats.{fresh_from, standing_for}
+use Rattle.bb_memory_seats.specs.Seats.{fresh_from, standing_for}
 use Rattle.bb_memory_bump.specs.SharedBumpRule.{sight}
 use Rattle.bb_memory_bump.proofs.shared_bump.SharedBumpAllocator.seat_parties.Given as goal
 

@@ -1,6 +1,6 @@
 use Rattle.std.proofs.Common.{◌∙◌, ap, rules, sym}
-use Rattle.bb_memory.specs.SharedPool.{TakenBucket}
-use Rattle.bb_memory.specs.SharedPoolCaching.{CachingParty, IsOut}
+use Rattle.bb_memory_shared_pools.specs.SharedPool.{TakenBucket}
+use Rattle.bb_memory_shared_pools.specs.SharedPoolCaching.{CachingParty, IsOut}
 use Rattle.bb_memory_c.proofs.Detaching.{detaches}
 use Rattle.bb_memory_c.proofs.Flags.{flag-unset}
 use Rattle.bb_memory_c.proofs.shared_pool.JoinedPool.detach.Goals as goal

@@ -1,6 +1,6 @@
 use Rattle.std.proofs.Common.{◌∙◌, ap, sym}
-use Rattle.bb_memory.specs.SharedPool.{TakenBucket}
-use Rattle.bb_memory.specs.SharedPoolCaching.{IsOut}
+use Rattle.bb_memory_shared_pools.specs.SharedPool.{TakenBucket}
+use Rattle.bb_memory_shared_pools.specs.SharedPoolCaching.{IsOut}
 use Rattle.bb_memory_c.proofs.Flags.{flag-unset}
 use Rattle.bb_memory_c.proofs.shared_pool.JoinedPool.give_back_bucket.Goals as goal
 

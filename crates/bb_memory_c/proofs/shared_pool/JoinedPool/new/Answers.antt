@@ -1,7 +1,7 @@
 use Rattle.std.proofs.Common.{◌∙◌, ap, arith, rules, subst, sym}
-use Rattle.bb_memory_base.specs.PoolLogs.{IsHeldAfter}
-use Rattle.bb_memory.specs.SharedPool.{SharedPool}
-use Rattle.bb_memory.specs.SharedPoolCaching.{CachingParty, IsOut}
+use Rattle.bb_memory_pool_machine.specs.PoolLogs.{IsHeldAfter}
+use Rattle.bb_memory_shared_pools.specs.SharedPool.{SharedPool}
+use Rattle.bb_memory_shared_pools.specs.SharedPoolCaching.{CachingParty, IsOut}
 use Rattle.bb_memory_c.proofs.Flags.{none-flagged}
 use Rattle.bb_memory_c.proofs.shared_pool.JoinedPool.new.Goals as goal
 

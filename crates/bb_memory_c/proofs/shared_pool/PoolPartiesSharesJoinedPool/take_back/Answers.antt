@@ -1,7 +1,7 @@
 use Rattle.std.proofs.Common.{◌<◌, ◌∙◌, ap, arith, length, rules, subst, sym}
 use Rattle.std.specs.Arc.{arc_value}
-use Rattle.bb_memory.specs.SharedPool.{PoolParty}
-use Rattle.bb_memory.specs.SharedPoolCaching.{CachingParty}
+use Rattle.bb_memory_shared_pools.specs.SharedPool.{PoolParty}
+use Rattle.bb_memory_shared_pools.specs.SharedPoolCaching.{CachingParty}
 use Rattle.bb_memory_c.specs.SharedPools.{GivesAllBack, IsIdleAt, PoolParties, as_joined, flushed}
 use Rattle.bb_memory_c.proofs.Unjoined.{one-more}
 use Rattle.bb_memory_c.proofs.shared_pool.PoolPartiesSharesJoinedPool.take_back.Goals as goal

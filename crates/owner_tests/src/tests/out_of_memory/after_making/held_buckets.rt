@@ -2,7 +2,7 @@
 use crate::tests::checks::{check, layout, none_asked, refused, same};
 use crate::tests::kinds::{fixed_over, pool_over};
 use crate::tests::marks::refuse_memory;
-use bb_memory_core::pool_allocator::{
+use bb_memory_owned::pool_allocator::{
     AllocationError, BaseAllocator, FixedSizePoolAllocator, PoolAllocator,
 };
 use std::alloc::Global;

@@ -2,8 +2,8 @@
 use crate::tests::checks::{check, layout, none_asked, refused, same};
 use crate::tests::marks::refuse_memory;
 use bb_memory_bump::bump_allocator::bump_object_law;
-use bb_memory_core::one_chunk_allocator::one_chunk_object_law;
-use bb_memory_core::pool_allocator::{
+use bb_memory_owned::one_chunk_allocator::one_chunk_object_law;
+use bb_memory_owned::pool_allocator::{
     PoolAllocator, pool_count_law, pool_geometry_law, pool_held_law, pool_object_law,
 };
 use bb_memory_traits::layout::{Chunk, Layout, given_law, layout_law, least_place_law, round_up};

@@ -4,8 +4,8 @@ use crate::tests::kinds::{Of, fixed_over, fresh};
 use crate::tests::marks::refuse_memory;
 use crate::tests::owner::Owner;
 use bb_memory_bump::bump_allocator::BumpAllocator;
-use bb_memory_core::one_chunk_allocator::OneChunkAllocator;
-use bb_memory_core::pool_allocator::{FixedSizePoolAllocator, PoolAllocator};
+use bb_memory_owned::one_chunk_allocator::OneChunkAllocator;
+use bb_memory_owned::pool_allocator::{FixedSizePoolAllocator, PoolAllocator};
 use bb_memory_traits::allocator::{
     AllocationError, AllocationGrowError, Allocator, BaseAllocator, Command, Reply,
 };

@@ -1,5 +1,5 @@
 use Rattle.script_runner.proofs.Tables.{unreadable_here, answered_here}
-use Rattle.script_runner.specs.Words.{lines_of}
+use Rattle.script_words.specs.Words.{lines_of}
 use Rattle.script_runner.proofs.engine.driving.drive.Goals as goal
 
 pub returns-in-Ok-Err : goal.returns-in-Ok-Err

@@ -1,4 +1,4 @@
-use Rattle.script_runner.proofs.WholeLines.{lines_split, lines_whole_text, shorter_split, shorter_whole}
+use Rattle.script_words.proofs.WholeLines.{lines_split, lines_whole_text, shorter_split, shorter_whole}
 use Rattle.script_runner.proofs.engine.script.first_line.Goals as goal
 
 pub returns-then-is_empty-2-clause-cut : goal.returns-then-is_empty-2-clause-cut

@@ -1,6 +1,6 @@
 use Rattle.std.proofs.Common.{arith, ◌≡◌, IsTrue, codes}
 use Rattle.std.proofs.lemmas.Grind.{common_steps}
-use Rattle.script_runner.specs.Words.{words}
+use Rattle.script_words.specs.Words.{words}
 use Rattle.script_runner.proofs.ScriptLines.{unread_line}
 use Rattle.script_runner.proofs.engine.script.read_line.Goals as goal
 

@@ -1,7 +1,7 @@
 use Rattle.std.proofs.Common.{length, arith, ◌∷◌, ◌++◌, ◌≡◌, [], ap, ◌∙◌, map, List, ℕ}
 use Rattle.std.proofs.lemmas.List.Elements.{All-push, All-same}
 use Rattle.std.proofs.lemmas.List.{length_push}
-use Rattle.script_runner.specs.Words.{lines_of}
+use Rattle.script_words.specs.Words.{lines_of}
 use Rattle.script_runner.specs.Scripts.{IsLine, line_text}
 use Rattle.script_runner.proofs.ScriptLines.{first_unreadable, lines_more}
 use Rattle.script_runner.proofs.engine.script.read_script.Goals as goal

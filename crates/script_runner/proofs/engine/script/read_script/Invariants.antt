@@ -1,5 +1,5 @@
 use Rattle.std.proofs.Common.{◌≡◌, ◌+◌, ◌≤◌, ◌++◌, length, map, All}
-use Rattle.script_runner.specs.Words.{lines_of}
+use Rattle.script_words.specs.Words.{lines_of}
 use Rattle.script_runner.specs.Scripts.{IsLine, line_text}
 use Rattle.script_runner.proofs.engine.script.read_script.Given as goal
 

@@ -1,6 +1,6 @@
 use Rattle.std.proofs.Common.{◌≡◌, ap₂, subst, sym, true}
 use Rattle.std.proofs.lemmas.Bool.{and_parts}
-use Rattle.script_runner.specs.Words.{MayStand, words, words_text, lines_of}
+use Rattle.script_words.specs.Words.{MayStand, words, words_text, lines_of}
 use Rattle.script_runner.specs.Scripts.{kind, header_words, is_new, are_apart}
 use Rattle.script_runner.proofs.Tables.{outcome_wider, outcome_later, no_header}
 use Rattle.script_runner.proofs.kinds.Tuple2Kinds.run.Goals as goal

@@ -1,5 +1,5 @@
 use Rattle.std.proofs.Common.{[]}
-use Rattle.script_runner.specs.Words.{words, words_text, lines_of}
+use Rattle.script_words.specs.Words.{words, words_text, lines_of}
 use Rattle.script_runner.proofs.Tables.{unreadable_first}
 use Rattle.script_runner.proofs.kinds.UnitKinds.run.Goals as goal
 

@@ -1,7 +1,7 @@
 use Rattle.std.proofs.Common.{◌≡◌, ◌∙◌, rules, subst, sym, ap, Some}
 use Rattle.std.proofs.lemmas.Option.{none-some, same_Some}
 use Rattle.script_runner.specs.declared.kinds.pool.PoolPlan.{PoolPlan}
-use Rattle.script_runner.specs.declared.words.Numbers.TheVariants.{Four}
+use Rattle.script_words.specs.declared.words.Numbers.TheVariants.{Four}
 use Rattle.script_runner.specs.Allocators.{IsPoolPlan, pool_numbers}
 use Rattle.script_runner.proofs.kinds.pool.pool_plan.Goals as goal
 use Rattle.script_runner.proofs.kinds.pool.pool_plan.Goals.{After-can_make}

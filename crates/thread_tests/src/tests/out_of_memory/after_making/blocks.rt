@@ -2,8 +2,8 @@
 use crate::tests::checks::{check, none_asked, same};
 use crate::tests::marks::{refuse_memory, some_was_freed};
 use crate::tests::out_of_memory::blocks::{counted, digits, made, shrunk};
-use bb_memory::heap_allocator::HeapAllocator;
-use bb_memory::layout::Layout;
+use bb_memory_owned::heap_allocator::HeapAllocator;
+use bb_memory_traits::layout::Layout;
 
 /// A block is written, shrunk and deallocated, which gives its memory back.
 #[test]

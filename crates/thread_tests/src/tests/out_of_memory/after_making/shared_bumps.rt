@@ -1,7 +1,7 @@
 //! Parties of one thread that share a bump.
 use crate::tests::bumps::{end, last_of, meet, share, spaces, take, two};
 use crate::tests::checks::{none_asked, same};
-use bb_memory::bump_allocator::AllocationError::{OutOfMemory, SizeIsZero};
+use bb_memory_bump::bump_allocator::AllocationError::{OutOfMemory, SizeIsZero};
 
 // row: share-two-parties
 #[test]

@@ -1,6 +1,6 @@
 use Rattle.std.proofs.Common.{[], sym, ap, ◌∙◌, arith}
-use Rattle.bb_memory_base.specs.BumpMachine.{BumpScene, chunk_at, position_behind}
-use Rattle.bb_memory_bump.specs.Seats.{alone, number_of, view_log}
+use Rattle.bb_memory_bump_machine.specs.BumpMachine.{BumpScene, chunk_at, position_behind}
+use Rattle.bb_memory_seats.specs.Seats.{alone, number_of, view_log}
 use Rattle.bb_memory_bump.specs.SharedBumpRule.{met_by, sight}
 use Rattle.bb_memory_bump.proofs.SharedBumpKeeps.{exchanges_as}
 use Rattle.bb_memory_bump.proofs.SharedBumpParties.{told_exchange}

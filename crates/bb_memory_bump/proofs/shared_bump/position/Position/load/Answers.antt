@@ -1,5 +1,5 @@
 use Rattle.std.proofs.Common.{[], sym, ap, ◌∙◌, arith}
-use Rattle.bb_memory_bump.specs.Seats.{alone, number_of, view_log}
+use Rattle.bb_memory_seats.specs.Seats.{alone, number_of, view_log}
 use Rattle.bb_memory_bump.specs.SharedBumpRule.{met_by, sight}
 use Rattle.bb_memory_bump.proofs.SharedBumpKeeps.{loads_as}
 use Rattle.bb_memory_bump.proofs.SharedBumpParties.{told_load}

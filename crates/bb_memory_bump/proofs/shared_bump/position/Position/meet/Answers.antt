@@ -1,6 +1,6 @@
 use Rattle.std.proofs.Common.{List, ℕ, ◌++◌, ap, ◌∙◌, subst}
 use Rattle.atomic_table.specs.Table.{Me}
-use Rattle.bb_memory_bump.specs.Seats.{head_of, number_of, view_log}
+use Rattle.bb_memory_seats.specs.Seats.{head_of, number_of, view_log}
 use Rattle.bb_memory_bump.specs.SharedBumpRule.{NumberedLog, SeatView, met_by}
 use Rattle.bb_memory_bump.specs.SharedBumpRule.{TellsMeeting}
 use Rattle.bb_memory_bump.proofs.SharedBumpMeetings.{two_met}

@@ -1,6 +1,6 @@
 use Rattle.std.proofs.Common.{[], ◌∷◌, List, ℕ, ap, sym, subst}
 use Rattle.atomic_table.specs.Table.{opening}
-use Rattle.bb_memory_base.specs.BumpMachine.{BumpScene}
+use Rattle.bb_memory_bump_machine.specs.BumpMachine.{BumpScene}
 use Rattle.bb_memory_bump.specs.SharedBumpRule.{WordsAndLogsAgree, all_parties}
 use Rattle.bb_memory_bump.proofs.SharedBumpSeats.{opens}
 use Rattle.bb_memory_bump.proofs.shared_bump.position.Position.open.Goals as goal

@@ -1,7 +1,7 @@
 use Rattle.std.proofs.Common.{arith, ◌≡◌, ◌<◌, ◌++◌, ◌∙◌, ap, length, [], codes}
 use Rattle.std.proofs.lemmas.List.{append-nil}
-use Rattle.script_runner.specs.Words.{words, words_text}
-use Rattle.script_runner.specs.declared.words.Numbers.TheVariants.{One}
+use Rattle.script_words.specs.Words.{words, words_text}
+use Rattle.script_words.specs.declared.words.Numbers.TheVariants.{One}
 use Rattle.script_runner.specs.Steps.{holder_text}
 use Rattle.script_runner.proofs.Telling.{holders_more}
 use Rattle.script_runner.proofs.kinds.pool_steps.PoolWorldDriven.write_state.Goals as goal

@@ -1,5 +1,0 @@
-use Rattle.std.proofs.Common.{length}
-use Rattle.bb_memory.proofs.shared_pool.flags.Flags.+meet_rest.Given as goal
-
-abbrev pub decreases-meet_rest : goal.decreases-meet_rest
-decreases-meet_rest l = length l.rest.now.items

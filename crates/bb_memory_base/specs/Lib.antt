@@ -1,6 +1,0 @@
-pub mod BumpLogs
-pub mod BumpMachine
-pub mod BumpWorld
-pub mod PoolLogs
-pub mod PoolMachine
-pub mod PoolWorld

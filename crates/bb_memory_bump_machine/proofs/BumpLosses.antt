@@ -1,0 +1,269 @@
+-- How often a party loses while no clear comes.
+use Rattle.std.proofs.Common.{◌≡◌, ◌≢◌, ℕ, ◌+◌, ◌<◌, ◌≤◌, List, [], ◌∷◌, ◌++◌, refl, sym, ap, ◌∙◌, subst, arith, Bool, true}
+use Rattle.std.proofs.Common.{false, Some, None}
+use Rattle.std.specs.Prelude.{if◌then◌else◌, count_by}
+use Rattle.std.proofs.lemmas.List.Sums.{sum_by-cons}
+use Rattle.std.proofs.lemmas.Option.{same_Some}
+use Rattle.bb_memory_traits.specs.Chunk.{Region}
+use Rattle.bb_memory_bump_machine.specs.BumpMachine.{OngoingCall, BumpState, BumpMove, BumpScene, IsIdle, IsInCall, opening_state}
+use Rattle.bb_memory_bump_machine.specs.BumpMachine.{bump_step, bump_after, left_by, BumpStep, Exchange}
+use Rattle.bb_memory_bump_machine.specs.BumpLogs.{BumpEntry, BumpLog, entry_at, bump_history, stretch_after, outcome_after, entries_by}
+use Rattle.bb_memory_bump_machine.specs.BumpLogs.{is_by, HasNoClear, is_loss, is_beginning, IsLossAt, losses_in, calls_begun_in}
+use Rattle.bb_memory_traits.proofs.LiveLists.{StandsFor-within}
+use Rattle.bb_memory_bump_machine.proofs.BumpSteps.{test_same, StepView, step_view, sees, refuses_read, wins, loses, refuses_loss, loads}
+use Rattle.bb_memory_bump_machine.proofs.BumpSteps.{clears, passes, others_stay, written, each_call-set, idle_or_in_call, in_call_or_idle}
+use Rattle.bb_memory_bump_machine.proofs.BumpSteps.{one_call}
+use Rattle.bb_memory_bump_machine.proofs.BumpRuns.{bump_after-append, chunk_at-above}
+use Rattle.bb_memory_bump_machine.proofs.BumpStretches.{IsClear, not_clear, healthy_after, stretch_rises}
+
+-- WHAT A CALL HAS SEEN
+
+-- a party's call, if it is in one, has seen no more than the position
+abbrev pub SeesNoMore : BumpState → ℕ → Type 0
+SeesNoMore state party = (call : OngoingCall) → IsInCall state party call → call.seen ≤ state.position
+
+less_when_apart : (position old seen : ℕ) → position ≢ old → old ≡ seen → seen ≤ position → seen < position
+less_when_apart position old seen apart same below = grind (arith, apart)
+
+step_sees : (region : Region) (state : BumpState) (step : BumpStep) (move : BumpMove) (party : ℕ) →
+    StepView region state step move → ¬ IsClear step → SeesNoMore state party → SeesNoMore move.state party
+step_sees region state step move party (sees other layout idle asks fit) not below =
+    each_call-set (λ call. call.seen ≤ state.position) state.calls other party
+    (Some (record { layout = layout; seen = state.position })) below (omega arith)
+step_sees region state step move party (refuses_read other layout idle asks fit) not below =
+    each_call-set (λ call. call.seen ≤ state.position) state.calls other party None below tt
+step_sees region state step move party (wins other old at same) not below =
+    each_call-set (λ call. call.seen ≤ move.state.position) state.calls other party None
+    (λ call is. omega (arith, below call is, chunk_at-above region state.position old.layout)) tt
+step_sees region state step move party (loses other old at apart fit) not below =
+    each_call-set (λ call. call.seen ≤ state.position) state.calls other party
+    (Some (record { layout = old.layout; seen = state.position })) below (omega arith)
+step_sees region state step move party (refuses_loss other old at apart fit) not below =
+    each_call-set (λ call. call.seen ≤ state.position) state.calls other party None below tt
+step_sees region state step move party clears not below = absurd (not tt)
+step_sees region state step move party _ not below = below
+
+pub stretch_sees : (region : Region) (state : BumpState) (steps : List BumpStep) (party : ℕ) →
+    HasNoClear steps → SeesNoMore state party → SeesNoMore (bump_after region state steps) party
+stretch_sees region state [] party none below = below
+stretch_sees region state (step ∷ steps) party none below =
+    let parts = not_clear step steps none in
+    stretch_sees region (bump_step region state step).state steps party parts.1
+    (step_sees region state step (bump_step region state step) party (step_view region state step) parts.0 below)
+
+pub idle_sees : (state : BumpState) (party : ℕ) → IsIdle state party → SeesNoMore state party
+idle_sees state party idle = λ call is.
+    let both : Some None ≡ Some (Some call) = sym idle ∙ is in
+    let none : None ≡ Some call = same_Some None (Some call) both in absurd (cc)
+
+-- ONE STEP
+
+-- what a step that is no clear does to a party in a call, which loses so many exchanges at it
+data CallTurn (next : BumpState) (party : ℕ) (call : OngoingCall) (lost : ℕ) : Type 0 where
+  goes_on : (later : OngoingCall) → IsInCall next party later → lost + call.seen ≤ later.seen → CallTurn next party call lost
+  ends : IsIdle next party → lost + call.seen ≤ next.position → CallTurn next party call lost
+
+-- and to an idle party, which begins so many calls at it
+data IdleTurn (next : BumpState) (party : ℕ) (lost begun : ℕ) : Type 0 where
+  stays : IsIdle next party → lost ≡ 0 → IdleTurn next party lost begun
+  begins : (call : OngoingCall) → IsInCall next party call → lost ≡ 0 → begun ≡ 1 → IdleTurn next party lost begun
+
+-- what an entry adds to a count over a log
+abbrev weight : Bool → Bool → ℕ
+weight own counted = if own then (if counted then 1 else 0) else 0
+
+own_call_turn : (region : Region) (state : BumpState) (step : BumpStep) (move : BumpMove) (party : ℕ) (call : OngoingCall) →
+    StepView region state step move →
+    ¬ IsClear step → is_by party step ≡ true → IsInCall state party call → call.seen ≤ state.position →
+    CallTurn move.state party call (weight true (is_loss move.outcome))
+own_call_turn region state step move party call (wins other old at same) not by is below =
+    ends (written state other party (Some old) None by at) (omega (arith, chunk_at-above region state.position old.layout))
+own_call_turn region state step move party call (loses other old at apart fit) not by is below =
+    let own = ap (λ (c : OngoingCall). c.seen) (one_call state other party old call by at is) in
+    let less : call.seen < state.position = less_when_apart state.position old.seen call.seen apart own below in
+    goes_on (record { layout = old.layout; seen = state.position })
+    (written state other party (Some old) (Some (record { layout = old.layout; seen = state.position })) by at) (omega arith)
+own_call_turn region state step move party call (refuses_loss other old at apart fit) not by is below =
+    let own = ap (λ (c : OngoingCall). c.seen) (one_call state other party old call by at is) in
+    let less : call.seen < state.position = less_when_apart state.position old.seen call.seen apart own below in
+    ends (written state other party (Some old) None by at) (omega arith)
+own_call_turn region state step move party call clears not by is below = absurd (not tt)
+own_call_turn region state step move party call (passes other) not by is below = goes_on call is (omega arith)
+own_call_turn region state step move party call (sees other layout idle asks fit) not by is below =
+    absurd (idle_or_in_call state other party call by idle is)
+own_call_turn region state step move party call (refuses_read other layout idle asks fit) not by is below =
+    absurd (idle_or_in_call state other party call by idle is)
+own_call_turn region state step move party call (loads other idle) not by is below =
+    absurd (idle_or_in_call state other party call by idle is)
+
+call_turn : (region : Region) (state : BumpState) (step : BumpStep) (party : ℕ) (call : OngoingCall) (own : Bool) →
+    is_by party step ≡ own → ¬ IsClear step → IsInCall state party call → call.seen ≤ state.position →
+    CallTurn (bump_step region state step).state party call (weight own (is_loss (bump_step region state step).outcome))
+call_turn region state step party call true by not is below =
+    own_call_turn region state step (bump_step region state step) party call (step_view region state step) not by is below
+call_turn region state step party call false by not is below =
+    goes_on call (others_stay region state step (bump_step region state step) party (step_view region state step) by ∙ is)
+    (omega arith)
+
+own_idle_turn : (region : Region) (state : BumpState) (step : BumpStep) (move : BumpMove) (party : ℕ) →
+    StepView region state step move → ¬ IsClear step → is_by party step ≡ true → IsIdle state party →
+    IdleTurn move.state party (weight true (is_loss move.outcome)) (weight true (is_beginning move.outcome))
+own_idle_turn region state step move party (sees other layout idle asks fit) not by now =
+    let call : OngoingCall = record { layout = layout; seen = state.position } in
+    begins call (written state other party None (Some call) by idle) refl refl
+own_idle_turn region state step move party (refuses_read other layout idle asks fit) not by now =
+    stays (written state other party None None by idle) refl
+own_idle_turn region state step move party (wins other call at same) not by now =
+    absurd (in_call_or_idle state other party call by at now)
+own_idle_turn region state step move party (loses other call at apart fit) not by now =
+    absurd (in_call_or_idle state other party call by at now)
+own_idle_turn region state step move party (refuses_loss other call at apart fit) not by now =
+    absurd (in_call_or_idle state other party call by at now)
+own_idle_turn region state step move party (loads other idle) not by now = stays now refl
+own_idle_turn region state step move party clears not by now = absurd (not tt)
+own_idle_turn region state step move party (passes other) not by now = stays now refl
+
+idle_turn : (region : Region) (state : BumpState) (step : BumpStep) (party : ℕ) (own : Bool) → is_by party step ≡ own →
+    ¬ IsClear step → IsIdle state party →
+    IdleTurn (bump_step region state step).state party (weight own (is_loss (bump_step region state step).outcome))
+    (weight own (is_beginning (bump_step region state step).outcome))
+idle_turn region state step party true by not now =
+    own_idle_turn region state step (bump_step region state step) party (step_view region state step) not by now
+idle_turn region state step party false by not now =
+    stays (others_stay region state step (bump_step region state step) party (step_view region state step) by ∙ now) refl
+
+-- OVER A STRETCH
+
+losses_from : Region → BumpState → List BumpStep → ℕ → ℕ
+losses_from region state steps party = losses_in (entries_by party (bump_history region state steps))
+
+begun_from : Region → BumpState → List BumpStep → ℕ → ℕ
+begun_from region state steps party = calls_begun_in (entries_by party (bump_history region state steps))
+
+count_own : (own : Bool) (counted : BumpEntry → Bool) (entry : BumpEntry) (log : BumpLog) →
+    count_by counted (if own then entry ∷ log else log) ≡ weight own (counted entry) + count_by counted log
+count_own true counted entry log = sum_by-cons (λ entry. if counted entry then 1 else 0) entry log
+count_own false counted entry log = omega arith
+
+losses_from-cons : (region : Region) (state : BumpState) (step : BumpStep) (steps : List BumpStep) (party : ℕ) →
+    losses_from region state (step ∷ steps) party ≡
+    weight (is_by party step) (is_loss (bump_step region state step).outcome) + losses_from region
+    (bump_step region state step).state steps party
+unfolding losses_from
+losses_from-cons region state step steps party =
+    count_own (is_by party step) (λ entry. is_loss entry.outcome) (entry_at region state step)
+    (entries_by party (bump_history region (bump_step region state step).state steps))
+
+begun_from-cons : (region : Region) (state : BumpState) (step : BumpStep) (steps : List BumpStep) (party : ℕ) →
+    begun_from region state (step ∷ steps) party ≡
+    weight (is_by party step) (is_beginning (bump_step region state step).outcome) + begun_from region
+    (bump_step region state step).state steps party
+unfolding begun_from
+begun_from-cons region state step steps party =
+    count_own (is_by party step) (λ entry. is_beginning entry.outcome) (entry_at region state step)
+    (entries_by party (bump_history region (bump_step region state step).state steps))
+
+losses_from-nil : (region : Region) (state : BumpState) (party : ℕ) → losses_from region state [] party ≡ 0
+unfolding losses_from
+losses_from-nil region state party = refl
+
+-- an idle party that begins no call loses nothing
+idle_loses_nothing : (region : Region) (state : BumpState) (steps : List BumpStep) (party : ℕ) →
+    HasNoClear steps → IsIdle state party → begun_from region state steps party ≡ 0 → losses_from region state steps party ≡ 0
+idle_loses_nothing region state [] party none now few = losses_from-nil region state party
+idle_loses_nothing region state (step ∷ steps) party none now few =
+    let parts = not_clear step steps none in
+    let next = (bump_step region state step).state in
+    let count = losses_from-cons region state step steps party in
+    let begun = begun_from-cons region state step steps party in
+    elim (idle_turn region state step party (is_by party step) refl parts.0 now) as
+    (λ _. losses_from region state (step ∷ steps) party ≡ 0) [
+      | stays later lost ↦
+          let rest = idle_loses_nothing region next steps party parts.1 later (omega (arith, begun, few)) in
+          omega (arith, count, lost, rest)
+      | begins call is lost one ↦ absurd (omega (arith, begun, few, one))
+    ]
+
+-- a call that goes on loses at most what is above the position that it has seen
+call_loses_little : (region : Region) (state : BumpState) (steps : List BumpStep) (party : ℕ) (call : OngoingCall) →
+    HasNoClear steps → SeesNoMore state party → IsInCall state party call → begun_from region state steps party ≡ 0 →
+    losses_from region state steps party + call.seen ≤ (bump_after region state steps).position
+call_loses_little region state [] party call none below is few = omega (arith, losses_from-nil region state party, below call is)
+call_loses_little region state (step ∷ steps) party call none below is few =
+    let parts = not_clear step steps none in
+    let next = (bump_step region state step).state in
+    let count = losses_from-cons region state step steps party in
+    let begun = begun_from-cons region state step steps party in
+    let none_later : begun_from region next steps party ≡ 0 = omega (arith, begun, few) in
+    elim (call_turn region state step party call (is_by party step) refl parts.0 is (below call is))
+    as (λ _. losses_from region state (step ∷ steps) party + call.seen ≤ (bump_after region next steps).position) [
+      | goes_on later at more ↦
+          let rest = call_loses_little region next steps party later parts.1
+          (step_sees region state step (bump_step region state step) party (step_view region state step) parts.0 below)
+          at none_later in
+          omega (arith, count, more, rest)
+      | ends at more ↦
+          let rest = idle_loses_nothing region next steps party parts.1 at none_later in
+          omega (arith, count, more, rest, stretch_rises region next steps parts.1)
+    ]
+
+one_call_loses_little : (region : Region) (state : BumpState) (steps : List BumpStep) (party : ℕ) →
+    HasNoClear steps → IsIdle state party →
+    begun_from region state steps party ≤ 1 → losses_from region state steps party ≤ (bump_after region state steps).position
+one_call_loses_little region state [] party none now few = omega (arith, losses_from-nil region state party)
+one_call_loses_little region state (step ∷ steps) party none now few =
+    let parts = not_clear step steps none in
+    let next = (bump_step region state step).state in
+    let count = losses_from-cons region state step steps party in
+    let begun = begun_from-cons region state step steps party in
+    elim (idle_turn region state step party (is_by party step) refl parts.0 now)
+    as (λ _. losses_from region state (step ∷ steps) party ≤ (bump_after region next steps).position) [
+      | stays later lost ↦
+          let rest = one_call_loses_little region next steps party parts.1 later (omega (arith, begun, few)) in
+          omega (arith, count, lost, rest)
+      | begins call is lost one ↦
+          let below = step_sees region state step (bump_step region state step) party (step_view region state step) parts.0
+          (idle_sees state party now) in
+          let rest = call_loses_little region next steps party call parts.1 below is (omega (arith, begun, few, one)) in
+          omega (arith, count, lost, rest)
+    ]
+
+-- FROM THE OPENING
+
+pub losses_few : (scene : BumpScene) (before stretch : List BumpStep) (party : ℕ) → scene.opening ≤ scene.region.size →
+    IsIdle (left_by scene before) party → HasNoClear stretch →
+    calls_begun_in (entries_by party (stretch_after scene before stretch)) ≤ 1 →
+    losses_in (entries_by party (stretch_after scene before stretch)) ≤ scene.region.size
+unfolding losses_from begun_from
+losses_few scene before stretch party within idle none few =
+    let state = left_by scene before in
+    let little = one_call_loses_little scene.region state stretch party none idle few in
+    let healthy = healthy_after scene (before ++ stretch) within in
+    let same = ap (λ (state : BumpState). state.position) (bump_after-append scene.region (opening_state scene) before stretch) in
+    let within = StandsFor-within scene.region (left_by scene (before ++ stretch)).position healthy.live healthy.stands in
+    omega (arith, little, same, within)
+
+loss_raises : (region : Region) (state : BumpState) (move : BumpMove) (party position : ℕ) (call : OngoingCall) →
+    StepView region state (Exchange party) move → IsInCall state party call → call.seen ≤ state.position →
+    IsLossAt position move.outcome → call.seen < position
+loss_raises region state move party position call (wins other old at same) is below lost = absurd lost
+loss_raises region state move party position call (loses other old at apart fit) is below lost =
+    let own = ap (λ (c : OngoingCall). c.seen) (one_call state other other old call (test_same other other refl) at is) in
+    omega (arith, lost, less_when_apart state.position old.seen call.seen apart own below)
+loss_raises region state move party position call (refuses_loss other old at apart fit) is below lost =
+    let own = ap (λ (c : OngoingCall). c.seen) (one_call state other other old call (test_same other other refl) at is) in
+    omega (arith, lost, less_when_apart state.position old.seen call.seen apart own below)
+loss_raises region state move party position call (passes other) is below lost = absurd lost
+
+pub losses_raise : (scene : BumpScene) (before stretch : List BumpStep) (party position : ℕ) (call : OngoingCall) →
+    scene.opening ≤ scene.region.size →
+    IsIdle (left_by scene before) party → HasNoClear stretch → IsInCall (left_by scene (before ++ stretch)) party call →
+    IsLossAt position (outcome_after scene (before ++ stretch) (Exchange party)) → call.seen < position
+losses_raise scene before stretch party position call within idle none is lost =
+    let state = left_by scene (before ++ stretch) in
+    let later =
+    stretch_sees scene.region (left_by scene before) stretch party none (idle_sees (left_by scene before) party idle) in
+    let below = subst (λ (state : BumpState). SeesNoMore state party)
+    (sym (bump_after-append scene.region (opening_state scene) before stretch)) later in
+    loss_raises scene.region state (bump_step scene.region state (Exchange party)) party position call
+    (step_view scene.region state (Exchange party)) is (below call is) lost

@@ -1,0 +1,210 @@
+-- The calls that a list of steps decides are a run of the bump object.
+use Rattle.std.proofs.Common.{◌≡◌, ℕ, ◌+◌, ◌<◌, ◌≤◌, List, [], ◌∷◌, ◌++◌, append_assoc, refl, sym, ap, ◌∙◌, subst, arith, true}
+use Rattle.std.proofs.Common.{false, Option, Some, None, Ok, Err}
+use Rattle.std.proofs.lemmas.Bool.{leb-true, leb-false}
+use Rattle.bb_memory_traits.specs.Chunk.{Region, region_end, Chunk, chunk_end}
+use Rattle.bb_memory_traits.specs.declared.layout.Layout.{Layout}
+use Rattle.bb_memory_traits.specs.declared.allocator.AllocationError.TheVariants.{OutOfMemory}
+use Rattle.bb_memory_traits.specs.Object.{appended}
+use Rattle.bb_memory_traits.specs.BumpObject.{StandsFor, chunk_at_or_after, next_chunk, used_space}
+use Rattle.bb_memory_bump_machine.specs.BumpMachine.{OngoingCall, BumpState, BumpMove, BumpScene, AllFitting, chunk_at, fits}
+use Rattle.bb_memory_bump_machine.specs.BumpMachine.{position_behind, opening_state, bump_step, bump_after, left_by, BumpStep, Wins}
+use Rattle.bb_memory_bump_machine.specs.BumpMachine.{RefusedAtLoss}
+use Rattle.bb_memory_bump_machine.specs.BumpLogs.{BumpCall, Allocate, ClearAll, IsCallRun, left_by_calls, layout_in, asked_by, decided}
+use Rattle.bb_memory_bump_machine.specs.BumpLogs.{bump_calls, calls_of, calls_after, OpensWith, live_after}
+use Rattle.bb_memory_traits.proofs.LeastPlaces.{least_place-is}
+use Rattle.bb_memory_traits.proofs.LiveLists.{StandsFor-end, StandsFor-push, StandsFor-empty}
+use Rattle.bb_memory_lists.proofs.SliceGets.{slice_get-replicated}
+use Rattle.bb_memory_bump_machine.proofs.BumpSteps.{StepView, step_view, sees, refuses_read, wins, loses, refuses_loss, loads, clears}
+use Rattle.bb_memory_bump_machine.proofs.BumpSteps.{passes, all_fitting-step}
+
+-- CALLS ONE AFTER ANOTHER
+
+-- the calls are a run, and a bump at this position stands for the list that they leave
+pub record MakesCalls (region : Region) (live : List Chunk) (calls : List BumpCall) (position : ℕ) : Type 0 where
+  pub run : IsCallRun region live calls (left_by_calls live calls)
+  pub stands : StandsFor region position (left_by_calls live calls)
+
+pub left_by_calls-append : (live : List Chunk) (first then : List BumpCall) →
+    left_by_calls live (first ++ then) ≡ left_by_calls (left_by_calls live first) then
+left_by_calls-append live [] then = refl
+left_by_calls-append live (Allocate layout answer ∷ first) then = left_by_calls-append (appended live answer) first then
+left_by_calls-append live (ClearAll ∷ first) then = left_by_calls-append [] first then
+
+run-append : (region : Region) (live mid new : List Chunk) (first then : List BumpCall) → IsCallRun region live first mid →
+    IsCallRun region mid then new → IsCallRun region live (first ++ then) new
+run-append region live mid new [] then same more = subst (λ (old : List Chunk). IsCallRun region old then new) same more
+run-append region live mid new (call ∷ first) then (next, step, rest) more =
+    (next, step, run-append region next mid new first then rest more)
+
+calls-append : (region : Region) (live : List Chunk) (first then : List BumpCall) (between position : ℕ) →
+    MakesCalls region live first between → MakesCalls region (left_by_calls live first) then position →
+    MakesCalls region live (first ++ then) position
+calls-append region live first then between position one more =
+    let left = sym (left_by_calls-append live first then) in
+    record {
+      run = subst (IsCallRun region live (first ++ then)) left
+          (run-append region live (left_by_calls live first) (left_by_calls (left_by_calls live first) then)
+          first then one.run more.run);
+      stands = subst (StandsFor region position) left more.stands;
+    }
+
+-- ONE STEP
+
+-- what a layout gets at a position is what it gets on a list that the position stands for
+chunk_at-next : (region : Region) (position : ℕ) (live : List Chunk) (layout : Layout) → StandsFor region position live →
+    chunk_at region position layout ≡ next_chunk region live layout
+chunk_at-next region position live layout stands =
+    ap (λ v. chunk_at_or_after v layout) (StandsFor-end region position live stands)
+
+-- the chunk at a position begins at or after it
+pub chunk_at-above : (region : Region) (position : ℕ) (layout : Layout) →
+    region.start + position ≤ (chunk_at region position layout).place
+chunk_at-above region position layout = (least_place-is (region.start + position) layout.align layout.valid.positive).above
+
+-- one more chunk is won
+pub StandsFor-won : (region : Region) (position : ℕ) (live : List Chunk) (layout : Layout) → StandsFor region position live →
+    fits region position layout ≡ true →
+    StandsFor region (position_behind region (chunk_at region position layout)) (live ++ chunk_at region position layout ∷ [])
+StandsFor-won region position live layout stands fit =
+    let chunk = chunk_at region position layout in
+    StandsFor-push region position live chunk stands
+    (omega (arith, StandsFor-end region position live stands, chunk_at-above region position layout))
+    (leb-true (chunk_end chunk) (region_end region) fit)
+
+call_none : (region : Region) (live : List Chunk) (position : ℕ) → StandsFor region position live →
+    MakesCalls region live [] position
+call_none region live position stands = record { run = refl; stands = stands }
+
+call_refused : (region : Region) (live : List Chunk) (position : ℕ) (layout : Layout) → StandsFor region position live →
+    0 < layout.size → fits region position layout ≡ false →
+    MakesCalls region live (Allocate layout (Err OutOfMemory) ∷ []) position
+call_refused region live position layout stands asks fit =
+    let chunk = chunk_at region position layout in
+    let past = subst (λ (next : Chunk). region_end region < chunk_end next) (chunk_at-next region position live layout stands)
+    (leb-false (chunk_end chunk) (region_end region) fit) in
+    record { run = (live, record { answers = (asks, past); leaves = refl }, refl); stands = stands }
+
+call_won : (region : Region) (live : List Chunk) (position : ℕ) (layout : Layout) → StandsFor region position live →
+    0 < layout.size → fits region position layout ≡ true →
+    MakesCalls region live (Allocate layout (Ok (chunk_at region position layout)) ∷ [])
+    (position_behind region (chunk_at region position layout))
+call_won region live position layout stands asks fit =
+    let chunk = chunk_at region position layout in
+    let within = leb-true (chunk_end chunk) (region_end region) fit in
+    record {
+      run = (
+        live ++ chunk ∷ [],
+        record { answers = (asks, within, chunk_at-next region position live layout stands); leaves = refl },
+        refl,
+      );
+      stands = StandsFor-won region position live layout stands fit;
+    }
+
+-- a call that is under way fits at the position where that is what it has seen
+pub fits_when_seen : (region : Region) (state : BumpState) (call : OngoingCall) → state.position ≡ call.seen →
+    fits region call.seen call.layout ≡ true → fits region state.position call.layout ≡ true
+fits_when_seen region state call same fit = ap (λ position. fits region position call.layout) same ∙ fit
+
+step_makes : (region : Region) (state : BumpState) (live : List Chunk) (step : BumpStep) (move : BumpMove) →
+    StepView region state step move → StandsFor region state.position live → AllFitting region state →
+    MakesCalls region live (decided move.outcome (asked_by state step)) move.state.position
+step_makes region state live step move (sees party layout idle asks fit) stands fitting =
+    call_none region live state.position stands
+step_makes region state live step move (refuses_read party layout idle asks fit) stands fitting =
+    call_refused region live state.position layout stands asks fit
+step_makes region state live step move (wins party call is same) stands fitting =
+    let chunk = chunk_at region state.position call.layout in
+    let own = fitting party call is in
+    let now : fits region state.position call.layout ≡ true = fits_when_seen region state call same own.fitting in
+    let made = call_won region live state.position call.layout stands own.asks now in
+    let asked = sym (ap layout_in is) in
+    subst (λ (layout : Option Layout). MakesCalls region live (decided (Wins chunk) layout) (position_behind region chunk))
+    asked made
+step_makes region state live step move (loses party call is apart fit) stands fitting =
+    call_none region live state.position stands
+step_makes region state live step move (refuses_loss party call is apart fit) stands fitting =
+    let made = call_refused region live state.position call.layout stands (fitting party call is).asks fit in
+    let asked = sym (ap layout_in is) in
+    subst (λ (layout : Option Layout). MakesCalls region live (decided (RefusedAtLoss state.position) layout) state.position)
+    asked made
+step_makes region state live step move (loads party idle) stands fitting = call_none region live state.position stands
+step_makes region state live step move clears stands fitting = record { run = ([], refl, refl); stands = StandsFor-empty region }
+step_makes region state live step move (passes other) stands fitting = call_none region live state.position stands
+
+-- ANY LIST OF STEPS
+
+pub steps_make : (region : Region) (state : BumpState) (live : List Chunk) (steps : List BumpStep) →
+    StandsFor region state.position live →
+    AllFitting region state → MakesCalls region live (bump_calls region state steps) (bump_after region state steps).position
+steps_make region state live [] stands fitting = call_none region live state.position stands
+steps_make region state live (step ∷ steps) stands fitting =
+    let move = bump_step region state step in
+    let view = step_view region state step in
+    let calls = decided move.outcome (asked_by state step) in
+    let one = step_makes region state live step move view stands fitting in
+    let rest = steps_make region move.state (left_by_calls live calls) steps one.stands
+    (all_fitting-step region state step move view fitting) in
+    calls-append region live calls (bump_calls region move.state steps) move.state.position
+    (bump_after region move.state steps).position one rest
+
+pub bump_after-append : (region : Region) (state : BumpState) (first more : List BumpStep) →
+    bump_after region state (first ++ more) ≡ bump_after region (bump_after region state first) more
+bump_after-append region state [] more = refl
+bump_after-append region state (step ∷ first) more = bump_after-append region (bump_step region state step).state first more
+
+bump_calls-append : (region : Region) (state : BumpState) (first more : List BumpStep) → bump_calls region state (first ++ more)
+    ≡ bump_calls region state first ++ bump_calls region (bump_after region state first) more
+bump_calls-append region state [] more = refl
+bump_calls-append region state (step ∷ first) more =
+    let move = bump_step region state step in
+    let calls = decided move.outcome (asked_by state step) in
+    ap (λ (later : List BumpCall). calls ++ later) (bump_calls-append region move.state first more)
+    ∙ sym (append_assoc calls (bump_calls region move.state first) (bump_calls region (bump_after region move.state first) more))
+
+pub fitting_after : (region : Region) (state : BumpState) (steps : List BumpStep) → AllFitting region state →
+    AllFitting region (bump_after region state steps)
+fitting_after region state [] fitting = fitting
+fitting_after region state (step ∷ steps) fitting =
+    let move = bump_step region state step in
+    fitting_after region move.state steps (all_fitting-step region state step move (step_view region state step) fitting)
+
+-- at the opening nobody is in a call
+pub fitting_at_opening : (scene : BumpScene) → AllFitting scene.region (opening_state scene)
+fitting_at_opening scene party call is =
+    let none : None ≡ Some call = slice_get-replicated scene.parties party None (Some call) is in absurd (cc)
+
+-- FROM THE OPENING
+
+scene_makes : (scene : BumpScene) (live : List Chunk) (steps : List BumpStep) → OpensWith scene live →
+    MakesCalls scene.region live (calls_of scene steps) (left_by scene steps).position
+scene_makes scene live steps opens = steps_make scene.region (opening_state scene) live steps opens (fitting_at_opening scene)
+
+pub calls_run : (scene : BumpScene) (live : List Chunk) (steps : List BumpStep) → OpensWith scene live →
+    IsCallRun scene.region live (calls_of scene steps) (live_after scene live steps)
+calls_run scene live steps opens = (scene_makes scene live steps opens).run
+
+pub calls_beginning : (scene : BumpScene) (before stretch : List BumpStep) →
+    calls_of scene (before ++ stretch) ≡ calls_of scene before ++ calls_after scene before stretch
+calls_beginning scene before stretch = bump_calls-append scene.region (opening_state scene) before stretch
+
+-- the calls behind a beginning are a run from the list that the beginning leaves
+pub run_at_step : (scene : BumpScene) (live : List Chunk) (before stretch : List BumpStep) → OpensWith scene live →
+    IsCallRun scene.region (live_after scene live before) (calls_after scene before stretch)
+    (live_after scene live (before ++ stretch))
+run_at_step scene live before stretch opens =
+    let there = live_after scene live before in
+    let made = steps_make scene.region (left_by scene before) there stretch (scene_makes scene live before opens).stands
+    (fitting_after scene.region (opening_state scene) before (fitting_at_opening scene)) in
+    let same : left_by_calls there (calls_after scene before stretch) ≡ live_after scene live (before ++ stretch) =
+    sym (ap (left_by_calls live) (calls_beginning scene before stretch)
+    ∙ left_by_calls-append live (calls_of scene before) (calls_after scene before stretch)) in
+    subst (IsCallRun scene.region there (calls_after scene before stretch)) same made.run
+
+pub calls_stand : (scene : BumpScene) (live : List Chunk) (steps : List BumpStep) → OpensWith scene live →
+    StandsFor scene.region (left_by scene steps).position (live_after scene live steps)
+calls_stand scene live steps opens = (scene_makes scene live steps opens).stands
+
+pub position_used : (scene : BumpScene) (live : List Chunk) (steps : List BumpStep) → OpensWith scene live →
+    (left_by scene steps).position ≡ used_space scene.region (live_after scene live steps)
+position_used scene live steps opens = (calls_stand scene live steps opens).used

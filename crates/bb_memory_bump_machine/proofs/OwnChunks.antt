@@ -1,0 +1,107 @@
+-- What a party's log says of its own chunks.
+use Rattle.std.proofs.Common.{◌≡◌, ℕ, ◌≤◌, List, [], ◌∷◌, ◌++◌, subst, arith, Bool, true, false}
+use Rattle.std.specs.Prelude.{if◌then◌else◌}
+use Rattle.std.specs.List.{All, AllByRecursion}
+use Rattle.std.proofs.lemmas.List.Elements.{All-from_recursion, recursion_from_All}
+use Rattle.bb_memory_traits.specs.Chunk.{Chunk, IsInside, AreApart, IsSound}
+use Rattle.bb_memory_traits.specs.BumpObject.{end_of_last, IsInOrder, StandsFor}
+use Rattle.bb_memory_bump_machine.specs.BumpMachine.{BumpScene, left_by, opening_state, BumpStep}
+use Rattle.bb_memory_bump_machine.specs.BumpLogs.{OpensWith, live_after, BumpEntry, BumpLog, history_of, is_by, entries_by, won_at}
+use Rattle.bb_memory_bump_machine.specs.BumpLogs.{chunks_won, AllAllowed, Interleaving, LogsAgree}
+use Rattle.bb_memory_traits.proofs.LiveLists.{all_above, apart_from_order, end_of_last-above, in_order-append, in_order-front}
+use Rattle.bb_memory_traits.proofs.LiveLists.{in_order-rest, stands_for_some}
+use Rattle.bb_memory_bump_machine.proofs.BumpMeetings.{all_in_log, all_map, all_rest, apart_behind, in_order-below}
+use Rattle.bb_memory_bump_machine.proofs.BumpRuns.{fitting_at_opening}
+use Rattle.bb_memory_bump_machine.proofs.BumpStretches.{stretch_grows, stretch_stands}
+use Rattle.bb_memory_bump_machine.proofs.BumpAllowed.{no_clear_when_allowed}
+
+in_order_lower : (v w : ℕ) (xs : List Chunk) → v ≤ w → IsInOrder w xs → IsInOrder v xs
+in_order_lower v w [] le ordered = tt
+in_order_lower v w (x ∷ xs) le (here, rest) = (omega (arith, le, here), rest)
+
+own_entry : (v : ℕ) (own : Bool) (entry : BumpEntry) (log : BumpLog) → v ≤ end_of_last v (won_at entry.outcome) →
+    IsInOrder v (won_at entry.outcome) → IsInOrder (end_of_last v (won_at entry.outcome)) (chunks_won log) →
+    IsInOrder v (chunks_won (if own then entry ∷ log else log))
+own_entry v true entry log le front rest = in_order-append v (won_at entry.outcome) (chunks_won log) front rest
+own_entry v false entry log le front rest = in_order_lower v (end_of_last v (won_at entry.outcome)) (chunks_won log) le rest
+
+in_order_own : (v party : ℕ) (history : BumpLog) → IsInOrder v (chunks_won history) →
+    IsInOrder v (chunks_won (entries_by party history))
+in_order_own v party [] ordered = tt
+in_order_own v party (entry ∷ history) ordered =
+    let won = won_at entry.outcome in
+    let later = chunks_won history in
+    let front = in_order-front v won later ordered in
+    let rest = in_order-rest v won later ordered in
+    own_entry v (is_by party entry.step) entry (entries_by party history) (end_of_last-above v won front) front
+    (in_order_own (end_of_last v won) party history rest)
+
+-- allowed steps leave a position that stands for the chunks of before and those won since
+allowed_stands : (scene : BumpScene) (live : List Chunk) (steps : List BumpStep) → AllAllowed (history_of scene steps) →
+    OpensWith scene live → StandsFor scene.region (left_by scene steps).position (live ++ chunks_won (history_of scene steps))
+allowed_stands scene live steps allowed opens =
+    let none = no_clear_when_allowed scene.region (opening_state scene) steps allowed in
+    stretch_stands scene.region (opening_state scene) live steps none opens (fitting_at_opening scene)
+
+-- and the object's list is just these
+allowed_grow : (scene : BumpScene) (live : List Chunk) (steps : List BumpStep) → AllAllowed (history_of scene steps) →
+    live_after scene live steps ≡ live ++ chunks_won (history_of scene steps)
+allowed_grow scene live steps allowed =
+    stretch_grows scene.region (opening_state scene) live steps
+    (no_clear_when_allowed scene.region (opening_state scene) steps allowed)
+
+-- AN INTERLEAVING
+
+-- a party's own chunks are a sound list
+pub interleaved_own : (scene : BumpScene) (position party : ℕ) (log : BumpLog) → scene.opening ≤ scene.region.size →
+    Interleaving scene party log position → IsSound scene.region (chunks_won log)
+interleaved_own scene position party log within own =
+    let some = stands_for_some scene.region scene.opening within in
+    let history = history_of scene own.steps in
+    let stands = allowed_stands scene some.0 own.steps own.allowed some.1 in
+    let v = end_of_last scene.region.start some.0 in
+    let ordered = in_order-rest scene.region.start some.0 (chunks_won history) stands.in_order in
+    let mine = in_order_own v party history ordered in
+    let every = recursion_from_All (IsInside scene.region) (some.0 ++ chunks_won history) stands.sound.inside in
+    let inside =
+    all_in_log (IsInside scene.region) party history (all_rest (IsInside scene.region) some.0 (chunks_won history) every) in
+    subst (λ (l : BumpLog). IsSound scene.region (chunks_won l)) own.logged record {
+      inside = All-from_recursion (IsInside scene.region) (chunks_won (entries_by party history)) inside;
+      apart = apart_from_order v (chunks_won (entries_by party history)) mine;
+    }
+
+-- they are apart from all that was given before the opening
+pub interleaved_older : (scene : BumpScene) (position party : ℕ) (log : BumpLog) (live : List Chunk) → OpensWith scene live →
+    Interleaving scene party log position → All (λ older. All (AreApart older) (chunks_won log)) live
+interleaved_older scene position party log live opens own =
+    let history = history_of scene own.steps in
+    let stands = allowed_stands scene live own.steps own.allowed opens in
+    let v = end_of_last scene.region.start live in
+    let ordered = in_order-rest scene.region.start live (chunks_won history) stands.in_order in
+    let above = all_above v v (chunks_won history) (omega arith) ordered in
+    let below = in_order-below scene.region.start live opens.in_order in
+    let mine = subst (λ (l : BumpLog). AllByRecursion (λ y. v ≤ y.place) (chunks_won l)) own.logged
+    (all_in_log (λ y. v ≤ y.place) party history above) in
+    let won = chunks_won log in
+    All-from_recursion (λ older. All (AreApart older) won) live
+    (all_map (λ older. AllByRecursion (AreApart older) won) (λ older. All (AreApart older) won) live
+    (λ older. All-from_recursion (AreApart older) won) (apart_behind v live won below mine))
+
+-- the object's list is the one before with the chunks won behind it
+pub interleaved_since : (scene : BumpScene) (position party : ℕ) (log : BumpLog) (live : List Chunk)
+    (own : Interleaving scene party log position) →
+    live_after scene live own.steps ≡ live ++ chunks_won (history_of scene own.steps)
+interleaved_since scene position party log live own = allowed_grow scene live own.steps own.allowed
+
+-- LOGS THAT AGREE
+
+pub agreed_since : (scene : BumpScene) (position : ℕ) (logs : List BumpLog) (live : List Chunk)
+    (agree : LogsAgree scene position logs) →
+    live_after scene live agree.steps ≡ live ++ chunks_won (history_of scene agree.steps)
+agreed_since scene position logs live agree = allowed_grow scene live agree.steps agree.allowed
+
+pub agreed_stands : (scene : BumpScene) (position : ℕ) (logs : List BumpLog) (live : List Chunk) → OpensWith scene live →
+    (agree : LogsAgree scene position logs) → StandsFor scene.region position (live ++ chunks_won (history_of scene agree.steps))
+agreed_stands scene position logs live opens agree =
+    subst (λ (n : ℕ). StandsFor scene.region n (live ++ chunks_won (history_of scene agree.steps))) agree.leaves
+    (allowed_stands scene live agree.steps agree.allowed opens)

@@ -1,0 +1,19 @@
+use Rattle.std.proofs.Common.{ap, sym, ◌∙◌, subst, slice_get, IsSome}
+use Rattle.bb_memory_bump_machine.specs.BumpMachine.{AllFitting}
+use Rattle.bb_memory_bump_machine.specs.BumpWorld.{BumpWorld}
+use Rattle.bb_memory_lists.proofs.SliceGets.{slice_get-some}
+use Rattle.bb_memory_bump_machine.proofs.steps.bump_world.BumpWorld.call_of.Goals as goal
+
+pub returns-clause-value : goal.returns-clause-value
+returns-clause-value c =
+    c.call_at.ensures ∙ ap (λ calls. slice_get calls c.args.party) c.deref.ensures.value
+    ∙ ap (λ (world : BumpWorld). slice_get world.state.calls c.args.party) c.self.view_is
+
+pub returns-clause-fitting : goal.returns-clause-fitting
+returns-clause-fitting c call is =
+    let fitting = subst (λ (world : BumpWorld). AllFitting world.region world.state) c.self.view_is c.self.invariant.fitting in
+    fitting c.args.party call (sym (returns-clause-value c) ∙ is)
+
+pub returns-clause-within : goal.returns-clause-within
+returns-clause-within c some =
+    slice_get-some c.args.self.now.state.calls c.args.party (subst IsSome (returns-clause-value c) some)

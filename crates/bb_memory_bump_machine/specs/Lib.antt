@@ -1,0 +1,3 @@
+pub mod BumpLogs
+pub mod BumpMachine
+pub mod BumpWorld

@@ -1,0 +1,137 @@
+//! The bump machine's steps, and what holds of every list of them.
+ghost use Rattle.std.specs.Prelude.{◌≡◌, ◌+◌, ◌≤◌, ◌<◌, ◌++◌, ℕ, List, All};
+ghost use Rattle.bb_memory_traits.specs.Chunk.{Chunk, IsSound};
+ghost use Rattle.bb_memory_traits.specs.declared.layout.Layout.{Layout};
+ghost use Rattle.bb_memory_traits.specs.BumpObject.{StandsFor, used_space};
+ghost use Rattle.bb_memory_bump_machine.specs.BumpMachine.{BumpScene, OngoingCall, IsIdle, IsInCall, left_by};
+ghost use Rattle.bb_memory_bump_machine.specs.BumpMachine.{BumpStep, Read, Exchange, Load, Loaded};
+ghost use Rattle.bb_memory_bump_machine.specs.BumpLogs.{HasNoClear, IsLossAt, chunks_won, calls_begun_in, entries_by};
+ghost use Rattle.bb_memory_bump_machine.specs.BumpLogs.{history_of, losses_in, outcome_after, stretch_after};
+ghost use Rattle.bb_memory_bump_machine.specs.BumpLogs.{IsCallRun, OpensWith, calls_after, calls_of, live_after};
+
+use bb_memory_traits::layout::{Chunk, Layout};
+
+/// One atomic step over the bump's position. A party goes by its number, from 0.
+#[derive(Debug, Clone, Copy, PartialEq, Eq)]
+pub enum BumpStep {
+    /// An idle party begins a call: it reads the position. It isn't allowed with size 0.
+    Read { party: u32, layout: Layout },
+    /// A party in a call puts the end of its chunk in the position's place, where that is still what it has seen.
+    Exchange { party: u32 },
+    /// An idle party reads how much is used.
+    Load { party: u32 },
+    /// All chunks are given back at once, by nobody in particular.
+    Clear,
+}
+
+/// The outcome of a step: what the step found, and what it did. The number is the position that it found.
+#[derive(Debug, Clone, Copy, PartialEq, Eq)]
+pub enum BumpOutcome {
+    /// A read at which the layout fits.
+    Sees(usize),
+    /// A read at which the layout doesn't fit. The call is refused, and the party is idle again.
+    RefusedAtRead(usize),
+    /// An exchange that found what the party had seen. The chunk is the party's, which is idle again.
+    Wins(Chunk),
+    /// An exchange that found another position, at which the layout fits. The party has now seen that one.
+    Loses(usize),
+    /// An exchange that found another position, at which the layout doesn't fit. The call is refused, and the party is
+    /// idle again.
+    RefusedAtLoss(usize),
+    /// A load, which found how much is used.
+    Loaded(usize),
+    /// A clear. The position is now 0.
+    Cleared,
+    /// The step isn't allowed, or there is no such party. Nothing changed.
+    Passed,
+}
+
+/// Says what holds of every list of steps, by any number of parties, from whichever position the machine opens at, with clears at
+/// any place. It does nothing: its contract is the theorem.
+///
+/// A scene is where a machine begins: its region, its opening and its parties. What holds of every list of steps holds of
+/// each beginning of one, and so at every step. A stretch is a list of steps that comes after a beginning. A step decides
+/// a call where it wins, where it refuses at a read or a loss, and where it clears. Nothing is said of who wins, and
+/// nothing of time.
+pub fn bump_theorem()
+    // Each opening up to the region's size stands for some live list.
+    ensures some_list { (scene : BumpScene) → scene.opening ≤ scene.region.size
+        → (live : List Chunk) × OpensWith scene live }
+
+    // The calls at their deciding steps are a run of the bump object, from each live list that the
+    // opening stands for.
+    ensures run { (scene : BumpScene) (live : List Chunk) (steps : List BumpStep)
+        → OpensWith scene live
+        → IsCallRun scene.region live (calls_of scene steps) (live_after scene live steps) }
+
+    // The calls of a beginning come first, so that what is said of every list of steps is said of every
+    // step of one run.
+    ensures beginning { (scene : BumpScene) (before stretch : List BumpStep)
+        → calls_of scene (before ++ stretch)
+        ≡ calls_of scene before ++ calls_after scene before stretch }
+
+    // Such a run has a list at every step: those of the beginning lead to it, and the others are a run
+    // from it.
+    ensures every_step { (scene : BumpScene) (live : List Chunk) (before stretch : List BumpStep)
+        → OpensWith scene live
+        → IsCallRun scene.region (live_after scene live before) (calls_after scene before stretch)
+        (live_after scene live (before ++ stretch)) }
+
+    // At every step a bump at the machine's position stands for the object's list there.
+    ensures stands { (scene : BumpScene) (live : List Chunk) (steps : List BumpStep)
+        → OpensWith scene live
+        → StandsFor scene.region (left_by scene steps).position (live_after scene live steps) }
+
+    // At every step the position is how much that list uses.
+    ensures position { (scene : BumpScene) (live : List Chunk) (steps : List BumpStep)
+        → OpensWith scene live
+        → (left_by scene steps).position ≡ used_space scene.region (live_after scene live steps) }
+
+    // That is what a load finds.
+    ensures load { (scene : BumpScene) (live : List Chunk) (steps : List BumpStep) (party : ℕ)
+        → OpensWith scene live → IsIdle (left_by scene steps) party
+        → outcome_after scene steps (Load party)
+        ≡ Loaded (used_space scene.region (live_after scene live steps)) }
+
+    // At every step the position is at most the size, and so is what a call has seen.
+    ensures within { (scene : BumpScene) (steps : List BumpStep)
+        → scene.opening ≤ scene.region.size
+        → (left_by scene steps).position ≤ scene.region.size }
+    ensures seen_within { (scene : BumpScene) (steps : List BumpStep)
+        (party : ℕ) (call : OngoingCall)
+        → scene.opening ≤ scene.region.size → IsInCall (left_by scene steps) party call
+        → call.seen ≤ scene.region.size }
+
+    // At every step the list is sound: its chunks lie inside the region, and no two overlap.
+    ensures sound { (scene : BumpScene) (live : List Chunk) (steps : List BumpStep)
+        → OpensWith scene live
+        → IsSound scene.region (live_after scene live steps) }
+
+    // While no clear comes, the chunks that are won are a sound list.
+    ensures won { (scene : BumpScene) (before stretch : List BumpStep)
+        → scene.opening ≤ scene.region.size → HasNoClear stretch
+        → IsSound scene.region (chunks_won (stretch_after scene before stretch)) }
+
+    // So the object's list is the one before with the chunks won behind it.
+    ensures since { (scene : BumpScene) (live : List Chunk) (steps : List BumpStep)
+        → HasNoClear steps
+        → live_after scene live steps ≡ live ++ chunks_won (history_of scene steps) }
+
+    // Each loss raises what a call has seen: where no clear came since the call began, an exchange
+    // that is lost finds a greater position than the call has seen.
+    ensures raised { (scene : BumpScene) (before stretch : List BumpStep)
+        (party position : ℕ) (call : OngoingCall)
+        → scene.opening ≤ scene.region.size
+        → IsIdle (left_by scene before) party → HasNoClear stretch
+        → IsInCall (left_by scene (before ++ stretch)) party call
+        → IsLossAt position (outcome_after scene (before ++ stretch) (Exchange party))
+        → call.seen < position }
+
+    // A call with no clear inside it loses at most as many exchanges as the region has bytes: so many
+    // does a party lose that is idle, and begins at most one call, while no clear comes.
+    ensures losses { (scene : BumpScene) (before stretch : List BumpStep) (party : ℕ)
+        → scene.opening ≤ scene.region.size
+        → IsIdle (left_by scene before) party → HasNoClear stretch
+        → calls_begun_in (entries_by party (stretch_after scene before stretch)) ≤ 1
+        → losses_in (entries_by party (stretch_after scene before stretch)) ≤ scene.region.size }
+{}

@@ -1,0 +1,256 @@
+//! A bump machine that can be run: a region, a position, and of each party the call that it is in.
+ghost use Rattle.std.specs.Prelude.{◌≡◌, ◌<◌, IfOk, IsSome, Some, slice_get, length};
+ghost use Rattle.bb_memory_traits.specs.Chunk.{Region, IsRegion};
+ghost use Rattle.bb_memory_bump_machine.specs.BumpMachine.{OngoingCall, IsFitting, PartyMove, ending, seeing, read_move, exchange_move};
+ghost use Rattle.bb_memory_bump_machine.specs.BumpMachine.{read, exchange, load};
+ghost use Rattle.bb_memory_bump_machine.specs.BumpWorld.{IsMove, IsPositionIn, Replays, Steps, in_state, opened};
+
+use super::{BumpOutcome, BumpStep};
+use bb_memory_traits::layout::{Chunk, Layout};
+use std::alloc::{AllocError, Global};
+use std::marker::Model;
+
+/// A call that a party is in: what it asked for, and the position that it has seen.
+#[derive(Debug, Clone, Copy, PartialEq, Eq)]
+struct OngoingCall {
+    layout: Layout,
+    seen: usize,
+}
+
+impl Model for OngoingCall {
+    ghost use Rattle.bb_memory_bump_machine.specs.BumpMachine.{OngoingCall};
+
+    ghost Value = { OngoingCall };
+
+    ghost view = { λ call. record { layout = call.layout; seen = call.seen } };
+
+    ghost inverse = { λ call. record { layout = call.layout; seen = call.seen } };
+}
+
+/// The answer of a party's step, and the position and the party's call after it.
+#[derive(Clone, Copy)]
+struct PartyMove {
+    outcome: BumpOutcome,
+    position: usize,
+    call: Option<OngoingCall>,
+}
+
+impl Model for PartyMove {
+    ghost use Rattle.bb_memory_bump_machine.specs.BumpMachine.{PartyMove};
+
+    ghost Value = { PartyMove };
+
+    ghost view = { λ m. record { outcome = m.outcome; position = m.position; call = m.call } };
+
+    ghost inverse = { λ m. record { outcome = m.outcome; position = m.position; call = m.call } };
+}
+
+impl PartyMove {
+    /// The party is idle afterwards.
+    fn ending(outcome: BumpOutcome, position: usize) -> PartyMove
+        ensures { result ≡ ending outcome position }
+    {
+        PartyMove {
+            outcome,
+            position,
+            call: None,
+        }
+    }
+
+    /// The party is in a call for the layout afterwards, and has seen this position.
+    fn seeing(outcome: BumpOutcome, position: usize, layout: Layout) -> PartyMove
+        ensures { result ≡ seeing outcome position layout }
+    {
+        let seen = position;
+        PartyMove {
+            outcome,
+            position,
+            call: Some(OngoingCall { layout, seen }),
+        }
+    }
+
+    /// A read that finds this position.
+    fn of_read(start: usize, size: usize, position: usize, layout: Layout) -> PartyMove
+        requires position { IsPositionIn (record { start = start; size = size }) position }
+        requires asks { 0 < layout.size }
+        ensures { let region : Region = record { start = start; size = size } in
+            IsMove region (read_move region position layout) result }
+    {
+        match Chunk::at_or_after(start + position, layout, start + size) {
+            Some(_) => PartyMove::seeing(BumpOutcome::Sees(position), position, layout),
+            None => PartyMove::ending(BumpOutcome::RefusedAtRead(position), position),
+        }
+    }
+
+    /// An exchange that finds this position, by a party in this call.
+    fn of_exchange(start: usize, size: usize, position: usize, call: OngoingCall) -> PartyMove
+        requires position { IsPositionIn (record { start = start; size = size }) position }
+        requires call { IsFitting (record { start = start; size = size }) call }
+        ensures { let region : Region = record { start = start; size = size } in
+            IsMove region (exchange_move region position call) result }
+    {
+        match Chunk::at_or_after(start + position, call.layout, start + size) {
+            Some(chunk) if position == call.seen => {
+                PartyMove::ending(BumpOutcome::Wins(chunk), chunk.end() - start)
+            }
+            Some(_) => PartyMove::seeing(BumpOutcome::Loses(position), position, call.layout),
+            None => PartyMove::ending(BumpOutcome::RefusedAtLoss(position), position),
+        }
+    }
+}
+
+/// The bump machine over a region, with its parties. No step takes memory.
+///
+/// ```
+/// let mut world = BumpWorld::new(alloc, 4096, 64, 2)?;
+/// let layout = Layout::from_size_align(40, 1).unwrap();
+/// let seen = world.step(BumpStep::Read { party: 0, layout });
+/// prove!(seen == BumpOutcome::Sees(0));
+/// world.step(BumpStep::Exchange { party: 0 });
+/// let used = world.used_space();
+/// prove!(used == 40);
+/// ```
+#[derive(Drop)]
+pub struct BumpWorld {
+    alloc: Global,
+    start: usize,
+    size: usize,
+    position: usize,
+    calls: Vec<Option<OngoingCall>>,
+}
+
+impl Model for BumpWorld {
+    ghost use Rattle.bb_memory_bump_machine.specs.BumpWorld.{BumpWorld, IsBumpWorld, world_of};
+
+    ghost Value = { BumpWorld };
+
+    ghost view = { λ w. world_of w.start w.size w.position w.calls.items };
+
+    ghost invariant = { λ w. IsBumpWorld (world_of w.start w.size w.position w.calls.items) };
+}
+
+impl BumpWorld {
+    /// The machine over the region of `size` bytes at `start`, at position 0, with that many parties, all idle. The start
+    /// has to be greater than 0, and start plus size at most `usize::MAX`. It is refused only where memory was.
+    pub fn new(
+        alloc: Global,
+        start: usize,
+        size: usize,
+        parties: u32,
+    ) -> Result<BumpWorld, AllocError>
+        requires region { IsRegion (record { start = start; size = size }) }
+        ensures opened { let region : Region = record { start = start; size = size } in
+            IfOk result (λ world. world ≡ opened region parties) }
+    {
+        let calls = vec![in alloc; None; parties as usize]?;
+        Ok(BumpWorld {
+            alloc,
+            start,
+            size,
+            position: 0,
+            calls,
+        })
+    }
+
+    /// Takes one atomic step, and answers what it found. It takes no memory.
+    pub fn step(&mut self, step: BumpStep) -> BumpOutcome
+        ensures { Steps self.old step result self.new }
+    {
+        match step {
+            BumpStep::Read { party, layout } => self.read(party as usize, layout),
+            BumpStep::Exchange { party } => self.exchange(party as usize),
+            BumpStep::Load { party } => self.load(party as usize),
+            BumpStep::Clear => {
+                self.position = 0;
+                BumpOutcome::Cleared
+            }
+        }
+    }
+
+    /// Takes the steps in order, and answers what each found. The memory for the answers is reserved first: where it is
+    /// refused, no step is taken.
+    pub fn replay(&mut self, steps: &[BumpStep]) -> Result<Vec<BumpOutcome>, AllocError>
+        ensures { Replays self.old steps.now result self.new }
+    {
+        let mut outcomes = Vec::with_capacity(self.alloc, steps.len())?;
+        for step in steps {
+            let outcome = self.step(*step);
+            outcomes.push_reserved(outcome);
+        }
+        Ok(outcomes)
+    }
+
+    /// The position: how many bytes are used, from the region's start to the end of the last chunk, padding included.
+    pub fn used_space(&self) -> usize
+        ensures { result ≡ self.now.state.position }
+    {
+        self.position
+    }
+
+    /// The call of a party, as [`call_at`] has it.
+    fn call_of(&self, party: usize) -> Option<Option<OngoingCall>>
+        ensures value { result ≡ slice_get self.now.state.calls party }
+        ensures fitting { (call : OngoingCall) → result ≡ Some (Some call)
+            → IsFitting self.now.region call }
+        ensures within { IsSome result → party < length self.now.state.calls }
+    {
+        call_at(&self.calls, party)
+    }
+
+    /// An idle party reads the position.
+    fn read(&mut self, party: usize, layout: Layout) -> BumpOutcome
+        ensures outcome { let now = slice_get self.old.state.calls party in
+            result ≡ (read self.old.region self.old.state party layout now).outcome }
+        ensures state { let now = slice_get self.old.state.calls party in
+            self.new
+            ≡ in_state self.old (read self.old.region self.old.state party layout now).state }
+    {
+        match self.call_of(party) {
+            Some(None) => {
+                if layout.size() == 0 {
+                    return BumpOutcome::Passed;
+                }
+                let turn = PartyMove::of_read(self.start, self.size, self.position, layout);
+                self.calls[party] = turn.call;
+                turn.outcome
+            }
+            Some(Some(_)) | None => BumpOutcome::Passed,
+        }
+    }
+
+    /// A party in a call puts the end of its chunk in the position's place.
+    fn exchange(&mut self, party: usize) -> BumpOutcome
+        ensures outcome { let now = slice_get self.old.state.calls party in
+            result ≡ (exchange self.old.region self.old.state party now).outcome }
+        ensures state { let now = slice_get self.old.state.calls party in
+            self.new ≡ in_state self.old (exchange self.old.region self.old.state party now).state }
+    {
+        match self.call_of(party) {
+            Some(Some(call)) => {
+                let turn = PartyMove::of_exchange(self.start, self.size, self.position, call);
+                self.position = turn.position;
+                self.calls[party] = turn.call;
+                turn.outcome
+            }
+            Some(None) | None => BumpOutcome::Passed,
+        }
+    }
+
+    /// An idle party reads how much is used.
+    fn load(&self, party: usize) -> BumpOutcome
+        ensures { let now = slice_get self.now.state.calls party in
+            result ≡ (load self.now.state now).outcome }
+    {
+        match self.call_of(party) {
+            Some(None) => BumpOutcome::Loaded(self.position),
+            Some(Some(_)) | None => BumpOutcome::Passed,
+        }
+    }
+}
+
+/// The call of a party, if it is in one, where there is such a party.
+fn call_at(calls: &[Option<OngoingCall>], party: usize) -> Option<Option<OngoingCall>>
+    ensures { result ≡ slice_get calls.now party }
+{
+    calls.get(party).copied()
+}

@@ -1,0 +1,58 @@
+-- Where the buckets of a region are, and which regions can be cut into buckets.
+use Rattle.std.specs.Prelude.{◌≡◌, ℕ, ◌-◌, ◌+◌, ◌≤◌, ◌<◌, ◌^◌, ◌⊎◌, Option, IfSome, IfNone}
+use Rattle.bb_memory_traits.specs.Chunk.{Region, IsRegion, first_place}
+use Rattle.bb_memory_traits.specs.PoolObject.{PoolGeometry, IsPoolGeometry, IsCut, at_most, bucket_place, stride}
+use Rattle.bb_memory_traits.specs.declared.layout.Layout.{Layout}
+
+-- CUTS OF A REGION
+
+-- the region may be cut into buckets of this layout: the rounded start is a number of the machine, a bucket has a byte, and
+-- there are fewer than u32::MAX
+pub record MayBeCut (region : Region) (bucket : Layout) : Type 0 where
+  pub is_region : IsRegion region
+  pub rounded : first_place region bucket < 2 ^ 64
+  pub filled : 0 < bucket.size
+  pub few : (geometry : PoolGeometry) → IsCut region bucket geometry → geometry.buckets < 2 ^ 32 - 1
+
+-- the buckets are the first of those that the region has room for, at most so many
+pub record IsCutAtMost (most : ℕ) (region : Region) (bucket : Layout) (geometry : PoolGeometry) : Type 0 where
+  pub whole : PoolGeometry
+  pub cut : IsCut region bucket whole
+  pub first : geometry ≡ at_most most whole
+
+-- WHERE BUCKETS ARE
+
+-- to divide by the number is to shift to the right by this, if there is a shift
+abbrev pub Shifts : ℕ → Option ℕ → Type 0
+Shifts divisor shift = IfSome shift (λ k. (k < 64) × (divisor ≡ 2 ^ k))
+
+-- the first bucket's place, the stride and its shift are these, and the buckets lie in a region
+pub record IsMeasured (geometry : PoolGeometry) (first step : ℕ) (shift : Option ℕ)
+    : Type 0 where
+  pub is_region : IsRegion geometry.region
+  pub is_geometry : IsPoolGeometry geometry
+  pub begins : first ≡ first_place geometry.region geometry.bucket
+  pub strides : step ≡ stride geometry.bucket
+  pub shifts : Shifts step shift
+
+-- the place is that of a bucket
+abbrev pub IsPlaceOfBucket : PoolGeometry → ℕ → Type 0
+IsPlaceOfBucket geometry place =
+    (i : ℕ) × (i < geometry.buckets) × (place ≡ bucket_place geometry i)
+
+-- the number of the bucket that begins at the place, or none where no bucket does
+pub record TellsNumber (geometry : PoolGeometry) (place : ℕ) (told : Option ℕ) : Type 0 where
+  pub below : IfSome told (λ number. number < geometry.buckets)
+  pub there : IfSome told (λ number. place ≡ bucket_place geometry number)
+  pub one : IfSome told (λ number. (other : ℕ) → place ≡ bucket_place geometry other → other ≡ number)
+  pub none : IfNone told (¬ IsPlaceOfBucket geometry place)
+
+-- the place at which the bucket of this number begins, or none where there is no such bucket
+pub record TellsPlace (geometry : PoolGeometry) (number : ℕ) (told : Option ℕ) : Type 0 where
+  pub below : IfSome told (λ place. number < geometry.buckets)
+  pub there : IfSome told (λ place. place ≡ bucket_place geometry number)
+  pub none : IfNone told (geometry.buckets ≤ number)
+
+-- two places, of which one is at least a stride behind the other
+abbrev pub AreAStrideApart : Layout → ℕ → ℕ → Type 0
+AreAStrideApart bucket one other = (one + stride bucket ≤ other) ⊎ (other + stride bucket ≤ one)

@@ -1,0 +1,8 @@
+mod AsideNumbers
+mod Listings
+mod LowestBits
+mod NumberFlags
+pub mod NumberSets
+mod NumberWords
+mod OpenWords
+pub mod Tallies

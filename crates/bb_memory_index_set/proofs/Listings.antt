@@ -1,0 +1,129 @@
+-- A listing of the words that aren't full, after one is full or open again.
+use Rattle.std.proofs.Common.{◌≡◌, ◌≢◌, ℕ, ◌+◌, ◌-◌, ◌^◌, ◌<◌, ◌≤◌, eqb, List, length, map, get_or, if◌then◌else◌, sym, ◌∙◌, ap}
+use Rattle.std.proofs.Common.{inl, inr, arith, eq-eqb}
+use Rattle.std.specs.List.{range_with_len}
+use Rattle.std.proofs.lemmas.Bool.{cases_eq, eqb-true, ne_eqb}
+use Rattle.std.proofs.lemmas.List.{get_or_default}
+use Rattle.std.proofs.lemmas.List.FromFn.{length-map-range_with_len, get_or-map-range_with_len}
+use Rattle.std.proofs.lemmas.Map.Keys.{IsDistinct-from_apart}
+use Rattle.std.proofs.lemmas.Map.Steps.{length-le_from_distinct_below}
+use Rattle.std.proofs.lemmas.Map.Views.{Contains-from_any}
+use Rattle.bb_memory_index_set.specs.IndexSets.{IsListing, PutsAt}
+
+-- numbers below n, each once, are at most n
+few : (xs : List ℕ) (n : ℕ) → ((k : ℕ) → k < length xs → get_or xs k 0 < n) →
+    ((i k : ℕ) → i < k → k < length xs → get_or xs i 0 ≢ get_or xs k 0) → length xs ≤ n
+few xs n below once =
+    length-le_from_distinct_below xs n
+    (IsDistinct-from_apart eqb xs (λ i k d before h.
+    ne_eqb (get_or xs i d) (get_or xs k d)
+    (λ same. once i k before h
+    (get_or_default xs i 0 d (omega arith) ∙ same ∙ get_or_default xs k d 0 h))))
+    (λ q any.
+    let at = Contains-from_any eqb-true q xs any in
+    let value : get_or xs at.0 0 ≡ q = get_or_default xs at.0 0 q at.1 ∙ at.2 in
+    omega (arith, below at.0 at.1, value))
+
+-- so many numbers below n, each once, are fewer than n where another number below n isn't one of them
+pub few_more : (named : ℕ → ℕ) (count n at : ℕ) → ((k : ℕ) → k < count → named k < n) →
+    ((i k : ℕ) → i < k → k < count → named i ≢ named k) → at < n → ((k : ℕ) → k < count → named k ≢ at) → count < n
+few_more named count n at below once within apart =
+    let more : ℕ → ℕ = λ k. if eqb k count then at else named k in
+    let xs = map more (range_with_len 0 (count + 1)) in
+    let len : length xs ≡ count + 1 = length-map-range_with_len more 0 (count + 1) in
+    let read : (k : ℕ) → k < count + 1 → get_or xs k 0 ≡ more k =
+    λ k h. get_or-map-range_with_len more 0 (count + 1) k k 0 h (omega arith) in
+    let last : (k : ℕ) → k ≡ count → get_or xs k 0 ≡ at =
+    λ k e. read k (omega (arith, e)) ∙ ap (λ b. if b then at else named k) (eq-eqb k count e) in
+    let low : (k : ℕ) → k < count → get_or xs k 0 ≡ named k =
+    λ k h. read k (omega (arith, h)) ∙ ap (λ b. if b then at else named k) (ne_eqb k count (omega (arith, h))) in
+    let fits : length xs ≤ n = few xs n
+    (λ k h. elim (cases_eq k count) [
+      | inl e ↦ rw (last k e) within
+      | inr other ↦ rw (low k (omega (arith, h, len, other))) (below k (omega (arith, h, len, other)))
+    ])
+    (λ i k before h. elim (cases_eq k count) [
+      | inl e ↦ rw (last k e, low i (omega (arith, before, e))) (apart i (omega (arith, before, e)))
+      | inr other ↦
+          rw (low i (omega (arith, before, h, len)), low k (omega (arith, h, len, other)))
+          (once i k before (omega (arith, h, len, other)))
+    ]) in
+    omega (arith, fits, len)
+
+-- with a full word the listed ones are fewer than all
+pub room_left : (words : List ℕ) (named : ℕ → ℕ) (top at : ℕ) → IsListing words named top → at < length words →
+    get_or words at 0 ≡ 2 ^ 64 - 1 → top < length words
+room_left words named top at is within full =
+    few_more named top (length words) at is.below is.once within
+    (λ k h e. is.each k h (ap (λ x. get_or words x 0) e ∙ full))
+
+-- What a word becomes, and the words beside it stay. Before and after, so many are listed by `named` and by `now`.
+module _ (words new : List ℕ) (named now : ℕ → ℕ) (top at : ℕ) (is : IsListing words named top) (puts : PutsAt words at new) where
+  -- the word that was listed last is full
+  pub filled : 0 < top → named (top - 1) ≡ at → get_or new at 0 ≡ 2 ^ 64 - 1 →
+      ((k : ℕ) → k < top - 1 → now k ≡ named k) → IsListing new now (top - 1)
+  filled some last full same = record {
+    fits = omega (arith, is.fits, puts.len);
+    below = λ k h. rw (same k h) (omega (arith, is.below k (omega (arith, h)), puts.len));
+    each = λ k h. rw (same k h) (λ is_full.
+        let other : named k ≢ at = λ e. is.once k (top - 1) h (omega (arith, some)) (e ∙ sym last) in
+        is.each k (omega (arith, h)) (sym (puts.others (named k) other) ∙ is_full));
+    once = λ i k before h. rw (same i (omega (arith, before, h)), same k h) (is.once i k before (omega (arith, h)));
+    all = λ a within not.
+        let other : a ≢ at = λ e. not (ap (λ x. get_or new x 0) e ∙ full) in
+        let old = is.all a (omega (arith, within, puts.len)) (λ e. not (puts.others a other ∙ e)) in
+        let before : old.0 < top - 1 = elim (cases_eq old.0 (top - 1)) [
+          | inl e ↦ absurd (other (sym old.2 ∙ ap named e ∙ last))
+          | inr ne ↦ omega (arith, old.1, ne)
+        ] in
+        (old.0, before, same old.0 before ∙ old.2);
+  }
+
+  -- a word that was open still is
+  pub still : at < length words → get_or words at 0 ≢ 2 ^ 64 - 1 → get_or new at 0 ≢ 2 ^ 64 - 1 → IsListing new named top
+  still within was_open not_full =
+      let there = is.all at within was_open in
+      record {
+        fits = omega (arith, is.fits, puts.len);
+        below = λ k h. omega (arith, is.below k h, puts.len);
+        each = λ k h same. elim (cases_eq (named k) at) [
+          | inl e ↦ not_full (ap (λ x. get_or new x 0) (sym e) ∙ same)
+          | inr other ↦ is.each k h (sym (puts.others (named k) other) ∙ same)
+        ];
+        once = is.once;
+        all = λ a inside not. elim (cases_eq a at) [
+          | inl e ↦ (there.0, there.1, there.2 ∙ sym e)
+          | inr other ↦ is.all a (omega (arith, inside, puts.len)) (λ e. not (puts.others a other ∙ e))
+        ];
+      }
+
+  -- a word that was full is open, and is listed behind the others
+  pub opened : at < length words → get_or words at 0 ≡ 2 ^ 64 - 1 → get_or new at 0 ≢ 2 ^ 64 - 1 → now top ≡ at →
+      ((k : ℕ) → k < top → now k ≡ named k) → IsListing new now (top + 1)
+  opened within full not_full last same =
+      let apart : (k : ℕ) → k < top → named k ≢ at = λ k h e. is.each k h (ap (λ x. get_or words x 0) e ∙ full) in
+      record {
+        fits = omega (arith, room_left words named top at is within full, puts.len);
+        below = λ k h. elim (cases_eq k top) [
+          | inl e ↦ rw (e, last) (omega (arith, within, puts.len))
+          | inr other ↦ rw (same k (omega (arith, h, other))) (omega (arith, is.below k (omega (arith, h, other)), puts.len))
+        ];
+        each = λ k h. elim (cases_eq k top) [
+          | inl e ↦ rw (e, last) not_full
+          | inr other ↦
+              let before : k < top = omega (arith, h, other) in
+              rw (same k before) (λ is_full. is.each k before (sym (puts.others (named k) (apart k before)) ∙ is_full))
+        ];
+        once = λ i k before h. elim (cases_eq k top) [
+          | inl e ↦ rw (e, last, same i (omega (arith, before, e))) (apart i (omega (arith, before, e)))
+          | inr other ↦
+              rw (same i (omega (arith, before, h)), same k (omega (arith, h, other)))
+              (is.once i k before (omega (arith, h, other)))
+        ];
+        all = λ a inside not. elim (cases_eq a at) [
+          | inl e ↦ (top, omega arith, last ∙ sym e)
+          | inr other ↦
+              let old = is.all a (omega (arith, inside, puts.len)) (λ e. not (puts.others a other ∙ e)) in
+              (old.0, omega (arith, old.1), same old.0 old.1 ∙ old.2)
+        ];
+      }

@@ -1,0 +1,105 @@
+-- How many members a set of numbers has, and the greatest number of them that it had.
+use Rattle.std.proofs.Common.{◌≡◌, ℕ, zero, suc, ◌+◌, ◌-◌, ◌<◌, ◌≤◌, max, min, Bool, true, false, List, length, replicate, get_or}
+use Rattle.std.proofs.Common.{set, refl, sym, ap, arith, length-set}
+use Rattle.std.proofs.lemmas.List.Sums.{count_by-le-length, sum_by-cons, sum_by-set}
+use Rattle.std.proofs.lemmas.Option.{slice_get_within, get_or_from_slice_get}
+use Rattle.std.specs.Prelude.{if◌then◌else◌}
+use Rattle.bb_memory_index_set.specs.IndexSets.{Has, Lacks, IsTally, member_count}
+
+-- a flag counts for one or nothing
+abbrev weight : Bool → ℕ
+weight flag = if flag then 1 else 0
+
+-- one more
+pub member_count-taken : (numbers : List Bool) (i : ℕ) → Lacks numbers i →
+    member_count (set numbers i true) ≡ member_count numbers + 1
+member_count-taken numbers i lacks =
+    let was : weight (get_or numbers i false) ≡ 0 = ap weight (get_or_from_slice_get numbers i false false lacks) in
+    omega (arith, sum_by-set weight numbers i true false (slice_get_within numbers i false lacks), was)
+
+-- one less
+pub member_count-released : (numbers : List Bool) (i : ℕ) → Has numbers i →
+    member_count (set numbers i false) + 1 ≡ member_count numbers
+member_count-released numbers i has =
+    let was : weight (get_or numbers i false) ≡ 1 = ap weight (get_or_from_slice_get numbers i true false has) in
+    omega (arith, sum_by-set weight numbers i false false (slice_get_within numbers i true has), was)
+
+pub member_count-fresh : (bound : ℕ) → member_count (replicate bound false) ≡ 0
+member_count-fresh zero = refl
+member_count-fresh (suc bound) =
+    let rest = member_count-fresh bound in omega (arith, sum_by-cons weight false (replicate bound false))
+
+-- a number is taken
+pub tally-taken : (numbers : List Bool) (count most i : ℕ) → IsTally numbers count most → Lacks numbers i →
+    IsTally (set numbers i true) (count + 1) (max most (count + 1))
+tally-taken numbers count most i is lacks = record {
+  members = omega (arith, is.members, member_count-taken numbers i lacks);
+  few = omega arith;
+  within = omega (
+    arith,
+    is.members,
+    is.within,
+    member_count-taken numbers i lacks,
+    length-set numbers i true,
+    count_by-le-length (λ (held : Bool). held) (set numbers i true),
+  );
+}
+
+-- where a number isn't in the set, not all are counted
+pub tally-room : (numbers : List Bool) (count most i : ℕ) → IsTally numbers count most → Lacks numbers i →
+    count < length numbers
+tally-room numbers count most i is lacks =
+    let more = tally-taken numbers count most i is lacks in omega (arith, more.few, more.within, length-set numbers i true)
+
+-- a number of it is given back
+pub tally-released : (numbers : List Bool) (count most i : ℕ) → IsTally numbers count most → Has numbers i →
+    IsTally (set numbers i false) (count - 1) most
+tally-released numbers count most i is has = record {
+  members = omega (arith, is.members, member_count-released numbers i has);
+  few = omega (arith, is.few);
+  within = omega (arith, is.within, length-set numbers i false);
+}
+
+-- where it has a member, it is counted
+pub tally-some : (numbers : List Bool) (count most i : ℕ) → IsTally numbers count most → Has numbers i → 1 ≤ count
+tally-some numbers count most i is has = omega (arith, is.members, member_count-released numbers i has)
+
+-- the greatest number of members is at least the number of them
+pub tally-most : (numbers : List Bool) (count most : ℕ) → IsTally numbers count most → most ≡ max most (member_count numbers)
+tally-most numbers count most is = omega (arith, is.members, is.few)
+
+pub tally-fresh : (bound : ℕ) → IsTally (replicate bound false) 0 0
+tally-fresh bound = record { members = sym (member_count-fresh bound); few = omega arith; within = omega arith }
+
+-- OF A BOUND, ALL BUT SO MANY THAT ARE LEFT, AND NEVER FEWER THAN THE LEAST
+
+-- one of them is taken
+module _ (bound left least now i : ℕ) (numbers new : List Bool) (is : IsTally numbers (bound - left) (bound - least))
+    (lacks : Lacks numbers i) (after : new ≡ set numbers i true) (lower : now ≡ min least (left - 1)) (some : 0 < left)
+    (fits : left ≤ bound) where
+  pub left-taken : IsTally new (bound - (left - 1)) (bound - now)
+  left-taken =
+      let more = tally-taken numbers (bound - left) (bound - least) i is lacks in
+      let one : bound - (left - 1) ≡ bound - left + 1 = omega arith in
+      let most : bound - now ≡ max (bound - least) (bound - left + 1) = omega arith in
+      rw (after, one, most) more
+
+  pub most-taken : bound - now ≡ max (bound - least) (member_count new)
+  most-taken =
+      let more = tally-taken numbers (bound - left) (bound - least) i is lacks in
+      rw after (omega (arith, more.members))
+
+-- one is given back
+pub left-released : (bound left least i : ℕ) (numbers new : List Bool) → IsTally numbers (bound - left) (bound - least) →
+    Has numbers i → new ≡ set numbers i false → IsTally new (bound - (left + 1)) (bound - least)
+left-released bound left least i numbers new is has after =
+    let less = tally-released numbers (bound - left) (bound - least) i is has in
+    let one : bound - (left + 1) ≡ bound - left - 1 = omega arith in
+    rw (after, one) less
+
+-- all are left
+pub left-fresh : (bound : ℕ) (numbers : List Bool) → numbers ≡ replicate bound false →
+    IsTally numbers (bound - bound) (bound - bound)
+left-fresh bound numbers none =
+    let zero : bound - bound ≡ 0 = omega arith in
+    rw (none, zero) (tally-fresh bound)

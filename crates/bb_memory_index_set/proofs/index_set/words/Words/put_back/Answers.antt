@@ -1,0 +1,106 @@
+use Rattle.std.proofs.Common.{◌-◌, ◌/◌, ℕ, List, ◌∙◌, ap, set, get_or, arith, length, length-set}
+use Rattle.bb_memory_index_set.proofs.AsideNumbers.{others_have, put_back}
+use Rattle.bb_memory_index_set.proofs.NumberWords.{has_word}
+use Rattle.bb_memory_index_set.proofs.OpenWords.{set_opened, set_still, named_hand}
+use Rattle.bb_memory_index_set.proofs.Listings.{room_left}
+use Rattle.bb_memory_index_set.proofs.Tallies.{tally-some}
+use Rattle.bb_memory_index_set.proofs.index_set.words.Words.put_back.Goals as goal
+use Rattle.bb_memory_index_set.proofs.index_set.words.Words.put_back.Goals.{then-self-gt0, else-self-gt0}
+
+pub overflow_sub-self : goal.overflow_sub-self
+overflow_sub-self g c =
+    let inside = c.self.inside in
+    let has = (others_have _ inside.aside c.args.number (rw (← c.self.view_is) at c.requires)).1 in
+    tally-some _ inside.count inside.most c.args.number c.self.invariant.2 has
+
+pub clear-was_full-requires : goal.clear-was_full-requires
+clear-was_full-requires g c =
+    let inside = c.self.inside in
+    let has = (others_have _ inside.aside c.args.number (rw (← c.self.view_is) at c.requires)).1 in
+    (has_word inside.bound inside.words.words c.args.number c.self.invariant.0.are has).1
+
+pub list-requires : goal.list-requires
+list-requires g c =
+    let inside = c.self.inside in
+    let told = c.clear-was_full.ensures in
+    let has = (others_have _ inside.aside c.args.number (rw (← c.self.view_is) at c.requires)).1 in
+    let is = c.self.invariant.0 in
+    let within = (has_word inside.bound inside.words.words c.args.number is.are has).1 in
+    let left = room_left inside.words.words _ inside.top (c.args.number / 64) is.listing within
+    (told.was_full c.if-was_full.true) in
+    let room = is.room in
+    omega (arith, left, room, ap length told.listed, c.if-self-gt0.true)
+
+pub invariant_of-self : goal.invariant_of-self
+invariant_of-self g c =
+    let inside = c.self.inside in
+    let words = inside.words.words in
+    let listed = inside.words.listed in
+    let at : ℕ = c.args.number / 64 in
+    let told = c.clear-was_full.ensures in
+    let is = c.self.invariant.0 in
+    let in_set = rw (← c.self.view_is) at c.requires in
+    let has = (others_have _ inside.aside c.args.number in_set).1 in
+    let left = put_back inside.bound words _ inside.aside c.args.number is.are c.self.invariant.1 in_set told.bit in
+    let within = (has_word inside.bound words c.args.number is.are has).1 in
+    let full = told.was_full c.if-was_full.true in
+    let fits = room_left words _ inside.top at is.listing within full in
+    let room = is.room in
+    elim c.if-self-gt0.branch [
+      | then-self-gt0 w ↦
+          let named = w.list.ensures.listed ∙ ap (λ (l : List ℕ). set l (inside.top - 1) inside.hand) told.listed in
+          rw (w.self-inside-is, w.list.ensures.words) (
+            set_opened inside.bound words listed c.clear-was_full.new.self.words w.list.new.self.listed
+                inside.hand inside.top at is
+                left.are told.others within full told.not_full
+                (ap length named ∙ length-set listed (inside.top - 1) inside.hand)
+                (λ k h. ap (λ (l : List ℕ). get_or l k 0) named
+                ∙ named_hand listed inside.hand inside.top k h (omega (arith, fits, room))),
+            left.still_aside,
+            left.tally inside.count inside.most c.self.invariant.2,
+          )
+      | else-self-gt0 w ↦
+          rw w.self-inside-is (
+            set_opened inside.bound words listed c.clear-was_full.new.self.words c.clear-was_full.new.self.listed inside.hand
+                inside.top at is left.are told.others within full told.not_full (ap length told.listed)
+                (λ k h. absurd (omega (arith, h, w.if-self-gt0.false))),
+            left.still_aside,
+            left.tally inside.count inside.most c.self.invariant.2,
+          )
+    ]
+
+pub invariant_of-self-else-was_full : goal.invariant_of-self-else-was_full
+invariant_of-self-else-was_full g c =
+    let inside = c.self.inside in
+    let words = inside.words.words in
+    let told = c.clear-was_full.ensures in
+    let is = c.self.invariant.0 in
+    let in_set = rw (← c.self.view_is) at c.requires in
+    let has = (others_have _ inside.aside c.args.number in_set).1 in
+    let left = put_back inside.bound words _ inside.aside c.args.number is.are c.self.invariant.1 in_set told.bit in
+    let within = (has_word inside.bound words c.args.number is.are has).1 in (
+      set_still inside.bound words inside.words.listed c.clear-was_full.new.self.words c.clear-was_full.new.self.listed
+          inside.hand inside.top (c.args.number / 64) is left.are told.others within
+          (told.was_open c.if-was_full.false) told.not_full told.listed,
+      left.still_aside,
+      left.tally inside.count inside.most c.self.invariant.2,
+    )
+
+pub returns-after-self-gt0-clause-numbers : goal.returns-after-self-gt0-clause-numbers
+returns-after-self-gt0-clause-numbers g c =
+    let inside = c.self.inside in
+    let in_set = rw (← c.self.view_is) at c.requires in
+    let left = put_back inside.bound inside.words.words _ inside.aside c.args.number c.self.invariant.0.are c.self.invariant.1
+    in_set c.clear-was_full.ensures.bit in
+    elim c.if-self-gt0.branch [
+      | then-self-gt0 w ↦ rw (← c.self.view_is, w.self-inside-is, w.list.ensures.words) left.less
+      | else-self-gt0 w ↦ rw (← c.self.view_is, w.self-inside-is) left.less
+    ]
+
+pub returns-else-was_full-clause-numbers : goal.returns-else-was_full-clause-numbers
+returns-else-was_full-clause-numbers g c =
+    let inside = c.self.inside in
+    let in_set = rw (← c.self.view_is) at c.requires in
+    let left = put_back inside.bound inside.words.words _ inside.aside c.args.number c.self.invariant.0.are c.self.invariant.1
+    in_set c.clear-was_full.ensures.bit in
+    rw (← c.self.view_is) left.less

@@ -1,0 +1,62 @@
+//! A set of numbers below a bound, from which any number that isn't in it can be taken.
+//!
+//! [`words::Words`] takes memory once, for a bit a number and a list of the words that have a clear bit; [`flags::Flags`] takes
+//! none, and has an array with a flag a number. Both keep a list of where a number is free, so that no taking looks further than
+//! one place.
+pub mod flags;
+pub mod index_words;
+pub mod words;
+
+pub use crate::index_set::index_words::Counter;
+
+/// A set of numbers below a bound. It is empty when it is made.
+pub trait IndexSet: Drop {
+    ghost use Rattle.std.specs.Prelude.{◌≡◌, ◌<◌, ◌↔◌, ℕ, Bool, true, false, List};
+    ghost use Rattle.std.specs.Prelude.{◌≤◌, length, max, min, slice_set, IsTrue, IfSome, IfNone};
+    ghost use Rattle.bb_memory_index_set.specs.IndexSets.{Has, Lacks, IsFull, member_count};
+
+    /// A flag for each number below the bound: whether it is in the set.
+    ghost numbers: { Self → List Bool };
+
+    /// The greatest number of members that the set had at one time so far.
+    ghost most: { Self → ℕ };
+
+    /// How many words a set of this bound has that are read through a counter.
+    ghost words: { ℕ → ℕ };
+
+    /// Puts a number that isn't in the set into it, and answers that number. There is none exactly where every number is
+    /// in the set. The counter has to stand at 0, and ends at how many words were read: one, or none where there is none.
+    fn take(&mut self, counter: &mut Counter) -> Option<usize>
+        requires { counter.old ≡ 0 }
+        ensures lacked { IfSome result (Lacks (numbers self.old)) }
+        ensures taken { IfSome result (λ number. numbers self.new
+            ≡ slice_set (numbers self.old) number true) }
+        ensures full { IfNone result (IsFull (numbers self.old)) }
+        ensures unchanged { IfNone result (numbers self.new ≡ numbers self.old) }
+        ensures most { most self.new ≡ max (most self.old) (member_count (numbers self.new)) }
+        ensures counted { counter.new ≡ min (words (length (numbers self.old))) 1 };
+
+    /// Takes a number, which has to be in the set, out of it, and no other.
+    fn release(&mut self, number: usize)
+        requires { Has (numbers self.old) number }
+        ensures released { numbers self.new ≡ slice_set (numbers self.old) number false }
+        ensures most { most self.new ≡ most self.old };
+
+    /// Tests that a number below the bound is in the set. No word is read through a counter.
+    fn has(&self, number: usize) -> bool
+        requires { number < length (numbers self.now) }
+        ensures { IsTrue result ↔ Has (numbers self.now) number };
+
+    /// Tests that some number below the bound isn't in the set, so that one can be taken. No word is read through a counter.
+    fn has_room(&self) -> bool
+        ensures { IsTrue result ↔ ((number : ℕ) × Lacks (numbers self.now) number) };
+
+    /// How many numbers are in the set. No number is looked at, and no word is read.
+    fn len(&self) -> u32
+        ensures { result ≡ member_count (numbers self.now) };
+
+    /// The greatest number of members that the set had at one time so far.
+    fn greatest_len(&self) -> u32
+        ensures value { result ≡ most self.now }
+        ensures within { result ≤ length (numbers self.now) };
+}

@@ -1,0 +1,114 @@
+//! A set of numbers as an array of flags, with an array of the numbers that aren't in it, which takes no memory.
+ghost use Rattle.std.specs.Prelude.{◌≡◌, ◌≤◌, min};
+ghost use Rattle.bb_memory_index_set.specs.IndexSets.{fresh_set};
+
+use crate::index_set::{Counter, IndexSet};
+use std::marker::Model;
+
+/// A flag for each number, and the numbers below the bound that aren't in the set, in the first entries of an array. The rest of
+/// the entries are never read.
+///
+/// A taking answers the number that was given back last, which no clause promises, and sets its flag. Nothing is searched.
+///
+/// `left` numbers aren't in the set, and never were fewer than `least`.
+#[derive(Drop)]
+#[derive_where(Debug)]
+pub struct Flags<const N: usize> {
+    held: [bool; N],
+    free: [u32; N],
+    bound: u32,
+    left: usize,
+    least: usize,
+}
+
+impl<const N: usize> Model for Flags<N> {
+    ghost use Rattle.std.specs.Prelude.{◌-◌, ◌≤◌, take};
+    ghost use Rattle.bb_memory_index_set.specs.IndexSets.{AreFlags, IsTally, NumberSet, held_numbers, number_set};
+
+    ghost Value = { NumberSet };
+
+    ghost view = { λ a. number_set (held_numbers a.bound (take a.left a.free)) (a.bound - a.least) };
+
+    ghost invariant = { λ a. AreFlags N a.bound a.held a.free a.left × (a.least ≤ a.left)
+        × IsTally (held_numbers a.bound (take a.left a.free)) (a.bound - a.left) (a.bound - a.least) };
+}
+
+impl<const N: usize> Flags<N> {
+    /// The empty set of numbers below a bound, which is at most `N`.
+    pub fn new(bound: u32) -> Self
+        requires { bound ≤ N }
+        ensures { result ≡ fresh_set bound }
+    {
+        let mut free = [0u32; N];
+        for k in 0..bound {
+            free[k as usize] = bound - 1 - k;
+        }
+        Flags {
+            held: [false; N],
+            free,
+            bound,
+            left: bound as usize,
+            least: bound as usize,
+        }
+    }
+}
+
+/// Sets the least number so far to this one where this one is less, and writes nothing else.
+#[inline(always)]
+fn lower(least: &mut usize, number: usize)
+    ensures { least.new ≡ min least.old number }
+{
+    if number < *least {
+        *least = number;
+    }
+}
+
+impl<const N: usize> IndexSet for Flags<N> {
+    ghost numbers = { λ set. set.numbers };
+
+    ghost most = { λ set. set.most };
+
+    ghost words = { λ bound. 0 };
+
+    #[inline(always)]
+    fn take(&mut self, _counter: &mut Counter) -> Option<usize> {
+        if self.left == 0 {
+            return None;
+        }
+        let last = self.left - 1;
+        let number = self.free[last] as usize;
+        self.left = last;
+        self.held[number] = true;
+        lower(&mut self.least, last);
+        Some(number)
+    }
+
+    /// The next taking answers this number.
+    #[inline(always)]
+    fn release(&mut self, number: usize) {
+        let left = self.left;
+        self.free[left] = number as u32;
+        self.left = left + 1;
+        self.held[number] = false;
+    }
+
+    #[inline(always)]
+    fn has(&self, number: usize) -> bool {
+        self.held[number]
+    }
+
+    #[inline(always)]
+    fn has_room(&self) -> bool {
+        self.left > 0
+    }
+
+    #[inline(always)]
+    fn len(&self) -> u32 {
+        self.bound - self.left as u32
+    }
+
+    #[inline(always)]
+    fn greatest_len(&self) -> u32 {
+        self.bound - self.least as u32
+    }
+}

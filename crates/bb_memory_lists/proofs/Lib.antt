@@ -1,0 +1,6 @@
+pub mod Contained
+mod GroupSums
+pub mod Logs
+pub mod Positions
+pub mod SliceGets
+pub mod SliceSets

@@ -1,0 +1,291 @@
+-- What the one-chunk object answers, and the live lists of at most one chunk that it goes on to.
+use Rattle.std.proofs.Common.{◌≡◌, ℕ, ◌+◌, ◌<◌, ◌≤◌, ◌%◌, List, [], ◌∷◌, ◌++◌, Option, Some, None, Result, Ok, Err, length}
+use Rattle.std.proofs.Common.{slice_get, slice_set, remove, refl, sym, ◌∙◌, ap, subst, inl, inr, arith}
+use Rattle.std.specs.Option.{ForSome}
+use Rattle.std.proofs.lemmas.Bool.{cases_lt}
+use Rattle.bb_memory_traits.specs.Chunk.{Region, region_end, Chunk, chunk_end, IsInside, first_place}
+use Rattle.bb_memory_traits.specs.Object.{IsRun, Step, ResizableStep}
+use Rattle.bb_memory_traits.specs.declared.layout.Layout.{Layout}
+use Rattle.bb_memory_traits.specs.declared.allocator.AllocationError.{AllocationError}
+use Rattle.bb_memory_traits.specs.declared.allocator.AllocationError.TheVariants.{SizeIsZero, SizeTooLarge, AlignmentFailure}
+use Rattle.bb_memory_traits.specs.declared.allocator.AllocationError.TheVariants.{OutOfMemory}
+use Rattle.bb_memory_traits.specs.declared.allocator.AllocationGrowError.{AllocationGrowError}
+use Rattle.bb_memory_traits.specs.declared.allocator.AllocationGrowError.TheVariants as grow
+use Rattle.bb_memory_traits.specs.declared.allocator.AllocationShrinkError.{AllocationShrinkError}
+use Rattle.bb_memory_traits.specs.declared.allocator.AllocationShrinkError.TheVariants as shrink
+use Rattle.bb_memory_traits.specs.declared.allocator.Command.{Command}
+use Rattle.bb_memory_traits.specs.declared.allocator.Command.TheVariants.{Allocate, Release, Grow, Shrink}
+use Rattle.bb_memory_traits.specs.declared.allocator.Reply.{Reply}
+use Rattle.bb_memory_traits.specs.declared.allocator.Reply.TheVariants as reply
+use Rattle.bb_memory_traits.proofs.LeastPlaces.{least_place-is, least_place-multiple}
+use Rattle.bb_memory_traits.proofs.LiveLists.{sound_from_order}
+use Rattle.bb_memory_traits.proofs.Runs.{IsRun-keeps}
+use Rattle.bb_memory_owned.specs.OneChunk.{OneChunk, HasByteAt, IsOneChunk, IsKept, StandsFor, only_chunk}
+use Rattle.bb_memory_traits.specs.OneChunkObject.{reserved_at, rest_from, MayAllocate, MayGrow, MayShrink, one_chunk_object}
+
+abbrev one_of : Region → Option ℕ → OneChunk
+one_of region kept = record { region = region; kept = kept }
+
+-- nothing is out
+StandsFor-empty : (region : Region) → StandsFor (one_of region None) []
+StandsFor-empty region = record { sound = sound_from_order region region.start [] (omega arith) tt (omega arith); keeps = refl }
+
+-- a chunk inside is out
+StandsFor-one : (region : Region) (chunk : Chunk) → IsInside region chunk →
+    StandsFor (one_of region (Some chunk.place)) (chunk ∷ [])
+StandsFor-one region chunk inside = record {
+  sound = sound_from_order region region.start (chunk ∷ []) (omega arith) (inside.above, tt) inside.below;
+  keeps = (chunk, refl, refl);
+}
+
+-- what there is from a place inside on lies inside
+rest-inside : (region : Region) (place : ℕ) → HasByteAt region place → IsInside region (rest_from region place)
+rest-inside region place byte = record { above = byte.above; below = omega (arith, byte.below) }
+
+-- each one chunk stands for some list: of nothing, or of all of the region from the place that is kept
+some_list : (region : Region) (kept : Option ℕ) → ForSome kept (HasByteAt region) →
+    (live : List Chunk) × StandsFor (one_of region kept) live
+some_list region None within = ([], StandsFor-empty region)
+some_list region (Some place) within =
+    let rest = rest_from region place in
+    (rest ∷ [], StandsFor-one region rest (rest-inside region place (within place refl)))
+
+pub stands_for_some : (one : OneChunk) → IsOneChunk one → (live : List Chunk) × StandsFor one live
+stands_for_some one is = some_list one.region one.kept is.kept
+
+-- there is an answer to each request
+pub some_answer : (region : Region) (live : List Chunk) (layout : Layout) →
+    (answer : Result Chunk AllocationError) × MayAllocate region live layout answer
+some_answer region (chunk ∷ live) layout = (Err OutOfMemory, inl (λ empty. cc))
+some_answer region [] layout =
+    let place = first_place region layout in
+    elim (cases_lt place (region_end region)) [
+      | inr behind ↦ (Err OutOfMemory, inr (inl behind))
+      | inl begins ↦ elim (cases_lt (region_end region) (place + layout.size)) [
+        | inl far ↦ (Err OutOfMemory, inr (inr far))
+        | inr ends ↦ (Ok (rest_from region place), (refl, record { begins = begins; ends = ends }, refl))
+      ]
+    ]
+
+-- where there is a chunk to give, none is refused
+gives_or_refuses : (region : Region) (live : List Chunk) (layout : Layout) (chunk : Chunk) →
+    MayAllocate region live layout (Ok chunk) → MayAllocate region live layout (Err OutOfMemory) → ⊥
+gives_or_refuses region live layout chunk given (inl out) = out given.0
+gives_or_refuses region live layout chunk given (inr (inl behind)) = let begins = given.1.begins in omega arith
+gives_or_refuses region live layout chunk given (inr (inr far)) = let ends = given.1.ends in omega arith
+
+-- there is no other answer to it
+pub one_answer : (region : Region) (live : List Chunk) (layout : Layout) (one other : Result Chunk AllocationError) →
+    MayAllocate region live layout one → MayAllocate region live layout other → one ≡ other
+one_answer region live layout (Ok c) (Ok d) first second = ap Ok (first.2 ∙ sym second.2)
+one_answer region live layout (Err OutOfMemory) (Err OutOfMemory) first second = refl
+one_answer region live layout (Ok c) (Err OutOfMemory) first second = absurd (gives_or_refuses region live layout c first second)
+one_answer region live layout (Err OutOfMemory) (Ok c) first second = absurd (gives_or_refuses region live layout c second first)
+one_answer region live layout (Err SizeIsZero) other first second = absurd first
+one_answer region live layout (Err SizeTooLarge) other first second = absurd first
+one_answer region live layout (Err AlignmentFailure) other first second = absurd first
+one_answer region live layout one (Err SizeIsZero) first second = absurd second
+one_answer region live layout one (Err SizeTooLarge) first second = absurd second
+one_answer region live layout one (Err AlignmentFailure) first second = absurd second
+
+-- there is an answer to each request to grow
+pub some_grow : (region : Region) (place : ℕ) (old new : Layout) →
+    (answer : Result Chunk AllocationGrowError) × MayGrow region place old new answer
+some_grow region place old new =
+    elim (cases_lt old.size new.size) [
+      | inr smaller ↦ (Err grow.GrowWouldShrink, smaller)
+      | inl longer ↦ elim (cases_lt old.align new.align) [
+        | inl coarser ↦ (Err grow.AlignmentFailure, (longer, coarser))
+        | inr aligned ↦ elim (cases_lt (reserved_at region place) new.size) [
+          | inl far ↦ (Err grow.OutOfMemory, (longer, aligned, far))
+          | inr near ↦ (Ok (rest_from region place), (longer, aligned, near, refl))
+        ]
+      ]
+    ]
+
+-- there is no other answer to it
+pub one_grow : (region : Region) (place : ℕ) (old new : Layout) (one other : Result Chunk AllocationGrowError) →
+    MayGrow region place old new one → MayGrow region place old new other → one ≡ other
+one_grow region place old new (Ok c) (Ok d) first second = ap Ok (first.3 ∙ sym second.3)
+one_grow region place old new (Err grow.GrowWouldShrink) (Err grow.GrowWouldShrink) first second = refl
+one_grow region place old new (Err grow.AlignmentFailure) (Err grow.AlignmentFailure) first second = refl
+one_grow region place old new (Err grow.OutOfMemory) (Err grow.OutOfMemory) first second = refl
+one_grow region place old new (Ok c) (Err grow.GrowWouldShrink) first second = absurd (omega arith)
+one_grow region place old new (Ok c) (Err grow.AlignmentFailure) first second = absurd (omega arith)
+one_grow region place old new (Ok c) (Err grow.OutOfMemory) first second = absurd (omega arith)
+one_grow region place old new one other first second = absurd (omega arith)
+
+-- there is an answer to each request to shrink
+pub some_shrink : (place : ℕ) (old new : Layout) → (answer : Result Chunk AllocationShrinkError) × MayShrink place old new answer
+some_shrink place old new =
+    elim (cases_lt new.size old.size) [
+      | inr larger ↦ (Err shrink.ShrinkWouldGrow, larger)
+      | inl smaller ↦ elim (cases_lt old.align new.align) [
+        | inl coarser ↦ (Err shrink.AlignmentFailure, (smaller, coarser))
+        | inr aligned ↦ (Ok (record { place = place; len = new.size }), (smaller, aligned, refl))
+      ]
+    ]
+
+-- there is no other answer to it
+pub one_shrink : (place : ℕ) (old new : Layout) (one other : Result Chunk AllocationShrinkError) →
+    MayShrink place old new one → MayShrink place old new other → one ≡ other
+one_shrink place old new (Ok c) (Ok d) first second = ap Ok (first.2 ∙ sym second.2)
+one_shrink place old new (Err shrink.ShrinkWouldGrow) (Err shrink.ShrinkWouldGrow) first second = refl
+one_shrink place old new (Err shrink.AlignmentFailure) (Err shrink.AlignmentFailure) first second = refl
+one_shrink place old new one (Err shrink.SizeIsZero) first second = absurd second
+one_shrink place old new (Err shrink.SizeIsZero) other first second = absurd first
+one_shrink place old new one other first second = absurd (omega arith)
+
+-- a chunk that is given begins at a multiple of the alignment
+pub answer-aligned : (region : Region) (live : List Chunk) (layout : Layout) (chunk : Chunk) →
+    MayAllocate region live layout (Ok chunk) → chunk.place % layout.align ≡ 0
+answer-aligned region live layout chunk told =
+    ap (λ (k : Chunk). k.place % layout.align) told.2
+    ∙ least_place-multiple region.start layout.align layout.valid.positive
+
+-- it begins inside the region
+answer-byte : (region : Region) (live : List Chunk) (layout : Layout) (chunk : Chunk) →
+    MayAllocate region live layout (Ok chunk) → HasByteAt region chunk.place
+answer-byte region live layout chunk told =
+    let place = ap (λ (k : Chunk). k.place) told.2 in
+    let least = least_place-is region.start layout.align layout.valid.positive in
+    let begins = told.1.begins in
+    record { above = omega (arith, least.above, place); below = omega (arith, place) }
+
+-- it isn't empty, and ends where the region does
+pub answer-whole : (region : Region) (live : List Chunk) (layout : Layout) (chunk : Chunk) →
+    MayAllocate region live layout (Ok chunk) → (0 < chunk.len) × (chunk_end chunk ≡ region_end region)
+answer-whole region live layout chunk told =
+    let begins = told.1.begins in
+    let place = ap (λ (k : Chunk). k.place) told.2 in
+    let len = ap (λ (k : Chunk). k.len) told.2 in
+    (omega (arith, place, len), omega (arith, place, len))
+
+pub answer-inside : (region : Region) (live : List Chunk) (layout : Layout) (chunk : Chunk) →
+    MayAllocate region live layout (Ok chunk) → IsInside region chunk
+answer-inside region live layout chunk told =
+    let byte = answer-byte region live layout chunk told in
+    let whole = answer-whole region live layout chunk told in
+    record { above = byte.above; below = omega (arith, whole.1) }
+
+-- it has at least the asked size
+pub answer-long : (region : Region) (live : List Chunk) (layout : Layout) (chunk : Chunk) →
+    MayAllocate region live layout (Ok chunk) → layout.size ≤ chunk.len
+answer-long region live layout chunk told =
+    let ends = told.1.ends in
+    omega (arith, ap (λ (k : Chunk). k.len) told.2)
+
+-- some one chunk over the region stands for this list
+record IsOneChunkList (region : Region) (live : List Chunk) : Type 0 where
+  kept : Option ℕ
+  within : ForSome kept (HasByteAt region)
+  stands : StandsFor (one_of region kept) live
+
+none_list : (region : Region) → IsOneChunkList region []
+none_list region = record { kept = None; within = λ place some. cc; stands = StandsFor-empty region }
+
+one_list : (region : Region) (chunk : Chunk) → HasByteAt region chunk.place → chunk_end chunk ≤ region_end region →
+    IsOneChunkList region (chunk ∷ [])
+one_list region chunk byte below = record {
+  kept = Some chunk.place;
+  within = λ place some. subst (HasByteAt region) (let same : chunk.place ≡ place = cc in same) byte;
+  stands = StandsFor-one region chunk (record { above = byte.above; below = below });
+}
+
+same_list : (region : Region) (old new : List Chunk) → new ≡ old → IsOneChunkList region old → IsOneChunkList region new
+same_list region old new same is = subst (IsOneChunkList region) (sym same) is
+
+-- what stands at a position of such a list is all of it
+only : (region : Region) (live : List Chunk) (position : ℕ) (chunk : Chunk) → IsOneChunkList region live →
+    slice_get live position ≡ Some chunk → (live ≡ chunk ∷ []) × (position ≡ 0) × HasByteAt region chunk.place
+only region live position chunk is at =
+    let parts = only_chunk is.kept live position chunk is.stands.keeps at in
+    (parts.0, parts.1, is.within chunk.place parts.2)
+
+-- a resize that keeps the place and ends inside leads to such a list
+resized_list : (region : Region) (live : List Chunk) (position : ℕ) (chunk resized : Chunk) → IsOneChunkList region live →
+    slice_get live position ≡ Some chunk → resized.place ≡ chunk.place → chunk_end resized ≤ region_end region →
+    IsOneChunkList region (slice_set live position resized)
+resized_list region live position chunk resized is at place below =
+    let parts = only region live position chunk is at in
+    let left : slice_set live position resized ≡ resized ∷ [] =
+    ap (λ n. slice_set live n resized) parts.1 ∙ ap (λ (l : List Chunk). slice_set l 0 resized) parts.0 in
+    same_list region (resized ∷ []) (slice_set live position resized) left
+    (one_list region resized (subst (HasByteAt region) (sym place) parts.2) below)
+
+-- a release leads to the empty list
+removed : (kept : Option ℕ) (live : List Chunk) (position : ℕ) → IsKept kept live → position < length live →
+    remove live position ≡ []
+removed None live position empty within = absurd (let none = ap length empty in omega arith)
+removed (Some place) live position (one, is, same) within =
+    let single = ap length is in
+    let first : position ≡ 0 = omega arith in
+    ap (λ n. remove live n) first ∙ ap (λ (l : List Chunk). remove l 0) is
+
+-- each step without resizes leads from such a list to such a list
+base_step-keeps : (region : Region) (old new : List Chunk) (command : Command) (answer : Reply) →
+    IsOneChunkList region old → Step (one_chunk_object region).base old command answer new → IsOneChunkList region new
+base_step-keeps region old new (Allocate layout) (reply.Chunk chunk) is step =
+    let told = step.answers in
+    let left : new ≡ chunk ∷ [] = step.leaves ∙ ap (λ (l : List Chunk). l ++ chunk ∷ []) told.0 in
+    let byte = answer-byte region old layout chunk told in
+    let whole = answer-whole region old layout chunk told in
+    same_list region (chunk ∷ []) new left (one_list region chunk byte (omega (arith, whole.1)))
+base_step-keeps region old new (Allocate layout) (reply.Refused error) is step = same_list region old new step.leaves is
+base_step-keeps region old new (Release position) reply.Released is step =
+    same_list region [] new (step.leaves ∙ removed is.kept old position is.stands.keeps step.within) (none_list region)
+base_step-keeps region old new (Release position) reply.Passed is step = same_list region old new step.1 is
+base_step-keeps region old new (Grow position from to) reply.Passed is step = same_list region old new step is
+base_step-keeps region old new (Shrink position from to) reply.Passed is step = same_list region old new step is
+base_step-keeps region old new command other is step = absurd step
+
+-- so does each step
+step-keeps : (region : Region) (old new : List Chunk) (command : Command) (answer : Reply) →
+    IsOneChunkList region old → ResizableStep (one_chunk_object region) old command answer new → IsOneChunkList region new
+step-keeps region old new (Allocate layout) answer is step =
+    base_step-keeps region old new (Allocate layout) answer is step
+step-keeps region old new (Release position) answer is step =
+    base_step-keeps region old new (Release position) answer is step
+step-keeps region old new (Grow position from to) (reply.Chunk resized) is (chunk, may, told, resizes) =
+    let byte = (only region old position chunk is may.at).2 in
+    let end = ap (λ (k : Chunk). chunk_end k) told.3 in
+    let below : chunk_end resized ≤ region_end region = omega (arith, byte.below, end) in
+    same_list region (slice_set old position resized) new resizes.leaves
+    (resized_list region old position chunk resized is may.at resizes.place below)
+step-keeps region old new (Grow position from to) (reply.GrowRefused error) is (chunk, may, told, same) =
+    same_list region old new same is
+step-keeps region old new (Grow position from to) reply.Passed is step = same_list region old new step.1 is
+step-keeps region old new (Shrink position from to) (reply.Chunk resized) is (chunk, may, told, resizes) =
+    let byte = (only region old position chunk is may.grown.at).2 in
+    let end = ap (λ (k : Chunk). chunk_end k) told.2 in
+    let below : chunk_end resized ≤ region_end region = omega (arith, byte.below, may.within, told.0, end) in
+    same_list region (slice_set old position resized) new resizes.leaves
+    (resized_list region old position chunk resized is may.grown.at resizes.place below)
+step-keeps region old new (Shrink position from to) (reply.ShrinkRefused error) is (chunk, may, told, same) =
+    same_list region old new same is
+step-keeps region old new (Shrink position from to) reply.Passed is step = same_list region old new step.1 is
+step-keeps region old new command other is step = absurd step
+
+-- where each step leads from such a list to such a list, so does each run
+keeps_from_steps : (step : List Chunk → Command → Reply → List Chunk → Type 0) (one : OneChunk) →
+    ((old new : List Chunk) (command : Command) (answer : Reply) → IsOneChunkList one.region old →
+    step old command answer new → IsOneChunkList one.region new) → (live new : List Chunk) (commands : List Command)
+    (replies : List Reply) → IsOneChunk one → StandsFor one live → IsRun step live commands replies new →
+    (left : OneChunk) × IsOneChunk left × (left.region ≡ one.region) × StandsFor left new
+keeps_from_steps step one keeps live new commands replies is stands run =
+    let region = one.region in
+    let from : IsOneChunkList region live = record { kept = one.kept; within = is.kept; stands = stands } in
+    let to = IsRun-keeps step (IsOneChunkList region) keeps live new commands replies from run in
+    (one_of region to.kept, record { region = is.region; kept = to.within }, refl, to.stands)
+
+-- each run from a list that a one chunk stands for leads to such a list
+pub run-keeps : (one : OneChunk) (live new : List Chunk) (commands : List Command) (replies : List Reply) →
+    IsOneChunk one → StandsFor one live → IsRun (ResizableStep (one_chunk_object one.region)) live commands replies new →
+    (left : OneChunk) × IsOneChunk left × (left.region ≡ one.region) × StandsFor left new
+run-keeps one = keeps_from_steps (ResizableStep (one_chunk_object one.region)) one (step-keeps one.region)
+
+-- so does each run without resizes
+pub base_run-keeps : (one : OneChunk) (live new : List Chunk) (commands : List Command) (replies : List Reply) →
+    IsOneChunk one → StandsFor one live → IsRun (Step (one_chunk_object one.region).base) live commands replies new →
+    (left : OneChunk) × IsOneChunk left × (left.region ≡ one.region) × StandsFor left new
+base_run-keeps one = keeps_from_steps (Step (one_chunk_object one.region).base) one (base_step-keeps one.region)

@@ -1,0 +1,196 @@
+-- What the pool object answers.
+use Rattle.std.proofs.Common.{◌≡◌, ◌≢◌, ℕ, zero, suc, ◌<◌, ◌%◌, List, Result, Ok, Err, refl, sym, ◌∙◌, ap, subst, ◌⊎◌, inl, inr}
+use Rattle.std.proofs.Common.{arith}
+use Rattle.std.specs.Prelude.{All}
+use Rattle.std.proofs.lemmas.Bool.{cases_lt}
+use Rattle.bb_memory_traits.specs.Chunk.{Chunk, IsInside}
+use Rattle.bb_memory_traits.specs.PoolObject.{PoolGeometry, bucket_place, IsPoolGeometry, IsHeld, IsWithin, MayAllocate, MayGrow}
+use Rattle.bb_memory_traits.specs.PoolObject.{MayShrink, chunk_in}
+use Rattle.bb_memory_traits.specs.declared.layout.Layout.{Layout}
+use Rattle.bb_memory_traits.specs.declared.allocator.AllocationError.{AllocationError}
+use Rattle.bb_memory_traits.specs.declared.allocator.AllocationError.TheVariants.{SizeIsZero, SizeTooLarge, AlignmentFailure}
+use Rattle.bb_memory_traits.specs.declared.allocator.AllocationError.TheVariants.{OutOfMemory}
+use Rattle.bb_memory_traits.specs.declared.allocator.AllocationGrowError.{AllocationGrowError}
+use Rattle.bb_memory_traits.specs.declared.allocator.AllocationGrowError.TheVariants as grow
+use Rattle.bb_memory_traits.specs.declared.allocator.AllocationShrinkError.{AllocationShrinkError}
+use Rattle.bb_memory_traits.specs.declared.allocator.AllocationShrinkError.TheVariants as shrink
+use Rattle.bb_memory_traits.proofs.PoolGeometries.{bucket_place-aligned}
+use Rattle.bb_memory_traits.proofs.PoolLists.{count_at, at_from_count, count_from_at, inside_from_bucket}
+use Rattle.bb_memory_geometry.proofs.Measures.{bucket_place-multiple}
+use Rattle.bb_memory_lists.proofs.Positions.{All-from_positions}
+
+-- REQUESTS
+
+-- a bucket is held or not
+held_or_not : (geometry : PoolGeometry) (live : List Chunk) (i : ℕ) → IsHeld geometry live i ⊎ (¬ IsHeld geometry live i)
+held_or_not geometry live i =
+    let place : ℕ = bucket_place geometry i in
+    elim (cases_lt 0 (count_at place live)) [
+      | inl some ↦ inl (at_from_count place live some)
+      | inr none ↦ inr (λ held. omega (arith, none, count_from_at place held.0 live held.1))
+    ]
+
+-- one of the buckets below n isn't held
+record SomeFree (geometry : PoolGeometry) (live : List Chunk) (n : ℕ) : Type 0 where
+  number : ℕ
+  below : number < n
+  free : ¬ IsHeld geometry live number
+
+-- of the buckets below n one isn't held, or all are
+some_free : (geometry : PoolGeometry) (live : List Chunk) (n : ℕ) →
+    SomeFree geometry live n ⊎ ((i : ℕ) → i < n → IsHeld geometry live i)
+some_free geometry live zero = inr (λ i below. absurd (omega arith))
+some_free geometry live (suc n) =
+    elim (some_free geometry live n) [
+      | inl some ↦ let below = some.below in
+          inl (record { number = some.number; below = omega arith; free = some.free })
+      | inr all ↦ elim (held_or_not geometry live n) [
+        | inr free ↦ inl (record { number = n; below = omega arith; free = free })
+        | inl held ↦ inr (λ i below. elim (cases_lt i n) [
+          | inl before ↦ all i before
+          | inr last ↦ let same : n ≡ i = omega arith in subst (IsHeld geometry live) same held
+        ])
+      ]
+    ]
+
+-- there is an answer to each request
+pub some_answer : (geometry : PoolGeometry) (live : List Chunk) (layout : Layout) →
+    (answer : Result Chunk AllocationError) × MayAllocate geometry live layout answer
+some_answer geometry live layout =
+    elim (cases_lt geometry.bucket.size layout.size) [
+      | inl large ↦ (Err SizeTooLarge, large)
+      | inr small ↦ elim (cases_lt geometry.bucket.align layout.align) [
+        | inl coarse ↦ (Err AlignmentFailure, (small, coarse))
+        | inr fine ↦
+            let within : IsWithin geometry.bucket layout = record { size = small; align = fine } in
+            elim (some_free geometry live geometry.buckets) [
+              | inl some ↦ (
+                Ok (chunk_in geometry some.number layout),
+                (some.number, record { within = within; bucket = some.below; free = some.free }, refl),
+              )
+              | inr all ↦ (Err OutOfMemory, (within, all))
+            ]
+      ]
+    ]
+
+-- there is one refusal alone
+pub one_cause : (geometry : PoolGeometry) (live : List Chunk) (layout : Layout) (one other : AllocationError) →
+    MayAllocate geometry live layout (Err one) → MayAllocate geometry live layout (Err other) → one ≡ other
+one_cause geometry live layout SizeTooLarge SizeTooLarge first second = refl
+one_cause geometry live layout AlignmentFailure AlignmentFailure first second = refl
+one_cause geometry live layout OutOfMemory OutOfMemory first second = refl
+one_cause geometry live layout SizeIsZero other first second = absurd first
+one_cause geometry live layout one SizeIsZero first second = absurd second
+one_cause geometry live layout one other first second = absurd (grind (arith, first, second))
+
+-- where a chunk may be given, there is no refusal
+pub given_or_refused : (geometry : PoolGeometry) (live : List Chunk) (layout : Layout) (chunk : Chunk)
+    (error : AllocationError) → MayAllocate geometry live layout (Ok chunk) → ¬ MayAllocate geometry live layout (Err error)
+given_or_refused geometry live layout chunk SizeTooLarge given refused =
+    let small = given.1.within.size in omega (arith, refused)
+given_or_refused geometry live layout chunk AlignmentFailure given refused =
+    let fine = given.1.within.align in omega (arith, refused.1)
+given_or_refused geometry live layout chunk OutOfMemory given refused =
+    given.1.free (refused.1 given.0 given.1.bucket)
+given_or_refused geometry live layout chunk SizeIsZero given refused = refused
+
+-- A CHUNK THAT IS GIVEN
+
+pub answer-aligned : (geometry : PoolGeometry) (live : List Chunk) (layout : Layout) (chunk : Chunk) →
+    MayAllocate geometry live layout (Ok chunk) → chunk.place % layout.align ≡ 0
+answer-aligned geometry live layout chunk (i, may, given) =
+    ap (λ (c : Chunk). c.place % layout.align) given ∙ bucket_place-multiple geometry i layout may.within.align
+
+pub answer-bucket_aligned : (geometry : PoolGeometry) (live : List Chunk) (layout : Layout) (chunk : Chunk) →
+    MayAllocate geometry live layout (Ok chunk) → chunk.place % geometry.bucket.align ≡ 0
+answer-bucket_aligned geometry live layout chunk (i, may, given) =
+    ap (λ (c : Chunk). c.place % geometry.bucket.align) given ∙ bucket_place-aligned geometry i
+
+pub answer-len : (geometry : PoolGeometry) (live : List Chunk) (layout : Layout) (chunk : Chunk) →
+    MayAllocate geometry live layout (Ok chunk) → chunk.len ≡ layout.size
+answer-len geometry live layout chunk (i, may, given) = ap (λ (c : Chunk). c.len) given
+
+-- no live chunk has its place
+pub answer-new : (geometry : PoolGeometry) (live : List Chunk) (layout : Layout) (chunk : Chunk) →
+    MayAllocate geometry live layout (Ok chunk) → All (λ other. other.place ≢ chunk.place) live
+answer-new geometry live layout chunk (i, may, given) =
+    let here : chunk.place ≡ bucket_place geometry i = ap (λ (c : Chunk). c.place) given in
+    let New : Chunk → Type 0 = λ other. other.place ≢ chunk.place in
+    All-from_positions New live
+    (λ position other at same. may.free (position, record { chunk = other; there = at; placed = same ∙ here }))
+
+pub answer-inside : (geometry : PoolGeometry) (live : List Chunk) (layout : Layout) (chunk : Chunk) →
+    IsPoolGeometry geometry → MayAllocate geometry live layout (Ok chunk) → IsInside geometry.region chunk
+answer-inside geometry live layout chunk is (i, may, given) =
+    let small = may.within.size in
+    inside_from_bucket geometry is chunk (record {
+      bucket = i;
+      below = may.bucket;
+      placed = ap (λ (c : Chunk). c.place) given;
+      short = omega (arith, ap (λ (c : Chunk). c.len) given);
+    })
+
+-- RESIZES
+
+-- there is an answer to each request to grow
+pub some_grow : (bucket : Layout) (place : ℕ) (old new : Layout) →
+    (answer : Result Chunk AllocationGrowError) × MayGrow bucket place old new answer
+some_grow bucket place old new =
+    elim (cases_lt old.size new.size) [
+      | inr smaller ↦ (Err grow.GrowWouldShrink, smaller)
+      | inl longer ↦ elim (cases_lt bucket.align new.align) [
+        | inl coarse ↦ (Err grow.AlignmentFailure, (longer, coarse))
+        | inr fine ↦ elim (cases_lt bucket.size new.size) [
+          | inl large ↦ (Err grow.OutOfMemory, (longer, fine, large))
+          | inr small ↦ (
+            Ok (record { place = place; len = new.size }),
+            (longer, record { size = small; align = fine }, refl),
+          )
+        ]
+      ]
+    ]
+
+-- a request to grow that is granted isn't refused
+grown_or_refused : (bucket : Layout) (place : ℕ) (old new : Layout) (grown : Chunk) (error : AllocationGrowError) →
+    MayGrow bucket place old new (Ok grown) → ¬ MayGrow bucket place old new (Err error)
+grown_or_refused bucket place old new grown grow.GrowWouldShrink (longer, within, given) refused =
+    omega (arith, longer, refused)
+grown_or_refused bucket place old new grown grow.AlignmentFailure (longer, within, given) refused =
+    let fine = within.align in omega (arith, refused.1)
+grown_or_refused bucket place old new grown grow.OutOfMemory (longer, within, given) refused =
+    let small = within.size in omega (arith, refused.2)
+
+-- there is no other answer to it
+pub one_grow : (bucket : Layout) (place : ℕ) (old new : Layout) (one other : Result Chunk AllocationGrowError) →
+    MayGrow bucket place old new one → MayGrow bucket place old new other → one ≡ other
+one_grow bucket place old new (Ok c) (Ok d) first second = ap Ok (first.2 ∙ sym second.2)
+one_grow bucket place old new (Ok c) (Err error) first second =
+    absurd (grown_or_refused bucket place old new c error first second)
+one_grow bucket place old new (Err error) (Ok c) first second =
+    absurd (grown_or_refused bucket place old new c error second first)
+one_grow bucket place old new (Err grow.GrowWouldShrink) (Err grow.GrowWouldShrink) first second = refl
+one_grow bucket place old new (Err grow.AlignmentFailure) (Err grow.AlignmentFailure) first second = refl
+one_grow bucket place old new (Err grow.OutOfMemory) (Err grow.OutOfMemory) first second = refl
+one_grow bucket place old new one other first second = absurd (omega arith)
+
+-- there is an answer to each request to shrink
+pub some_shrink : (bucket : Layout) (place : ℕ) (old new : Layout) →
+    (answer : Result Chunk AllocationShrinkError) × MayShrink bucket place old new answer
+some_shrink bucket place old new =
+    elim (cases_lt new.size old.size) [
+      | inr larger ↦ (Err shrink.ShrinkWouldGrow, larger)
+      | inl smaller ↦ elim (cases_lt bucket.align new.align) [
+        | inl coarse ↦ (Err shrink.AlignmentFailure, (smaller, coarse))
+        | inr fine ↦ (Ok (record { place = place; len = new.size }), (smaller, fine, refl))
+      ]
+    ]
+
+-- there is no other answer to it
+pub one_shrink : (bucket : Layout) (place : ℕ) (old new : Layout) (one other : Result Chunk AllocationShrinkError) →
+    MayShrink bucket place old new one → MayShrink bucket place old new other → one ≡ other
+one_shrink bucket place old new (Ok c) (Ok d) first second = ap Ok (first.2 ∙ sym second.2)
+one_shrink bucket place old new (Err shrink.ShrinkWouldGrow) (Err shrink.ShrinkWouldGrow) first second = refl
+one_shrink bucket place old new (Err shrink.AlignmentFailure) (Err shrink.AlignmentFailure) first second = refl
+one_shrink bucket place old new one (Err shrink.SizeIsZero) first second = absurd second
+one_shrink bucket place old new (Err shrink.SizeIsZero) other first second = absurd first
+one_shrink bucket place old new one other first second = absurd (omega arith)

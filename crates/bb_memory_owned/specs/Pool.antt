@@ -1,0 +1,217 @@
+-- A pool, as its contracts see it.
+use Rattle.std.specs.Prelude.{◌≡◌, ◌≢◌, ℕ, ◌-◌, ◌+◌, ◌%◌, ◌≤◌, ◌<◌, ◌^◌, ◌⊎◌, ◌↔◌, Bool, true, false, ◌&&◌, if◌then◌else◌}
+use Rattle.std.specs.Prelude.{get_or, nat_eq, nat_le, List, All, length, max, min, replicate, slice_set, Result, Ok, Err, IsOk}
+use Rattle.std.specs.Prelude.{IfOk, OnErr, Some, slice_get, Option, IfSome, IfNone}
+use Rattle.std.specs.List.{list_any, range_with_len}
+use Rattle.bb_memory_traits.specs.Chunk.{Region, IsRegion, Chunk, IsSound, first_place}
+use Rattle.bb_memory_traits.specs.Object.{PlacesDiffer, note_after_run}
+use Rattle.bb_memory_traits.specs.PoolObject.{PoolGeometry, stride, bucket_place, IsCut, IsPoolGeometry, IsHeld, IsWithin}
+use Rattle.bb_memory_traits.specs.PoolObject.{chunk_in}
+use Rattle.bb_memory_traits.specs.declared.layout.Layout.{Layout}
+use Rattle.bb_memory_traits.specs.declared.allocator.Command.{Command}
+use Rattle.bb_memory_traits.specs.declared.allocator.AllocationError.{AllocationError}
+use Rattle.bb_memory_traits.specs.declared.allocator.AllocationError.TheVariants.{SizeIsZero, SizeTooLarge, AlignmentFailure}
+use Rattle.bb_memory_traits.specs.declared.allocator.AllocationError.TheVariants.{OutOfMemory}
+use Rattle.bb_memory_geometry.specs.Geometry.{AreAStrideApart, MayBeCut}
+use Rattle.bb_memory_index_set.specs.IndexSets.{Has, Lacks, IsFull, member_count}
+use Rattle.std.specs.Cmp.Derive.{both_true}
+use Rattle.std.proofs.Common.{refl, sym, ◌∙◌, ap, arith, subst}
+use Rattle.std.proofs.lemmas.Bool.{eq-eqb, eqb-true}
+use Rattle.std.proofs.lemmas.List.Folds.{Any-from_list_any, list_any_at}
+use Rattle.std.proofs.lemmas.List.FromFn.{get_or-range_with_len, length-range_with_len}
+use Rattle.std.proofs.lemmas.Option.{slice_get-get_or, slice_get_within, get_or_from_slice_get}
+
+-- where its buckets are, and the set of those that are held
+pub record Pool : Type 0 where
+  pub geometry : PoolGeometry
+  pub held : List Bool
+
+abbrev pub pool_of : PoolGeometry → List Bool → Pool
+pool_of geometry held = record { geometry = geometry; held = held }
+
+-- a pool with no bucket held
+abbrev pub fresh_pool : PoolGeometry → Pool
+fresh_pool geometry = pool_of geometry (replicate geometry.buckets false)
+
+-- the pool's buckets are inside a region, and each is known to be held or not
+pub record IsPool (pool : Pool) : Type 0 where
+  pub region : IsRegion pool.geometry.region
+  pub geometry : IsPoolGeometry pool.geometry
+  pub flags : length pool.held ≡ pool.geometry.buckets
+
+-- WHAT A MAKER NEEDS
+
+-- the region is cut into just the buckets that it has room for
+pub record IsUninit (geometry : PoolGeometry) : Type 0 where
+  pub may : MayBeCut geometry.region geometry.bucket
+  pub cut : IsCut geometry.region geometry.bucket geometry
+
+-- LIVE LISTS
+
+-- the chunk is in bucket i, which is held, and is no longer than a bucket
+pub record Fills (pool : Pool) (chunk : Chunk) (i : ℕ) : Type 0 where
+  pub held : Has pool.held i
+  pub placed : chunk.place ≡ bucket_place pool.geometry i
+  pub short : chunk.len ≤ pool.geometry.bucket.size
+
+-- a pool stands for this live list: each chunk is in a held bucket, no two in one, and each held bucket has its chunk
+pub record StandsFor (pool : Pool) (live : List Chunk) : Type 0 where
+  pub sound : IsSound pool.geometry.region live
+  pub filled : All (λ chunk. (i : ℕ) × Fills pool chunk i) live
+  pub differ : PlacesDiffer live
+  pub held : (i : ℕ) → Has pool.held i → IsHeld pool.geometry live i
+
+-- bucket i is held, and begins at the place
+abbrev pub begins_held : Pool → ℕ → ℕ → Bool
+begins_held pool place i = get_or pool.held i false && nat_eq place (bucket_place pool.geometry i)
+
+-- whether any held bucket begins at the place
+unfoldable pub holds_place : Pool → ℕ → Bool
+holds_place pool place = list_any (begins_held pool place) (range_with_len 0 (length pool.held))
+
+-- the place is that of a held bucket
+abbrev pub HoldsPlace : Pool → ℕ → Type 0
+HoldsPlace pool place = holds_place pool place ≡ true
+
+-- WHAT CALLS DO
+
+-- the pool with bucket i held, or free
+abbrev pub with_flag : Pool → ℕ → Bool → Pool
+with_flag pool i flag = pool_of pool.geometry (slice_set pool.held i flag)
+
+-- What a pool may answer to a request, and what it is then: any free bucket is given and held, and a refusal changes nothing.
+abbrev pub Takes : Pool → Layout → Result Chunk AllocationError → Pool → Type 0
+Takes pool layout (Ok chunk) new =
+    (i : ℕ) × IsWithin pool.geometry.bucket layout × Lacks pool.held i
+    × (chunk ≡ chunk_in pool.geometry i layout) × (new ≡ with_flag pool i true)
+Takes pool layout (Err SizeTooLarge) new = (pool.geometry.bucket.size < layout.size) × (new ≡ pool)
+Takes pool layout (Err AlignmentFailure) new =
+    (layout.size ≤ pool.geometry.bucket.size) × (pool.geometry.bucket.align < layout.align) × (new ≡ pool)
+Takes pool layout (Err OutOfMemory) new =
+    IsWithin pool.geometry.bucket layout × IsFull pool.held × (new ≡ pool)
+-- a pool never refuses so
+Takes pool layout (Err SizeIsZero) new = ⊥
+
+-- the held bucket at the place is freed, and no other
+abbrev pub Frees : Pool → ℕ → Pool → Type 0
+Frees pool place new =
+    (i : ℕ) → Has pool.held i → place ≡ bucket_place pool.geometry i → new ≡ with_flag pool i false
+
+-- how many of the pool's buckets are held
+abbrev pub held_count : Pool → ℕ
+held_count pool = member_count pool.held
+
+-- a pool, how many index words its last request read, and the greatest number of buckets that were held at one time so far
+pub record CountedPool : Type 0 where
+  pub pool : Pool
+  pub reads : ℕ
+  pub greatest : ℕ
+
+abbrev pub counted : Pool → ℕ → ℕ → CountedPool
+counted pool reads greatest = record { pool = pool; reads = reads; greatest = greatest }
+
+-- What a request is answered by the value alone, what the pool is then, and how many of its words it read.
+pub record TakesBucket (old : CountedPool) (layout : Layout) (answer : Result Chunk AllocationError)
+    (new : CountedPool) (words : ℕ) : Type 0 where
+  -- the bucket that is held then, each refusal by its cause, and that there is no other
+  pub taken : Takes old.pool layout answer new.pool
+  pub accepted : IsOk answer ↔ (IsWithin old.pool.geometry.bucket layout × ((i : ℕ) × Lacks old.pool.held i))
+  pub pool_unchanged : OnErr answer (new.pool ≡ old.pool)
+  pub was_free : IfOk answer (λ chunk. ¬ HoldsPlace old.pool chunk.place)
+  pub apart : IfOk answer (λ chunk. (place : ℕ) → HoldsPlace old.pool place
+      → AreAStrideApart old.pool.geometry.bucket place chunk.place)
+  pub others_kept : (place : ℕ) → HoldsPlace old.pool place → HoldsPlace new.pool place
+  pub bucket_aligned : IfOk answer (λ chunk. chunk.place % old.pool.geometry.bucket.align ≡ 0)
+  -- a bucket that is given counts, and a refusal doesn't
+  pub one_more : IfOk answer (λ chunk. held_count new.pool ≡ held_count old.pool + 1)
+  pub greatest : new.greatest ≡ max old.greatest (held_count new.pool)
+  pub greatest_unchanged : OnErr answer (new.greatest ≡ old.greatest)
+  pub one_read : IsWithin old.pool.geometry.bucket layout → 0 < words → new.reads ≡ 1
+  -- where no reads are counted, a refusal leaves all as it was
+  pub uncounted : words ≡ 0 → new.reads ≡ old.reads
+  pub unchanged : words ≡ 0 → OnErr answer (new ≡ old)
+
+-- What a pool is after a release by the value alone: that bucket, which was held, is free, and so one less is held. Each other
+-- place is held or free as it was, and the greatest number stays.
+pub record FreesBucket (old : CountedPool) (place : ℕ) (new : CountedPool) : Type 0 where
+  pub freed : Frees old.pool place new.pool
+  pub others_kept : (other : ℕ) → HoldsPlace old.pool other → other ≢ place → HoldsPlace new.pool other
+  pub others_free : (other : ℕ) → ¬ HoldsPlace old.pool other → ¬ HoldsPlace new.pool other
+  pub given_back : ¬ HoldsPlace new.pool place
+  pub room : (i : ℕ) × Lacks new.pool.held i
+  pub one_less : held_count old.pool ≡ held_count new.pool + 1
+  pub greatest : new.greatest ≡ old.greatest
+
+-- INDEX WORDS
+
+-- how many words a request for the layout reads, of so many: one if there is one, and none where its size or its alignment is
+-- refused
+abbrev pub reads_of : Layout → ℕ → Layout → ℕ
+reads_of bucket words layout =
+    if nat_le layout.size bucket.size && nat_le layout.align bucket.align then min words 1 else 0
+
+-- how many the last request of these commands reads, or as many as before where they have none
+abbrev pub reads_after : Layout → ℕ → ℕ → List Command → ℕ
+reads_after bucket words before commands =
+    note_after_run (λ layout reads. reads_of bucket words layout) before commands
+
+-- LAWS OF HELD BUCKETS AND THEIR PLACES
+
+both : (a b : Bool) → (a && b) ≡ true → (a ≡ true) × (b ≡ true)
+both true b holds = (refl, holds)
+both false b holds = absurd (cc)
+
+-- a place that is held is that of a held bucket
+pub bucket_held_at : (pool : Pool) (place : ℕ) → HoldsPlace pool place →
+    (i : ℕ) × Has pool.held i × (place ≡ bucket_place pool.geometry i)
+unfolding holds_place
+bucket_held_at pool place holds =
+    let count : ℕ = length pool.held in
+    let (k, i, within, at, is) = Any-from_list_any (begins_held pool place) (range_with_len 0 count) holds in
+    let below : k < count = omega (arith, within, length-range_with_len 0 count) in
+    let number : i ≡ k = omega (arith, at, get_or-range_with_len 0 count k i below) in
+    let answers = both (get_or pool.held i false) (nat_eq place (bucket_place pool.geometry i)) is in (
+      i,
+      slice_get-get_or pool.held i false (omega (arith, below, number)) ∙ ap Some answers.0,
+      eqb-true place (bucket_place pool.geometry i) answers.1,
+    )
+
+-- a held bucket's place is held
+pub held_at_bucket : (pool : Pool) (place i : ℕ) → Has pool.held i → place ≡ bucket_place pool.geometry i →
+    HoldsPlace pool place
+unfolding holds_place
+held_at_bucket pool place i has there =
+    let count : ℕ = length pool.held in
+    let below : i < count = slice_get_within pool.held i true has in
+    let begins : begins_held pool place i ≡ true =
+    both_true (get_or_from_slice_get pool.held i true false has) (eq-eqb place (bucket_place pool.geometry i) there) in
+    list_any_at (begins_held pool place) (range_with_len 0 count) i 0 (omega (arith, below, length-range_with_len 0 count))
+    (ap (begins_held pool place) (let e : get_or (range_with_len 0 count) i 0 ≡ i =
+    omega (arith, get_or-range_with_len 0 count i 0 below) in e) ∙ begins)
+
+-- LAWS OF LIVE LISTS
+
+-- what stands at a position of it has the place of a held bucket
+pub held_place : (pool : Pool) (live : List Chunk) (position : ℕ) (chunk : Chunk) →
+    StandsFor pool live → slice_get live position ≡ Some chunk → HoldsPlace pool chunk.place
+held_place pool live position chunk stands at =
+    let filled = stands.filled position chunk (slice_get_within live position chunk at) in
+    let same = get_or_from_slice_get live position chunk chunk at in
+    held_at_bucket pool chunk.place filled.0 filled.1.held (sym (ap (λ (c : Chunk). c.place) same) ∙ filled.1.placed)
+
+-- a live chunk is no longer than a bucket
+pub covered : (pool : Pool) (live : List Chunk) (position : ℕ) (chunk : Chunk) →
+    StandsFor pool live → slice_get live position ≡ Some chunk → chunk.len ≤ pool.geometry.bucket.size
+covered pool live position chunk stands at =
+    let filled = stands.filled position chunk (slice_get_within live position chunk at) in
+    let same = get_or_from_slice_get live position chunk chunk at in
+    subst (λ (c : Chunk). c.len ≤ pool.geometry.bucket.size) same filled.1.short
+
+-- a held bucket's place is that of a chunk of it
+pub held_is_live : (pool : Pool) (live : List Chunk) (place : ℕ) →
+    StandsFor pool live → HoldsPlace pool place → (position : ℕ) × (chunk : Chunk)
+    × (slice_get live position ≡ Some chunk) × (chunk.place ≡ place)
+held_is_live pool live place stands holds =
+    let at = bucket_held_at pool place holds in
+    let held = stands.held at.0 at.1 in
+    (held.0, held.1.chunk, held.1.there, held.1.placed ∙ sym at.2)

@@ -1,0 +1,368 @@
+//! An allocator that gives one chunk at a time, which is all of its region from the chunk's place on.
+ghost use Rattle.std.specs.Prelude.{◌≡◌, [], List, ◌+◌, ◌-◌, ◌<◌, ◌≤◌, ◌%◌, ◌↔◌, ℕ, IsTrue, Some, Result};
+ghost use Rattle.bb_memory_traits.specs.Chunk.{Region, IsRegion, region_at, region_end, Chunk, IsInside, chunk_end};
+ghost use Rattle.bb_memory_traits.specs.Object.{AnswersAll, AnswersOnce, GivesOnly, AnswersRun, IsRun, Step, ResizableStep};
+ghost use Rattle.bb_memory_traits.specs.declared.layout.Layout.{Layout};
+ghost use Rattle.bb_memory_traits.specs.declared.allocator.AllocationError.{AllocationError};
+ghost use Rattle.bb_memory_traits.specs.declared.allocator.AllocationGrowError.{AllocationGrowError};
+ghost use Rattle.bb_memory_traits.specs.declared.allocator.AllocationShrinkError.{AllocationShrinkError};
+ghost use Rattle.bb_memory_traits.specs.declared.allocator.Command.{Command};
+ghost use Rattle.bb_memory_traits.specs.declared.allocator.Reply.{Reply};
+ghost use Rattle.bb_memory_owned.specs.OneChunk.{Frees, IsOneChunk, OneChunk, StandsFor, Takes, one_chunk_of};
+ghost use Rattle.bb_memory_traits.specs.OneChunkObject.{MayAllocate, MayGrow, MayShrink, reserved_at, one_chunk_object};
+
+pub use crate::allocator::{
+    AllocationError, AllocationGrowError, AllocationShrinkError, Allocator, BaseAllocator,
+};
+use crate::allocator::{Command, Reply, run_base, run_full};
+use crate::layout::Chunk;
+pub use crate::layout::Layout;
+use crate::region;
+use std::alloc::AllocError;
+use std::marker::Model;
+
+/// Gives one chunk at a time: all of the region from the first suitable place on. It can be resized in place.
+///
+/// ```
+/// let mut one = OneChunkAllocator::new(4096, 1024);
+/// let layout = Layout::from_size_align(48, 4).unwrap();
+/// let small = Layout::from_size_align(32, 4).unwrap();
+/// let chunk = one.allocate(layout)?;
+/// let (place, len) = (chunk.place(), chunk.len());
+/// prove!(place == 4096 && len == 1024);
+/// let chunk = one.shrink(place, layout, small).unwrap();
+/// let (same_place, len) = (chunk.place(), chunk.len());
+/// prove!(same_place == 4096 && len == 32);
+/// one.deallocate(place, layout);
+/// let available = one.has_chunk_available();
+/// prove!(available);
+/// ```
+#[derive(Debug, Drop)]
+pub struct OneChunkAllocator {
+    start: usize,
+    size: usize,
+    kept_place: Option<usize>,
+}
+
+impl Model for OneChunkAllocator {
+    ghost use Rattle.bb_memory_owned.specs.OneChunk.{OneChunk, IsOneChunk, one_chunk_of};
+
+    ghost Value = { OneChunk };
+
+    ghost view = { λ a. one_chunk_of a.start a.size a.kept_place };
+
+    ghost invariant = { λ a. IsOneChunk (one_chunk_of a.start a.size a.kept_place) };
+}
+
+impl OneChunkAllocator {
+    /// An allocator over the region of `size` bytes at `start`, with nothing given. The start has to be greater than 0,
+    /// and start plus size at most `usize::MAX`; [`OneChunkAllocator::can_make`] tests both.
+    #[inline]
+    pub fn new(start: usize, size: usize) -> Self
+        requires { IsRegion (region_at start size) }
+        ensures value { result ≡ one_chunk_of start size None }
+        ensures empty { StandsFor result [] }
+    {
+        OneChunkAllocator {
+            start,
+            size,
+            kept_place: None,
+        }
+    }
+
+    /// Tests that `new` may be called with these.
+    pub fn can_make(start: usize, size: usize) -> bool
+        ensures { IsTrue result ↔ IsRegion (region_at start size) }
+    {
+        region::Region::can_make(start, size)
+    }
+
+    /// Tests that no chunk is out.
+    #[inline(always)]
+    pub fn has_chunk_available(&self) -> bool
+        ensures value { IsTrue result ↔ (self.now.kept ≡ None) }
+        ensures of_live { (live : List Chunk) → StandsFor self.now live
+            → (IsTrue result ↔ (live ≡ [])) }
+    {
+        self.kept_place.is_none()
+    }
+
+    /// Tests that the chunk that is out has this place, so that it may be given back: true exactly where `deallocate` may be
+    /// called with the place.
+    ///
+    /// ```
+    /// let mut one = OneChunkAllocator::new(4096, 1024);
+    /// let chunk = one.allocate(Layout::empty())?;
+    /// let (here, behind) = (one.holds(chunk.place()), one.holds(4097));
+    /// prove!(here && !behind);
+    /// ```
+    #[inline(always)]
+    pub fn holds(&self, place: usize) -> bool
+        ensures value { IsTrue result ↔ (self.now.kept ≡ Some place) }
+        ensures may_release { IsTrue result
+            ↔ ⟦<OneChunkAllocator as BaseAllocator>⟧.may_release self.now place }
+    {
+        self.kept_place == Some(place)
+    }
+
+    /// Where the region starts.
+    #[inline]
+    pub fn start_address(&self) -> usize
+        ensures value { result ≡ self.now.region.start }
+        ensures is_region { IsRegion self.now.region }
+    {
+        self.start
+    }
+
+    /// How many bytes the region has.
+    #[inline]
+    pub fn size(&self) -> usize
+        ensures { result ≡ self.now.region.size }
+    {
+        self.size
+    }
+}
+
+impl BaseAllocator for OneChunkAllocator {
+    ghost use Rattle.std.specs.Prelude.{◌≡◌, Some, false};
+    ghost use Rattle.bb_memory_traits.specs.Chunk.{Region};
+    ghost use Rattle.bb_memory_owned.specs.OneChunk.{StandsFor, Takes, Frees, only_chunk};
+    ghost use Rattle.bb_memory_traits.specs.OneChunkObject.{MayAllocate};
+
+    const RELEASE_EMPTIES: bool = false;
+
+    ghost RELEASE_EMPTIES = { false };
+
+    ghost Geometry = { Region };
+
+    ghost geometry = { λ one. one.region };
+
+    ghost region_of = { λ region. region };
+
+    ghost may_allocate = { MayAllocate };
+
+    ghost stands_for = { StandsFor };
+
+    ghost may_release = { λ one place. one.kept ≡ Some place };
+
+    ghost Note = { Unit {0} };
+
+    ghost note = { λ _. tt };
+
+    ghost note_after = { λ _ _ note. note };
+
+    ghost takes = { Takes };
+
+    ghost frees = { λ one _ _ new. Frees one new };
+
+    /// A chunk at the least multiple of `layout.align()` from the region's start on, up to the region's end. It is
+    /// refused, with `OutOfMemory`, exactly where a chunk is out, or where that place is at or behind the region's end,
+    /// or less than `layout.size()` bytes are left there. A refusal leaves the allocator as it was.
+    #[inline(always)]
+    fn allocate(&mut self, layout: Layout) -> Result<Chunk, AllocationError> {
+        if self.kept_place.is_some() {
+            return Err(AllocationError::OutOfMemory);
+        }
+        let end = self.start + self.size;
+        let Some(asked) = Chunk::at_or_after(self.start, layout, end) else {
+            return Err(AllocationError::OutOfMemory);
+        };
+        if asked.place() == end {
+            return Err(AllocationError::OutOfMemory);
+        }
+        self.kept_place = Some(asked.place());
+        Ok(chunk_between(asked.place(), end))
+    }
+
+    /// Gives back the chunk that is out, which has to be at this place. The layout decides nothing.
+    #[inline(always)]
+    fn deallocate(&mut self, _place: usize, _layout: Layout) {
+        self.kept_place = None;
+    }
+
+    fn stands_for_some_list(&self) {
+        // Proof hint: brings the type's invariant into scope.
+        let _ = &self.start;
+    }
+
+    fn answers_fit(&self) {
+        // Proof hint: brings the type's invariant into scope.
+        let _ = &self.start;
+    }
+
+    ghost releases = { λ one live position chunk stands at.
+        (only_chunk one.kept live position chunk stands.keeps at).2 };
+
+    ghost sound = { λ one live stands. stands.sound };
+}
+
+impl Allocator for OneChunkAllocator {
+    ghost use Rattle.std.specs.Prelude.{refl};
+    ghost use Rattle.bb_memory_traits.specs.Chunk.{Region};
+    ghost use Rattle.bb_memory_owned.specs.OneChunk.{places_differ, covered, kept_is_live};
+    ghost use Rattle.bb_memory_traits.specs.OneChunkObject.{MayGrow, MayShrink, reserved_at};
+
+    ghost Figures = { Region };
+
+    ghost figures = { λ one. one.region };
+
+    ghost reserved_at = { reserved_at };
+
+    ghost may_grow = { λ region live. MayGrow region };
+
+    ghost may_shrink = { λ region live. MayShrink };
+
+    ghost grows = { λ one place old new answer _. MayGrow one.region place old new answer };
+
+    ghost shrinks = { λ _ place old new answer _. MayShrink place old new answer };
+
+    /// How many bytes there are from the chunk's place to the region's end. The place has to be that of the chunk that is out.
+    #[inline]
+    fn reserved(&self, place: usize) -> usize
+        requires { self.now.kept ≡ Some place }
+        ensures value { result ≡ reserved_at self.now.region place }
+        ensures up_to_end { place + result ≡ region_end self.now.region }
+    {
+        let end = self.start + self.size;
+        end - place
+    }
+
+    /// Gives the chunk all that is reserved for it. It is refused in this order: with `GrowWouldShrink` where the new size
+    /// isn't greater than the old one, with `AlignmentFailure` where the new alignment is greater than the old one, and
+    /// with `OutOfMemory` where less than the new size is reserved. The allocator stays as it was. The place has to be that of
+    /// the chunk that is out and a multiple of the old alignment.
+    #[inline]
+    fn grow(
+        &mut self,
+        place: usize,
+        old: Layout,
+        new: Layout,
+    ) -> Result<Chunk, AllocationGrowError> {
+        if old.size() >= new.size() {
+            return Err(AllocationGrowError::GrowWouldShrink);
+        }
+        if old.align() < new.align() {
+            return Err(AllocationGrowError::AlignmentFailure);
+        }
+        let end = self.start + self.size;
+        if end - place < new.size() {
+            return Err(AllocationGrowError::OutOfMemory);
+        }
+        Ok(chunk_between(place, end))
+    }
+
+    /// Gives the chunk exactly the new size. It is refused in this order: with `ShrinkWouldGrow` where the new size isn't
+    /// smaller than the old one, and with `AlignmentFailure` where the new alignment is greater than the old one. The
+    /// allocator stays as it was. The place has to be that of the chunk that is out and a multiple of the old alignment, and the
+    /// old size at most what is reserved.
+    #[inline]
+    fn shrink(
+        &mut self,
+        place: usize,
+        old: Layout,
+        new: Layout,
+    ) -> Result<Chunk, AllocationShrinkError> {
+        // Proof hint: brings the type's invariant into scope.
+        let _ = &self.start;
+        if old.size() <= new.size() {
+            return Err(AllocationShrinkError::ShrinkWouldGrow);
+        }
+        if old.align() < new.align() {
+            return Err(AllocationShrinkError::AlignmentFailure);
+        }
+        Ok(chunk_between(place, place + new.size()))
+    }
+
+    ghost fixed = { λ one other same. same };
+
+    ghost closes_up = { refl };
+
+    ghost distinct = { λ one live stands. places_differ one.kept live stands.keeps };
+
+    ghost covered = { covered };
+
+    ghost only_live = { λ one live place stands out.
+        kept_is_live one.kept live place stands.keeps out };
+}
+
+/// Applies the commands in order, as [`run_full`] does: the replies and the live list are a run of the one-chunk object over
+/// the allocator's region, and the list is sound afterwards. The allocator has to stand for the live list. `AllocError` comes
+/// only where memory was refused, and then the allocator and the list are as before.
+pub fn run_one_chunk(
+    allocator: &mut OneChunkAllocator,
+    live: &mut Vec<Chunk>,
+    commands: &[Command],
+) -> Result<Vec<Reply>, AllocError>
+    requires { StandsFor allocator.old live.old.items }
+    ensures { AnswersRun StandsFor (λ one. one.region) (λ region. region)
+        (ResizableStep (one_chunk_object allocator.old.region))
+        Takes (λ old _ _ new. Frees old new)
+        commands.now result allocator.old allocator.new live.old.items live.new.items }
+{
+    run_full(allocator, live, commands)
+}
+
+/// The same without resizes, which are passed over, as [`run_base`] does. The allocator has to stand for the live list.
+/// `AllocError` comes only where memory was refused, and then the allocator and the list are as before.
+pub fn run_base_one_chunk(
+    allocator: &mut OneChunkAllocator,
+    live: &mut Vec<Chunk>,
+    commands: &[Command],
+) -> Result<Vec<Reply>, AllocError>
+    requires { StandsFor allocator.old live.old.items }
+    ensures { AnswersRun StandsFor (λ one. one.region) (λ region. region)
+        (Step (one_chunk_object allocator.old.region).base)
+        Takes (λ old _ _ new. Frees old new)
+        commands.now result allocator.old allocator.new live.old.items live.new.items }
+{
+    run_base(allocator, live, commands)
+}
+
+/// Says what the definition of the one-chunk object says of every region and every list of commands. There is exactly one answer
+/// to each request, and to each resize. A chunk that is given begins at a multiple of the asked alignment, has at least the asked
+/// size, isn't empty, and ends where the region does. Each run from a live list that a one chunk stands for, with resizes or
+/// without, leads to such a list again, which is sound. It does nothing: its contract is the law.
+pub fn one_chunk_object_law()
+    ensures some_answer { (region : Region) → AnswersAll (one_chunk_object region).base }
+    ensures one_answer { (region : Region) → AnswersOnce (one_chunk_object region).base }
+    ensures some_grow { (region : Region) (place : ℕ) (old new : Layout)
+        → (answer : Result Chunk AllocationGrowError) × MayGrow region place old new answer }
+    ensures one_grow { (region : Region) (place : ℕ) (old new : Layout)
+        (one other : Result Chunk AllocationGrowError)
+        → MayGrow region place old new one → MayGrow region place old new other
+        → one ≡ other }
+    ensures some_shrink { (place : ℕ) (old new : Layout)
+        → (answer : Result Chunk AllocationShrinkError) × MayShrink place old new answer }
+    ensures one_shrink { (place : ℕ) (old new : Layout)
+        (one other : Result Chunk AllocationShrinkError)
+        → MayShrink place old new one → MayShrink place old new other
+        → one ≡ other }
+    ensures aligned { (region : Region) → GivesOnly (one_chunk_object region).base
+        (λ layout chunk. chunk.place % layout.align ≡ 0) }
+    ensures long_enough { (region : Region) → GivesOnly (one_chunk_object region).base
+        (λ layout chunk. layout.size ≤ chunk.len) }
+    ensures inside { (region : Region) → GivesOnly (one_chunk_object region).base
+        (λ layout. IsInside region) }
+    ensures whole_rest { (region : Region) → GivesOnly (one_chunk_object region).base
+        (λ layout chunk. (0 < chunk.len) × (chunk_end chunk ≡ region_end region)) }
+    ensures keeps_sound { (one : OneChunk) (live new : List Chunk)
+        (commands : List Command) (replies : List Reply)
+        → IsOneChunk one → StandsFor one live
+        → IsRun (ResizableStep (one_chunk_object one.region)) live commands replies new
+        → (left : OneChunk) × IsOneChunk left × (left.region ≡ one.region) × StandsFor left new }
+    ensures keeps_sound_base { (one : OneChunk) (live new : List Chunk)
+        (commands : List Command) (replies : List Reply)
+        → IsOneChunk one → StandsFor one live
+        → IsRun (Step (one_chunk_object one.region).base) live commands replies new
+        → (left : OneChunk) × IsOneChunk left × (left.region ≡ one.region) × StandsFor left new }
+{}
+
+/// The chunk from a place to an end. The place isn't 0, and the end isn't below it.
+#[inline(always)]
+fn chunk_between(place: usize, end: usize) -> Chunk
+    requires place { 0 < place }
+    requires end { place ≤ end }
+    ensures { result ≡ record { place = place; len = end - place } }
+{
+    Chunk::new_unchecked(place, end - place)
+}

@@ -1,0 +1,174 @@
+//! Allocators that cut a region into buckets of one layout, and give a bucket for each request.
+ghost use Rattle.std.specs.Prelude.{◌≡◌, ◌≢◌, [], List, ℕ, ◌*◌, ◌/◌, ◌<◌, ◌≤◌, ◌^◌, ◌↔◌, IfOk};
+ghost use Rattle.std.specs.Prelude.{IfErr, IsTrue, Some, false, replicate, slice_get, remove};
+ghost use Rattle.bb_memory_traits.specs.Chunk.{region_at, Chunk, first_place};
+ghost use Rattle.bb_memory_traits.specs.PoolObject.{PoolGeometry, IsCut};
+ghost use Rattle.bb_memory_traits.specs.declared.allocator.AllocationError.{AllocationError};
+ghost use Rattle.bb_memory_index_set.specs.IndexSets.{index_words, words_with_list, Lacks};
+ghost use Rattle.bb_memory_owned.specs.Pool.{Frees, HoldsPlace, StandsFor, counted, fresh_pool};
+ghost use Rattle.bb_memory_geometry.specs.Geometry.{MayBeCut};
+
+mod bucket_pool;
+mod fixed_size;
+mod laws;
+
+pub use crate::allocator::{
+    AllocationError, AllocationGrowError, AllocationShrinkError, Allocator, BaseAllocator,
+};
+use bb_memory_index_set::index_set::Counter;
+use bb_memory_index_set::index_set::words::Words;
+pub use crate::layout::Layout;
+use crate::layout::round_up;
+use bucket_pool::BucketPool;
+pub use bucket_pool::{
+    run_base_pool, run_base_pool as run_base_fixed_pool, run_pool, run_pool as run_fixed_pool,
+};
+pub use fixed_size::FixedSizePoolAllocator;
+pub use bb_memory_geometry::geometry;
+use bb_memory_geometry::geometry::{Geometry, stride};
+pub use laws::{pool_count_law, pool_geometry_law, pool_held_law, pool_object_law};
+use std::alloc::{Allocator as LanguageAllocator, Global};
+use std::marker::Model;
+
+/// A pool whose index words aren't made yet.
+#[derive(Drop)]
+pub struct UninitPoolAllocator {
+    geometry: Geometry,
+}
+
+impl Model for UninitPoolAllocator {
+    ghost use Rattle.bb_memory_traits.specs.PoolObject.{PoolGeometry};
+    ghost use Rattle.bb_memory_owned.specs.Pool.{IsUninit};
+
+    ghost Value = { PoolGeometry };
+
+    ghost view = { λ a. a.geometry };
+
+    ghost invariant = { λ a. IsUninit a.geometry };
+}
+
+impl UninitPoolAllocator {
+    /// Takes memory for the index words, and makes a pool with no bucket held. Its only refusal is `OutOfMemory`, where a
+    /// request for memory was refused, and it hands the uninitialised pool back unchanged.
+    pub fn init<A: LanguageAllocator>(
+        self,
+        alloc: A,
+    ) -> Result<PoolAllocator<A>, (UninitPoolAllocator, AllocationError)>
+        ensures value { IfOk result (λ pool. pool ≡ counted (fresh_pool self) 0 0) }
+        ensures empty { IfOk result (λ pool. StandsFor pool.pool []) }
+        ensures refused { IfErr result (λ refusal. refusal ≡ (self, AllocationError.OutOfMemory)) }
+    {
+        match Words::new(alloc, self.geometry.count()) {
+            Ok(held) => Ok(BucketPool {
+                geometry: self.geometry,
+                held,
+                last_search: Counter::new(),
+            }),
+            Err(_) => Err((self, AllocationError::OutOfMemory)),
+        }
+    }
+}
+
+/// Gives buckets of one layout. Which buckets are held is kept in words of 64 bits, which take memory once, in
+/// [`UninitPoolAllocator::init`].
+///
+/// ```
+/// pool_count_law();
+/// let bucket = Layout::from_size_align(128, 8).unwrap();
+/// let Ok(mut pool) = PoolAllocator::new_uninit(bucket, 4096, 1024).init(alloc) else {
+///     return Err(AllocationError::OutOfMemory);
+/// };
+/// let count = pool.number_of_buckets();
+/// prove!(count == 8);
+/// let chunk = pool.allocate(Layout::from_size_align(48, 4).unwrap())?;
+/// let len = chunk.len();
+/// prove!(len == 48);
+/// pool.deallocate_bucket(chunk.place());
+/// ```
+pub type PoolAllocator<A> = BucketPool<Words<A>>;
+
+// Functions that have no part in index words stand on one instance, so that callers name the type alone.
+impl PoolAllocator<Global> {
+    /// A pool over the region of `size` bytes at `start`, cut into buckets of this layout, whose index words
+    /// [`UninitPoolAllocator::init`] makes. The start has to be greater than 0; start plus size, and the start rounded up to
+    /// the bucket's alignment, at most `usize::MAX`; the bucket's size greater than 0; and the buckets fewer than
+    /// `u32::MAX`. [`PoolAllocator::can_make`] tests all of it.
+    pub fn new_uninit(bucket_layout: Layout, start: usize, size: usize) -> UninitPoolAllocator
+        requires { MayBeCut (region_at start size) bucket_layout }
+        ensures { IsCut (region_at start size) bucket_layout result }
+    {
+        UninitPoolAllocator {
+            geometry: Geometry::new(bucket_layout, start, size),
+        }
+    }
+
+    /// Tests that `new_uninit` may be called with these.
+    pub fn can_make(bucket_layout: Layout, start: usize, size: usize) -> bool
+        ensures { IsTrue result ↔ MayBeCut (region_at start size) bucket_layout }
+    {
+        if start == 0 || bucket_layout.size() == 0 {
+            return false;
+        }
+        let Some(end) = start.checked_add(size) else {
+            return false;
+        };
+        let Some(first) = round_up(start, bucket_layout.align()) else {
+            return false;
+        };
+        end.saturating_sub(first) / stride(bucket_layout) < u32::MAX as usize
+    }
+
+    /// How many bytes are enough for the index words of a pool over a region of `size` bytes, wherever it starts, and for their
+    /// list: eight for each time that the bucket's size goes into the region's. The bucket's size has to be greater than 0, and
+    /// that quotient at most `u32::MAX`.
+    pub fn memory_size(bucket_layout: Layout, size: usize) -> usize
+        requires filled { 0 < bucket_layout.size }
+        requires quotient { size / bucket_layout.size < 2 ^ 32 }
+        ensures value { result ≡ 8 * (size / bucket_layout.size) }
+        ensures enough { (start : ℕ) (geometry : PoolGeometry)
+            → IsCut (region_at start size) bucket_layout geometry
+            → 8 * words_with_list geometry.buckets ≤ result }
+    {
+        8 * (size / bucket_layout.size())
+    }
+}
+
+impl<A: LanguageAllocator> PoolAllocator<A> {
+    /// Where the first bucket is: the region's start, rounded up to the bucket's alignment.
+    #[inline]
+    pub fn start_address(&self) -> usize
+        ensures { result ≡ first_place self.now.pool.geometry.region self.now.pool.geometry.bucket }
+    {
+        self.geometry.first()
+    }
+
+    /// How many index words the last `allocate` or `allocate_zeroed` read: one where it looked for a free bucket in a pool that
+    /// has a bucket, and 0 before the first, and where the size or the alignment was refused. It is never more than an eighth of
+    /// [`PoolAllocator::memory_size`], nor than the number of buckets divided by 64, rounded up.
+    #[inline]
+    pub fn last_reads(&self) -> u32
+        ensures value { result ≡ self.now.reads }
+        ensures most { result ≤ index_words self.now.pool.geometry.buckets }
+    {
+        self.last_search.count()
+    }
+
+    /// Gives back the bucket at this place, which has to be held.
+    #[inline(always)]
+    pub fn deallocate_bucket(&mut self, place: usize)
+        requires { HoldsPlace self.old.pool place }
+        ensures freed { Frees self.old.pool place self.new.pool }
+        ensures released { (live : List Chunk) (position : ℕ) (chunk : Chunk)
+            → StandsFor self.old.pool live → slice_get live position ≡ Some chunk
+            → chunk.place ≡ place → StandsFor self.new.pool (remove live position) }
+        ensures others_kept { (other : ℕ) → HoldsPlace self.old.pool other → other ≢ place
+            → HoldsPlace self.new.pool other }
+        ensures given_back { ¬ HoldsPlace self.new.pool place }
+        ensures room { (i : ℕ) × Lacks self.new.pool.held i }
+        ensures geometry { self.new.pool.geometry ≡ self.old.pool.geometry }
+        ensures reads { self.new.reads ≡ self.old.reads }
+        ensures greatest { self.new.greatest ≡ self.old.greatest }
+    {
+        self.deallocate(place, Layout::empty());
+    }
+}

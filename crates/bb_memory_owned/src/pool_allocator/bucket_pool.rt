@@ -1,0 +1,418 @@
+//! Pools over a set of held buckets: what the pools of this crate have in common.
+ghost use Rattle.std.specs.Prelude.{◌≡◌, ◌≢◌, ◌↔◌, ◌≤◌, ℕ, false, true, List, OnOk, Some};
+ghost use Rattle.std.specs.Prelude.{IfSome, IsSome, IsTrue, length, max, remove, slice_get};
+ghost use Rattle.bb_memory_traits.specs.Chunk.{Chunk};
+ghost use Rattle.bb_memory_traits.specs.Object.{AnswersRun, Step, ResizableStep};
+ghost use Rattle.bb_memory_traits.specs.PoolObject.{bucket_place, pool_object};
+ghost use Rattle.bb_memory_geometry.specs.Geometry.{TellsNumber, TellsPlace};
+ghost use Rattle.bb_memory_owned.specs.Pool.{held_count, FreesBucket, HoldsPlace, IsPool, StandsFor, TakesBucket};
+ghost use Rattle.bb_memory_index_set.specs.IndexSets.{Has, Lacks, member_count};
+ghost use Rattle.bb_memory_owned.specs.Pool.{Takes, pool_of, reads_after, reads_of};
+
+use super::geometry::Geometry;
+use crate::allocator::{
+    AllocationError, AllocationGrowError, AllocationShrinkError, Allocator, BaseAllocator, Command,
+    Reply, run_base, run_full,
+};
+use bb_memory_index_set::index_set::{Counter, IndexSet};
+use crate::layout::{Chunk, Layout};
+use std::alloc::AllocError;
+use std::marker::Model;
+
+/// The buckets of a region, the set of those that are held, and how many words the last search for a free one read: none, where
+/// the set counts no reads.
+#[derive(Drop)]
+pub struct BucketPool<S: IndexSet> {
+    pub(super) geometry: Geometry,
+    pub(super) held: S,
+    pub(super) last_search: Counter,
+}
+
+impl<S: IndexSet> Model for BucketPool<S> {
+    ghost use Rattle.std.specs.Prelude.{◌≤◌};
+    ghost use Rattle.bb_memory_owned.specs.Pool.{CountedPool, IsPool, counted, held_count, pool_of};
+
+    ghost Value = { CountedPool };
+
+    ghost view = { λ a. counted (pool_of a.geometry (S.numbers a.held)) a.last_search (S.most a.held) };
+
+    ghost invariant = { λ a. IsPool (pool_of a.geometry (S.numbers a.held))
+        × (a.last_search ≤ S.words a.geometry.buckets)
+        × (held_count (pool_of a.geometry (S.numbers a.held)) ≤ S.most a.held) };
+}
+
+impl<S: IndexSet> BucketPool<S> {
+    /// How many buckets there are. Beside it, what holds of every pool is told.
+    #[inline]
+    pub fn number_of_buckets(&self) -> u32
+        ensures value { result ≡ self.now.pool.geometry.buckets }
+        ensures is_pool { IsPool self.now.pool }
+    {
+        self.geometry.count()
+    }
+
+    /// The layout of each bucket, as it was asked for.
+    #[inline]
+    pub fn bucket_layout(&self) -> Layout
+        ensures { result ≡ self.now.pool.geometry.bucket }
+    {
+        self.geometry.bucket()
+    }
+
+    /// The size of a bucket in bytes, as it was asked for. The buckets are at least that far apart.
+    #[inline]
+    pub fn bucket_size(&self) -> usize
+        ensures { result ≡ self.now.pool.geometry.bucket.size }
+    {
+        self.geometry.bucket().size()
+    }
+
+    /// The greatest alignment that a request may have, of which each bucket's place is a multiple.
+    #[inline]
+    pub fn max_alignment(&self) -> usize
+        ensures { result ≡ self.now.pool.geometry.bucket.align }
+    {
+        self.geometry.bucket().align()
+    }
+
+    /// How many bytes the region has, as it was handed in.
+    #[inline]
+    pub fn size(&self) -> usize
+        ensures { result ≡ self.now.pool.geometry.region.size }
+    {
+        self.geometry.region_size()
+    }
+
+    /// Where the bucket of this number begins, held or not, or `None` where there is no such bucket.
+    pub fn place_at(&self, number: u32) -> Option<usize>
+        ensures { TellsPlace self.now.pool.geometry number result }
+    {
+        self.geometry.place_at(number)
+    }
+
+    /// The number of the bucket that begins at this place, held or not, or `None` where none does.
+    pub fn number_at(&self, place: usize) -> Option<u32>
+        ensures { TellsNumber self.now.pool.geometry place result }
+    {
+        self.geometry.number_at(place)
+    }
+
+    /// How many buckets are held: as many as were given and not given back. No bucket is looked at, and no read is counted.
+    #[inline]
+    pub fn held_buckets(&self) -> u32
+        ensures { result ≡ held_count self.now.pool }
+    {
+        self.held.len()
+    }
+
+    /// Returns the greatest number of buckets that were held at one time since the pool was made. A refused request doesn't
+    /// change it, nor does a bucket that is given back. No bucket is looked at, and no read is counted.
+    ///
+    /// ```
+    /// let chunk = pool.allocate(Layout::empty())?;
+    /// let greatest = pool.greatest_held();
+    /// pool.deallocate(chunk.place(), Layout::empty());
+    /// let still = pool.greatest_held();
+    /// prove!(still == greatest);
+    /// ```
+    #[inline]
+    pub fn greatest_held(&self) -> u32
+        ensures value { result ≡ self.now.greatest }
+        ensures at_least { held_count self.now.pool ≤ result }
+        ensures at_most { result ≤ self.now.pool.geometry.buckets }
+    {
+        self.held.greatest_len()
+    }
+
+    /// Tests that a bucket is free, so that a request that is no greater than a bucket, in size and alignment, is accepted.
+    /// Nothing is searched, and no read is counted.
+    ///
+    /// ```
+    /// let before = pool.has_room();
+    /// let answer = pool.allocate(Layout::empty());
+    /// let given = answer.is_ok();
+    /// prove!(given == before);
+    /// ```
+    #[inline(always)]
+    pub fn has_room(&self) -> bool
+        ensures { IsTrue result ↔ ((i : ℕ) × Lacks self.now.pool.held i) }
+    {
+        self.held.has_room()
+    }
+
+    /// Tests that this is the place of a held bucket, which may be given back: true exactly where `deallocate` may be called with
+    /// the place. Nothing is searched, and no read is counted.
+    ///
+    /// ```
+    /// let chunk = pool.allocate(Layout::empty())?;
+    /// let held = pool.holds(chunk.place());
+    /// prove!(held);
+    /// ```
+    #[inline(always)]
+    pub fn holds(&self, place: usize) -> bool
+        ensures value { IsTrue result ↔ HoldsPlace self.now.pool place }
+        ensures may_release { IsTrue result
+            ↔ ⟦<BucketPool<S> as BaseAllocator>⟧.may_release self.now place }
+    {
+        self.held_number(place).is_some()
+    }
+
+    /// Gives back the bucket at this place where a held one begins there, and answers whether one did. Else it changes nothing.
+    /// It is for places of which nothing is known, as they come from another process: `deallocate` asks that the bucket is held,
+    /// and doesn't look.
+    ///
+    /// ```
+    /// let chunk = pool.allocate(Layout::empty())?;
+    /// let given_back = pool.deallocate_if_held(chunk.place());
+    /// prove!(given_back);
+    /// let again = pool.deallocate_if_held(chunk.place());
+    /// prove!(!again);
+    /// ```
+    #[inline(always)]
+    pub fn deallocate_if_held(&mut self, place: usize) -> bool
+        ensures held { IsTrue result ↔ HoldsPlace self.old.pool place }
+        ensures freed { result ≡ true
+            → FreesBucket self.old place self.new }
+        ensures released { (live : List Chunk) (position : ℕ) (chunk : Chunk)
+            → StandsFor self.old.pool live → slice_get live position ≡ Some chunk
+            → chunk.place ≡ place → StandsFor self.new.pool (remove live position) }
+        ensures given_back { ¬ HoldsPlace self.new.pool place }
+        ensures others_kept { (other : ℕ) → HoldsPlace self.old.pool other → other ≢ place
+            → HoldsPlace self.new.pool other }
+        ensures unchanged { result ≡ false → self.new ≡ self.old }
+        ensures geometry { self.new.pool.geometry ≡ self.old.pool.geometry }
+        ensures reads { self.new.reads ≡ self.old.reads }
+        ensures greatest { self.new.greatest ≡ self.old.greatest }
+    {
+        let Some(number) = self.held_number(place) else {
+            return false;
+        };
+        self.held.release(number);
+        true
+    }
+
+    /// The number of the held bucket at this place, or `None` where no held one begins there.
+    #[inline(always)]
+    fn held_number(&self, place: usize) -> Option<usize>
+        ensures held { IsSome result ↔ HoldsPlace self.now.pool place }
+        ensures has { IfSome result (Has self.now.pool.held) }
+        ensures there { IfSome result
+            (λ number. place ≡ bucket_place self.now.pool.geometry number) }
+    {
+        let number = self.geometry.number_at(place)? as usize;
+        if !self.held.has(number) {
+            return None;
+        }
+        Some(number)
+    }
+}
+
+/// Takes a bucket that isn't held.
+#[inline(always)]
+fn take<S: IndexSet>(
+    geometry: &Geometry,
+    held: &mut S,
+    layout: Layout,
+    counter: &mut Counter,
+) -> Result<Chunk, AllocationError>
+    requires as_many { length (S.numbers held.old) ≡ geometry.now.buckets }
+    requires uncounted { counter.old ≡ 0 }
+    requires at_least { member_count (S.numbers held.old) ≤ S.most held.old }
+    ensures taken { Takes (pool_of geometry.now (S.numbers held.old)) layout result
+        (pool_of geometry.now (S.numbers held.new)) }
+    ensures reads { counter.new
+        ≡ reads_of geometry.now.bucket (S.words geometry.now.buckets) layout }
+    ensures greatest { S.most held.new
+        ≡ max (S.most held.old) (member_count (S.numbers held.new)) }
+{
+    if layout.size() > geometry.bucket().size() {
+        return Err(AllocationError::SizeTooLarge);
+    }
+    if layout.align() > geometry.bucket().align() {
+        return Err(AllocationError::AlignmentFailure);
+    }
+    let Some(i) = held.take(counter) else {
+        return Err(AllocationError::OutOfMemory);
+    };
+    Ok(geometry.chunk(i, layout.size()))
+}
+
+impl<S: IndexSet> BaseAllocator for BucketPool<S> {
+    ghost use Rattle.std.specs.Prelude.{ℕ, false};
+    ghost use Rattle.bb_memory_traits.specs.PoolObject.{PoolGeometry, MayAllocate};
+    ghost use Rattle.bb_memory_owned.specs.Pool.{StandsFor, HoldsPlace, TakesBucket, FreesBucket, reads_of, held_place};
+
+    const RELEASE_EMPTIES: bool = false;
+
+    ghost RELEASE_EMPTIES = { false };
+
+    ghost Geometry = { PoolGeometry };
+
+    ghost geometry = { λ pool. pool.pool.geometry };
+
+    ghost region_of = { λ geometry. geometry.region };
+
+    ghost may_allocate = { MayAllocate };
+
+    ghost stands_for = { λ pool. StandsFor pool.pool };
+
+    ghost may_release = { λ pool. HoldsPlace pool.pool };
+
+    ghost Note = { ℕ };
+
+    ghost note = { λ pool. pool.reads };
+
+    ghost note_after = { λ geometry layout before.
+        reads_of geometry.bucket (S.words geometry.buckets) layout };
+
+    ghost takes = { λ old layout answer new.
+        TakesBucket old layout answer new (S.words old.pool.geometry.buckets) };
+
+    ghost frees = { λ old place _ new. FreesBucket old place new };
+
+    /// A chunk of `layout.size()` bytes in a bucket that isn't held; which one is left open. It is refused in this order: with
+    /// `SizeTooLarge` where the size is greater than the bucket's, with `AlignmentFailure` where the alignment is greater than
+    /// the bucket's, and with `OutOfMemory` where every bucket is held. A refusal leaves the pool as it was, but for what
+    /// `last_reads` answers, where there is one.
+    #[inline(always)]
+    fn allocate(&mut self, layout: Layout) -> Result<Chunk, AllocationError> {
+        let mut counter = Counter::new();
+        let answer = take(&self.geometry, &mut self.held, layout, &mut counter);
+        self.last_search = counter;
+        answer
+    }
+
+    /// Gives back the bucket at this place, which has to be held. The layout decides nothing.
+    #[inline(always)]
+    fn deallocate(&mut self, place: usize, _layout: Layout) {
+        let number = self.geometry.strides(place - self.geometry.first());
+        self.held.release(number);
+    }
+
+    fn stands_for_some_list(&self) {
+        // Proof hint: brings the type's invariant into scope.
+        let _ = &self.geometry;
+    }
+
+    fn answers_fit(&self) {
+        // Proof hint: brings the type's invariant into scope.
+        let _ = &self.geometry;
+    }
+
+    ghost releases = { λ pool. held_place pool.pool };
+
+    ghost sound = { λ pool live stands. stands.sound };
+}
+
+impl<S: IndexSet> Allocator for BucketPool<S> {
+    ghost use Rattle.bb_memory_owned.specs.Pool.{covered, held_is_live};
+    ghost use Rattle.std.specs.Prelude.{refl};
+    ghost use Rattle.bb_memory_traits.specs.PoolObject.{PoolGeometry, MayGrow, MayShrink};
+
+    ghost Figures = { PoolGeometry };
+
+    ghost figures = { λ pool. pool.pool.geometry };
+
+    ghost reserved_at = { λ geometry place. geometry.bucket.size };
+
+    ghost may_grow = { λ geometry live. MayGrow geometry.bucket };
+
+    ghost may_shrink = { λ geometry live. MayShrink geometry.bucket };
+
+    ghost grows = { λ pool place old new answer _.
+        MayGrow pool.pool.geometry.bucket place old new answer };
+
+    ghost shrinks = { λ pool place old new answer _.
+        MayShrink pool.pool.geometry.bucket place old new answer };
+
+    /// How many bytes are reserved for the chunk at this place, which has to be a held bucket's: the bucket's size.
+    #[inline]
+    fn reserved(&self, _place: usize) -> usize {
+        self.bucket_size()
+    }
+
+    /// Gives the chunk the new size, in its bucket. It is refused in this order: with `GrowWouldShrink` where the new size
+    /// isn't greater than the old one, with `AlignmentFailure` where the new alignment is greater than the bucket's, and with
+    /// `OutOfMemory` where the new size is greater than the bucket's. The pool stays as it was. The place has to be a held
+    /// bucket's and a multiple of the old alignment.
+    #[inline]
+    fn grow(
+        &mut self,
+        place: usize,
+        old: Layout,
+        new: Layout,
+    ) -> Result<Chunk, AllocationGrowError> {
+        self.geometry.grow(place, old, new)
+    }
+
+    /// Gives the chunk exactly the new size. It is refused in this order: with `ShrinkWouldGrow` where the new size isn't
+    /// smaller than the old one, and with `AlignmentFailure` where the new alignment is greater than the bucket's. The pool
+    /// stays as it was. The place has to be a held bucket's and a multiple of the old alignment, and the old size at most the
+    /// bucket's.
+    #[inline]
+    fn shrink(
+        &mut self,
+        place: usize,
+        old: Layout,
+        new: Layout,
+    ) -> Result<Chunk, AllocationShrinkError> {
+        self.geometry.shrink(place, old, new)
+    }
+
+    ghost fixed = { λ one other same. same };
+
+    ghost closes_up = { refl };
+
+    ghost distinct = { λ pool live stands. stands.differ };
+
+    ghost covered = { λ pool. covered pool.pool };
+
+    ghost only_live = { λ pool. held_is_live pool.pool };
+}
+
+/// Applies the commands in order, as [`run_full`] does: the replies and the live list are a run of the pool object over the
+/// pool's geometry, and the list is sound afterwards. The pool has to stand for the live list. `AllocError` comes only where
+/// memory was refused, and then the pool and the list are as before.
+pub fn run_pool<S: IndexSet>(
+    allocator: &mut BucketPool<S>,
+    live: &mut Vec<Chunk>,
+    commands: &[Command],
+) -> Result<Vec<Reply>, AllocError>
+    requires { StandsFor allocator.old.pool live.old.items }
+    ensures run { AnswersRun (λ pool. StandsFor pool.pool)
+        (λ pool. pool.pool.geometry)
+        (λ geometry. geometry.region)
+        (ResizableStep (pool_object allocator.old.pool.geometry))
+        (λ old layout answer new.
+        TakesBucket old layout answer new (S.words old.pool.geometry.buckets))
+        (λ old place _ new. FreesBucket old place new)
+        commands.now result allocator.old allocator.new live.old.items live.new.items }
+    ensures reads { OnOk result (allocator.new.reads ≡ reads_after
+        allocator.old.pool.geometry.bucket (S.words allocator.old.pool.geometry.buckets)
+        allocator.old.reads commands.now) }
+{
+    run_full(allocator, live, commands)
+}
+
+/// The same without resizes, which are passed over, as [`run_base`] does. The pool has to stand for the live list.
+/// `AllocError` comes only where memory was refused, and then the pool and the list are as before.
+pub fn run_base_pool<S: IndexSet>(
+    allocator: &mut BucketPool<S>,
+    live: &mut Vec<Chunk>,
+    commands: &[Command],
+) -> Result<Vec<Reply>, AllocError>
+    requires { StandsFor allocator.old.pool live.old.items }
+    ensures run { AnswersRun (λ pool. StandsFor pool.pool)
+        (λ pool. pool.pool.geometry)
+        (λ geometry. geometry.region)
+        (Step (pool_object allocator.old.pool.geometry).base)
+        (λ old layout answer new.
+        TakesBucket old layout answer new (S.words old.pool.geometry.buckets))
+        (λ old place _ new. FreesBucket old place new)
+        commands.now result allocator.old allocator.new live.old.items live.new.items }
+    ensures reads { OnOk result (allocator.new.reads ≡ reads_after
+        allocator.old.pool.geometry.bucket (S.words allocator.old.pool.geometry.buckets)
+        allocator.old.reads commands.now) }
+{
+    run_base(allocator, live, commands)
+}

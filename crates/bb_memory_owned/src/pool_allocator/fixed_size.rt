@@ -1,0 +1,75 @@
+//! A pool that keeps which of its buckets are held in an array of its own.
+ghost use Rattle.std.specs.Prelude.{◌≡◌, [], ◌-◌, ◌<◌, ◌^◌, ◌↔◌, IsTrue};
+ghost use Rattle.bb_memory_traits.specs.Chunk.{region_at};
+ghost use Rattle.bb_memory_traits.specs.PoolObject.{PoolGeometry, IsCut, at_most};
+ghost use Rattle.bb_memory_owned.specs.Pool.{StandsFor, counted, fresh_pool};
+ghost use Rattle.bb_memory_geometry.specs.Geometry.{MayBeCut};
+
+use bb_memory_index_set::index_set::Counter;
+use bb_memory_index_set::index_set::flags::Flags;
+use crate::layout::Layout;
+use crate::pool_allocator::PoolAllocator;
+use crate::pool_allocator::bucket_pool::BucketPool;
+use crate::pool_allocator::geometry::Geometry;
+use std::fmt;
+
+/// Gives buckets of one layout, at most `MAX_NUMBER_OF_BUCKETS` of them. Which are held is kept in an array of its own: it
+/// never takes memory.
+///
+/// ```
+/// pool_count_law();
+/// let bucket = Layout::from_size_align(128, 8).unwrap();
+/// let mut pool = FixedSizePoolAllocator::<512>::new(bucket, 4096, 1024);
+/// let small = Layout::from_size_align(48, 4).unwrap();
+/// let large = Layout::from_size_align(64, 4).unwrap();
+/// let chunk = pool.allocate(small)?;
+/// let grown = pool.grow(chunk.place(), small, large).unwrap();
+/// let (place, len) = (grown.place(), grown.len());
+/// prove!(place == chunk.place() && len == 64);
+/// pool.deallocate(place, small);
+/// ```
+pub type FixedSizePoolAllocator<const MAX_NUMBER_OF_BUCKETS: usize> = BucketPool<
+    Flags<MAX_NUMBER_OF_BUCKETS>,
+>;
+
+impl<const MAX_NUMBER_OF_BUCKETS: usize> FixedSizePoolAllocator<MAX_NUMBER_OF_BUCKETS> {
+    /// A pool over the region of `size` bytes at `start`, cut into buckets of this layout, with no bucket held. The start has
+    /// to be greater than 0; start plus size, and the start rounded up to the bucket's alignment, at most `usize::MAX`; the
+    /// bucket's size greater than 0; and the buckets that there is room for fewer than `u32::MAX`, as the constant.
+    /// [`FixedSizePoolAllocator::can_make`] tests all of it.
+    pub fn new(bucket_layout: Layout, start: usize, size: usize) -> Self
+        requires cut { MayBeCut (region_at start size) bucket_layout }
+        requires most { MAX_NUMBER_OF_BUCKETS < 2 ^ 32 - 1 }
+        ensures value { (whole : PoolGeometry) × IsCut (region_at start size) bucket_layout whole
+            × (result ≡ counted (fresh_pool (at_most MAX_NUMBER_OF_BUCKETS whole)) 0 0) }
+        ensures empty { StandsFor result.pool [] }
+    {
+        let most = MAX_NUMBER_OF_BUCKETS as u32;
+        let geometry = Geometry::cut_at_most(bucket_layout, start, size, most);
+        let held = Flags::new(geometry.count());
+        BucketPool {
+            geometry,
+            held,
+            last_search: Counter::new(),
+        }
+    }
+
+    /// Tests that `new` may be called with these.
+    pub fn can_make(bucket_layout: Layout, start: usize, size: usize) -> bool
+        ensures { IsTrue result ↔ (MayBeCut (region_at start size) bucket_layout
+            × (MAX_NUMBER_OF_BUCKETS < 2 ^ 32 - 1)) }
+    {
+        MAX_NUMBER_OF_BUCKETS < u32::MAX as usize
+            && PoolAllocator::can_make(bucket_layout, start, size)
+    }
+}
+
+impl<const MAX_NUMBER_OF_BUCKETS: usize> fmt::Debug
+    for FixedSizePoolAllocator<MAX_NUMBER_OF_BUCKETS> {
+    fn fmt<W: fmt::Write>(&self, f: &mut fmt::Formatter<W>) -> fmt::Result {
+        f.debug_struct("FixedSizePoolAllocator")
+            .field("geometry", &self.geometry)
+            .field("held", &self.held)
+            .finish()
+    }
+}

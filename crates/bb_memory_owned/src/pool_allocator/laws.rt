@@ -1,0 +1,134 @@
+//! Laws that say in plain words what the definitions of the pool object and of its geometry come to.
+ghost use Rattle.std.specs.Prelude.{◌≡◌, ◌≢◌, ◌+◌, ◌-◌, ◌/◌, ◌^◌, ◌<◌, ◌≤◌, ◌%◌, [], List, All};
+ghost use Rattle.std.specs.Prelude.{AllPairs, ℕ, Result, Ok, Err, Some, IsOk, length, remove, slice_get};
+ghost use Rattle.bb_memory_traits.specs.Chunk.{Region, IsRegion, region_end, Chunk, IsInside, first_place};
+ghost use Rattle.bb_memory_traits.specs.Object.{AnswersAll, GivesOnly, IsRun, Step, ResizableStep};
+ghost use Rattle.bb_memory_traits.specs.PoolObject.{PoolGeometry, IsCut, IsPoolGeometry, at_most, bucket_place, stride};
+ghost use Rattle.bb_memory_traits.specs.PoolObject.{IsWithin, MayAllocate, MayGrow, MayShrink, pool_object};
+ghost use Rattle.bb_memory_traits.specs.declared.layout.Layout.{Layout};
+ghost use Rattle.bb_memory_traits.specs.declared.allocator.AllocationError.{AllocationError};
+ghost use Rattle.bb_memory_traits.specs.declared.allocator.AllocationGrowError.{AllocationGrowError};
+ghost use Rattle.bb_memory_traits.specs.declared.allocator.AllocationShrinkError.{AllocationShrinkError};
+ghost use Rattle.bb_memory_traits.specs.declared.allocator.Command.{Command};
+ghost use Rattle.bb_memory_traits.specs.declared.allocator.Reply.{Reply};
+ghost use Rattle.bb_memory_index_set.specs.IndexSets.{Has};
+ghost use Rattle.bb_memory_owned.specs.Pool.{HoldsPlace, IsPool, Pool, StandsFor, fresh_pool};
+ghost use Rattle.bb_memory_geometry.specs.Geometry.{AreAStrideApart, MayBeCut};
+
+/// Says what the definition of a pool's geometry says of every region and every layout of a bucket. A region is cut in one way
+/// alone, and into buckets of at least one byte it can always be cut. Each bucket begins at a multiple of its alignment, and
+/// ends, with its whole stride, where the next one begins or before. It does nothing: its contract is the law.
+pub fn pool_geometry_law()
+    ensures some_cut { (region : Region) (bucket : Layout) → 0 < bucket.size
+        → (geometry : PoolGeometry) × IsCut region bucket geometry }
+    ensures one_cut { (region : Region) (bucket : Layout) (one other : PoolGeometry)
+        → IsCut region bucket one → IsCut region bucket other → one ≡ other }
+
+    // A cut, or a part of it, is what the pool object needs.
+    ensures is_geometry { (region : Region) (bucket : Layout) (geometry : PoolGeometry)
+        → 0 < bucket.size → IsCut region bucket geometry → IsPoolGeometry geometry }
+    ensures at_most { (geometry : PoolGeometry) (constant : ℕ)
+        → IsPoolGeometry geometry → IsPoolGeometry (at_most constant geometry) }
+
+    // Where the buckets are.
+    ensures aligned { (geometry : PoolGeometry) (i : ℕ)
+        → bucket_place geometry i % geometry.bucket.align ≡ 0 }
+    ensures apart { (geometry : PoolGeometry) (i j : ℕ) → i < j
+        → bucket_place geometry i + stride geometry.bucket ≤ bucket_place geometry j }
+    ensures wide_enough { (bucket : Layout) → bucket.size ≤ stride bucket }
+{}
+
+/// Says what the definition of the pool object says of every geometry and every list of commands. There is an answer to each
+/// request: a chunk, or one refusal alone. A chunk that is given begins at a multiple of the asked alignment and of the bucket's,
+/// has exactly the asked size, and no live chunk has its place. There is exactly one answer to each resize. Where a chunk was
+/// just given back, no request that fits a bucket is refused. In each live list that a pool stands for, every chunk begins at a
+/// multiple of the bucket's alignment, and no two begin less than a stride apart. Each run from such a list, with resizes or
+/// without, leads to such a list again, which is sound. It does nothing: its contract is the law.
+pub fn pool_object_law()
+    // What a request may be answered.
+    ensures some_answer { (geometry : PoolGeometry) → AnswersAll (pool_object geometry).base }
+    ensures one_cause { (geometry : PoolGeometry) (live : List Chunk) (layout : Layout)
+        (one other : AllocationError)
+        → MayAllocate geometry live layout (Err one) → MayAllocate geometry live layout (Err other)
+        → one ≡ other }
+    ensures given_or_refused { (geometry : PoolGeometry) (live : List Chunk) (layout : Layout)
+        (chunk : Chunk) (error : AllocationError)
+        → MayAllocate geometry live layout (Ok chunk)
+        → ¬ MayAllocate geometry live layout (Err error) }
+
+    // A chunk that is given.
+    ensures aligned { (geometry : PoolGeometry) → GivesOnly (pool_object geometry).base
+        (λ layout chunk. chunk.place % layout.align ≡ 0) }
+    ensures bucket_aligned { (geometry : PoolGeometry) → GivesOnly (pool_object geometry).base
+        (λ layout chunk. chunk.place % geometry.bucket.align ≡ 0) }
+    ensures exact_size { (geometry : PoolGeometry) → GivesOnly (pool_object geometry).base
+        (λ layout chunk. chunk.len ≡ layout.size) }
+    ensures new_place { (geometry : PoolGeometry) (live : List Chunk) (layout : Layout)
+        (chunk : Chunk)
+        → MayAllocate geometry live layout (Ok chunk)
+        → All (λ other. other.place ≢ chunk.place) live }
+    ensures inside { (geometry : PoolGeometry) (live : List Chunk) (layout : Layout)
+        (chunk : Chunk)
+        → IsPoolGeometry geometry → MayAllocate geometry live layout (Ok chunk)
+        → IsInside geometry.region chunk }
+
+    // What a resize may be answered.
+    ensures some_grow { (bucket : Layout) (place : ℕ) (old new : Layout)
+        → (answer : Result Chunk AllocationGrowError) × MayGrow bucket place old new answer }
+    ensures one_grow { (bucket : Layout) (place : ℕ) (old new : Layout)
+        (one other : Result Chunk AllocationGrowError)
+        → MayGrow bucket place old new one → MayGrow bucket place old new other
+        → one ≡ other }
+    ensures some_shrink { (bucket : Layout) (place : ℕ) (old new : Layout)
+        → (answer : Result Chunk AllocationShrinkError) × MayShrink bucket place old new answer }
+    ensures one_shrink { (bucket : Layout) (place : ℕ) (old new : Layout)
+        (one other : Result Chunk AllocationShrinkError)
+        → MayShrink bucket place old new one → MayShrink bucket place old new other
+        → one ≡ other }
+
+    // The lists that a pool stands for.
+    ensures fresh { (geometry : PoolGeometry) → StandsFor (fresh_pool geometry) [] }
+    ensures aligned_places { (pool : Pool) (live : List Chunk) → StandsFor pool live
+        → All (λ chunk. chunk.place % pool.geometry.bucket.align ≡ 0) live }
+    ensures stride_apart { (pool : Pool) (live : List Chunk) → StandsFor pool live
+        → AllPairs (λ one other. AreAStrideApart pool.geometry.bucket one.place other.place) live }
+    ensures release_makes_room { (pool : Pool) (live : List Chunk) (position : ℕ) (layout : Layout)
+        (answer : Result Chunk AllocationError)
+        → IsPool pool → StandsFor pool live → position < length live
+        → IsWithin pool.geometry.bucket layout
+        → MayAllocate pool.geometry (remove live position) layout answer
+        → IsOk answer }
+    ensures keeps_sound { (pool : Pool) (live new : List Chunk)
+        (commands : List Command) (replies : List Reply)
+        → IsPool pool → StandsFor pool live
+        → IsRun (ResizableStep (pool_object pool.geometry)) live commands replies new
+        → (left : Pool) × IsPool left × (left.geometry ≡ pool.geometry) × StandsFor left new }
+    ensures keeps_sound_base { (pool : Pool) (live new : List Chunk)
+        (commands : List Command) (replies : List Reply)
+        → IsPool pool → StandsFor pool live
+        → IsRun (Step (pool_object pool.geometry).base) live commands replies new
+        → (left : Pool) × IsPool left × (left.geometry ≡ pool.geometry) × StandsFor left new }
+{}
+
+/// Says that each chunk of a list that a pool stands for may be given back. A place is held exactly where a held bucket begins
+/// there. It does nothing: its contract is the law.
+pub fn pool_held_law()
+    ensures listed { (pool : Pool) (live : List Chunk) (position : ℕ) (chunk : Chunk)
+        → StandsFor pool live → slice_get live position ≡ Some chunk
+        → HoldsPlace pool chunk.place }
+    ensures bucket { (pool : Pool) (place : ℕ) → HoldsPlace pool place
+        → (i : ℕ) × Has pool.held i × (place ≡ bucket_place pool.geometry i) }
+    ensures held { (pool : Pool) (place i : ℕ) → Has pool.held i
+        → place ≡ bucket_place pool.geometry i → HoldsPlace pool place }
+{}
+
+/// How many buckets a region is cut into, as a quotient, and so when it may be cut. It does nothing: its contract is the law.
+pub fn pool_count_law()
+    ensures count { (region : Region) (bucket : Layout) (geometry : PoolGeometry) → 0 < bucket.size
+        → IsCut region bucket geometry
+        → geometry.buckets ≡ (region_end region - first_place region bucket) / stride bucket }
+    ensures may_be_cut { (region : Region) (bucket : Layout) → IsRegion region
+        → first_place region bucket < 2 ^ 64 → 0 < bucket.size
+        → (region_end region - first_place region bucket) / stride bucket < 2 ^ 32 - 1
+        → MayBeCut region bucket }
+{}

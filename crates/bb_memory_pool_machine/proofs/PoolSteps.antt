@@ -1,0 +1,194 @@
+-- What a step of the pool machine does, by its kinds.
+use Rattle.std.proofs.Common.{◌≡◌, ◌≢◌, ℕ, ◌+◌, ◌<◌, ◌≤◌, List, [], ◌∷◌, length, refl}
+use Rattle.std.proofs.Common.{ap, ◌∙◌, arith, Bool, true, false, Option, Some, None, inl, inr}
+use Rattle.std.specs.Prelude.{slice_get, ◌==◌, nat_lt, if◌then◌else◌, unwrap_or}
+use Rattle.std.proofs.lemmas.Bool.Decides.{nat_tests}
+use Rattle.std.proofs.lemmas.List.{length-set, length-replicate}
+use Rattle.bb_memory_pool_machine.specs.PoolMachine.{PoolScene, opening_state, left_by, move_of, PoolState, PoolMove, with_pass, IsFlag}
+use Rattle.bb_memory_pool_machine.specs.PoolMachine.{IsHolder, IsDetached, IsTaken, detaching, detach, detach_flag, attaching}
+use Rattle.bb_memory_pool_machine.specs.PoolMachine.{attach_flag, attach, taking, return_of, passed, try_flag, try_next, give_flag}
+use Rattle.bb_memory_pool_machine.specs.PoolMachine.{try_at, try_one, pool_step, pool_after, Flag, Free, HeldBy, Detached, PoolStep, Try}
+use Rattle.bb_memory_pool_machine.specs.PoolMachine.{GiveBack, TryAt, Detach, Attach, Loses, RefusedAtLoss, Misses}
+
+-- the party's pass is at this bucket, or begins there
+pub record IsNext (state : PoolState) (party bucket : ℕ) : Type 0 where
+  pub pass : Option ℕ
+  pub there : slice_get state.calls party ≡ Some pass
+  pub at : unwrap_or pass 0 ≡ bucket
+
+-- the party is there, and in no pass
+abbrev pub IsIdle : PoolState → ℕ → Type 0
+IsIdle state party = slice_get state.calls party ≡ Some None
+
+-- a pass of it would begin at bucket 0
+pub next_of_idle : (state : PoolState) (party : ℕ) → IsIdle state party → IsNext state party 0
+next_of_idle state party idle = record { pass = None; there = idle; at = refl }
+
+-- a step that makes this move is one of these
+pub data StepKind (state : PoolState) : PoolStep → PoolMove → Type 0 where
+  takes : (party bucket : ℕ) → IsNext state party bucket → IsFlag state bucket Free →
+      StepKind state (Try party) (taking state party bucket)
+  loses : (party bucket : ℕ) → IsNext state party bucket → IsTaken state bucket → bucket + 1 < length state.flags →
+      StepKind state (Try party) (move_of (Loses bucket) (with_pass state party (Some (bucket + 1))))
+  is_refused : (party bucket : ℕ) → IsNext state party bucket → IsTaken state bucket → length state.flags ≤ bucket + 1 →
+      StepKind state (Try party) (move_of (RefusedAtLoss bucket) (with_pass state party None))
+  gives : (party bucket : ℕ) → IsHolder state bucket party → StepKind state (GiveBack party bucket) (return_of state bucket)
+  takes_at : (party bucket : ℕ) → IsIdle state party → IsFlag state bucket Free →
+      StepKind state (TryAt party bucket) (taking state party bucket)
+  misses : (party bucket : ℕ) → IsIdle state party → IsTaken state bucket →
+      StepKind state (TryAt party bucket) (move_of (Misses bucket) state)
+  detaches : (party bucket : ℕ) → IsHolder state bucket party → 1 < length state.calls →
+      StepKind state (Detach party bucket) (detaching state bucket)
+  attaches : (party bucket : ℕ) → IsIdle state party → IsDetached state bucket →
+      StepKind state (Attach party bucket) (attaching state party bucket)
+  passes : (step : PoolStep) → StepKind state step (passed state)
+
+-- TESTS
+
+pub same_from_test : (m n : ℕ) → (m == n) ≡ true → m ≡ n
+same_from_test m n e = grind (arith, nat_tests)
+
+pub test_same : (m n : ℕ) → m ≡ n → (m == n) ≡ true
+test_same m n e = grind (arith, nat_tests)
+
+pub test_apart : (m n : ℕ) → m ≢ n → (m == n) ≡ false
+test_apart m n e = grind (arith, nat_tests)
+
+pub test_below : (m n : ℕ) → m < n → nat_lt m n ≡ true
+test_below m n below = grind (arith, nat_tests)
+
+less_from_test : (m n : ℕ) → nat_lt m n ≡ true → m < n
+less_from_test m n e = grind (arith, nat_tests)
+
+not_less_from_test : (m n : ℕ) → nat_lt m n ≡ false → n ≤ m
+not_less_from_test m n e = grind (arith, nat_tests)
+
+-- KINDS
+
+kind_of_loss : (state : PoolState) (party bucket : ℕ) (more : Bool) →
+    nat_lt (bucket + 1) (length state.flags) ≡ more → IsNext state party bucket → IsTaken state bucket →
+    StepKind state (Try party) (if more
+    then move_of (Loses bucket) (with_pass state party (Some (bucket + 1)))
+    else move_of (RefusedAtLoss bucket) (with_pass state party None))
+kind_of_loss state party bucket true test next taken =
+    loses party bucket next taken (less_from_test (bucket + 1) (length state.flags) test)
+kind_of_loss state party bucket false test next taken =
+    is_refused party bucket next taken (not_less_from_test (bucket + 1) (length state.flags) test)
+
+kind_of_exchange : (state : PoolState) (party bucket : ℕ) (found : Option Flag) → IsNext state party bucket →
+    slice_get state.flags bucket ≡ found → StepKind state (Try party) (try_flag state party bucket found)
+kind_of_exchange state party bucket None next is = passes (Try party)
+kind_of_exchange state party bucket (Some Free) next is = takes party bucket next is
+kind_of_exchange state party bucket (Some (HeldBy holder)) next is =
+    kind_of_loss state party bucket (nat_lt (bucket + 1) (length state.flags)) refl next (inl (holder, is))
+kind_of_exchange state party bucket (Some Detached) next is =
+    kind_of_loss state party bucket (nat_lt (bucket + 1) (length state.flags)) refl next (inr is)
+
+kind_of_try : (state : PoolState) (party : ℕ) (found : Option (Option ℕ)) → slice_get state.calls party ≡ found →
+    StepKind state (Try party) (try_next state party found)
+kind_of_try state party None is = passes (Try party)
+kind_of_try state party (Some pass) is =
+    let bucket : ℕ = unwrap_or pass 0 in
+    kind_of_exchange state party bucket (slice_get state.flags bucket) (record { pass = pass; there = is; at = refl }) refl
+
+kind_of_return : (state : PoolState) (party bucket holder : ℕ) (same : Bool) → (holder == party) ≡ same →
+    IsHolder state bucket holder → StepKind state (GiveBack party bucket) (if same then return_of state bucket else passed state)
+kind_of_return state party bucket holder true test held =
+    gives party bucket (held ∙ ap (λ (h : ℕ). Some (HeldBy h)) (same_from_test holder party test))
+kind_of_return state party bucket holder false test held = passes (GiveBack party bucket)
+
+kind_of_give : (state : PoolState) (party bucket : ℕ) (found : Option Flag) → slice_get state.flags bucket ≡ found →
+    StepKind state (GiveBack party bucket) (give_flag state party bucket found)
+kind_of_give state party bucket (Some (HeldBy holder)) is =
+    kind_of_return state party bucket holder (holder == party) refl is
+kind_of_give state party bucket _ is = passes (GiveBack party bucket)
+
+kind_of_one : (state : PoolState) (party bucket : ℕ) (found : Option Flag) → IsIdle state party →
+    slice_get state.flags bucket ≡ found → StepKind state (TryAt party bucket) (try_one state party bucket found)
+kind_of_one state party bucket None idle is = passes (TryAt party bucket)
+kind_of_one state party bucket (Some Free) idle is = takes_at party bucket idle is
+kind_of_one state party bucket (Some (HeldBy holder)) idle is = misses party bucket idle (inl (holder, is))
+kind_of_one state party bucket (Some Detached) idle is = misses party bucket idle (inr is)
+
+kind_of_try_at : (state : PoolState) (party bucket : ℕ) (found : Option (Option ℕ)) → slice_get state.calls party ≡ found →
+    StepKind state (TryAt party bucket) (try_at state party bucket found)
+kind_of_try_at state party bucket (Some None) is = kind_of_one state party bucket (slice_get state.flags bucket) is refl
+kind_of_try_at state party bucket _ is = passes (TryAt party bucket)
+
+kind_of_others : (state : PoolState) (party bucket : ℕ) (others : Bool) → nat_lt 1 (length state.calls) ≡ others →
+    IsHolder state bucket party → StepKind state (Detach party bucket) (if others then detaching state bucket else passed state)
+kind_of_others state party bucket true test held = detaches party bucket held (less_from_test 1 (length state.calls) test)
+kind_of_others state party bucket false test held = passes (Detach party bucket)
+
+kind_of_detach_of : (state : PoolState) (party bucket holder : ℕ) (same : Bool) → (holder == party) ≡ same →
+    IsHolder state bucket holder → StepKind state (Detach party bucket) (if same then detach state bucket else passed state)
+kind_of_detach_of state party bucket holder true test held =
+    kind_of_others state party bucket (nat_lt 1 (length state.calls)) refl
+    (held ∙ ap (λ (h : ℕ). Some (HeldBy h)) (same_from_test holder party test))
+kind_of_detach_of state party bucket holder false test held = passes (Detach party bucket)
+
+kind_of_detach : (state : PoolState) (party bucket : ℕ) (found : Option Flag) → slice_get state.flags bucket ≡ found →
+    StepKind state (Detach party bucket) (detach_flag state party bucket found)
+kind_of_detach state party bucket (Some (HeldBy holder)) is =
+    kind_of_detach_of state party bucket holder (holder == party) refl is
+kind_of_detach state party bucket _ is = passes (Detach party bucket)
+
+kind_of_attach_flag : (state : PoolState) (party bucket : ℕ) (found : Option Flag) → IsIdle state party →
+    slice_get state.flags bucket ≡ found → StepKind state (Attach party bucket) (attach_flag state party bucket found)
+kind_of_attach_flag state party bucket (Some Detached) idle is = attaches party bucket idle is
+kind_of_attach_flag state party bucket _ idle is = passes (Attach party bucket)
+
+kind_of_attach : (state : PoolState) (party bucket : ℕ) (found : Option (Option ℕ)) → slice_get state.calls party ≡ found →
+    StepKind state (Attach party bucket) (attach state party bucket found)
+kind_of_attach state party bucket (Some None) is = kind_of_attach_flag state party bucket (slice_get state.flags bucket) is refl
+kind_of_attach state party bucket _ is = passes (Attach party bucket)
+
+-- each step is of some kind
+pub kind_of : (state : PoolState) (step : PoolStep) → StepKind state step (pool_step state step)
+kind_of state (Try party) = kind_of_try state party (slice_get state.calls party) refl
+kind_of state (GiveBack party bucket) = kind_of_give state party bucket (slice_get state.flags bucket) refl
+kind_of state (TryAt party bucket) = kind_of_try_at state party bucket (slice_get state.calls party) refl
+kind_of state (Detach party bucket) = kind_of_detach state party bucket (slice_get state.flags bucket) refl
+kind_of state (Attach party bucket) = kind_of_attach state party bucket (slice_get state.calls party) refl
+
+-- HOW MANY FLAGS THERE ARE
+
+pub length-step : (state : PoolState) (step : PoolStep) (move : PoolMove) → StepKind state step move →
+    length move.state.flags ≡ length state.flags
+length-step state step move (takes party bucket next free) = length-set state.flags bucket (HeldBy party)
+length-step state step move (takes_at party bucket idle free) = length-set state.flags bucket (HeldBy party)
+length-step state step move (gives party bucket held) = length-set state.flags bucket Free
+length-step state step move (detaches party bucket held others) = length-set state.flags bucket Detached
+length-step state step move (attaches party bucket idle detached) = length-set state.flags bucket (HeldBy party)
+length-step state step move _ = refl
+
+-- steps leave as many flags as there were
+pub length-after : (state : PoolState) (steps : List PoolStep) → length (pool_after state steps).flags ≡ length state.flags
+length-after state [] = refl
+length-after state (step ∷ steps) =
+    let move : PoolMove = pool_step state step in
+    length-after move.state steps ∙ length-step state step move (kind_of state step)
+
+-- there are always as many flags as buckets
+pub length-left_by : (scene : PoolScene) (steps : List PoolStep) → length (left_by scene steps).flags ≡ scene.geometry.buckets
+length-left_by scene steps = length-after (opening_state scene) steps ∙ length-replicate {A = Flag} scene.geometry.buckets Free
+
+-- HOW MANY PARTIES THERE ARE
+
+pub calls-step : (state : PoolState) (step : PoolStep) (move : PoolMove) → StepKind state step move →
+    length move.state.calls ≡ length state.calls
+calls-step state step move (takes party bucket next free) = length-set state.calls party None
+calls-step state step move (takes_at party bucket idle free) = length-set state.calls party None
+calls-step state step move (loses party bucket next taken more) = length-set state.calls party (Some (bucket + 1))
+calls-step state step move (is_refused party bucket next taken last) = length-set state.calls party None
+calls-step state step move _ = refl
+
+calls-after : (state : PoolState) (steps : List PoolStep) → length (pool_after state steps).calls ≡ length state.calls
+calls-after state [] = refl
+calls-after state (step ∷ steps) =
+    let move : PoolMove = pool_step state step in
+    calls-after move.state steps ∙ calls-step state step move (kind_of state step)
+
+-- there are always as many parties as were made
+pub calls-left_by : (scene : PoolScene) (steps : List PoolStep) → length (left_by scene steps).calls ≡ scene.parties
+calls-left_by scene steps = calls-after (opening_state scene) steps ∙ length-replicate {A = Option ℕ} scene.parties None

@@ -1,0 +1,26 @@
+use Rattle.std.proofs.Common.{rules}
+use Rattle.bb_memory_traits.proofs.PoolGeometries.{some_geometry}
+use Rattle.bb_memory_pool_machine.proofs.PoolHolders.{detached_unheld, holder_in_log, one_holder}
+use Rattle.bb_memory_pool_machine.proofs.PoolPasses.{missed_is_held, refused_found_held}
+use Rattle.bb_memory_pool_machine.proofs.PoolRuns.{pool_run, run_at_step, taken_is_held, run_is_sound}
+use Rattle.bb_memory_pool_machine.proofs.PoolDetached.{was_detached_before, none_detached_alone}
+use Rattle.bb_memory_pool_machine.proofs.steps.pool.pool_theorem.Goals as goal
+
+pub returns : goal.returns
+returns c = record {
+  some_geometry = some_geometry;
+  all_buckets = search rules;
+  fewer_buckets = search rules;
+  run = pool_run;
+  every_step = run_at_step;
+  taken = taken_is_held;
+  sound = run_is_sound;
+  holder = holder_in_log;
+  apart = one_holder;
+  refused = refused_found_held;
+  one_bucket = search rules;
+  missed = missed_is_held;
+  detached_unheld = detached_unheld;
+  none_detached_alone = none_detached_alone;
+  was_detached = was_detached_before;
+}

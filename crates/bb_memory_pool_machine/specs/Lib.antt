@@ -1,0 +1,3 @@
+pub mod PoolLogs
+pub mod PoolMachine
+pub mod PoolWorld

@@ -1,0 +1,213 @@
+-- The pool machine's histories, its parties' logs, and the calls of the pool object that its steps make.
+use Rattle.std.specs.Prelude.{ℕ, ◌==◌, Bool, List, [], ◌∷◌, filter, map, ◌+◌, ◌≡◌, true, false, nat_lt, if◌then◌else◌, ◌++◌}
+use Rattle.std.specs.Prelude.{Option, Some, None, All, Any, fold, slice_get, slice_set, unwrap_or, ◌<◌, ◌≤◌, Ok, length, take}
+use Rattle.bb_memory_pool_machine.specs.PoolMachine.{PoolScene, PoolState, opening_state, pool_step, PoolStep, Try, GiveBack, TryAt}
+use Rattle.bb_memory_pool_machine.specs.PoolMachine.{Detach, Attach, PoolOutcome, left_by, Flag, Free, Takes, Loses, RefusedAtLoss, Gives}
+use Rattle.bb_memory_pool_machine.specs.PoolMachine.{Passed, Detaches, Attaches, IsInCall, Misses}
+use Rattle.bb_memory_traits.specs.Chunk.{Chunk}
+use Rattle.bb_memory_traits.specs.declared.layout.Layout.{Layout}
+use Rattle.bb_memory_traits.specs.Object.{Allocates, Releases, IsRun}
+use Rattle.bb_memory_traits.specs.PoolObject.{PoolGeometry, bucket_place, IsAt, IsHeld, IsWithin, chunk_in, pool_object}
+
+-- HISTORIES
+
+-- an entry: a step with what it found
+pub record PoolEntry : Type 0 where
+  pub step : PoolStep
+  pub outcome : PoolOutcome
+
+abbrev pub entry_of : PoolStep → PoolOutcome → PoolEntry
+entry_of step outcome = record { step = step; outcome = outcome }
+
+-- a log: entries in order
+abbrev pub PoolLog : Type 0
+PoolLog = List PoolEntry
+
+-- the entries of a list of steps, in order
+abbrev pub pool_history : PoolState → List PoolStep → PoolLog
+pool_history state [] = []
+pool_history state (step ∷ steps) = entry_of step (pool_step state step).outcome ∷ pool_history (pool_step state step).state steps
+
+-- the history of a list of steps from the opening
+abbrev pub history_of : PoolScene → List PoolStep → PoolLog
+history_of scene steps = pool_history (opening_state scene) steps
+
+abbrev pub outcomes_of : PoolLog → List PoolOutcome
+outcomes_of history = map (λ entry. entry.outcome) history
+
+-- PARTIES
+
+-- the step is this party's
+abbrev pub is_by : ℕ → PoolStep → Bool
+is_by party (Try other) = other == party
+is_by party (GiveBack other bucket) = other == party
+is_by party (TryAt other bucket) = other == party
+is_by party (Detach other bucket) = other == party
+is_by party (Attach other bucket) = other == party
+
+-- a party's own entries of a history, in order
+abbrev pub entries_by : ℕ → PoolLog → PoolLog
+entries_by party history = filter (λ entry. is_by party entry.step) history
+
+-- a party's log in a list of steps from the opening
+abbrev pub log_of : PoolScene → List PoolStep → ℕ → PoolLog
+log_of scene steps party = entries_by party (history_of scene steps)
+
+-- BUCKETS AND PASSES IN A LOG
+
+-- a bucket is held after an outcome, given that it was held before it or not
+abbrev pub held_after : ℕ → Bool → PoolOutcome → Bool
+held_after bucket held (Takes other) = if other == bucket then true else held
+held_after bucket held (Gives other) = if other == bucket then false else held
+held_after bucket held (Detaches other) = if other == bucket then false else held
+held_after bucket held (Attaches other) = if other == bucket then true else held
+held_after bucket held _ = held
+
+-- a party with this log holds the bucket: it has taken or attached it, and neither given it back nor detached it since
+abbrev pub IsHeldAfter : PoolLog → ℕ → Type 0
+IsHeldAfter log bucket = fold (λ held entry. held_after bucket held entry.outcome) false log ≡ true
+
+-- some step of the log detached the bucket
+abbrev pub WasDetached : PoolLog → ℕ → Type 0
+WasDetached log bucket = Any (λ entry. entry.outcome ≡ Detaches bucket) log
+
+-- the bucket that a pass tries next, after an outcome, or None where the party is then idle
+abbrev pub pass_after : Option ℕ → PoolOutcome → Option ℕ
+pass_after pass (Takes bucket) = None
+pass_after pass (Loses bucket) = Some (bucket + 1)
+pass_after pass (RefusedAtLoss bucket) = None
+pass_after pass _ = pass
+
+-- the bucket that the pass of a party with this log tries next, or None where the party is idle
+abbrev pub pass_in : PoolLog → Option ℕ
+pass_in log = fold (λ pass entry. pass_after pass entry.outcome) None log
+
+-- the bucket that a party with this log tries next
+abbrev pub next_bucket : PoolLog → ℕ
+next_bucket log = unwrap_or (pass_in log) 0
+
+-- the outcome of a loss at a bucket, of so many
+abbrev pub loss_at : ℕ → ℕ → PoolOutcome
+loss_at buckets bucket = if nat_lt (bucket + 1) buckets then Loses bucket else RefusedAtLoss bucket
+
+-- FLAGS AND LOGS
+
+-- a flag is taken where a party holds the bucket, or the bucket is detached
+abbrev pub is_taken : Flag → Bool
+is_taken Free = false
+is_taken _ = true
+
+abbrev pub taken_flags : PoolState → List Bool
+taken_flags state = map is_taken state.flags
+
+abbrev pub IsAllowed : PoolOutcome → Type 0
+IsAllowed Passed = ⊥
+IsAllowed _ = Unit {0}
+
+abbrev pub AllAllowed : PoolLog → Type 0
+AllAllowed history = All (λ entry. IsAllowed entry.outcome) history
+
+-- the party's log stands in the list of logs, at the party's number
+abbrev pub HasLog : List PoolLog → ℕ → PoolLog → Type 0
+HasLog logs party log = slice_get logs party ≡ Some log
+
+-- some list of steps, each allowed, leaves these flags, and has as the steps of each party in the list of logs exactly its log,
+-- in order
+pub record LogsAgree (scene : PoolScene) (flags : List Bool) (logs : List PoolLog) : Type 0 where
+  pub steps : List PoolStep
+  pub allowed : AllAllowed (history_of scene steps)
+  pub leaves : taken_flags (left_by scene steps) ≡ flags
+  pub each : (party : ℕ) (log : PoolLog) → HasLog logs party log → log_of scene steps party ≡ log
+
+-- a bucket is detached, as flags and logs say it: its flag is taken, and it is held after no party's log
+pub record IsDetachedAfter (flags : List Bool) (logs : List PoolLog) (bucket : ℕ) : Type 0 where
+  pub taken : slice_get flags bucket ≡ Some true
+  pub no_holder : (party : ℕ) (log : PoolLog) → HasLog logs party log → ¬ IsHeldAfter log bucket
+
+-- the logs, where a party's has one more entry
+abbrev pub with_entry : List PoolLog → ℕ → PoolLog → PoolEntry → List PoolLog
+with_entry logs party log entry = slice_set logs party (log ++ entry ∷ [])
+
+-- an interleaving of this party's log with some logs of the others: a list of steps, each allowed, that has as the party's steps
+-- exactly its log, in order
+pub record Interleaving (scene : PoolScene) (party : ℕ) (log : PoolLog) : Type 0 where
+  pub steps : List PoolStep
+  pub allowed : AllAllowed (history_of scene steps)
+  pub logged : log_of scene steps party ≡ log
+
+-- an interleaving of both parties' logs with some logs of the others
+pub record CommonInterleaving (scene : PoolScene) (party : ℕ) (log : PoolLog) (other : ℕ) (other_log : PoolLog) : Type 0 where
+  pub steps : List PoolStep
+  pub allowed : AllAllowed (history_of scene steps)
+  pub logged : log_of scene steps party ≡ log
+  pub other_logged : log_of scene steps other ≡ other_log
+
+-- CALLS OF THE OBJECT: takings and returns
+
+-- The call of the object that a step with this outcome is; the object goes from `old` to `new`.
+abbrev pub PoolCall : PoolGeometry → List Chunk → Layout → PoolOutcome → List Chunk → Type 0
+-- a taking is a request for the layout, which is answered with the bucket's chunk
+PoolCall geometry old layout (Takes bucket) new =
+    Allocates (pool_object geometry).base old layout (Ok (chunk_in geometry bucket layout)) new
+-- a return is the release of the chunk at the bucket's place
+PoolCall geometry old layout (Gives bucket) new =
+    (position : ℕ) × IsAt old position (bucket_place geometry bucket) × Releases (pool_object geometry).base old position new
+-- any other step is no call
+PoolCall geometry old layout _ new = new ≡ old
+
+-- a layout for each step, which is asked for where that step is a taking
+pub record AreAsked (geometry : PoolGeometry) (steps : List PoolStep) (layouts : List Layout) : Type 0 where
+  pub one_a_step : length layouts ≡ length steps
+  pub within : All (IsWithin geometry.bucket) layouts
+
+-- The calls of a history are a run of the pool object, from `old` to `new`.
+abbrev pub IsCallRun : PoolGeometry → List Chunk → List Layout → PoolLog → List Chunk → Type 0
+IsCallRun geometry old layouts history new = IsRun (PoolCall geometry) old layouts (outcomes_of history) new
+
+-- the takings and returns of the steps are a run of the pool object, from the empty list to this one
+abbrev pub IsPoolRun : PoolScene → List PoolStep → List Layout → List Chunk → Type 0
+IsPoolRun scene steps layouts live = IsCallRun scene.geometry [] layouts (history_of scene steps) live
+
+-- REFUSED PASSES
+
+-- entry k of the history is the party's, and its pass is refused there
+pub record IsRefusedAt (history : PoolLog) (party k : ℕ) : Type 0 where
+  pub bucket : ℕ
+  pub there : slice_get history k ≡ Some (entry_of (Try party) (RefusedAtLoss bucket))
+
+-- a loss of this bucket
+abbrev pub IsLossAt : ℕ → PoolOutcome → Type 0
+IsLossAt bucket (Loses other) = other ≡ bucket
+IsLossAt bucket (RefusedAtLoss other) = other ≡ bucket
+IsLossAt bucket _ = ⊥
+
+-- entry k of the history is the party's, and a loss of this bucket
+pub record LosesAt (history : PoolLog) (party bucket k : ℕ) : Type 0 where
+  pub outcome : PoolOutcome
+  pub there : slice_get history k ≡ Some (entry_of (Try party) outcome)
+  pub loss : IsLossAt bucket outcome
+
+-- the party is in one pass from step k to the later step `last`: the pass doesn't end between them
+abbrev pub IsOnePass : PoolScene → List PoolStep → ℕ → ℕ → ℕ → Type 0
+IsOnePass scene steps party k last =
+    (j : ℕ) → k < j → j ≤ last → (bucket : ℕ) × IsInCall (left_by scene (take j steps)) party bucket
+
+-- after these steps the bucket is held in the run, whichever layouts were asked for
+abbrev pub IsHeldInRun : PoolScene → List PoolStep → ℕ → Type 0
+IsHeldInRun scene steps bucket =
+    (layouts : List Layout) (live : List Chunk) → IsPoolRun scene steps layouts live → IsHeld scene.geometry live bucket
+
+-- The pass that is refused at step `last` found this bucket held: at some step of the pass the party lost the bucket, which was
+-- held then in the run.
+pub record FoundHeld (scene : PoolScene) (steps : List PoolStep) (party last bucket : ℕ) : Type 0 where
+  pub step : ℕ
+  pub before : step ≤ last
+  pub one_pass : IsOnePass scene steps party step last
+  pub loses : LosesAt (history_of scene steps) party bucket step
+  pub held : IsHeldInRun scene (take step steps) bucket
+
+-- MISSES
+
+-- entry k of the history is the party's, and a miss of this bucket
+abbrev pub MissesAt : PoolLog → ℕ → ℕ → ℕ → Type 0
+MissesAt history party bucket k = slice_get history k ≡ Some (entry_of (TryAt party bucket) (Misses bucket))

@@ -1,0 +1,141 @@
+//! The pool machine's steps, and what holds of every list of them.
+ghost use Rattle.std.specs.Prelude.{◌≡◌, ◌<◌, ◌↔◌, ℕ, List, Some, drop};
+ghost use Rattle.std.specs.Prelude.{take};
+ghost use Rattle.bb_memory_traits.specs.Chunk.{Region, Chunk, IsSound};
+ghost use Rattle.bb_memory_traits.specs.declared.layout.Layout.{Layout};
+ghost use Rattle.bb_memory_traits.specs.PoolObject.{PoolGeometry, pool_geometry, FillsRegion, IsPoolGeometry, at_most, IsHeld};
+ghost use Rattle.bb_memory_pool_machine.specs.PoolMachine.{PoolScene, IsHolder, IsDetached, IsTaken, left_by};
+ghost use Rattle.bb_memory_pool_machine.specs.PoolMachine.{PoolStep, Try, GiveBack, TryAt, Detach, Attach, Takes, Gives, Misses};
+ghost use Rattle.bb_memory_pool_machine.specs.PoolMachine.{Detaches, Attaches};
+ghost use Rattle.bb_memory_pool_machine.specs.PoolLogs.{history_of, log_of, IsRefusedAt, LosesAt, MissesAt};
+ghost use Rattle.bb_memory_pool_machine.specs.PoolLogs.{AreAsked, FoundHeld, IsCallRun, IsHeldInRun, IsPoolRun};
+ghost use Rattle.bb_memory_pool_machine.specs.PoolLogs.{WasDetached, IsHeldAfter};
+
+/// The state of a bucket's flag. In memory a flag has two values: free, and taken for the other two.
+#[derive(Debug, Clone, Copy)]
+pub enum Flag {
+    /// No party has the bucket, and each may take it.
+    Free,
+    /// This party holds the bucket.
+    HeldBy(u32),
+    /// The bucket is on its way: a party has detached it, and no party has attached it since.
+    Detached,
+}
+
+/// One atomic step over the pool's flags, of which each bucket has one.
+#[derive(Debug, Clone, Copy, PartialEq, Eq)]
+pub enum PoolStep {
+    /// The party tries to take the next bucket of its pass, or begins a pass at bucket 0 where it is idle. It isn't
+    /// allowed where there is no bucket.
+    Try { party: u32 },
+    /// The party gives back a bucket, as only its holder may.
+    GiveBack { party: u32, bucket: u32 },
+    /// The party, which is in no pass, tries to take one bucket of its choice.
+    TryAt { party: u32, bucket: u32 },
+    /// The party detaches a bucket, as only its holder may, and only where there is another party. No party holds the
+    /// bucket then, and its flag stays taken.
+    Detach { party: u32, bucket: u32 },
+    /// The party, which is in no pass, attaches a detached bucket, and holds it then.
+    Attach { party: u32, bucket: u32 },
+}
+
+/// The outcome of a step: what the step found, and what it did.
+#[derive(Debug, Clone, Copy, PartialEq, Eq)]
+pub enum PoolOutcome {
+    /// The bucket's flag was free. It is now taken, and the party's pass has ended.
+    Takes(u32),
+    /// The bucket's flag was taken, and the party's pass moves to the next bucket.
+    Loses(u32),
+    /// The last bucket's flag was taken, and with it the pass is refused and has ended.
+    RefusedAtLoss(u32),
+    /// The bucket's holder gave it back, and its flag is free.
+    Gives(u32),
+    /// The step isn't allowed, or names a party or a bucket that isn't there. It changed nothing.
+    Passed,
+    /// The bucket's flag was taken, and the party, which is in no pass, stays so. It changed nothing.
+    Misses(u32),
+    /// The bucket's holder detached it. Its flag stays taken.
+    Detaches(u32),
+    /// The bucket was detached, and the party is now its holder. Its flag stays taken.
+    Attaches(u32),
+}
+
+/// Whatever steps any number of parties take over the flags of a pool, from the opening with all flags free. It does
+/// nothing: its contract is the theorem.
+///
+/// As each clause holds of every list of steps, it holds of each beginning of a list. So what is said of the list that a
+/// run leaves is said, by `every_step`, of a run's list at every step.
+pub fn pool_theorem()
+    // Each region has a geometry for each layout of at least one byte, with exactly the buckets that it has room for.
+    ensures some_geometry { (region : Region) (bucket : Layout) → 0 < bucket.size
+        → (buckets : ℕ) × FillsRegion (pool_geometry region bucket buckets) }
+
+    // What is said of every pool geometry is said of this one, and of it with fewer buckets.
+    ensures all_buckets { (geometry : PoolGeometry) → 0 < geometry.bucket.size
+        → FillsRegion geometry → IsPoolGeometry geometry }
+    ensures fewer_buckets { (geometry : PoolGeometry) (constant : ℕ)
+        → IsPoolGeometry geometry → IsPoolGeometry (at_most constant geometry) }
+
+    // The takings and returns are a run of the pool object from the empty list, whichever layouts within the bucket's
+    // size and alignment are asked for.
+    ensures run { (scene : PoolScene) (steps : List PoolStep) (layouts : List Layout)
+        → IsPoolGeometry scene.geometry → AreAsked scene.geometry steps layouts
+        → (live : List Chunk) × IsPoolRun scene steps layouts live }
+
+    // Such a run has a list at every step: a run of the steps before leaves it, and the others are a run from it.
+    ensures every_step { (scene : PoolScene) (steps : List PoolStep) (layouts : List Layout)
+        (live : List Chunk) (k : ℕ) → IsPoolRun scene steps layouts live
+        → (there : List Chunk) × IsPoolRun scene (take k steps) (take k layouts) there
+        × (let history = history_of scene steps in
+        IsCallRun scene.geometry there (drop k layouts) (drop k history) live) }
+
+    // The taken flags are the buckets that are held in the list that such a run leaves.
+    ensures taken { (scene : PoolScene) (steps : List PoolStep) (layouts : List Layout)
+        (live : List Chunk) (bucket : ℕ) → IsPoolGeometry scene.geometry
+        → IsPoolRun scene steps layouts live → bucket < scene.geometry.buckets
+        → (IsTaken (left_by scene steps) bucket ↔ IsHeld scene.geometry live bucket) }
+
+    // That list is sound: its chunks are inside the region, and no two overlap.
+    ensures sound { (scene : PoolScene) (steps : List PoolStep) (layouts : List Layout)
+        (live : List Chunk) → IsPoolGeometry scene.geometry
+        → IsPoolRun scene steps layouts live → IsSound scene.geometry.region live }
+
+    // A flag's holder is the party whose log holds the bucket.
+    ensures holder { (scene : PoolScene) (steps : List PoolStep) (party bucket : ℕ)
+        → (IsHolder (left_by scene steps) bucket party
+        ↔ IsHeldAfter (log_of scene steps party) bucket) }
+
+    // No two parties hold one bucket.
+    ensures apart { (scene : PoolScene) (steps : List PoolStep) (party other bucket : ℕ)
+        → IsHeldAfter (log_of scene steps party) bucket
+        → IsHeldAfter (log_of scene steps other) bucket → party ≡ other }
+
+    // A pass that is refused has, for each bucket, a step at which it lost that bucket, which was then held in the run.
+    ensures refused { (scene : PoolScene) (steps : List PoolStep) (party last bucket : ℕ)
+        → IsPoolGeometry scene.geometry → IsRefusedAt (history_of scene steps) party last
+        → bucket < scene.geometry.buckets → FoundHeld scene steps party last bucket }
+
+    // A step loses one bucket alone, so those steps are different ones for different buckets.
+    ensures one_bucket { (scene : PoolScene) (steps : List PoolStep) (party step bucket other : ℕ)
+        → LosesAt (history_of scene steps) party bucket step
+        → LosesAt (history_of scene steps) party other step → bucket ≡ other }
+
+    // At each miss the bucket was held in the run, by another party or by the same one.
+    ensures missed { (scene : PoolScene) (steps : List PoolStep) (party bucket k : ℕ)
+        → IsPoolGeometry scene.geometry → MissesAt (history_of scene steps) party bucket k
+        → (bucket < scene.geometry.buckets) × IsTaken (left_by scene (take k steps)) bucket
+        × IsHeldInRun scene (take k steps) bucket }
+
+    // A detached bucket is held after no party's log.
+    ensures detached_unheld { (scene : PoolScene) (steps : List PoolStep) (party bucket : ℕ)
+        → IsDetached (left_by scene steps) bucket
+        → ¬ IsHeldAfter (log_of scene steps party) bucket }
+
+    // A machine with one party has no detached bucket, since no other party could attach it.
+    ensures none_detached_alone { (scene : PoolScene) (steps : List PoolStep) (bucket : ℕ)
+        → scene.parties ≡ 1 → ¬ IsDetached (left_by scene steps) bucket }
+
+    // Some step has detached a detached bucket.
+    ensures was_detached { (scene : PoolScene) (steps : List PoolStep) (bucket : ℕ)
+        → IsDetached (left_by scene steps) bucket → WasDetached (history_of scene steps) bucket }
+{}

@@ -1,0 +1,2 @@
+pub mod PartyNumbers
+pub mod Seatings

@@ -1,0 +1,16 @@
+mod FlagWords
+mod SharedPoolCaching
+mod SharedPoolDetached
+mod SharedPoolDetaching
+mod SharedPoolGatherings
+mod SharedPoolHolds
+mod SharedPoolKeeps
+mod SharedPoolLaws
+mod SharedPoolMeetings
+mod SharedPoolNextFit
+mod SharedPoolParties
+mod SharedPoolPasses
+mod SharedPoolRequests
+mod SharedPoolSeats
+pub mod SharedPoolTries
+mod SharedPoolWholes

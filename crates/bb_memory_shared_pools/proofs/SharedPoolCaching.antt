@@ -1,0 +1,205 @@
+-- Lists of cached buckets, which lose their last one or get one more; what a request answers then; and what is out.
+use Rattle.std.proofs.Common.{◌≡◌, ◌≢◌, ℕ, List, [], ◌∷◌, ◌++◌, length, refl, sym, ap, ◌∙◌, subst, ⊎_elim, append_assoc, arith}
+use Rattle.std.specs.Prelude.{Contains, Ok, ◌⊎◌}
+use Rattle.std.proofs.lemmas.List.{get_or_append_left, get_or_default, get_or_push, length_push}
+use Rattle.std.proofs.lemmas.List.Elements.{All-contains, All-push, Contains-append_left, Contains-push, Contains-push_cases}
+use Rattle.std.proofs.lemmas.List.Quantifiers.{all_pairs_push}
+use Rattle.bb_memory_traits.specs.PoolObject.{IsWithin}
+use Rattle.bb_memory_pool_machine.specs.PoolLogs.{IsHeldAfter, PoolLog}
+use Rattle.bb_memory_traits.specs.declared.layout.Layout.{Layout}
+use Rattle.bb_memory_geometry.proofs.Measures.{bucket-inside}
+use Rattle.bb_memory_geometry.proofs.Measures.{bucket_place-multiple}
+use Rattle.bb_memory_shared_pools.specs.SharedPool.{IsParty, PoolParty, Serves, SharedPool, TakenBucket}
+use Rattle.bb_memory_shared_pools.specs.SharedPool.{return_entry, taken_bucket, with_entries}
+use Rattle.bb_memory_shared_pools.specs.SharedPoolCaching.{AreCached, CachingParty, IsOut, returns_of}
+use Rattle.bb_memory_shared_pools.proofs.SharedPoolLaws.{held_below}
+
+-- a token's number
+pub number_of : (pool : SharedPool) (token : TakenBucket) (bucket len : ℕ) → token ≡ taken_bucket pool bucket len →
+    token.number ≡ bucket
+number_of pool token bucket len is = ap (λ (b : TakenBucket). b.number) is
+
+-- the last is among all, and so is each of the others
+pub has_last : (cached before : List ℕ) (last bucket : ℕ) → cached ≡ before ++ last ∷ [] → bucket ≡ last → Contains cached bucket
+has_last cached before last bucket is same = subst (λ (xs : List ℕ). Contains xs bucket) (sym is)
+    (subst (λ (n : ℕ). Contains (before ++ last ∷ []) n) (sym same) (Contains-push before last))
+
+pub has_others : (cached before : List ℕ) (last other : ℕ) → cached ≡ before ++ last ∷ [] → Contains before other →
+    Contains cached other
+has_others cached before last other is at =
+    subst (λ (xs : List ℕ). Contains xs other) (sym is) (Contains-append_left before (last ∷ []) other at)
+
+-- each is the last or among the others
+pub has_either : (cached before : List ℕ) (last other : ℕ) → cached ≡ before ++ last ∷ [] → Contains cached other →
+    Contains before other ⊎ (last ≡ other)
+has_either cached before last other is at =
+    Contains-push_cases before last other (subst (λ (xs : List ℕ). Contains xs other) is at)
+
+-- one more
+pub cached_more : (party : PoolParty) (cached : List ℕ) (bucket : ℕ) → AreCached party cached → IsHeldAfter party.log bucket →
+    ¬ Contains cached bucket → AreCached party (cached ++ bucket ∷ [])
+cached_more party cached bucket are held uncached = record {
+  held = All-push (λ (b : ℕ). IsHeldAfter party.log b) cached bucket are.held held;
+  differ = all_pairs_push (λ (one other : ℕ). one ≢ other) cached bucket are.differ
+      (λ k d below same. uncached (k, below, get_or_default cached k bucket d below ∙ same));
+}
+
+-- none but the last
+pub cached_less : (party : PoolParty) (cached before : List ℕ) (last : ℕ) → cached ≡ before ++ last ∷ [] →
+    AreCached party cached → AreCached party before
+cached_less party cached before last is are =
+    let whole = subst (AreCached party) is are in
+    let long = length_push before last in
+    record {
+      held = λ k d below. subst (λ (b : ℕ). IsHeldAfter party.log b) (get_or_append_left before (last ∷ []) d k below)
+          (whole.held k d (omega arith));
+      differ = λ i j d lt within same. whole.differ i j d lt (omega arith)
+          (get_or_append_left before (last ∷ []) d i (omega arith) ∙ same
+          ∙ sym (get_or_append_left before (last ∷ []) d j within));
+    }
+
+-- the last is held
+pub last_held : (party : PoolParty) (cached before : List ℕ) (last : ℕ) → cached ≡ before ++ last ∷ [] →
+    AreCached party cached → IsHeldAfter party.log last
+last_held party cached before last is are =
+    let long = length_push before last in
+    subst (λ (b : ℕ). IsHeldAfter party.log b) (get_or_push before last last (length before) refl)
+    ((subst (AreCached party) is are).held (length before) last (omega arith))
+
+-- the last isn't among the others
+pub last_apart : (party : PoolParty) (cached before : List ℕ) (last : ℕ) → cached ≡ before ++ last ∷ [] →
+    AreCached party cached → ¬ Contains before last
+last_apart party cached before last is are at =
+    let long = length_push before last in
+    (subst (AreCached party) is are).differ at.0 (length before) last at.1 (omega arith)
+    (get_or_append_left before (last ∷ []) last at.0 at.1 ∙ at.2 ∙ sym (get_or_push before last last (length before) refl))
+
+-- buckets stay cached while the party gives back one that is out
+pub cached_while : (old new : PoolParty) (cached : List ℕ) (bucket : ℕ) → AreCached old cached → ¬ Contains cached bucket →
+    ((other : ℕ) → other ≢ bucket → IsHeldAfter old.log other → IsHeldAfter new.log other) → AreCached new cached
+cached_while old new cached bucket are uncached still = record {
+  held = λ k d below. still _ (λ same. uncached (k, below, get_or_default cached k bucket d below ∙ same)) (are.held k d below);
+  differ = are.differ;
+}
+
+-- and while it holds one more
+pub cached_still : (old new : PoolParty) (cached : List ℕ) → AreCached old cached →
+    ((other : ℕ) → IsHeldAfter old.log other → IsHeldAfter new.log other) → AreCached new cached
+cached_still old new cached are still = record { held = λ k d below. still _ (are.held k d below); differ = are.differ }
+
+-- a bucket that the party didn't hold isn't cached
+pub not_cached : (party : PoolParty) (cached : List ℕ) (bucket : ℕ) → AreCached party cached → ¬ IsHeldAfter party.log bucket →
+    ¬ Contains cached bucket
+not_cached party cached bucket are free at = free (All-contains (λ (b : ℕ). IsHeldAfter party.log b) cached bucket are.held at)
+
+-- ANSWERS AND LOGS
+
+-- an answer by a bucket that the party holds already
+served_cached : (party : PoolParty) (layout : Layout) (bucket : ℕ) → IsParty party →
+    IsWithin party.allocator.scene.geometry.bucket layout → IsHeldAfter party.log bucket →
+    Serves party.allocator party layout (Ok (taken_bucket party.allocator bucket layout.size)) party
+served_cached party layout bucket is within held =
+    let geometry = party.allocator.scene.geometry in
+    record {
+      bucket = refl;
+      number = refl;
+      is_party = is;
+      held = held;
+      others_kept = λ other its. its;
+      others = λ other apart its. its;
+      inside = bucket-inside geometry bucket layout.size is.scene.geometry (held_below party is bucket held) within.size;
+      aligned = bucket_place-multiple geometry bucket layout within.align;
+      exact_size = refl;
+    }
+
+-- an answer by the bucket that was cached last
+pub served_last : (pool : SharedPool) (old party : PoolParty) (layout : Layout) (cached before : List ℕ) (last len : ℕ)
+    (token : TakenBucket) → party ≡ old → old.allocator ≡ pool → IsParty party → AreCached party cached →
+    cached ≡ before ++ last ∷ [] → token ≡ taken_bucket pool last len → len ≡ layout.size →
+    IsWithin pool.scene.geometry.bucket layout → Serves old.allocator old layout (Ok token) party
+served_last pool old party layout cached before last len token same own is are cut its size within =
+    let pool_is = ap (λ (p : PoolParty). p.allocator) same ∙ own in
+    let within_its = subst (λ (p : SharedPool). IsWithin p.scene.geometry.bucket layout) (sym pool_is) within in
+    let token_is = its ∙ λ i. taken_bucket (sym pool_is i) last (size i) in
+    subst (λ (p : PoolParty). Serves p.allocator p layout (Ok token) party) same
+    (subst (λ (b : TakenBucket). Serves party.allocator party layout (Ok b) party) (sym token_is)
+    (served_cached party layout last is within_its (last_held party cached before last cut are)))
+
+-- the returns of all but the last come behind that of the last
+pub returns_push : (party : ℕ) (before : List ℕ) (last : ℕ) →
+    returns_of party (before ++ last ∷ []) ≡ return_entry party last ++ returns_of party before
+returns_push party [] last = refl
+returns_push party (bucket ∷ others) last =
+    ap (λ (log : PoolLog). log ++ return_entry party bucket) (returns_push party others last)
+    ∙ append_assoc (return_entry party last) (returns_of party others) (return_entry party bucket)
+
+-- a return of the last, and of the others behind it, is a return of all
+pub returns_last : (party new : PoolParty) (cached before : List ℕ) (last bucket : ℕ) → cached ≡ before ++ last ∷ [] →
+    bucket ≡ last → new ≡ with_entries party (return_entry party.number bucket) →
+    with_entries new (returns_of new.number before) ≡ with_entries party (returns_of party.number cached)
+returns_last party new cached before last bucket is same then =
+    let all = append_assoc party.log (return_entry party.number last) (returns_of party.number before)
+    ∙ ap (λ (log : PoolLog). party.log ++ log)
+    (sym (returns_push party.number before last) ∙ ap (λ (b : List ℕ). returns_of party.number b) (sym is)) in
+    ap (λ (p : PoolParty). with_entries p (returns_of p.number before))
+    (then ∙ ap (λ (n : ℕ). with_entries party (return_entry party.number n)) same) ∙ λ i. record {
+      allocator = party.allocator;
+      number = party.number;
+      log = all i;
+    }
+
+-- WHAT IS OUT
+
+-- a bucket that is out goes to the cache
+pub out_cached : (old : CachingParty) (party : PoolParty) (cached now : List ℕ) (most bucket number : ℕ) →
+    record { party = party; cached = cached; most = most } ≡ old → number ≡ bucket → AreCached party cached →
+    IsOut old bucket → now ≡ cached ++ number ∷ [] → AreCached party now
+unfolding IsOut
+out_cached old party cached now most bucket number own same are out is =
+    let its = subst (λ (p : CachingParty). IsOut p bucket) (sym own) out in
+    subst (AreCached party) (sym (is ∙ ap (λ (n : ℕ). cached ++ n ∷ []) same)) (cached_more party cached bucket are its.0 its.1)
+
+-- a bucket that is out goes to the pool
+pub out_returned : (old : CachingParty) (party new : PoolParty) (cached : List ℕ) (most bucket : ℕ) →
+    record { party = party; cached = cached; most = most } ≡ old → AreCached party cached → IsOut old bucket →
+    ((other : ℕ) → other ≢ bucket → IsHeldAfter party.log other → IsHeldAfter new.log other) → AreCached new cached
+unfolding IsOut
+out_returned old party new cached most bucket own are out still =
+    cached_while party new cached bucket are (subst (λ (p : CachingParty). IsOut p bucket) (sym own) out).1 still
+
+-- the last one's token is of a bucket that is out once it is cached no more
+pub last_out : (party : PoolParty) (cached before : List ℕ) (most last len : ℕ) (pool : SharedPool) (token : TakenBucket) →
+    AreCached party cached → cached ≡ before ++ last ∷ [] → token ≡ taken_bucket pool last len →
+    IsOut (record { party = party; cached = before; most = most }) token.number
+unfolding IsOut
+last_out party cached before most last len pool token are is its =
+    let same = number_of pool token last len its in (
+      subst (λ (n : ℕ). IsHeldAfter party.log n) (sym same) (last_held party cached before last is are),
+      λ at. last_apart party cached before last is are (subst (λ (n : ℕ). Contains before n) same at),
+    )
+
+-- no bucket that was out is the last
+pub last_fresh : (old : CachingParty) (cached before : List ℕ) (last len : ℕ) (pool : SharedPool) (token : TakenBucket)
+    (other : ℕ) → cached ≡ old.cached → cached ≡ before ++ last ∷ [] → token ≡ taken_bucket pool last len →
+    IsOut old other → other ≢ token.number
+unfolding IsOut
+last_fresh old cached before last len pool token other own is its out same =
+    out.1 (has_last old.cached before last other (sym own ∙ is) (same ∙ number_of pool token last len its))
+
+-- what is out stays out where another bucket is cached
+pub out_more : (old new : CachingParty) (bucket other : ℕ) → new.party ≡ old.party → new.cached ≡ old.cached ++ bucket ∷ [] →
+    other ≢ bucket → IsOut old other → IsOut new other
+unfolding IsOut
+out_more old new bucket other own is apart out = (
+  subst (λ (p : PoolParty). IsHeldAfter p.log other) (sym own) out.0,
+  λ at. ⊎_elim out.1 (λ same. apart (sym same)) (has_either new.cached old.cached bucket other is at),
+)
+
+-- what is out stays out where one bucket less is cached
+pub out_less : (old new : CachingParty) (bucket other : ℕ) → new.party ≡ old.party → old.cached ≡ new.cached ++ bucket ∷ [] →
+    IsOut old other → IsOut new other
+unfolding IsOut
+out_less old new bucket other own is out = (
+  subst (λ (p : PoolParty). IsHeldAfter p.log other) (sym own) out.0,
+  λ at. out.1 (has_others old.cached new.cached bucket other is at),
+)

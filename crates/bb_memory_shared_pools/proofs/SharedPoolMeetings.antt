@@ -1,0 +1,67 @@
+-- What a load by a seat of several parties finds: how they agree with the flags, and what two of them have of one another.
+use Rattle.std.proofs.Common.{◌≡◌, ℕ, List, [], ◌∷◌, set, get_or, refl, sym, subst}
+use Rattle.std.proofs.lemmas.List.{set-get_or}
+use mathlib.Core.Option.{none, some}
+use lib.ListN.{get_elem?}
+use Rattle.atomic_table.specs.Table.{State, Me, keeps, step, Allows}
+use Rattle.atomic_table.proofs.Lists.{set_again}
+use Rattle.bb_memory_pool_machine.specs.PoolMachine.{PoolScene}
+use Rattle.bb_memory_pool_machine.specs.PoolLogs.{PoolLog}
+use Rattle.bb_memory_pool_machine.proofs.PoolLogFacts.{logs_apart, interleaved_logs}
+use Rattle.bb_memory_seats.specs.Seats.{numbered, standing_for}
+use Rattle.bb_memory_shared_pools.specs.SharedPoolRule.{NumberedLog, SeatView, WordsAndLogsAgree}
+use Rattle.bb_memory_shared_pools.specs.SharedPoolRule.{TellsMeeting, TellsTwo, meets}
+use Rattle.bb_memory_seats.proofs.Seatings.{once_in, two_parties}
+
+-- what the rule tells a seat
+told_by : (scene : PoolScene) (state : State ℕ SeatView) (rule : WordsAndLogsAgree scene state) (seat : ℕ)
+    (view : SeatView) → get_elem? state.views seat ≡ some view → TellsMeeting scene view.parties
+told_by scene state rule seat view at = record {
+  flags = rule.flags;
+  logs = rule.logs;
+  agree = rule.agree;
+  one_a_party = rule.one_a_party;
+  theirs = rule.seated.known seat view at;
+  once = once_in scene.parties rule.logs state.views seat view rule.seated at;
+}
+
+-- a load that changes nothing
+pub unchanged : (scene : PoolScene) (state : State ℕ SeatView) (seat word : ℕ) (view : SeatView) →
+    get_elem? state.views seat ≡ some view → WordsAndLogsAgree scene state →
+    WordsAndLogsAgree scene record {
+      words = set state.words word (get_or state.words word 0);
+      homes = state.homes;
+      views = set state.views seat view;
+    }
+unchanged scene state seat word view at rule =
+    let words = set-get_or state.words word 0 in
+    let views = set_again state.views seat view at in
+    subst (λ (s : List ℕ × List SeatView). WordsAndLogsAgree scene record { words = s.0; homes = state.homes; views = s.1 })
+    (λ i. (sym words i, sym views i)) rule
+
+meets_at : (scene : PoolScene) (slots seat word : ℕ) (parties : List NumberedLog) →
+    let view = standing_for scene parties in
+    Allows (WordsAndLogsAgree scene) slots seat (view, []) word (λ found. found) (meets (step slots word 0 0 none) (view, []))
+meets_at scene slots seat word parties state rule homes at fits =
+    let view : SeatView = standing_for scene parties in
+    (view, keeps, tt, unchanged scene state seat word view at rule, (refl, told_by scene state rule seat view at))
+
+pub meets_as : (scene : PoolScene) (slots seat word : ℕ) (parties : List NumberedLog) (me : Me ℕ SeatView) →
+    me ≡ (standing_for scene parties, []) →
+    Allows (WordsAndLogsAgree scene) slots seat me word (λ found. found) (meets (step slots word 0 0 none) me)
+meets_as scene slots seat word parties me is =
+    subst (λ (m : Me ℕ SeatView). Allows (WordsAndLogsAgree scene) slots seat m word (λ found. found)
+    (meets (step slots word 0 0 none) m)) (sym is) (meets_at scene slots seat word parties)
+
+-- what a meeting of two has found
+pub two_met : (scene : PoolScene) (number : ℕ) (log : PoolLog) (other : ℕ) (other_log : PoolLog) →
+    TellsMeeting scene (numbered other other_log ∷ numbered number log ∷ []) → TellsTwo scene number log other other_log
+two_met scene number log other other_log told =
+    let have = told.theirs in
+    let differ = two_parties (numbered other other_log) (numbered number log) [] (told.once other have.0) in
+    let apart = λ (same : number ≡ other). differ (sym same) in record {
+      differ = apart;
+      apart = λ bucket held other_held. apart
+          (logs_apart scene told.flags told.logs number log other other_log bucket told.agree have.2.1 have.1 held other_held);
+      interleaved = interleaved_logs scene told.flags told.logs number log other other_log told.agree have.2.1 have.1;
+    }

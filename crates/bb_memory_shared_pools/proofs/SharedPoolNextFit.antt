@@ -1,0 +1,213 @@
+-- How a search goes on: from its first probe to the step that ends it.
+use Rattle.std.proofs.Common.{◌≡◌, ℕ, zero, suc, ◌+◌, ◌-◌, ◌<◌, ◌≤◌, ◌%◌, Bool, true, false, ◌++◌, append_assoc, append-nil}
+use Rattle.std.proofs.Common.{add-one, refl, sym, ap, ◌∙◌, subst, arith, Some, None, inl, inr}
+use Rattle.std.specs.Prelude.{◌==◌, if◌then◌else◌}
+use Rattle.std.proofs.lemmas.Bool.{cases_lt}
+use Rattle.std.proofs.Math.Nat.{add-mod_left, mod-eq_of_lt}
+use borrow.Author.Count.{below_more}
+use Rattle.atomic_table.specs.Table.{Me}
+use Rattle.bb_memory_pool_machine.specs.PoolMachine.{PoolScene}
+use Rattle.bb_memory_pool_machine.specs.PoolLogs.{PoolLog, IsHeldAfter}
+use Rattle.bb_memory_seats.specs.Seats.{number_of, view_log}
+use Rattle.bb_memory_shared_pools.specs.SharedPoolNextFit.{probed, miss_at, misses, start_of, refused_search, taking_at, taking_search}
+use Rattle.bb_memory_shared_pools.specs.SharedPoolRule.{IsSeatOfIdle, SeatView}
+use Rattle.bb_memory_shared_pools.specs.SharedPoolRule.{HasMissedAt, HasRefusedFrom, HasTakenAt, HasTakenFrom, IsInSearch}
+use Rattle.bb_memory_shared_pools.proofs.SharedPoolRequests.{HasAsked}
+use Rattle.bb_memory_pool_machine.proofs.PoolHolders.{held_through}
+use Rattle.bb_memory_shared_pools.specs.declared.shared_pool.party.Hint.{Hint}
+use Rattle.bb_memory_shared_pools.proofs.SharedPoolTries.{held-append, hint-append, hint_through, test_below, test_not_below}
+
+-- PROBES
+
+-- where a search begins
+pub start_here : (buckets first : ℕ) → first < buckets → start_of buckets first ≡ first
+start_here buckets first below = ap (λ (b : Bool). if b then first else 0) (test_below first buckets below)
+
+pub start_zero : (buckets first : ℕ) → buckets ≤ first → start_of buckets first ≡ 0
+start_zero buckets first past = ap (λ (b : Bool). if b then first else 0) (test_not_below first buckets past)
+
+start_below : (buckets first : ℕ) → 0 < buckets → start_of buckets first < buckets
+start_below buckets first some = elim (cases_lt first buckets) [
+  | inl below ↦ let here = start_here buckets first below in omega arith
+  | inr past ↦ let here = start_zero buckets first (omega arith) in omega arith
+]
+
+-- a probe before the search goes on from bucket 0, and one after
+pub probe_ahead : (buckets first start probe : ℕ) → start_of buckets first ≡ start → start + probe < buckets →
+    probed buckets first probe ≡ start + probe
+probe_ahead buckets first start probe is below = ap (λ (s : ℕ). (s + probe) % buckets) is ∙ mod-eq_of_lt below
+
+pub probe_behind : (buckets first start probe rest : ℕ) → start_of buckets first ≡ start → start + probe ≡ buckets + rest →
+    rest < buckets → probed buckets first probe ≡ rest
+probe_behind buckets first start probe rest is same below = ap (λ (s : ℕ). (s + probe) % buckets) is
+    ∙ ap (λ (n : ℕ). n % buckets) same
+    ∙ add-mod_left buckets rest
+    ∙ mod-eq_of_lt below
+
+-- a search's probe at a bucket
+pub record Probe (buckets first bucket : ℕ) : Type 0 where
+  pub probe : ℕ
+  pub before_end : probe < buckets
+  pub there : probed buckets first probe ≡ bucket
+
+-- it has one at each
+pub probe_at : (buckets first bucket : ℕ) → bucket < buckets → Probe buckets first bucket
+probe_at buckets first bucket below =
+    let start : ℕ = start_of buckets first in
+    let begins : start < buckets = start_below buckets first (omega arith) in
+    elim (cases_lt bucket start) [
+      | inl before ↦
+          let rest : ℕ = buckets - start + bucket in
+          let same : start + rest ≡ buckets + bucket = omega arith in record {
+            probe = rest;
+            before_end = omega arith;
+            there = probe_behind buckets first start rest bucket refl same below;
+          }
+      | inr after ↦
+          let same : start + (bucket - start) ≡ bucket = omega arith in record {
+            probe = bucket - start;
+            before_end = omega arith;
+            there = probe_ahead buckets first start (bucket - start) refl (omega arith) ∙ same;
+          }
+    ]
+
+probe_below : (buckets first probe : ℕ) → probe < buckets → probed buckets first probe < buckets
+probe_below buckets first probe below =
+    let start : ℕ = start_of buckets first in
+    let begins : start < buckets = start_below buckets first (omega arith) in
+    elim (cases_lt (start + probe) buckets) [
+      | inl ahead ↦ let there = probe_ahead buckets first start probe refl ahead in omega arith
+      | inr behind ↦
+          let rest : ℕ = start + probe - buckets in
+          let same : start + probe ≡ buckets + rest = omega arith in
+          let there = probe_behind buckets first start probe rest refl same (omega arith) in
+          omega arith
+    ]
+
+-- MISSES AND WHAT IS HELD
+
+-- misses change nothing of what is held
+held-misses : (buckets party first probe bucket : ℕ) (held : Bool) →
+    held_through bucket held (misses buckets party first probe) ≡ held
+held-misses buckets party first zero bucket held = refl
+held-misses buckets party first (suc probe) bucket held =
+    held-append bucket held (misses buckets party first probe) (miss_at party (probed buckets first probe))
+    ∙ held-misses buckets party first probe bucket held
+
+pub missed_same : (buckets party first probe bucket : ℕ) (log : PoolLog) →
+    held_through bucket false (log ++ misses buckets party first probe) ≡ held_through bucket false log
+missed_same buckets party first probe bucket log = held-append bucket false log (misses buckets party first probe)
+    ∙ held-misses buckets party first probe bucket (held_through bucket false log)
+
+held-taking_at : (party taken bucket : ℕ) (log : PoolLog) → held_through bucket false (log ++ taking_at party taken)
+    ≡ (if taken == bucket then true else held_through bucket false log)
+held-taking_at party taken bucket log = held-append bucket false log (taking_at party taken)
+
+-- nor of a hint
+pub hint-misses : (buckets party first probe : ℕ) (hint : Hint) → hint ≡ hint_through hint (misses buckets party first probe)
+hint-misses buckets party first zero hint = refl
+hint-misses buckets party first (suc probe) hint = hint-misses buckets party first probe hint
+    ∙ sym (hint-append hint (misses buckets party first probe) (miss_at party (probed buckets first probe)))
+
+pub hint_by_search : (buckets party first probe taken : ℕ) (hint : Hint) → probed buckets first probe ≡ taken →
+    record { bucket = taken + 1; came_back = false } ≡ hint_through hint (taking_search buckets party first probe)
+hint_by_search buckets party first probe taken hint there =
+    ap (λ (n : ℕ). record { bucket = n + 1; came_back = false }) (sym there)
+    ∙ sym (hint-append hint (misses buckets party first probe) (taking_at party (probed buckets first probe)))
+
+-- a search that takes a bucket leaves that one held, and the others as they were
+pub held_by_search : (buckets party first probe taken bucket : ℕ) (log : PoolLog) → probed buckets first probe ≡ taken →
+    held_through bucket false (log ++ taking_search buckets party first probe)
+    ≡ (if taken == bucket then true else held_through bucket false log)
+held_by_search buckets party first probe taken bucket log there =
+    let tried : ℕ = probed buckets first probe in
+    let before : PoolLog = misses buckets party first probe in
+    sym (ap (held_through bucket false) (append_assoc log before (taking_at party tried)))
+    ∙ held-taking_at party tried bucket (log ++ before)
+    ∙ ap (λ (held : Bool). if tried == bucket then true else held) (missed_same buckets party first probe bucket log)
+    ∙ ap (λ (n : ℕ). if n == bucket then true else held_through bucket false log) there
+
+-- ONE SEARCH
+
+-- the seat of an idle party, told by the seat's own number and log
+pub idle_where : (scene : PoolScene) (number : ℕ) (log : PoolLog) (me : Me ℕ SeatView) → IsSeatOfIdle scene number log me →
+    IsSeatOfIdle scene (number_of me.0) (view_log me.0) me
+idle_where scene number log me is = subst (λ (m : Me ℕ SeatView). IsSeatOfIdle scene (number_of m.0) (view_log m.0) me)
+    (sym is.seat.is) is
+
+module _ (scene : PoolScene) (number : ℕ) (log : PoolLog) (first : ℕ) where
+  pub search_begins : (me : Me ℕ SeatView) → IsSeatOfIdle scene number log me → IsInSearch scene number log first 0 me
+  search_begins me of = record {
+    ended = subst (λ (l : PoolLog). IsSeatOfIdle scene number l me) (sym (append-nil log)) of;
+    held = λ one earlier below. absurd (omega arith);
+  }
+
+  module _ (me new : Me ℕ SeatView) (probe : ℕ) (so_far : IsInSearch scene number log first probe me) where
+    abbrev tried : ℕ
+    tried = probed scene.geometry.buckets first probe
+
+    abbrev before : PoolLog
+    before = misses scene.geometry.buckets number first probe
+
+    -- one more miss. Where the party is the only one, the bucket is held after its log, as all before
+    pub search_goes_on : (bucket : ℕ) → bucket ≡ tried → HasMissedAt scene (number_of me.0) (view_log me.0) bucket new →
+        IsInSearch scene number log first (probe + 1) new
+    search_goes_on bucket is tells =
+        let buckets : ℕ = scene.geometry.buckets in
+        let Told : Me ℕ SeatView → Type 0 = λ m. HasMissedAt scene (number_of m.0) (view_log m.0) tried new in
+        let here = subst Told so_far.ended.seat.is
+        (subst (λ (b : ℕ). HasMissedAt scene (number_of me.0) (view_log me.0) b new) is tells) in
+        let more = subst (λ (l : PoolLog). IsSeatOfIdle scene number l new) (append_assoc log before (miss_at number tried))
+        here.ended in
+        record {
+          ended = subst (λ (l : PoolLog). IsSeatOfIdle scene number (log ++ l) new)
+              (sym (ap (misses buckets number first) (add-one probe))) more;
+          held = λ one. below_more (λ (other : ℕ). IsHeldAfter log (probed buckets first other)) probe (so_far.held one)
+              (sym (missed_same buckets number first probe tried log) ∙ here.held one);
+        }
+
+    pub search_takes : (bucket : ℕ) → bucket ≡ tried → HasTakenAt scene (number_of me.0) (view_log me.0) bucket new →
+        probe < scene.geometry.buckets → HasTakenFrom scene number log first new bucket
+    search_takes bucket is tells below =
+        let buckets : ℕ = scene.geometry.buckets in
+        let Told : Me ℕ SeatView → Type 0 = λ m. HasTakenAt scene (number_of m.0) (view_log m.0) tried new in
+        let here = subst Told so_far.ended.seat.is
+        (subst (λ (b : ℕ). HasTakenAt scene (number_of me.0) (view_log me.0) b new) is tells) in
+        let free : ¬ IsHeldAfter log tried = λ held. here.free (missed_same buckets number first probe tried log ∙ held) in
+        record {
+          probe = probe;
+          before_end = below;
+          there = sym is;
+          ended = subst (λ (l : PoolLog). IsSeatOfIdle scene number l new) (append_assoc log before (taking_at number tried))
+              here.ended;
+          below = subst (λ (b : ℕ). b < buckets) (sym is) (probe_below buckets first probe below);
+          free = subst (λ (b : ℕ). ¬ IsHeldAfter log b) (sym is) free;
+        }
+
+  pub search_refuses : (me : Me ℕ SeatView) → IsInSearch scene number log first scene.geometry.buckets me →
+      HasRefusedFrom scene number log first me
+  search_refuses me so_far = record {
+    ended = so_far.ended;
+    held = λ one bucket below.
+        let probe = probe_at scene.geometry.buckets first bucket below in
+        subst (λ (b : ℕ). IsHeldAfter log b) probe.there (so_far.held one probe.probe probe.before_end);
+  }
+
+-- a search that has ended
+pub search_took : (scene : PoolScene) (number : ℕ) (log : PoolLog) (first : ℕ) (new : Me ℕ SeatView) (bucket : ℕ)
+    (took : HasTakenFrom scene number log first new bucket) →
+    HasAsked scene number log (taking_search scene.geometry.buckets number first took.probe) (Some bucket) new
+search_took scene number log first new bucket took = record {
+  ended = took.ended;
+  leaves = λ other. held_by_search scene.geometry.buckets number first took.probe bucket other log took.there;
+  found = (took.below, took.free);
+}
+
+pub search_lost : (scene : PoolScene) (number : ℕ) (log : PoolLog) (first : ℕ) (new : Me ℕ SeatView) →
+    HasRefusedFrom scene number log first new →
+    HasAsked scene number log (refused_search scene.geometry.buckets number first) None new
+search_lost scene number log first new lost = record {
+  ended = lost.ended;
+  leaves = λ other. missed_same scene.geometry.buckets number first scene.geometry.buckets other log;
+  found = lost.held;
+}

@@ -1,0 +1,101 @@
+-- How a pass goes on: from its first exchange to the step that ends it.
+use Rattle.std.proofs.Common.{◌≡◌, ℕ, ◌+◌, ◌<◌, [], ◌∷◌, ◌++◌, append_assoc, append-nil, add-one, refl, sym, ap, ◌∙◌, subst}
+use Rattle.std.proofs.Common.{arith, Some, None}
+use borrow.Author.Count.{below_more}
+use Rattle.atomic_table.specs.Table.{Me}
+use Rattle.bb_memory_pool_machine.specs.PoolMachine.{PoolScene}
+use Rattle.bb_memory_pool_machine.specs.PoolLogs.{PoolEntry, PoolLog, entry_of, IsHeldAfter, loss_at, next_bucket, pass_in}
+use Rattle.bb_memory_pool_machine.specs.declared.steps.pool.PoolStep.TheVariants.{Try}
+use Rattle.bb_memory_pool_machine.specs.declared.steps.pool.PoolOutcome.TheVariants.{Takes}
+use Rattle.bb_memory_seats.specs.Seats.{number_of, view_log}
+use Rattle.bb_memory_shared_pools.specs.SharedPool.{AreAllHeldAfter, losses, refused_pass, taking_pass}
+use Rattle.bb_memory_shared_pools.specs.SharedPoolRule.{IsSeatOf, SeatView}
+use Rattle.bb_memory_shared_pools.specs.SharedPoolRule.{HasRefused, HasTaken, TellsLoss, TellsTaking}
+use Rattle.bb_memory_shared_pools.proofs.SharedPoolRequests.{HasAsked}
+use Rattle.bb_memory_shared_pools.proofs.SharedPoolTries.{held-taking, idle_after_refusal, idle_after_taking, next_after_losses, same_held}
+
+-- a pass under way: since it began, the seat's party has lost at the buckets below this one
+pub record IsPassing (scene : PoolScene) (number : ℕ) (log : PoolLog) (bucket : ℕ) (me : Me ℕ SeatView) : Type 0 where
+  pub seat : IsSeatOf scene number (log ++ losses scene.geometry.buckets number bucket) me
+  pub held : scene.parties ≡ 1 → AreAllHeldAfter log bucket
+
+-- an entry behind more of them
+seat_after : (scene : PoolScene) (number : ℕ) (log more : PoolLog) (entry : PoolEntry) (new : Me ℕ SeatView) →
+    IsSeatOf scene number ((log ++ more) ++ entry ∷ []) new → IsSeatOf scene number (log ++ (more ++ entry ∷ [])) new
+seat_after scene number log more entry new seat =
+    subst (λ (l : PoolLog). IsSeatOf scene number l new) (append_assoc log more (entry ∷ [])) seat
+
+module _ (scene : PoolScene) (number : ℕ) (log : PoolLog) where
+  pub begins : (me : Me ℕ SeatView) → IsSeatOf scene number log me → IsPassing scene number log 0 me
+  begins me of = record {
+    seat = subst (λ (l : PoolLog). IsSeatOf scene number l me) (sym (append-nil log)) of;
+    held = λ one other below. absurd (omega arith);
+  }
+
+  -- the seat goes on to stand for the party alone
+  pub passing_seat : (me : Me ℕ SeatView) (bucket : ℕ) → IsPassing scene number log bucket me →
+      IsSeatOf scene (number_of me.0) (view_log me.0) me
+  passing_seat me bucket passing =
+      subst (λ (m : Me ℕ SeatView). IsSeatOf scene (number_of m.0) (view_log m.0) m) (sym passing.seat.is)
+      record { is = refl; interleaved = passing.seat.interleaved }
+
+  pub passing_next : (me : Me ℕ SeatView) (bucket : ℕ) → pass_in log ≡ None → bucket < scene.geometry.buckets →
+      IsPassing scene number log bucket me → next_bucket (view_log me.0) ≡ bucket
+  passing_next me bucket idle below passing = ap (λ (m : Me ℕ SeatView). next_bucket (view_log m.0)) passing.seat.is
+      ∙ next_after_losses scene.geometry.buckets number bucket log idle below
+
+  module _ (me new : Me ℕ SeatView) (bucket : ℕ) (passing : IsPassing scene number log bucket me) where
+    -- one more loss. Where the party is the only one, the bucket is held after its log, as all before
+    pub goes_on : TellsLoss scene (number_of me.0) (view_log me.0) bucket new → IsPassing scene number log (bucket + 1) new
+    goes_on tells =
+        let buckets : ℕ = scene.geometry.buckets in
+        let Told : Me ℕ SeatView → Type 0 = λ m. TellsLoss scene (number_of m.0) (view_log m.0) bucket new in
+        let here = subst Told passing.seat.is tells in
+        let more : PoolLog = losses buckets number bucket in
+        record {
+          seat = subst (λ (l : PoolLog). IsSeatOf scene number (log ++ l) new) (sym (ap (losses buckets number) (add-one bucket)))
+              (seat_after scene number log more (entry_of (Try number) (loss_at buckets bucket)) new here.seat);
+          held = λ one. below_more (λ (other : ℕ). IsHeldAfter log other) bucket (passing.held one)
+              (sym (same_held buckets number bucket bucket log) ∙ here.held one);
+        }
+
+    pub takes : TellsTaking scene (number_of me.0) (view_log me.0) bucket new → bucket < scene.geometry.buckets →
+        HasTaken scene number log new bucket
+    takes tells below =
+        let buckets : ℕ = scene.geometry.buckets in
+        let Told : Me ℕ SeatView → Type 0 = λ m. TellsTaking scene (number_of m.0) (view_log m.0) bucket new in
+        let here = subst Told passing.seat.is tells in
+        let more : PoolLog = losses buckets number bucket in
+        record {
+          ended = record {
+            seat = seat_after scene number log more (entry_of (Try number) (Takes bucket)) new here.seat;
+            idle = idle_after_taking buckets number bucket log;
+          };
+          below = below;
+          free = λ held. here.free (same_held buckets number bucket bucket log ∙ held);
+        }
+
+  pub refuses : (me : Me ℕ SeatView) → pass_in log ≡ None → IsPassing scene number log scene.geometry.buckets me →
+      HasRefused scene number log me
+  refuses me idle passing = record {
+    ended = record { seat = passing.seat; idle = idle_after_refusal scene.geometry.buckets number log idle };
+    held = passing.held;
+  }
+
+-- a pass that has ended
+pub pass_took : (scene : PoolScene) (number : ℕ) (log : PoolLog) (new : Me ℕ SeatView) (bucket : ℕ) →
+    HasTaken scene number log new bucket →
+    HasAsked scene number log (taking_pass scene.geometry.buckets number bucket) (Some bucket) new
+pass_took scene number log new bucket took = record {
+  ended = took.ended;
+  leaves = λ other. held-taking scene.geometry.buckets number bucket other log;
+  found = (took.below, took.free);
+}
+
+pub pass_lost : (scene : PoolScene) (number : ℕ) (log : PoolLog) (new : Me ℕ SeatView) → HasRefused scene number log new →
+    HasAsked scene number log (refused_pass scene.geometry.buckets number) None new
+pass_lost scene number log new lost = record {
+  ended = lost.ended;
+  leaves = λ other. same_held scene.geometry.buckets number scene.geometry.buckets other log;
+  found = lost.held;
+}

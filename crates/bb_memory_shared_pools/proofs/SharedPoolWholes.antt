@@ -1,0 +1,196 @@
+-- What all parties of a pool have who met.
+use Rattle.std.proofs.Common.{◌≡◌, ◌≢◌, ℕ, zero, suc, ◌≤◌, ◌+◌, ◌<◌, List, [], ◌∷◌, length, refl, sym, ap, ◌∙◌, subst, arith}
+use Rattle.std.proofs.Common.{Some, true}
+use Rattle.std.specs.Prelude.{◌↔◌, Any, Contains, nat_lt, slice_get, if◌then◌else◌, Bool, false}
+use Rattle.std.specs.List.{All}
+use Rattle.std.proofs.lemmas.Option.{slice_get_within}
+use Rattle.std.proofs.lemmas.List.Elements.{All-append, All-cons, All-contains, All-contains_itself, All-nil, All-weaker}
+use Rattle.bb_memory_traits.specs.Chunk.{Chunk}
+use Rattle.bb_memory_traits.specs.PoolObject.{IsHeld}
+use Rattle.bb_memory_pool_machine.specs.PoolMachine.{IsDetached, PoolScene, left_by, opening_state, pool_step}
+use Rattle.bb_memory_pool_machine.specs.PoolLogs.{IsPoolRun, PoolEntry, PoolLog, entry_of, history_of, is_by, log_of, pool_history}
+use Rattle.bb_memory_pool_machine.specs.PoolLogs.{AllAllowed, HasLog, IsHeldAfter, loss_at}
+use Rattle.bb_memory_traits.specs.declared.layout.Layout.{Layout}
+use Rattle.bb_memory_pool_machine.specs.declared.steps.pool.PoolStep.{PoolStep}
+use Rattle.bb_memory_pool_machine.specs.declared.steps.pool.PoolStep.TheVariants.{Try, GiveBack, TryAt, Detach, Attach}
+use Rattle.bb_memory_pool_machine.specs.declared.steps.pool.PoolOutcome.{PoolOutcome}
+use Rattle.bb_memory_pool_machine.specs.declared.steps.pool.PoolOutcome.TheVariants.{Loses, RefusedAtLoss, Detaches}
+use Rattle.bb_memory_pool_machine.proofs.PoolLogFacts.{first_takes, logs_apart, nobody_else}
+use Rattle.bb_memory_pool_machine.proofs.PoolRuns.{taken_is_held}
+use Rattle.bb_memory_pool_machine.proofs.PoolFlags.{taken_from_flag, flag_from_taken}
+use Rattle.bb_memory_pool_machine.proofs.PoolHolders.{detached_unheld}
+use Rattle.bb_memory_pool_machine.proofs.PoolSteps.{test_same}
+use Rattle.bb_memory_pool_machine.proofs.PoolDetached.{was_detached_before}
+use Rattle.bb_memory_shared_pools.specs.SharedPool.{HasTaker, HaveMet, WasDetachedByOne, IsHeldByOne, IsHeldOrDetached, IsSharedScene}
+use Rattle.bb_memory_shared_pools.specs.SharedPool.{IsTaking, PoolParty, TookOne, losses, refused_pass}
+use Rattle.bb_memory_lists.proofs.Contained.{any_contained, contains-first, contains_at, stands_in_log}
+
+module _ (scene : PoolScene) (parties : List PoolParty) (met : HaveMet scene parties) where
+  abbrev steps : List PoolStep
+  steps = met.1.agree.steps
+
+  abbrev history : PoolLog
+  history = history_of scene steps
+
+  -- the flags that the meeting found are the buckets held in the list that the run leaves
+  pub met_flags : (layouts : List Layout) (live : List Chunk) (bucket : ℕ) → IsSharedScene scene →
+      IsPoolRun scene steps layouts live → bucket < scene.geometry.buckets →
+      (slice_get met.0 bucket ≡ Some true) ↔ IsHeld scene.geometry live bucket
+  met_flags layouts live bucket shared run below =
+      let same = taken_is_held scene steps layouts live bucket shared.geometry run below in
+      let state = left_by scene steps in (
+        λ (flag : slice_get met.0 bucket ≡ Some true).
+            same.0 (taken_from_flag state met.0 bucket met.1.agree.leaves flag),
+        λ held. flag_from_taken state met.0 bucket met.1.agree.leaves (same.1 held),
+      )
+
+  pub met_held : (layouts : List Layout) (live : List Chunk) (bucket : ℕ) → IsSharedScene scene →
+      length parties ≡ scene.parties → IsPoolRun scene steps layouts live → bucket < scene.geometry.buckets →
+      IsHeld scene.geometry live bucket ↔ IsHeldOrDetached scene steps parties bucket
+  met_held layouts live bucket shared all run below =
+      let flags = met_flags layouts live bucket shared run below in
+      let whole = (met.1.whole all).1 bucket in
+      (λ held. whole.0 (flags.1 held), λ out. flags.0 (whole.1 out))
+
+  pub met_logged : All (λ party. log_of scene steps party.number ≡ party.log) parties
+  met_logged k d below = met.1.agree.each _ _ (met.1.theirs k d below)
+
+  -- no bucket is held by two of them
+  pub met_apart : (i j : ℕ) (one other : PoolParty) (bucket : ℕ) → slice_get parties i ≡ Some one →
+      slice_get parties j ≡ Some other → i ≢ j → IsHeldAfter one.log bucket → ¬ IsHeldAfter other.log bucket
+  met_apart i j one other bucket at at_other apart held other_held =
+      let HasIts : PoolParty → Type 0 = λ party. HasLog met.1.logs party.number party.log in
+      let its = All-contains HasIts parties one met.1.theirs (contains_at parties i one at) in
+      let its_other = All-contains HasIts parties other met.1.theirs (contains_at parties j other at_other) in
+      met.1.differ i j one other at at_other apart
+      (logs_apart scene met.0 met.1.logs one.number one.log other.number other.log bucket met.1.agree its its_other held
+      other_held)
+
+  -- an entry whose step is that of a number stands in the log of the party with this number
+  numbered : (entry : PoolEntry) (number : ℕ) → length parties ≡ scene.parties → Contains history entry →
+      is_by number entry.step ≡ true → Any (λ party. Contains party.log entry) parties
+  numbered entry number all there by =
+      stands_in_log (λ (party : PoolParty). party.number) (λ party. party.log) (λ n other. is_by n other.step)
+      history scene.parties
+      parties (met.1.whole all).0 met_logged (λ n past. nobody_else scene steps n past met.1.agree.allowed) entry number there by
+
+  owned : (step : PoolStep) (outcome : PoolOutcome) → length parties ≡ scene.parties →
+      Contains history (entry_of step outcome) → Any (λ party. Contains party.log (entry_of step outcome)) parties
+  owned (Try party) outcome all there = numbered (entry_of (Try party) outcome) party all there (test_same party party refl)
+  owned (GiveBack party bucket) outcome all there =
+      numbered (entry_of (GiveBack party bucket) outcome) party all there (test_same party party refl)
+  owned (TryAt party bucket) outcome all there =
+      numbered (entry_of (TryAt party bucket) outcome) party all there (test_same party party refl)
+  owned (Detach party bucket) outcome all there =
+      numbered (entry_of (Detach party bucket) outcome) party all there (test_same party party refl)
+  owned (Attach party bucket) outcome all there =
+      numbered (entry_of (Attach party bucket) outcome) party all there (test_same party party refl)
+
+  -- each step is in the log of one that met
+  pub met_nobody_else : length parties ≡ scene.parties → All (λ entry. Any (λ party. Contains party.log entry) parties) history
+  met_nobody_else all = All-weaker (Contains history) (λ entry. Any (λ party. Contains party.log entry) parties)
+      (λ entry there. owned entry.step entry.outcome all there) history (All-contains_itself history)
+
+  -- DETACHED BUCKETS
+
+  -- none of them holds it
+  pub met_detached : (bucket : ℕ) → IsDetached (left_by scene steps) bucket → ¬ IsHeldByOne parties bucket
+  met_detached bucket detached one =
+      let logged = All-contains (λ (party : PoolParty). log_of scene steps party.number ≡ party.log) parties one.1
+      met_logged (one.0, one.2, one.3) in
+      detached_unheld scene steps one.1.number bucket detached
+      (subst (λ (l : PoolLog). IsHeldAfter l bucket) (sym logged) one.4)
+
+  -- and where all have met, one of them has detached it
+  pub met_was_detached : (bucket : ℕ) → length parties ≡ scene.parties → IsDetached (left_by scene steps) bucket →
+      WasDetachedByOne parties bucket
+  met_was_detached bucket all detached =
+      let step = was_detached_before scene steps bucket detached in
+      let one = owned step.1.step step.1.outcome all (step.0, step.2, step.3) in (
+        one.0,
+        one.1,
+        one.2,
+        one.3,
+        any_contained (λ (entry : PoolEntry). entry.outcome ≡ Detaches bucket) one.1.log step.1
+            one.4 step.4,
+      )
+
+-- WHO TOOK A BUCKET
+
+-- one that has this entry, which took a bucket, took one
+took_by_entry : (scene : PoolScene) (parties : List PoolParty) (met : HaveMet scene parties) (entry : PoolEntry) →
+    IsTaking entry.outcome → Any (λ party. Contains party.log entry) parties → HasTaker scene parties
+took_by_entry scene parties met entry takes one =
+    let there : Contains parties one.1 = (one.0, one.2, one.3) in
+    let log = All-contains (λ (party : PoolParty). HasLog met.1.logs party.number party.log) parties one.1 met.1.theirs there in
+    let within = slice_get_within met.1.logs one.1.number one.1.log log in
+    record {
+      taker = one.1;
+      number = omega (arith, within, met.1.one_a_party);
+      there = there;
+      took = any_contained (λ (other : PoolEntry). IsTaking other.outcome) one.1.log entry one.4 takes;
+    }
+
+-- a log in an empty list of steps is empty
+no_steps : (scene : PoolScene) (parties : List PoolParty) (met : HaveMet scene parties) (one : PoolParty) →
+    met.1.agree.steps ≡ [] → Contains parties one → one.log ≡ []
+no_steps scene parties met one is there =
+    let logged = All-contains (λ (party : PoolParty). log_of scene met.1.agree.steps party.number ≡ party.log) parties one
+    (met_logged scene parties met) there in
+    sym logged ∙ ap (λ (s : List PoolStep). log_of scene s one.number) is
+
+-- the first of the steps took a bucket
+first_took : (scene : PoolScene) (parties : List PoolParty) (met : HaveMet scene parties) (step : PoolStep)
+    (steps : List PoolStep) → met.1.agree.steps ≡ step ∷ steps → length parties ≡ scene.parties →
+    HasTaker scene parties
+first_took scene parties met step steps is all =
+    let history_is = ap (history_of scene) is in
+    let allowed = subst AllAllowed history_is met.1.agree.allowed in
+    let first = first_takes scene step steps allowed in
+    let outcome = (pool_step (opening_state scene) step).outcome in
+    let entry = entry_of step outcome in
+    let rest = pool_history (pool_step (opening_state scene) step).state steps in
+    let there = subst (λ (l : PoolLog). Contains l entry) (sym history_is) (contains-first entry entry rest refl) in
+    took_by_entry scene parties met entry (subst IsTaking (sym first.3) tt) (owned scene parties met step outcome all there)
+
+took_by_steps : (scene : PoolScene) (parties : List PoolParty) (met : HaveMet scene parties) (one : PoolParty)
+    (steps : List PoolStep) → met.1.agree.steps ≡ steps → length parties ≡ scene.parties → Contains parties one →
+    one.log ≢ [] → HasTaker scene parties
+took_by_steps scene parties met one [] is all there made = absurd (made (no_steps scene parties met one is there))
+took_by_steps scene parties met one (step ∷ steps) is all there made = first_took scene parties met step steps is all
+
+-- where one has made a step, one has taken a bucket
+pub one_took : (scene : PoolScene) (parties : List PoolParty) (one : PoolParty) → HaveMet scene parties →
+    length parties ≡ scene.parties → Contains parties one → one.log ≢ [] → HasTaker scene parties
+one_took scene parties one met all there made = took_by_steps scene parties met one met.1.agree.steps refl all there made
+
+some_party : (parties : List PoolParty) → 1 ≤ length parties → (party : PoolParty) × Contains parties party
+some_party [] some = absurd (omega arith)
+some_party (party ∷ parties) some = (party, contains-first party party parties refl)
+
+pub one_served : (scene : PoolScene) (parties : List PoolParty) → IsSharedScene scene → HaveMet scene parties →
+    length parties ≡ scene.parties → All (λ party. party.log ≢ []) parties → HasTaker scene parties
+one_served scene parties shared met all made =
+    let some = shared.parties in
+    let one = some_party parties (omega (arith, some, all)) in
+    one_took scene parties one.0 met all one.1
+    (All-contains (λ (party : PoolParty). party.log ≢ []) parties one.0 made one.1)
+
+-- REFUSED PASSES
+
+loss_takes_none : (bucket : ℕ) (more : Bool) → ¬ IsTaking (if more then Loses bucket else RefusedAtLoss bucket)
+loss_takes_none bucket true takes = absurd takes
+loss_takes_none bucket false takes = absurd takes
+
+losses_take_none : (buckets number count : ℕ) → All (λ entry. ¬ IsTaking entry.outcome) (losses buckets number count)
+losses_take_none buckets number zero = All-nil (λ (entry : PoolEntry). ¬ IsTaking entry.outcome)
+losses_take_none buckets number (suc bucket) =
+    let TakesNone : PoolEntry → Type 0 = λ entry. ¬ IsTaking entry.outcome in
+    let entry = entry_of (Try number) (loss_at buckets bucket) in
+    All-append TakesNone (losses buckets number bucket) (entry ∷ []) (losses_take_none buckets number bucket)
+    (All-cons TakesNone entry [] (loss_takes_none bucket (nat_lt (bucket + 1) buckets)) (All-nil TakesNone))
+
+pub refused_took_none : (buckets number : ℕ) → ¬ TookOne (refused_pass buckets number)
+refused_took_none buckets number one =
+    All-contains (λ (entry : PoolEntry). ¬ IsTaking entry.outcome) (refused_pass buckets number) one.1
+    (losses_take_none buckets number buckets) (one.0, one.2, one.3) one.4

@@ -1,0 +1,44 @@
+use Rattle.std.proofs.Common.{◌≡◌, ℕ, ◌∙◌, arith, refl, ap, subst}
+use Rattle.bb_memory_pool_machine.specs.PoolMachine.{PoolScene}
+use Rattle.bb_memory_shared_pools.specs.SharedPoolNextFit.{probed}
+use Rattle.bb_memory_shared_pools.specs.SharedPoolRule.{IsInSearch}
+use Rattle.bb_memory_shared_pools.proofs.SharedPoolNextFit.{idle_where, search_goes_on, search_refuses, search_takes}
+use Rattle.bb_memory_shared_pools.proofs.shared_pool.buckets.SharedBucketPool.later_probes.Goals as goal
+
+pub loop-probe-init : goal.loop-probe-init
+loop-probe-init g c = record { table = refl; idle = c.requires.seat.seat; so_far = λ number log begun. begun }
+
+pub returns-then-try_at-clause-told : goal.returns-then-try_at-clause-told
+returns-then-try_at-clause-told g c =
+    let is = c.probed-bucket.ensures.value ∙ ap (λ (n : ℕ). probed n c.args.first c.loop-probe.probe)
+    c.number_of_buckets-count.ensures.value in
+    record {
+      table = c.try_at.ensures.table ∙ c.loop-probe.invariant.table;
+      step = λ number log begun. search_takes c.args.self.now.scene number log c.args.first c.loop-probe.seat.me
+          c.try_at.new.seat.me c.loop-probe.probe (c.loop-probe.invariant.so_far number log begun) c.probed-bucket.result is
+          (rw c.if-try_at.true at (rw c.self.view_is at c.try_at.ensures.step)) (omega arith);
+    }
+
+pub loop-probe-preserved : goal.loop-probe-preserved
+loop-probe-preserved g c =
+    let is = c.probed-bucket.ensures.value ∙ ap (λ (n : ℕ). probed n c.args.first c.loop-probe.probe)
+    c.number_of_buckets-count.ensures.value in
+    let missed = rw c.if-try_at.false at (rw c.self.view_is at c.try_at.ensures.step) in
+    record {
+      table = c.try_at.ensures.table ∙ c.loop-probe.invariant.table;
+      idle = idle_where c.args.self.now.scene _ _ c.try_at.new.seat.me missed.ended;
+      so_far = λ number log begun. search_goes_on c.args.self.now.scene number log c.args.first c.loop-probe.seat.me
+          c.try_at.new.seat.me c.loop-probe.probe (c.loop-probe.invariant.so_far number log begun) c.probed-bucket.result is
+          missed;
+    }
+
+pub returns-clause-told : goal.returns-clause-told
+returns-clause-told g c =
+    let scene : PoolScene = c.args.self.now.scene in
+    let end : c.loop-probe.probe ≡ scene.geometry.buckets = omega arith in
+    record {
+      table = c.loop-probe.invariant.table;
+      step = λ number log begun. search_refuses scene number log c.args.first c.loop-probe.seat.me
+          (subst (λ (n : ℕ). IsInSearch scene number log c.args.first n c.loop-probe.seat.me) end
+          (c.loop-probe.invariant.so_far number log begun));
+    }

@@ -1,0 +1,19 @@
+use Rattle.std.proofs.Common.{List, ℕ, ◌++◌, ap, ◌∙◌, subst}
+use Rattle.atomic_table.specs.Table.{Me}
+use Rattle.bb_memory_seats.specs.Seats.{head_of, number_of, view_log}
+use Rattle.bb_memory_shared_pools.specs.SharedPoolRule.{NumberedLog, SeatView}
+use Rattle.bb_memory_shared_pools.specs.SharedPoolRule.{TellsMeeting}
+use Rattle.bb_memory_shared_pools.proofs.SharedPoolMeetings.{two_met}
+use Rattle.bb_memory_shared_pools.proofs.shared_pool.flags.Flags.meet.Goals as goal
+
+pub returns-clause-met : goal.returns-clause-met
+returns-clause-met c =
+    let scene = c.args.self.now.scene in
+    let a = c.args.a.now.me in
+    let b = c.args.b.now.me in
+    let own = ap (λ (m : Me ℕ SeatView). m.0.parties) c.requires.a.seat.is in
+    let guest = ap (λ (m : Me ℕ SeatView). m.0.parties) c.deal-guest.ensures.first
+    ∙ ap (λ (m : Me ℕ SeatView). head_of m.0.parties) c.requires.b.seat.is in
+    let both = ap (λ (m : Me ℕ SeatView). m.0.parties) c.gather.ensures.step ∙ λ i. guest i ++ own i in
+    two_met scene (number_of a.0) (view_log a.0) (number_of b.0) (view_log b.0)
+    (subst (λ (parties : List NumberedLog). TellsMeeting scene parties) both c.find.ensures.told)

@@ -1,0 +1,22 @@
+use Rattle.std.proofs.Common.{◌≡◌, ◌<◌, [], sym, ap, ◌∙◌, arith, subst}
+use Rattle.bb_memory_pool_machine.specs.PoolMachine.{PoolScene}
+use Rattle.bb_memory_seats.specs.Seats.{alone, number_of, view_log}
+use Rattle.bb_memory_shared_pools.specs.SharedPool.{SharedPool}
+use Rattle.bb_memory_shared_pools.proofs.SharedPoolKeeps.{tries_as}
+use Rattle.bb_memory_shared_pools.proofs.shared_pool.flags.Flags.try_flag.Goals as goal
+
+pub compare_exchange-found-requires : goal.compare_exchange-found-requires
+compare_exchange-found-requires c =
+    let me = c.args.seat.now.me in
+    let key : c.self.inside.table.shared.key ≡ c.args.self.now.scene =
+    c.self.invariant.0 ∙ ap (λ (p : SharedPool). p.scene) c.self.view_is in
+    let words = c.self.invariant.1 in
+    let below = rw (← c.self.view_is) at c.requires.next.below in
+    let counted = words.words in (
+      c.requires.seat.table ∙ sym (ap (λ (p : SharedPool). p.table) c.self.view_is),
+      omega arith,
+      tries_as c.self.inside.table.shared.key _ _ c.word_of.result (number_of me.0) c.args.bucket (view_log me.0) me
+          c.word_of.ensures
+          (c.requires.seat.seat.is ∙ ap (λ (s : PoolScene). (alone s (number_of me.0) (view_log me.0), [])) (sym key))
+          (subst (λ (s : PoolScene). c.args.bucket < s.geometry.buckets) (sym key) c.requires.next.below) c.requires.next.next,
+    )

@@ -1,0 +1,4 @@
+pub mod SharedPool
+pub mod SharedPoolCaching
+pub mod SharedPoolNextFit
+pub mod SharedPoolRule

@@ -1,0 +1,61 @@
+-- Parties of a shared pool that cache buckets: which they cache for their next requests, and which are out.
+use Rattle.std.specs.Prelude.{◌≡◌, ◌≢◌, ◌<◌, ◌≤◌, ℕ, List, [], ◌∷◌, ◌++◌, All, AllPairs, Contains, Err, IfErr, IfOk, Ok, Result}
+use Rattle.std.specs.Prelude.{length}
+use Rattle.bb_memory_traits.specs.PoolObject.{IsWithin}
+use Rattle.bb_memory_pool_machine.specs.PoolLogs.{PoolLog, IsHeldAfter}
+use Rattle.bb_memory_traits.specs.declared.layout.Layout.{Layout}
+use Rattle.bb_memory_traits.specs.declared.allocator.AllocationError.{AllocationError}
+use Rattle.bb_memory_traits.specs.declared.allocator.AllocationError.TheVariants.{OutOfMemory}
+use Rattle.bb_memory_shared_pools.specs.SharedPool.{PoolParty, ServesNextFit, TakenBucket, return_entry, taken_bucket, with_entries}
+use Rattle.bb_memory_shared_pools.specs.SharedPoolNextFit.{MayTakeFrom, hint_of}
+
+-- A caching party: the pool's party, the numbers of the buckets that it caches, and how many it caches at most. The bucket that
+-- was cached last has the last number.
+pub record CachingParty : Type 0 where
+  pub party : PoolParty
+  pub cached : List ℕ
+  pub most : ℕ
+
+-- a bucket that is out: the party holds the bucket, and doesn't cache it
+unfoldable pub IsOut : CachingParty → ℕ → Type 0
+IsOut caching bucket = IsHeldAfter caching.party.log bucket × (¬ Contains caching.cached bucket)
+
+-- the party holds each of these buckets, and no two are the same
+pub record AreCached (party : PoolParty) (cached : List ℕ) : Type 0 where
+  pub held : All (λ bucket. IsHeldAfter party.log bucket) cached
+  pub differ : AllPairs (λ one other. one ≢ other) cached
+
+-- a request that searches the pool: the answer and the party are those of a next-fit search
+pub record SearchesPool (old : CachingParty) (layout : Layout) (result : Result TakenBucket AllocationError) (new : CachingParty)
+    : Type 0 where
+  pub answer : MayTakeFrom (hint_of old.party) old.party layout result new.party
+  pub serves : ServesNextFit old.party.allocator old.party layout result new.party
+  pub unchanged : new ≡ record old { party = new.party }
+
+-- a refused request: none is cached where the search found none
+pub record RefusesCaching (old : CachingParty) (layout : Layout) (error : AllocationError) (new : CachingParty) : Type 0 where
+  pub answer : MayTakeFrom (hint_of old.party) old.party layout (Err error) new.party
+  pub unchanged : new ≡ record old { party = new.party }
+  pub none_cached : error ≡ OutOfMemory → old.cached ≡ []
+
+-- A request takes the bucket that was cached last, without a step. Where none is cached, it searches the pool from the party's
+-- hint on, and is answered what the search found, or why it took none.
+pub record TakesCaching (old : CachingParty) (layout : Layout) (result : Result TakenBucket AllocationError) (new : CachingParty)
+    : Type 0 where
+  pub cached : (before : List ℕ) (last : ℕ) → IsWithin old.party.allocator.scene.geometry.bucket layout
+      → old.cached ≡ before ++ last ∷ []
+      → (result ≡ Ok (taken_bucket old.party.allocator last layout.size)) × (new ≡ record old { cached = before })
+  pub searched : old.cached ≡ [] → SearchesPool old layout result new
+  pub refused : IfErr result (λ error. RefusesCaching old layout error new)
+  pub within : IfOk result (λ bucket. IsWithin old.party.allocator.scene.geometry.bucket layout)
+
+-- a return: the bucket is cached while fewer than the most are, and else goes back to the pool by one step
+pub record ReturnsCaching (old : CachingParty) (number : ℕ) (new : CachingParty) : Type 0 where
+  pub cached : length old.cached < old.most → new ≡ record old { cached = old.cached ++ number ∷ [] }
+  pub returned : old.most ≤ length old.cached
+      → new ≡ record old { party = with_entries old.party (return_entry old.party.number number) }
+
+-- the returns of these buckets, one by one, from the last to the first
+abbrev pub returns_of : ℕ → List ℕ → PoolLog
+returns_of party [] = []
+returns_of party (bucket ∷ others) = returns_of party others ++ return_entry party bucket

@@ -1,0 +1,124 @@
+-- Next fit: requests of a shared pool's party that probe each bucket from the party's hint on, what they add to the party's log,
+-- and what they may be answered.
+use Rattle.std.specs.Prelude.{◌≡◌, ℕ, zero, suc, ◌+◌, ◌*◌, ◌/◌, ◌%◌, ◌<◌, ◌≤◌, nat_lt, if◌then◌else◌, [], ◌∷◌, ◌++◌, Result, Ok}
+use Rattle.std.specs.Prelude.{Err, fold, take, true, false, ◌&&◌}
+use Rattle.bb_memory_traits.specs.PoolObject.{IsWithin}
+use Rattle.bb_memory_pool_machine.specs.PoolMachine.{PoolScene}
+use Rattle.bb_memory_pool_machine.specs.PoolLogs.{PoolLog, entries_by, entry_of, history_of, IsHeldInRun, MissesAt}
+use Rattle.bb_memory_traits.specs.declared.layout.Layout.{Layout}
+use Rattle.bb_memory_traits.specs.declared.allocator.AllocationError.{AllocationError}
+use Rattle.bb_memory_traits.specs.declared.allocator.AllocationError.TheVariants.{SizeIsZero, SizeTooLarge, AlignmentFailure}
+use Rattle.bb_memory_traits.specs.declared.allocator.AllocationError.TheVariants.{OutOfMemory}
+use Rattle.bb_memory_pool_machine.specs.declared.steps.pool.PoolStep.TheVariants.{TryAt}
+use Rattle.bb_memory_pool_machine.specs.declared.steps.pool.PoolOutcome.{PoolOutcome}
+use Rattle.bb_memory_pool_machine.specs.declared.steps.pool.PoolOutcome.TheVariants.{Takes, Misses, Gives}
+use Rattle.bb_memory_shared_pools.specs.declared.shared_pool.party.Hint.{Hint}
+use Rattle.bb_memory_shared_pools.specs.SharedPool.{IsParty, MayTakeBucket, PoolParty, TakenBucket, taken_bucket, with_entries}
+
+-- WHERE A SEARCH BEGINS
+
+-- the first bucket of a party's own part of a pool, which is cut into as many parts as there are parties
+abbrev pub part_of : PoolScene → ℕ → ℕ
+part_of scene number = number * scene.geometry.buckets / scene.parties
+
+-- a hint after one more step: behind the bucket that the party took, and from its next return on at the least bucket that it
+-- gave back since
+abbrev pub hint_after : Hint → PoolOutcome → Hint
+hint_after hint (Takes bucket) = record { bucket = bucket + 1; came_back = false }
+hint_after hint (Gives bucket) = record {
+  bucket = if hint.came_back && nat_lt hint.bucket bucket then hint.bucket else bucket;
+  came_back = true;
+}
+hint_after hint _ = hint
+
+-- the hint of a party that has made no step: the first bucket of its own part
+abbrev pub first_hint : PoolScene → ℕ → Hint
+first_hint scene number = record { bucket = part_of scene number; came_back = false }
+
+-- the hint of a party with this log
+abbrev pub hint_in : PoolScene → ℕ → PoolLog → Hint
+hint_in scene number log = fold (λ hint entry. hint_after hint entry.outcome) (first_hint scene number) log
+
+-- Next fit: the bucket at which the party's next search begins
+abbrev pub hint_of : PoolParty → ℕ
+hint_of party = (hint_in party.allocator.scene party.number party.log).bucket
+
+-- WHAT CALLS ADD TO A LOG
+
+-- a step that takes this bucket
+abbrev pub taking_at : ℕ → ℕ → PoolLog
+taking_at party bucket = entry_of (TryAt party bucket) (Takes bucket) ∷ []
+
+-- a step that misses this bucket
+abbrev pub miss_at : ℕ → ℕ → PoolLog
+miss_at party bucket = entry_of (TryAt party bucket) (Misses bucket) ∷ []
+
+-- where a search over so many buckets begins: at this one, or at bucket 0 where there is none of this number
+abbrev pub start_of : ℕ → ℕ → ℕ
+start_of buckets first = if nat_lt first buckets then first else 0
+
+-- the bucket that a probe tries, counted from 0: behind the last bucket comes bucket 0
+abbrev pub probed : ℕ → ℕ → ℕ → ℕ
+probed buckets first probe = (start_of buckets first + probe) % buckets
+
+-- a party's misses at so many probes of a search, from probe 0 up
+abbrev pub misses : ℕ → ℕ → ℕ → ℕ → PoolLog
+misses buckets party first zero = []
+misses buckets party first (suc probe) = misses buckets party first probe ++ miss_at party (probed buckets first probe)
+
+-- a search that takes a bucket at a probe: misses at the probes before, and the taking
+abbrev pub taking_search : ℕ → ℕ → ℕ → ℕ → PoolLog
+taking_search buckets party first probe = misses buckets party first probe ++ taking_at party (probed buckets first probe)
+
+-- a search that is refused: a miss at each bucket
+abbrev pub refused_search : ℕ → ℕ → ℕ → PoolLog
+refused_search buckets party first = misses buckets party first buckets
+
+-- WHAT A REQUEST MAY BE ANSWERED
+
+-- a search of the party's took this bucket at some probe, and left the party so
+pub record TakesBySearch (party : PoolParty) (first bucket : ℕ) (new : PoolParty) : Type 0 where
+  pub probe : ℕ
+  pub before_end : probe < party.allocator.scene.geometry.buckets
+  pub there : probed party.allocator.scene.geometry.buckets first probe ≡ bucket
+  pub adds : let buckets = party.allocator.scene.geometry.buckets in
+      new ≡ with_entries party (taking_search buckets party.number first probe)
+
+-- What a party's request may be answered whose search begins at this bucket, and what the party is then.
+abbrev pub MayTakeFrom : ℕ → PoolParty → Layout → Result TakenBucket AllocationError → PoolParty → Type 0
+-- a search, which took some bucket
+MayTakeFrom first party layout (Ok bucket) new =
+    MayTakeBucket party layout bucket.number × (bucket ≡ taken_bucket party.allocator bucket.number layout.size)
+    × TakesBySearch party first bucket.number new
+-- no step
+MayTakeFrom first party layout (Err SizeTooLarge) new = (party.allocator.scene.geometry.bucket.size < layout.size) × (new ≡ party)
+MayTakeFrom first party layout (Err AlignmentFailure) new =
+    (layout.size ≤ party.allocator.scene.geometry.bucket.size) × (party.allocator.scene.geometry.bucket.align < layout.align)
+    × (new ≡ party)
+-- a whole search, which missed each bucket
+MayTakeFrom first party layout (Err OutOfMemory) new =
+    let buckets = party.allocator.scene.geometry.buckets in
+    IsWithin party.allocator.scene.geometry.bucket layout
+    × (new ≡ with_entries party (refused_search buckets party.number first))
+-- a pool never refuses so
+MayTakeFrom first party layout (Err SizeIsZero) new = ⊥
+
+-- WHAT A REFUSED SEARCH HAS FOUND
+
+-- In the party's interleaving there is this step of the search that follows these entries: at some probe of it, the party missed
+-- the bucket, which was held then in the run.
+pub record MissesInSearch (party : PoolParty) (is : IsParty party) (before : PoolLog)
+    (first bucket : ℕ) : Type 0 where
+  pub probe : ℕ
+  pub step : ℕ
+  pub its_probe : let history = history_of party.allocator.scene is.interleaved.steps in
+      let buckets = party.allocator.scene.geometry.buckets in
+      entries_by party.number (take (step + 1) history) ≡ before ++ misses buckets party.number first (probe + 1)
+  pub missed : let history = history_of party.allocator.scene is.interleaved.steps in
+      MissesAt history party.number bucket step
+  pub held : IsHeldInRun party.allocator.scene (take step is.interleaved.steps) bucket
+
+-- the search has found each bucket held in the run, each at a step of its own, as a miss is of one bucket
+abbrev pub HasMissedAll : (party : PoolParty) → IsParty party → PoolLog → ℕ → Type 0
+HasMissedAll party is before first = (bucket : ℕ)
+    → bucket < party.allocator.scene.geometry.buckets → MissesInSearch party is before first bucket

@@ -1,0 +1,73 @@
+//! The law of parties of a shared pool that met.
+ghost use Rattle.std.specs.Prelude.{◌≡◌, ◌≢◌, ◌↔◌, ◌<◌, ℕ, All, Any, Contains, List, Some, [], length, slice_get, true};
+ghost use Rattle.bb_memory_traits.specs.Chunk.{Chunk, IsSound};
+ghost use Rattle.bb_memory_traits.specs.PoolObject.{IsHeld};
+ghost use Rattle.bb_memory_pool_machine.specs.PoolMachine.{IsDetached, PoolScene, left_by};
+ghost use Rattle.bb_memory_pool_machine.specs.PoolLogs.{AreAsked, IsPoolRun, history_of, log_of, IsHeldAfter};
+ghost use Rattle.bb_memory_traits.specs.declared.layout.Layout.{Layout};
+ghost use Rattle.bb_memory_shared_pools.specs.SharedPool.{HasTaker, HaveMet, HoldApart, IsHeldByOne, IsHeldOrDetached};
+ghost use Rattle.bb_memory_shared_pools.specs.SharedPool.{IsSharedScene, PoolParty, TookOne, WasDetachedByOne, refused_pass};
+
+/// Says what follows for parties of a shared pool that met ([`meet_all`](super::SharedPoolAllocator::meet_all)), and above all of
+/// all its parties, whatever the threads did. It does nothing: its contract is the law.
+///
+/// A meeting has one list of steps from the opening, each of which the machine allows (`met.1.agree.steps`), in which the steps
+/// of each party that met are exactly its log. Where as many parties met as the pool has, it has no other steps.
+pub fn shared_pool_meeting_law()
+    // The takings and returns in that list are a run of the pool object from the empty list,
+    // whichever layouts within the bucket's size and alignment were asked for.
+    ensures run { (scene : PoolScene) (parties : List PoolParty) (met : HaveMet scene parties)
+        (layouts : List Layout) → let steps = met.1.agree.steps in
+        IsSharedScene scene → AreAsked scene.geometry steps layouts
+        → (live : List Chunk) × IsPoolRun scene steps layouts live }
+
+    // The list of chunks that the run leaves is sound: they are inside the region, and no two overlap.
+    ensures sound { (scene : PoolScene) (parties : List PoolParty) (met : HaveMet scene parties)
+        (layouts : List Layout) (live : List Chunk) → IsSharedScene scene
+        → IsPoolRun scene met.1.agree.steps layouts live → IsSound scene.geometry.region live }
+
+    // It holds a bucket exactly where the bucket's flag was taken when they met.
+    ensures flags { (scene : PoolScene) (parties : List PoolParty) (met : HaveMet scene parties)
+        (layouts : List Layout) (live : List Chunk) (bucket : ℕ) → IsSharedScene scene
+        → IsPoolRun scene met.1.agree.steps layouts live → bucket < scene.geometry.buckets
+        → (slice_get met.0 bucket ≡ Some true ↔ IsHeld scene.geometry live bucket) }
+
+    // Where all have met, it holds a bucket exactly where one of them does, or the bucket is detached.
+    ensures held { (scene : PoolScene) (parties : List PoolParty) (met : HaveMet scene parties)
+        (layouts : List Layout) (live : List Chunk) (bucket : ℕ) → IsSharedScene scene
+        → length parties ≡ scene.parties
+        → IsPoolRun scene met.1.agree.steps layouts live → bucket < scene.geometry.buckets
+        → (IsHeld scene.geometry live bucket
+        ↔ IsHeldOrDetached scene met.1.agree.steps parties bucket) }
+
+    // No party that met holds a detached bucket, and where all have met, one of them has detached it. So where none has
+    // detached a bucket, its flag is taken exactly where one of them holds it.
+    ensures detached { (scene : PoolScene) (parties : List PoolParty) (met : HaveMet scene parties)
+        (bucket : ℕ) → IsDetached (left_by scene met.1.agree.steps) bucket
+        → ¬ IsHeldByOne parties bucket }
+    ensures was_detached { (scene : PoolScene) (parties : List PoolParty) (met : HaveMet scene parties)
+        (bucket : ℕ) → length parties ≡ scene.parties
+        → IsDetached (left_by scene met.1.agree.steps) bucket → WasDetachedByOne parties bucket }
+
+    // Each party's steps in the list of steps are its log.
+    ensures logged { (scene : PoolScene) (parties : List PoolParty) (met : HaveMet scene parties)
+        → All (λ party. log_of scene met.1.agree.steps party.number ≡ party.log) parties }
+
+    // No bucket is held by two of them.
+    ensures apart { (scene : PoolScene) (parties : List PoolParty) → HaveMet scene parties
+        → HoldApart parties }
+
+    // Where all have met, each step stands in the log of one of them: it was nobody else's.
+    ensures nobody_else { (scene : PoolScene) (parties : List PoolParty)
+        (met : HaveMet scene parties) → length parties ≡ scene.parties
+        → All (λ entry. Any (λ party. Contains party.log entry) parties)
+        (history_of scene met.1.agree.steps) }
+
+    // Where one of them has made a step, one of them has taken a bucket.
+    ensures one_took { (scene : PoolScene) (parties : List PoolParty) (one : PoolParty)
+        → HaveMet scene parties → length parties ≡ scene.parties → Contains parties one
+        → one.log ≢ [] → HasTaker scene parties }
+
+    // A pass that is refused takes no bucket.
+    ensures refused_took_none { (buckets number : ℕ) → ¬ TookOne (refused_pass buckets number) }
+{}

@@ -1,0 +1,50 @@
+//! Buckets that parties took.
+ghost use Rattle.std.specs.Prelude.{◌≡◌, ◌<◌, ◌≤◌};
+ghost use Rattle.bb_memory_traits.specs.Chunk.{IsInside};
+ghost use Rattle.bb_memory_shared_pools.specs.SharedPool.{chunk_of, taken_bucket};
+
+use super::flags::Flags;
+use bb_memory_traits::layout::Chunk;
+use std::marker::Model;
+
+/// A token for a bucket that a party took of a shared pool, which it borrows. A return spends it. While the party's log holds the
+/// bucket, the pool's `bucket` gives another token for it, so a party may have several; after a return by one of them the others
+/// are stale. The bucket of a dropped token stays held until it is returned by another.
+#[derive(Drop)]
+pub struct Bucket<'a> {
+    pub(super) flags: &'a Flags,
+    pub(super) number: u32,
+    pub(super) len: usize,
+}
+
+impl<'a> Model for Bucket<'a> {
+    ghost use Rattle.std.specs.Prelude.{◌<◌, ◌≤◌};
+    ghost use Rattle.bb_memory_shared_pools.specs.SharedPool.{TakenBucket, taken_bucket};
+
+    ghost Value = { TakenBucket };
+
+    ghost view = { λ b. taken_bucket b.flags.now b.number b.len };
+
+    ghost invariant = { λ b. (b.number < b.flags.now.scene.geometry.buckets)
+        × (b.len ≤ b.flags.now.scene.geometry.bucket.size) };
+}
+
+impl<'a> Bucket<'a> {
+    /// The bucket's number in its pool, from 0.
+    pub fn number(&self) -> u32
+        ensures value { result ≡ self.now.number }
+        ensures below { result < self.now.allocator.scene.geometry.buckets }
+    {
+        self.number
+    }
+
+    /// The chunk in the bucket: it begins at the bucket's place, and has the
+    /// token's length, which `allocate`, `bucket` or a resize gave it.
+    pub fn chunk(&self) -> Chunk
+        ensures value { result ≡ chunk_of self.now }
+        ensures short { result.len ≤ self.now.allocator.scene.geometry.bucket.size }
+        ensures inside { IsInside self.now.allocator.scene.geometry.region result }
+    {
+        self.flags.geometry().chunk(self.number as usize, self.len)
+    }
+}

@@ -1,0 +1,316 @@
+//! The shared pools: buckets with a flag each, on which any number of threads step.
+ghost use Rattle.std.specs.Prelude.{◌≡◌, ◌≢◌, ℕ, ◌<◌, ◌≤◌, ◌↔◌, ◌%◌, ◌^◌, [], All, IsErr, IfErr, IfOk};
+ghost use Rattle.std.specs.Prelude.{◌+◌, IfSome, MatchOption, length};
+ghost use Rattle.bb_memory_traits.specs.Chunk.{IsRegion, Chunk, IsInside};
+ghost use Rattle.bb_memory_traits.specs.PoolObject.{IsWithin, MayGrow, MayShrink};
+ghost use Rattle.bb_memory_pool_machine.specs.PoolLogs.{IsHeldAfter};
+ghost use Rattle.bb_memory_seats.specs.Seats.{Stays, number_of, view_log};
+ghost use Rattle.bb_memory_shared_pools.specs.SharedPool.{AreAllHeldAfter, AreBothOf, AreFresh, AreInterleaved, HasTaker, HaveMet};
+ghost use Rattle.bb_memory_shared_pools.specs.SharedPool.{HoldApart, IsAlignedTo};
+ghost use Rattle.bb_memory_shared_pools.specs.SharedPool.{IsResizedTo, IsSameParty, IsSharedScene, MayTake, chunk_of};
+ghost use Rattle.bb_memory_shared_pools.specs.SharedPool.{return_entry, with_entries};
+ghost use Rattle.bb_memory_shared_pools.specs.SharedPoolRule.{IsIdleAt, MaySeat};
+ghost use Rattle.bb_memory_shared_pools.specs.SharedPoolRule.{HasRefused, HasTaken};
+
+use super::bucket::Bucket;
+use super::flags::Flags;
+use super::party::{Hint, PoolParty};
+use super::rule::{Scene, View};
+use bb_memory_traits::allocator::{AllocationError, AllocationGrowError, AllocationShrinkError};
+use bb_memory_traits::layout::{Chunk, Layout};
+use bb_memory_geometry::geometry::Geometry;
+use atomic_table::Seat;
+use std::alloc::Global;
+use std::marker::Model;
+
+/// Buckets with a flag each: all that the region has room for where `CAPPED` is 0, and at most `MOST` of them where it is 1.
+pub struct SharedBucketPool<const CAPPED: usize, const MOST: usize> {
+    pub(super) flags: Flags,
+}
+
+impl<const CAPPED: usize, const MOST: usize> Drop for SharedBucketPool<CAPPED, MOST> {
+    fn drop(self) {
+        let SharedBucketPool { flags: _ } = self;
+    }
+}
+
+impl<const CAPPED: usize, const MOST: usize> Model for SharedBucketPool<CAPPED, MOST> {
+    ghost use Rattle.bb_memory_shared_pools.specs.SharedPool.{SharedPool};
+    ghost use Rattle.bb_memory_shared_pools.specs.SharedPoolRule.{IsSharedPool};
+
+    ghost Value = { SharedPool };
+
+    ghost view = { λ b. b.flags };
+
+    ghost invariant = { λ b. IsSharedPool CAPPED MOST b.flags.scene };
+}
+
+impl<const CAPPED: usize, const MOST: usize> SharedBucketPool<CAPPED, MOST> {
+    /// A pool over these buckets, with all flags free, and so many parties, which are idle.
+    pub(super) fn make(
+        alloc: Global,
+        geometry: Geometry,
+        parties: u32,
+    ) -> Result<(Self, Vec<PoolParty>), AllocationError>
+        requires some { 1 ≤ parties }
+        requires within { CAPPED ≡ 1 → geometry.buckets ≤ MOST }
+        ensures geometry { IfOk result (λ made. made.0.scene.geometry ≡ geometry) }
+        ensures parties { IfOk result (λ made. AreFresh made.0 parties made.1.items) }
+        ensures refused { IfErr result (λ error. error ≡ AllocationError.OutOfMemory) }
+    {
+        let scene = Scene { geometry, parties };
+        let Ok(mut all) = Vec::with_capacity(alloc, parties as usize) else {
+            return Err(AllocationError::OutOfMemory);
+        };
+        let Ok((flags, seat)) = Flags::open(alloc, scene) else {
+            return Err(AllocationError::OutOfMemory);
+        };
+        let pool = SharedBucketPool { flags };
+        pool.seat_parties(seat, parties, &mut all);
+        Ok((pool, all))
+    }
+
+    /// Gives each party a seat of its own.
+    fn seat_parties(&self, mut rest: Seat<u8, View>, parties: u32, all: &mut Vec<PoolParty>)
+        requires { MaySeat self.now parties rest.table_id rest.me all.old }
+        ensures { AreFresh self.now parties all.new.items }
+    {
+        for number in 0..parties {
+            let seat = self.flags.deal(&mut rest);
+            let bucket = self.part_of(number);
+            let hint = Hint {
+                bucket,
+                came_back: false,
+            };
+            all.push_reserved(PoolParty { number, seat, hint });
+        }
+    }
+
+    /// One whole pass: an exchange on each flag from bucket 0 up, until one is taken.
+    fn pass(&self, seat: &mut Seat<u8, View>) -> Option<u32>
+        requires { IsIdleAt self.now seat.old.table_id seat.old.me }
+        ensures told { Stays seat.old.table_id seat.new.table_id (MatchOption result
+            (HasRefused self.now.scene (number_of seat.old.me.0) (view_log seat.old.me.0)
+            seat.new.me)
+            (HasTaken self.now.scene (number_of seat.old.me.0) (view_log seat.old.me.0)
+            seat.new.me)) }
+        ensures fits { IfSome result (λ bucket. bucket + 1 < 2 ^ 32) }
+    {
+        for bucket in 0..self.number_of_buckets() {
+            if self.flags.try_flag(seat, bucket) {
+                return Some(bucket);
+            }
+        }
+        None
+    }
+
+    /// Takes a bucket for the party, with a chunk of `layout.size()` bytes. It is refused in this order: with `SizeTooLarge`
+    /// where the size is greater than the bucket's, and with `AlignmentFailure` where the alignment is greater than the
+    /// bucket's, both without a step. Then it makes one pass: one exchange on each flag from bucket 0 up, until one is taken.
+    /// It is refused with `OutOfMemory` where all are lost. Where other parties step meanwhile, that doesn't mean that all
+    /// buckets were held at one moment. The party has to be this pool's.
+    pub fn allocate(
+        &self,
+        party: &mut PoolParty,
+        layout: Layout,
+    ) -> Result<Bucket<'_>, AllocationError>
+        requires party { party.old.allocator ≡ self.now }
+        ensures answer { MayTake party.old layout result party.new }
+        ensures party { party.new.allocator ≡ self.now }
+        ensures is_party { IsSameParty party.old party.new }
+        ensures bucket { IfOk result (λ bucket. bucket.allocator ≡ self.now) }
+
+        // What is held after the party's log.
+        ensures held { IfOk result (λ bucket. IsHeldAfter party.new.log bucket.number) }
+        ensures others_kept { (other : ℕ) → IsHeldAfter party.old.log other
+            → IsHeldAfter party.new.log other }
+        ensures others { (other : ℕ) → IfOk result (λ bucket. other ≢ bucket.number)
+            → IsHeldAfter party.new.log other → IsHeldAfter party.old.log other }
+        ensures alone { self.now.scene.parties ≡ 1 → IsWithin self.now.scene.geometry.bucket layout
+            → (IsErr result ↔ AreAllHeldAfter party.old.log self.now.scene.geometry.buckets) }
+
+        // The chunk in the bucket.
+        ensures inside { IfOk result (λ bucket.
+            IsInside self.now.scene.geometry.region (chunk_of bucket)) }
+        ensures aligned { IfOk result (λ bucket. (chunk_of bucket).place % layout.align ≡ 0) }
+        ensures exact_size { IfOk result (λ bucket. (chunk_of bucket).len ≡ layout.size) }
+    {
+        // Proof hint: brings the party's invariant into scope on the early returns.
+        let _ = &party.number;
+        let bucket = self.flags.geometry().bucket();
+        if layout.size() > bucket.size() {
+            return Err(AllocationError::SizeTooLarge);
+        }
+        if layout.align() > bucket.align() {
+            return Err(AllocationError::AlignmentFailure);
+        }
+        match self.pass(&mut party.seat) {
+            Some(number) => {
+                party.hint.bucket = number + 1;
+                party.hint.came_back = false;
+                Ok(Bucket {
+                    flags: &self.flags,
+                    number,
+                    len: layout.size(),
+                })
+            }
+            None => {
+                self.count_refusal();
+                Err(AllocationError::OutOfMemory)
+            }
+        }
+    }
+
+    /// Gives back a bucket by one store, which makes its flag free. The party and the bucket have to be this pool's, and the
+    /// party's log has to hold the bucket: this party took or attached it, and hasn't given it back or detached it since.
+    pub fn deallocate_bucket(&self, party: &mut PoolParty, bucket: Bucket<'_>)
+        requires party { party.old.allocator ≡ self.now }
+        requires bucket { bucket.allocator ≡ self.now }
+        requires held { IsHeldAfter party.old.log bucket.number }
+        ensures logged { party.new
+            ≡ with_entries party.old (return_entry party.old.number bucket.entry.number) }
+        ensures party { party.new.allocator ≡ self.now }
+        ensures is_party { IsSameParty party.old party.new }
+        ensures given_back { ¬ IsHeldAfter party.new.log bucket.entry.number }
+        ensures others_kept { (other : ℕ) → other ≢ bucket.entry.number
+            → IsHeldAfter party.old.log other → IsHeldAfter party.new.log other }
+        ensures others { (other : ℕ) → IsHeldAfter party.new.log other
+            → IsHeldAfter party.old.log other }
+    {
+        self.flags.give_back(&mut party.seat, bucket.number);
+        party.hint.follow_return(bucket.number);
+    }
+
+    /// Two parties meet: no bucket is held by both. It loads a word four times, which is in no log, and changes nothing. The
+    /// parties have to be this pool's.
+    pub fn meet(&self, a: &mut PoolParty, b: &mut PoolParty)
+        requires parties { AreBothOf self.now a.old b.old }
+        ensures kept { (a.new ≡ a.old) × (b.new ≡ b.old) }
+        ensures parties { AreBothOf self.now a.new b.new }
+        ensures differ { a.old.number ≢ b.old.number }
+        ensures apart { (bucket : ℕ) → IsHeldAfter a.old.log bucket
+            → ¬ IsHeldAfter b.old.log bucket }
+        ensures interleaved { AreInterleaved a.old b.old }
+    {
+        self.flags.meet(&mut a.seat, &mut b.seat);
+    }
+
+    /// All these parties meet: no bucket is held by two of them. One interleaving has all their logs. Where these are all the
+    /// pool's parties, it has no other steps, and a flag is taken exactly where one of them holds the bucket, or it is detached.
+    /// Where each of them has made a step, too, one of them has taken a bucket: not all were refused by what somebody else held,
+    /// as there is nobody else. The meeting loads a word once, and two times more for each party but one, which is in no log,
+    /// and changes nothing. The parties have to be this pool's.
+    pub fn meet_all(&self, parties: &mut Vec<PoolParty>)
+        requires parties { All (λ party. party.allocator ≡ self.now) parties.old.items }
+        ensures kept { parties.new.items ≡ parties.old.items }
+        ensures parties { All (λ party. party.allocator ≡ self.now) parties.new.items }
+        ensures met { HaveMet self.now.scene parties.old.items }
+        ensures apart { HoldApart parties.old.items }
+        ensures one_took { length parties.old.items ≡ self.now.scene.parties
+            → All (λ party. party.log ≢ []) parties.old.items
+            → HasTaker self.now.scene parties.old.items }
+    {
+        let flags = &self.flags;
+        if let Some(party) = parties.pop() {
+            let PoolParty {
+                number,
+                mut seat,
+                hint,
+            } = party;
+            flags.meet_rest(&mut seat, parties);
+            parties.push_reserved(PoolParty { number, seat, hint });
+        }
+    }
+
+    /// Gives the bucket's chunk the new size, in its bucket and without a step. It is refused in this order: with
+    /// `GrowWouldShrink` where the new size isn't greater than the old one, with `AlignmentFailure` where the new alignment is
+    /// greater than the bucket's, and with `OutOfMemory` where the new size is greater than the bucket's. A refusal changes
+    /// nothing. The bucket has to be this pool's, and its place a multiple of the old alignment.
+    /// The old size is the one that is handed in: the token's own length isn't compared with it.
+    pub fn grow(
+        &self,
+        bucket: &mut Bucket<'_>,
+        old: Layout,
+        new: Layout,
+    ) -> Result<Chunk, AllocationGrowError>
+        requires bucket { IsAlignedTo self.now old bucket.old }
+        ensures answer { MayGrow self.now.scene.geometry.bucket (chunk_of bucket.old).place
+            old new result }
+        ensures aligned { IfOk result (λ chunk. chunk.place % new.align ≡ 0) }
+        ensures resized { IsResizedTo self.now bucket.old result bucket.new }
+    {
+        let place = bucket.chunk().place();
+        let grown = self.flags.geometry().grow(place, old, new)?;
+        bucket.len = grown.len();
+        Ok(grown)
+    }
+
+    /// Gives the bucket's chunk exactly the new size, without a step. It is refused in this order: with `ShrinkWouldGrow` where
+    /// the new size isn't smaller than the old one, and with `AlignmentFailure` where the new alignment is greater than the
+    /// bucket's. A refusal changes nothing. The bucket has to be this pool's, its place a multiple of the old alignment, and the
+    /// old size at most the bucket's. The old size is the one that is handed in: the token's own length isn't compared
+    /// with it.
+    pub fn shrink(
+        &self,
+        bucket: &mut Bucket<'_>,
+        old: Layout,
+        new: Layout,
+    ) -> Result<Chunk, AllocationShrinkError>
+        requires bucket { IsAlignedTo self.now old bucket.old }
+        requires reserved { old.size ≤ self.now.scene.geometry.bucket.size }
+        ensures answer { MayShrink self.now.scene.geometry.bucket (chunk_of bucket.old).place
+            old new result }
+        ensures aligned { IfOk result (λ chunk. chunk.place % new.align ≡ 0) }
+        ensures resized { IsResizedTo self.now bucket.old result bucket.new }
+    {
+        let place = bucket.chunk().place();
+        let shrunk = self.flags.geometry().shrink(place, old, new)?;
+        bucket.len = shrunk.len();
+        Ok(shrunk)
+    }
+
+    /// How many buckets there are: at most the constant of a fixed-size pool. They lie in a region, and there is a party.
+    pub fn number_of_buckets(&self) -> u32
+        ensures value { result ≡ self.now.scene.geometry.buckets }
+        ensures region { IsRegion self.now.scene.geometry.region }
+        ensures scene { IsSharedScene self.now.scene }
+        ensures within { CAPPED ≡ 1 → result ≤ MOST }
+    {
+        self.flags.geometry().count()
+    }
+
+    /// How many parties the pool was made for. Where there are two at least, a party may detach a bucket for another.
+    pub fn number_of_parties(&self) -> u32
+        ensures value { result ≡ self.now.scene.parties }
+    {
+        self.flags.scene.parties
+    }
+
+    /// The layout of each bucket, as it was asked for.
+    pub fn bucket_layout(&self) -> Layout
+        ensures { result ≡ self.now.scene.geometry.bucket }
+    {
+        self.flags.geometry().bucket()
+    }
+
+    /// The size of a bucket in bytes, as it was asked for. The buckets are at least that far apart.
+    pub fn bucket_size(&self) -> usize
+        ensures value { result ≡ self.now.scene.geometry.bucket.size }
+    {
+        self.flags.geometry().bucket().size()
+    }
+
+    /// The greatest alignment that a request may have, of which each bucket's place is a multiple.
+    pub fn max_alignment(&self) -> usize
+        ensures value { result ≡ self.now.scene.geometry.bucket.align }
+    {
+        self.flags.geometry().bucket().align()
+    }
+
+    /// How many bytes the region has, as it was handed in.
+    pub fn size(&self) -> usize
+        ensures value { result ≡ self.now.scene.geometry.region.size }
+    {
+        self.flags.geometry().region_size()
+    }
+}

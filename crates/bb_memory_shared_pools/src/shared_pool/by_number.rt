@@ -1,0 +1,64 @@
+//! Buckets by their numbers and places, for a user that keeps numbers where it can't keep a [`Bucket`], which borrows its pool.
+ghost use Rattle.std.specs.Prelude.{◌≡◌, ℕ, ◌<◌, ◌≤◌, ◌%◌, IfSome, IfNone};
+ghost use Rattle.bb_memory_traits.specs.PoolObject.{bucket_place};
+ghost use Rattle.bb_memory_pool_machine.specs.PoolLogs.{IsHeldAfter};
+ghost use Rattle.bb_memory_geometry.specs.Geometry.{IsPlaceOfBucket, TellsPlace};
+ghost use Rattle.bb_memory_shared_pools.specs.SharedPool.{chunk_of, taken_bucket};
+
+use super::bucket::Bucket;
+use super::buckets::SharedBucketPool;
+use super::party::PoolParty;
+
+impl<const CAPPED: usize, const MOST: usize> SharedBucketPool<CAPPED, MOST> {
+    /// The number of the bucket at this place, or `None` where no bucket begins there.
+    pub fn number_at(&self, place: usize) -> Option<u32>
+        ensures below { IfSome result (λ number. number < self.now.scene.geometry.buckets) }
+        ensures there { IfSome result (λ number.
+            place ≡ bucket_place self.now.scene.geometry number) }
+        ensures one { IfSome result (λ number. (other : ℕ)
+            → place ≡ bucket_place self.now.scene.geometry other → other ≡ number) }
+        ensures none { IfNone result (¬ IsPlaceOfBucket self.now.scene.geometry place) }
+    {
+        self.flags.geometry().number_at(place)
+    }
+
+    /// Where the bucket of this number begins, or `None` where there is no such bucket.
+    pub fn place_at(&self, number: u32) -> Option<usize>
+        ensures { TellsPlace self.now.scene.geometry number result }
+    {
+        self.flags.geometry().place_at(number)
+    }
+}
+
+/// The bucket of this number again, with a chunk of `len` bytes, without a step. It is for a user that can keep no [`Bucket`],
+/// which borrows its pool, and kept the number in its place, as an interface for C does. So it is no call of the pool: it has to
+/// be imported. The party has to be this pool's, and its log has to hold the bucket: this party took it, and it wasn't given back
+/// since. The length has to be at most the bucket's size. Tokens that there are already stay: a return by one leaves the others
+/// stale, which still answer the bucket's number and chunk when another party has taken it.
+///
+/// ```
+/// let taken = pool.allocate(&mut party, Layout::from_size_align(48, 4).unwrap())?;
+/// let number = taken.number();
+/// let again = by_number::bucket(&pool, &party, number, 48);
+/// pool.deallocate_bucket(&mut party, again);
+/// ```
+pub fn bucket<'a, const CAPPED: usize, const MOST: usize>(
+    pool: &'a SharedBucketPool<CAPPED, MOST>,
+    party: &PoolParty,
+    number: u32,
+    len: usize,
+) -> Bucket<'a>
+    requires party { party.now.allocator ≡ pool.now }
+    requires held { IsHeldAfter party.now.log number }
+    requires short { len ≤ pool.now.scene.geometry.bucket.size }
+    ensures value { result ≡ taken_bucket pool.now number len }
+    ensures aligned { (chunk_of result).place % pool.now.scene.geometry.bucket.align ≡ 0 }
+{
+    // Proof hint: brings the party's invariant into scope.
+    let _ = party.number();
+    Bucket {
+        flags: &pool.flags,
+        number,
+        len,
+    }
+}

@@ -1,0 +1,351 @@
+//! Parties that cache the buckets that they gave back last: a layer over the shared pools.
+ghost use Rattle.std.specs.Prelude.{◌≡◌, ◌≢◌, ◌<◌, ◌≤◌, ◌∷◌, ◌++◌, [], ℕ, List, Contains, IfErr, IfOk, Ok, length, vec_capacity};
+ghost use Rattle.bb_memory_traits.specs.PoolObject.{IsWithin};
+ghost use Rattle.bb_memory_pool_machine.specs.PoolLogs.{IsHeldAfter};
+ghost use Rattle.bb_memory_shared_pools.specs.SharedPool.{AreBothOf, AreInterleaved, IsSameParty, Serves, attach_entry, detach_entry};
+ghost use Rattle.bb_memory_shared_pools.specs.SharedPool.{return_entry, taken_bucket, with_entries};
+ghost use Rattle.bb_memory_shared_pools.specs.SharedPoolCaching.{AreCached, IsOut, ReturnsCaching, TakesCaching, returns_of};
+
+use super::bucket::Bucket;
+use super::buckets::SharedBucketPool;
+use super::by_number;
+use super::detached::DetachedBucket;
+use super::party::PoolParty;
+use bb_memory_traits::allocator::AllocationError;
+use bb_memory_traits::layout::Layout;
+use std::alloc::{AllocError, Global};
+use std::marker::Model;
+
+/// How many numbers of four bytes fill two cache lines.
+const GAP: usize = 32;
+
+/// An empty list with room for so many numbers, and for a gap behind them: each call writes its party's list, which shares no
+/// cache line with what another thread's calls write. For no numbers it takes no memory.
+fn list_of(alloc: Global, most: u32) -> Result<Vec<u32>, AllocError>
+    ensures items { IfOk result (λ list. list.items ≡ []) }
+    ensures room { IfOk result (λ list. most ≤ vec_capacity list) }
+{
+    let gap = if most == 0 { 0 } else { GAP };
+    Vec::with_capacity(alloc, most as usize + gap)
+}
+
+/// A party of a shared pool that caches at most `most` of the buckets that it gave back last. Its next requests take the cached
+/// buckets first, without a step. Each call takes the party's pool by `&`: a [`SharedPoolAllocator`](super::SharedPoolAllocator)
+/// or a [`SharedFixedSizePoolAllocator`](super::SharedFixedSizePoolAllocator).
+///
+/// A cached bucket stays held, so the other parties are refused where each bucket is cached or out. Give a pool more buckets than
+/// all its parties together may cache. Dropping a caching party leaks the buckets that it caches; `into_party` gives them back.
+///
+/// ```
+/// let Ok(mut caching) = CachingParty::new(alloc, party, 4) else {
+///     return Err(AllocationError::OutOfMemory);
+/// };
+/// let layout = Layout::from_size_align(48, 4).unwrap();
+/// let taken = caching.allocate(&pool, layout)?;
+/// let number = taken.number();
+/// caching.deallocate(&pool, taken);
+/// let again = caching.allocate(&pool, layout)?;
+/// let its_number = again.number();
+/// prove!(its_number == number);
+/// caching.deallocate(&pool, again);
+/// let party = caching.into_party(&pool);
+/// ```
+#[derive(Drop)]
+pub struct CachingParty {
+    party: PoolParty,
+    cached: Vec<u32>,
+    most: u32,
+}
+
+impl Model for CachingParty {
+    ghost use Rattle.std.specs.Prelude.{◌<◌, ◌≤◌, ◌^◌, length, vec_capacity};
+    ghost use Rattle.bb_memory_shared_pools.specs.SharedPoolCaching.{AreCached, CachingParty};
+
+    ghost Value = { CachingParty };
+
+    ghost view = { λ c. record { party = c.party; cached = c.cached.items; most = c.most } };
+
+    ghost invariant = { λ c. AreCached c.party c.cached.items
+        × (length c.cached.items ≤ c.most) × (c.most ≤ vec_capacity c.cached)
+        × (c.most < 2 ^ 32) };
+}
+
+impl CachingParty {
+    /// Makes a caching party of this party. Each bucket that the party holds is out, as none is cached yet. At most `most`
+    /// buckets will be cached; with 0 each call does what the pool's call does. The list of cached buckets takes memory here and
+    /// in `cache_at_most`; no other call takes any. A refusal, for want of memory, hands the party back unchanged.
+    #[inline(always)]
+    #[tactic(auto, unfolding(crate::specs::SharedPoolCaching::IsOut))]
+    pub fn new(alloc: Global, party: PoolParty, most: u32) -> Result<Self, PoolParty>
+        ensures empty { IfOk result (λ made.
+            made ≡ record { party = party; cached = []; most = most }) }
+        ensures out { IfOk result (λ made. (bucket : ℕ) → IsHeldAfter party.log bucket
+            → IsOut made bucket) }
+        ensures refused { IfErr result (λ handed_back. handed_back ≡ party) }
+    {
+        let Ok(cached) = list_of(alloc, most) else {
+            return Err(party);
+        };
+        Ok(CachingParty {
+            party,
+            cached,
+            most,
+        })
+    }
+
+    /// Returns how many buckets are cached. The party holds each of them, and no two are the same.
+    pub fn number_of_cached(&self) -> u32
+        ensures value { result ≡ length self.now.cached }
+        ensures within { result ≤ self.now.most }
+        ensures cached { AreCached self.now.party self.now.cached }
+    {
+        self.cached.len() as u32
+    }
+
+    /// Returns the party. It holds the buckets that are out and those that are cached.
+    pub fn party(&self) -> &PoolParty
+        ensures { result.now ≡ self.now.party }
+    {
+        &self.party
+    }
+
+    /// Takes a bucket, with a chunk of `layout.size()` bytes: the one that was cached last, without a step. Where none is cached,
+    /// it searches the pool as `allocate_next_fit` does. It is refused in this order: with `SizeTooLarge` where the size is
+    /// greater than the bucket's, and with `AlignmentFailure` where the alignment is greater than the bucket's, both without a
+    /// step; and with `OutOfMemory` where none is cached and each probe of the search misses. The party has to be this pool's.
+    #[inline(always)]
+    #[tactic(auto, unfolding(crate::specs::SharedPoolCaching::IsOut))]
+    pub fn allocate<'p, const CAPPED: usize, const MOST: usize>(
+        &mut self,
+        pool: &'p SharedBucketPool<CAPPED, MOST>,
+        layout: Layout,
+    ) -> Result<Bucket<'p>, AllocationError>
+        requires party { self.old.party.allocator ≡ pool.now }
+        ensures answer { TakesCaching self.old layout result self.new }
+        ensures serves { Serves self.old.party.allocator self.old.party layout
+            result self.new.party }
+        ensures taken { IfOk result (λ bucket. IsOut self.new bucket.number) }
+        ensures fresh { IfOk result (λ bucket. (other : ℕ) → IsOut self.old other
+            → other ≢ bucket.number) }
+        ensures others_kept { (other : ℕ) → IsOut self.old other → IsOut self.new other }
+        ensures others { (other : ℕ) → IfOk result (λ bucket. other ≢ bucket.number)
+            → IsOut self.new other → IsOut self.old other }
+        ensures party { self.new.party.allocator ≡ self.old.party.allocator }
+        ensures most { self.new.most ≡ self.old.most }
+    {
+        // Proof hint: brings the party's invariant into scope on the returns without a step.
+        let _ = self.party.number();
+        if layout.size() > pool.bucket_size() {
+            return Err(AllocationError::SizeTooLarge);
+        }
+        if layout.align() > pool.max_alignment() {
+            return Err(AllocationError::AlignmentFailure);
+        }
+        match self.cached.pop() {
+            Some(number) => {
+                let bucket = by_number::bucket(pool, &self.party, number, layout.size());
+                Ok(bucket)
+            }
+            None => pool.allocate_next_fit(&mut self.party, layout),
+        }
+    }
+
+    /// Gives back a bucket. Where fewer than `most` are cached, the bucket is cached without a step. Otherwise it goes back to
+    /// the pool by one store. The party and the bucket have to be this pool's, and the bucket has to be out: the party holds it,
+    /// and doesn't cache it.
+    #[tactic(auto, unfolding(crate::specs::SharedPoolCaching::IsOut))]
+    pub fn deallocate<const CAPPED: usize, const MOST: usize>(
+        &mut self,
+        pool: &SharedBucketPool<CAPPED, MOST>,
+        bucket: Bucket<'_>,
+    )
+        requires party { self.old.party.allocator ≡ pool.now }
+        requires bucket { bucket.allocator ≡ pool.now }
+        requires out { IsOut self.old bucket.number }
+        ensures answer { ReturnsCaching self.old bucket.entry.number self.new }
+        ensures given_back { ¬ IsOut self.new bucket.entry.number }
+        ensures others_kept { (other : ℕ) → other ≢ bucket.entry.number
+            → IsOut self.old other → IsOut self.new other }
+        ensures others { (other : ℕ) → IsOut self.new other → IsOut self.old other }
+        ensures party { self.new.party.allocator ≡ self.old.party.allocator }
+        ensures most { self.new.most ≡ self.old.most }
+    {
+        if self.cached.len() < self.most as usize {
+            self.cached.push_reserved(bucket.number());
+        } else {
+            pool.deallocate_bucket(&mut self.party, bucket);
+        }
+    }
+
+    /// Detaches a bucket that is out, as [`SharedPoolAllocator::detach`](super::SharedPoolAllocator::detach) does. The pool needs
+    /// two parties at least. The party and the bucket have to be this pool's.
+    #[tactic(auto, unfolding(crate::specs::SharedPoolCaching::IsOut))]
+    pub fn detach<const CAPPED: usize, const MOST: usize>(
+        &mut self,
+        pool: &SharedBucketPool<CAPPED, MOST>,
+        bucket: Bucket<'_>,
+    ) -> DetachedBucket
+        requires others { 1 < pool.now.scene.parties }
+        requires party { self.old.party.allocator ≡ pool.now }
+        requires bucket { bucket.allocator ≡ pool.now }
+        requires out { IsOut self.old bucket.number }
+        ensures bucket { result ≡ bucket.entry }
+        ensures logged { self.new ≡ record self.old {
+          party = with_entries self.old.party
+              (detach_entry self.old.party.number bucket.entry.number);
+        } }
+        ensures was_detached { ¬ IsOut self.new bucket.entry.number }
+        ensures others_kept { (other : ℕ) → other ≢ bucket.entry.number
+            → IsOut self.old other → IsOut self.new other }
+        ensures others { (other : ℕ) → IsOut self.new other → IsOut self.old other }
+    {
+        pool.detach(&mut self.party, bucket)
+    }
+
+    /// Attaches a detached bucket, as [`SharedPoolAllocator::attach`](super::SharedPoolAllocator::attach) does. It is out then.
+    /// The party and the bucket have to be this pool's.
+    #[tactic(auto, unfolding(crate::specs::SharedPoolCaching::IsOut))]
+    pub fn attach<'p, const CAPPED: usize, const MOST: usize>(
+        &mut self,
+        pool: &'p SharedBucketPool<CAPPED, MOST>,
+        detached: DetachedBucket,
+    ) -> Bucket<'p>
+        requires party { self.old.party.allocator ≡ pool.now }
+        requires bucket { detached.allocator ≡ pool.now }
+        ensures bucket { result ≡ detached }
+        ensures logged { self.new ≡ record self.old {
+          party = with_entries self.old.party
+              (attach_entry self.old.party.number detached.number);
+        } }
+        ensures attached { IsOut self.new detached.number }
+        ensures not_out { ¬ IsOut self.old detached.number }
+        ensures others_kept { (other : ℕ) → IsOut self.old other → IsOut self.new other }
+        ensures others { (other : ℕ) → other ≢ detached.number
+            → IsOut self.new other → IsOut self.old other }
+    {
+        pool.attach(&mut self.party, detached)
+    }
+
+    /// Gives all cached buckets back to the pool, as `flush` does, and caches at most `most` from then on. It takes memory for
+    /// their list. A refusal, with `OutOfMemory`, changes nothing. The party has to be this pool's.
+    #[tactic(auto, unfolding(crate::specs::SharedPoolCaching::IsOut))]
+    pub fn cache_at_most<const CAPPED: usize, const MOST: usize>(
+        &mut self,
+        alloc: Global,
+        pool: &SharedBucketPool<CAPPED, MOST>,
+        most: u32,
+    ) -> Result<(), AllocationError>
+        requires party { self.old.party.allocator ≡ pool.now }
+        ensures empty { IfOk result (λ done. self.new ≡ record {
+          party = with_entries self.old.party
+              (returns_of self.old.party.number self.old.cached);
+          cached = [];
+          most = most;
+        }) }
+        ensures others_kept { (other : ℕ) → IsOut self.old other → IsOut self.new other }
+        ensures others { (other : ℕ) → IsOut self.new other → IsOut self.old other }
+        ensures refused { IfErr result (λ error. (error ≡ AllocationError.OutOfMemory)
+            × (self.new ≡ self.old)) }
+    {
+        let Ok(room) = list_of(alloc, most) else {
+            return Err(AllocationError::OutOfMemory);
+        };
+        self.flush(pool);
+        self.cached = room;
+        self.most = most;
+        Ok(())
+    }
+
+    /// Gives all cached buckets back to the pool, each by one store, from the one that was cached last. Then the party holds just
+    /// the buckets that are out. The party has to be this pool's.
+    #[tactic(auto, unfolding(crate::specs::SharedPoolCaching::IsOut))]
+    pub fn flush<const CAPPED: usize, const MOST: usize>(
+        &mut self,
+        pool: &SharedBucketPool<CAPPED, MOST>,
+    )
+        requires party { self.old.party.allocator ≡ pool.now }
+        ensures logged { self.new ≡ record self.old {
+          party = with_entries self.old.party
+              (returns_of self.old.party.number self.old.cached);
+          cached = [];
+        } }
+        ensures unchanged { self.old.cached ≡ [] → self.new ≡ self.old }
+        ensures is_party { IsSameParty self.old.party self.new.party }
+        ensures others_kept { (other : ℕ) → IsOut self.old other → IsOut self.new other }
+        ensures others { (other : ℕ) → IsHeldAfter self.new.party.log other
+            → IsOut self.old other }
+    {
+        return_all(pool, &mut self.party, &mut self.cached);
+    }
+
+    /// Two parties meet, as [`SharedPoolAllocator::meet`](super::SharedPoolAllocator::meet) has it: no bucket is held by both. So
+    /// none that is out at one of them is out or cached at the other. Nothing changes. The parties have to be this pool's.
+    #[tactic(auto, unfolding(crate::specs::SharedPoolCaching::IsOut))]
+    pub fn meet<const CAPPED: usize, const MOST: usize>(
+        &mut self,
+        pool: &SharedBucketPool<CAPPED, MOST>,
+        other: &mut CachingParty,
+    )
+        requires parties { AreBothOf pool.now self.old.party other.old.party }
+        ensures kept { (self.new ≡ self.old) × (other.new ≡ other.old) }
+        ensures differ { self.old.party.number ≢ other.old.party.number }
+        ensures apart { (bucket : ℕ) → IsHeldAfter self.old.party.log bucket
+            → ¬ IsHeldAfter other.old.party.log bucket }
+        ensures out_apart { (bucket : ℕ) → IsOut self.old bucket → ¬ IsOut other.old bucket }
+        ensures interleaved { AreInterleaved self.old.party other.old.party }
+    {
+        pool.meet(&mut self.party, &mut other.party);
+    }
+
+    /// Gives all cached buckets back to the pool, as `flush` does, and returns the party, which holds just the buckets that are
+    /// out. The party has to be this pool's.
+    #[tactic(auto, unfolding(crate::specs::SharedPoolCaching::IsOut))]
+    pub fn into_party<const CAPPED: usize, const MOST: usize>(
+        mut self,
+        pool: &SharedBucketPool<CAPPED, MOST>,
+    ) -> PoolParty
+        requires party { self.party.allocator ≡ pool.now }
+        ensures logged { result
+            ≡ with_entries self.party (returns_of self.party.number self.cached) }
+        ensures unchanged { self.cached ≡ [] → result ≡ self.party }
+        ensures is_party { IsSameParty self.party result }
+        ensures others_kept { (other : ℕ) → IsOut self other → IsHeldAfter result.log other }
+        ensures others { (other : ℕ) → IsHeldAfter result.log other → IsOut self other }
+    {
+        self.flush(pool);
+        let CachingParty {
+            party,
+            cached: _,
+            most: _,
+        } = self;
+        party
+    }
+}
+
+/// Gives these buckets back to the pool, the last first.
+fn return_all<const CAPPED: usize, const MOST: usize>(
+    pool: &SharedBucketPool<CAPPED, MOST>,
+    party: &mut PoolParty,
+    cached: &mut Vec<u32>,
+)
+    requires party { party.old.allocator ≡ pool.now }
+    requires cached { AreCached party.old cached.old.items }
+    ensures logged { party.new
+        ≡ with_entries party.old (returns_of party.old.number cached.old.items) }
+    ensures is_party { IsSameParty party.old party.new }
+    ensures none { cached.new.items ≡ [] }
+    ensures capacity { vec_capacity cached.new ≡ vec_capacity cached.old }
+    ensures others_kept { (other : ℕ) → ¬ Contains cached.old.items other
+        → IsHeldAfter party.old.log other → IsHeldAfter party.new.log other }
+    ensures others { (other : ℕ) → IsHeldAfter party.new.log other
+        → IsHeldAfter party.old.log other }
+    ensures given_back { (other : ℕ) → IsHeldAfter party.new.log other
+        → ¬ Contains cached.old.items other }
+{
+    // Proof hint: brings the party's invariant into scope where none is cached.
+    let _ = party.number();
+    while let Some(number) = cached.pop() {
+        let bucket = by_number::bucket(pool, party, number, 0);
+        pool.deallocate_bucket(party, bucket);
+    }
+}

@@ -1,0 +1,98 @@
+//! Buckets on their way from one party of a shared pool to another.
+ghost use Rattle.std.specs.Prelude.{◌≡◌, ◌<◌, ◌≤◌};
+ghost use Rattle.bb_memory_shared_pools.specs.SharedPool.{AreOf, HasDetached, HasAttached, MayDetach};
+
+use super::bucket::Bucket;
+use super::buckets::SharedBucketPool;
+use super::party::PoolParty;
+use super::rule::View;
+use atomic_table::Seat;
+use std::marker::Model;
+
+/// The token of a detached bucket, which [`SharedPoolAllocator::attach`](super::SharedPoolAllocator::attach) spends. It borrows
+/// nothing, so it can go to another thread with a message, or lie in a struct. Meanwhile no party holds the bucket, and its flag
+/// stays taken. There is one token for each detached bucket. Dropping the token leaks the bucket: its flag stays taken for good.
+#[derive(Drop)]
+pub struct DetachedBucket {
+    number: u32,
+    len: usize,
+    seat: Seat<u8, View>,
+}
+
+impl Model for DetachedBucket {
+    ghost use Rattle.std.specs.Prelude.{true};
+    ghost use Rattle.bb_memory_shared_pools.specs.SharedPool.{TakenBucket, taken_bucket};
+    ghost use Rattle.bb_memory_shared_pools.specs.SharedPoolRule.{IsDetachedSeat, pool_in};
+
+    ghost Value = { TakenBucket };
+
+    ghost view = { λ b. taken_bucket (pool_in b.seat.table_id b.seat.me.0) b.number b.len };
+
+    ghost invariant = { λ b. IsDetachedSeat b.number b.len b.seat.me };
+}
+
+impl DetachedBucket {
+    /// The bucket's number in its pool, from 0.
+    pub fn number(&self) -> u32
+        ensures value { (result ≡ self.now.number)
+            × (result < self.now.allocator.scene.geometry.buckets) }
+    {
+        self.number
+    }
+
+    /// The length in bytes of the chunk in the bucket, as it was when the bucket was detached.
+    pub fn len(&self) -> usize
+        ensures value { (result ≡ self.now.len)
+            × (result ≤ self.now.allocator.scene.geometry.bucket.size) }
+    {
+        self.len
+    }
+}
+
+impl<const CAPPED: usize, const MOST: usize> SharedBucketPool<CAPPED, MOST> {
+    /// Detaches a bucket from the party that holds it, so that another party can attach it, in any thread. The party's log gets
+    /// this step, and the flag stays taken. Detaching loads two words, changes none, takes no memory and waits for nothing.
+    /// Conditions: the pool was made for two parties at least, as `number_of_parties` tells; the party and the bucket are this
+    /// pool's; and the party's log holds the bucket: this party took or attached it, and hasn't given it back or detached it
+    /// since.
+    ///
+    /// ```
+    /// let taken = pool.allocate(sender, Layout::from_size_align(48, 4).unwrap())?;
+    /// let message = pool.detach(sender, taken);
+    /// let (number, len) = (message.number(), message.len());
+    /// let received = pool.attach(receiver, message);
+    /// let (its_number, its_len) = (received.number(), received.chunk().len());
+    /// prove!(its_number == number && its_len == len && len == 48);
+    /// pool.deallocate_bucket(receiver, received);
+    /// ```
+    pub fn detach(&self, party: &mut PoolParty, bucket: Bucket<'_>) -> DetachedBucket
+        requires may { MayDetach self.now party.old bucket }
+        ensures bucket { result ≡ bucket.entry }
+        ensures party { HasDetached self.now party.old bucket.entry party.new }
+    {
+        let Bucket {
+            flags: _,
+            number,
+            len,
+        } = bucket;
+        let seat = self.flags.detach(&mut party.seat, number);
+        DetachedBucket { number, len, seat }
+    }
+
+    /// Attaches a detached bucket: the party holds it from then on, with the number and the length that it had, and can give it
+    /// back. The party's log gets this step. Attaching loads two words, changes none, takes no memory and waits for nothing.
+    /// Condition: the party and the bucket are this pool's. There is no refusal.
+    pub fn attach(&self, party: &mut PoolParty, detached: DetachedBucket) -> Bucket<'_>
+        requires own { AreOf self.now party.old detached }
+        ensures bucket { result ≡ detached }
+        ensures party { HasAttached self.now party.old detached party.new }
+    {
+        let DetachedBucket { number, len, seat } = detached;
+        self.flags.attach(&mut party.seat, seat, number);
+        Bucket {
+            flags: &self.flags,
+            number,
+            len,
+        }
+    }
+}

@@ -1,0 +1,61 @@
+//! A shared pool of at most a constant of buckets.
+ghost use Rattle.std.specs.Prelude.{◌≡◌, ◌-◌, ◌<◌, ◌≤◌, ◌^◌, IfOk, IfErr};
+ghost use Rattle.bb_memory_traits.specs.Chunk.{region_at};
+ghost use Rattle.bb_memory_geometry.specs.Geometry.{IsCutAtMost, MayBeCut};
+ghost use Rattle.bb_memory_shared_pools.specs.SharedPool.{AreFresh};
+
+use super::buckets::SharedBucketPool;
+use super::party::PoolParty;
+use bb_memory_traits::allocator::AllocationError;
+use bb_memory_traits::layout::Layout;
+use bb_memory_geometry::geometry::Geometry;
+use std::alloc::Global;
+
+/// Gives buckets of one layout, at most `MAX_NUMBER_OF_BUCKETS` of them, to any number of threads, as
+/// [`SharedPoolAllocator`](super::SharedPoolAllocator) does.
+///
+/// ```
+/// pool_count_law();
+/// let bucket = Layout::from_size_align(128, 8).unwrap();
+/// let made = SharedFixedSizePoolAllocator::<4>::new(alloc, bucket, 4096, 1024, 2);
+/// let Ok((pool, mut parties)) = made else {
+///     return Err(AllocationError::OutOfMemory);
+/// };
+/// let count = pool.number_of_buckets();
+/// prove!(count == 4);
+/// let mut party = parties.pop().unwrap();
+/// let taken = pool.allocate(&mut party, Layout::from_size_align(48, 4).unwrap())?;
+/// pool.deallocate_bucket(&mut party, taken);
+/// ```
+pub type SharedFixedSizePoolAllocator<const MAX_NUMBER_OF_BUCKETS: usize> = SharedBucketPool<
+    1,
+    MAX_NUMBER_OF_BUCKETS,
+>;
+
+impl<const MAX_NUMBER_OF_BUCKETS: usize> SharedFixedSizePoolAllocator<MAX_NUMBER_OF_BUCKETS> {
+    /// A pool over the region of `size` bytes at `start`, cut into buckets of this layout, with no bucket held, and its
+    /// parties, numbered from 0. The start has to be greater than 0; start plus size, and the start rounded up to the bucket's
+    /// alignment, at most `usize::MAX`; the bucket's size greater than 0; the buckets that there is room for fewer than
+    /// `u32::MAX`, as the constant, and the parties at least 1.
+    /// [`FixedSizePoolAllocator::can_make`](crate::pool_allocator::FixedSizePoolAllocator::can_make) tests all but the parties.
+    /// Its only refusal is `OutOfMemory`, where a request for memory was refused.
+    pub fn new(
+        alloc: Global,
+        bucket_layout: Layout,
+        start: usize,
+        size: usize,
+        parties: u32,
+    ) -> Result<(Self, Vec<PoolParty>), AllocationError>
+        requires cut { MayBeCut (region_at start size) bucket_layout }
+        requires most { MAX_NUMBER_OF_BUCKETS < 2 ^ 32 - 1 }
+        requires parties { 1 ≤ parties }
+        ensures geometry { IfOk result (λ made. IsCutAtMost MAX_NUMBER_OF_BUCKETS
+            (region_at start size) bucket_layout made.0.scene.geometry) }
+        ensures parties { IfOk result (λ made. AreFresh made.0 parties made.1.items) }
+        ensures refused { IfErr result (λ error. error ≡ AllocationError.OutOfMemory) }
+    {
+        let most = MAX_NUMBER_OF_BUCKETS as u32;
+        let geometry = Geometry::cut_at_most(bucket_layout, start, size, most);
+        Self::make(alloc, geometry, parties)
+    }
+}

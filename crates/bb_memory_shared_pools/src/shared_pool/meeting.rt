@@ -1,0 +1,39 @@
+//! Any number of parties at one seat.
+ghost use Rattle.std.specs.Prelude.{◌++◌, map};
+ghost use Rattle.bb_memory_seats.specs.Seats.{HasNow};
+ghost use Rattle.bb_memory_shared_pools.specs.SharedPoolRule.{MayMeet, numbered_of};
+ghost use Rattle.bb_memory_shared_pools.specs.SharedPoolRule.{HasFound};
+
+use super::flags::Flags;
+use super::party::PoolParty;
+use super::rule::View;
+use atomic_table::Seat;
+
+impl Flags {
+    /// These parties meet those of the seat, and go back to their own.
+    pub(super) fn meet_rest(&self, seat: &mut Seat<u8, View>, rest: &mut Vec<PoolParty>)
+        requires { MayMeet self.now seat.old.table_id seat.old.me rest.old.items }
+        ensures found { HasFound self.now.scene
+            (map numbered_of rest.old.items ++ seat.old.me.0.parties)
+            seat.old.table_id seat.old.me seat.new.table_id seat.new.me }
+        ensures rest { HasNow rest.old.items rest.old rest.new }
+    {
+        let Some(party) = rest.pop() else {
+            self.find(seat);
+            return;
+        };
+        let PoolParty {
+            number,
+            seat: guest,
+            hint,
+        } = party;
+        self.gather(seat, guest);
+        self.meet_rest(seat, rest);
+        let back = self.deal(seat);
+        rest.push_reserved(PoolParty {
+            number,
+            seat: back,
+            hint,
+        });
+    }
+}

@@ -1,0 +1,129 @@
+//! Next fit: requests whose search begins at the party's hint.
+ghost use Rattle.std.specs.Prelude.{◌≡◌, ℕ, ◌+◌, ◌<◌, ◌^◌, IfSome, MatchOption};
+ghost use Rattle.bb_memory_pool_machine.specs.PoolLogs.{PoolLog};
+ghost use Rattle.bb_memory_seats.specs.Seats.{Stays, number_of, view_log};
+ghost use Rattle.bb_memory_shared_pools.specs.SharedPool.{ServesNextFit};
+ghost use Rattle.bb_memory_shared_pools.specs.SharedPoolNextFit.{MayTakeFrom, probed, hint_of, part_of};
+ghost use Rattle.bb_memory_shared_pools.specs.SharedPoolRule.{IsIdleAt};
+ghost use Rattle.bb_memory_shared_pools.specs.SharedPoolRule.{HasRefusedFrom, HasTakenFrom, IsInSearch};
+
+use super::bucket::Bucket;
+use super::buckets::SharedBucketPool;
+use super::party::PoolParty;
+use super::rule::View;
+use bb_memory_traits::allocator::AllocationError;
+use bb_memory_traits::layout::Layout;
+use atomic_table::Seat;
+
+/// The bucket that a probe tries, in a search over so many buckets that begins at bucket `first`.
+fn probed(buckets: u32, first: u32, probe: u32) -> u32
+    requires { probe < buckets }
+    ensures value { result ≡ probed buckets first probe }
+    ensures below { result < buckets }
+{
+    let start = if first < buckets { first } else { 0 };
+    let ahead = buckets - start;
+    if probe < ahead {
+        start + probe
+    } else {
+        probe - ahead
+    }
+}
+
+impl<const CAPPED: usize, const MOST: usize> SharedBucketPool<CAPPED, MOST> {
+    /// The first bucket of a party's own part of the pool, which is cut into as many parts as it has parties.
+    pub(super) fn part_of(&self, number: u32) -> u32
+        requires { number < self.now.scene.parties }
+        ensures { result ≡ part_of self.now.scene number }
+    {
+        let before = number as u64 * self.number_of_buckets() as u64;
+        (before / self.number_of_parties() as u64) as u32
+    }
+
+    /// One whole search: a probe of each bucket from bucket `first` up, and then of each below it, until one is taken.
+    fn next_fit(&self, seat: &mut Seat<u8, View>, first: u32) -> Option<u32>
+        requires { IsIdleAt self.now seat.old.table_id seat.old.me }
+        ensures told { Stays seat.old.table_id seat.new.table_id (MatchOption result
+            (HasRefusedFrom self.now.scene (number_of seat.old.me.0) (view_log seat.old.me.0)
+            first seat.new.me)
+            (HasTakenFrom self.now.scene (number_of seat.old.me.0) (view_log seat.old.me.0)
+            first seat.new.me)) }
+        ensures fits { IfSome result (λ bucket. bucket + 1 < 2 ^ 32) }
+    {
+        let count = self.number_of_buckets();
+        if count == 0 {
+            return None;
+        }
+        let bucket = probed(count, first, 0);
+        if self.flags.try_at(seat, bucket) {
+            return Some(bucket);
+        }
+        self.later_probes(seat, first)
+    }
+
+    /// The probes of a search behind its first, which missed: the clause holds for each log with which the search may have begun.
+    /// The loop stands apart, and isn't inlined, so that a search whose first probe takes a bucket is straight-line code.
+    #[inline(never)]
+    fn later_probes(&self, seat: &mut Seat<u8, View>, first: u32) -> Option<u32>
+        requires seat { IsIdleAt self.now seat.old.table_id seat.old.me }
+        requires some { 0 < self.now.scene.geometry.buckets }
+        ensures told { Stays seat.old.table_id seat.new.table_id ((number : ℕ) (log : PoolLog)
+            → IsInSearch self.now.scene number log first 1 seat.old.me → MatchOption result
+            (HasRefusedFrom self.now.scene number log first seat.new.me)
+            (HasTakenFrom self.now.scene number log first seat.new.me)) }
+        ensures fits { IfSome result (λ bucket. bucket + 1 < 2 ^ 32) }
+    {
+        let count = self.number_of_buckets();
+        for probe in 1..count {
+            let bucket = probed(count, first, probe);
+            if self.flags.try_at(seat, bucket) {
+                return Some(bucket);
+            }
+        }
+        None
+    }
+
+    /// Takes a bucket for the party, as `allocate` does, but tries the buckets in another order: after the same tests of size and
+    /// alignment it probes each bucket once, until one is taken. A probe loads the flag, and makes an exchange only where the
+    /// flag is free, so held buckets cost no exchange. The search begins at the party's hint: at the least bucket that it gave
+    /// back since it took its last one, or else behind that one; before both, at the first bucket of a part of the pool of its
+    /// own. The search goes on to the last bucket, and then from bucket 0 up. It is refused with `OutOfMemory` where each probe
+    /// misses. Where other parties step meanwhile, that doesn't mean that all buckets were held at one moment. The party has to
+    /// be this pool's.
+    #[inline(always)]
+    pub fn allocate_next_fit(
+        &self,
+        party: &mut PoolParty,
+        layout: Layout,
+    ) -> Result<Bucket<'_>, AllocationError>
+        requires party { party.old.allocator ≡ self.now }
+        ensures answer { MayTakeFrom (hint_of party.old) party.old layout result party.new }
+        ensures party { party.new.allocator ≡ self.now }
+        ensures serves { ServesNextFit self.now party.old layout result party.new }
+    {
+        // Proof hint: brings the party's invariant into scope on the early returns.
+        let _ = &party.number;
+        let bucket = self.flags.geometry().bucket();
+        if layout.size() > bucket.size() {
+            return Err(AllocationError::SizeTooLarge);
+        }
+        if layout.align() > bucket.align() {
+            return Err(AllocationError::AlignmentFailure);
+        }
+        match self.next_fit(&mut party.seat, party.hint.bucket) {
+            Some(number) => {
+                party.hint.bucket = number + 1;
+                party.hint.came_back = false;
+                Ok(Bucket {
+                    flags: &self.flags,
+                    number,
+                    len: layout.size(),
+                })
+            }
+            None => {
+                self.count_refusal();
+                Err(AllocationError::OutOfMemory)
+            }
+        }
+    }
+}

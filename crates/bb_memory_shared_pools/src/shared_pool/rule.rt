@@ -1,0 +1,151 @@
+//! The rule of a shared pool's words, and what each atomic step on them tells.
+use bb_memory_geometry::geometry::Geometry;
+use atomic_table::{Join, Play, Split, TableRule};
+use std::marker::Model;
+
+/// The scene of a shared pool's machine: where it begins.
+#[derive(Drop)]
+pub(crate) struct Scene {
+    pub(crate) geometry: Geometry,
+    pub(crate) parties: u32,
+}
+
+impl Model for Scene {
+    ghost use Rattle.bb_memory_pool_machine.specs.PoolMachine.{PoolScene};
+    ghost use Rattle.bb_memory_shared_pools.specs.SharedPool.{scene_at};
+
+    ghost Value = { PoolScene };
+
+    ghost view = { λ s. scene_at s.geometry s.parties };
+}
+
+/// Knowledge of a seat: the parties that it stands for, each with its log. No value of this type is made.
+pub(crate) struct View {}
+
+impl Model for View {
+    ghost use Rattle.bb_memory_shared_pools.specs.SharedPoolRule.{SeatView, nobody};
+
+    ghost Value = { SeatView };
+
+    ghost view = { λ v. nobody };
+}
+
+/// Words and logs agree.
+pub(crate) struct Agreement;
+
+impl TableRule<u8, View, Scene> for Agreement {
+    ghost use Rattle.bb_memory_shared_pools.specs.SharedPoolRule.{WordsAndLogsAgree, all_parties};
+
+    ghost holds = { WordsAndLogsAgree };
+
+    ghost first = { all_parties };
+}
+
+/// An exchange from free to taken.
+pub(crate) struct Tries;
+
+impl Play<u8, View> for Tries {
+    ghost use Rattle.bb_memory_shared_pools.specs.SharedPoolRule.{tries};
+
+    ghost then = { tries };
+}
+
+/// An exchange from free to taken, by a party that is in no pass.
+pub(crate) struct TriesAt;
+
+impl Play<u8, View> for TriesAt {
+    ghost use Rattle.bb_memory_shared_pools.specs.SharedPoolRule.{tries_at};
+
+    ghost then = { tries_at };
+}
+
+/// A load of a flag by a party that is in no pass.
+pub(crate) struct LooksAt;
+
+impl Play<u8, View> for LooksAt {
+    ghost use Rattle.bb_memory_shared_pools.specs.SharedPoolRule.{looks_at};
+
+    ghost then = { looks_at };
+}
+
+/// A store of free, by a party after whose log the bucket is held.
+pub(crate) struct Returns;
+
+impl Play<u8, View> for Returns {
+    ghost use Rattle.bb_memory_shared_pools.specs.SharedPoolRule.{returns};
+
+    ghost then = { returns };
+}
+
+/// A load by a seat that stands for any number of parties.
+pub(crate) struct Meets;
+
+impl Play<u8, View> for Meets {
+    ghost use Rattle.bb_memory_shared_pools.specs.SharedPoolRule.{meets};
+
+    ghost then = { meets };
+}
+
+/// A load by a party after whose log the bucket is held, which detaches it.
+pub(crate) struct Detaches;
+
+impl Play<u8, View> for Detaches {
+    ghost use Rattle.bb_memory_shared_pools.specs.SharedPoolRule.{detaches};
+
+    ghost then = { detaches };
+}
+
+/// A load by a party at whose seat the bucket is detached, which attaches it.
+pub(crate) struct Attaches;
+
+impl Play<u8, View> for Attaches {
+    ghost use Rattle.bb_memory_shared_pools.specs.SharedPoolRule.{attaches};
+
+    ghost then = { attaches };
+}
+
+/// The first bucket that is detached goes to the new seat.
+pub(crate) struct GiveDetached;
+
+impl Split<View> for GiveDetached {
+    ghost use Rattle.bb_memory_seats.specs.Seats.{first_detached, others_detached};
+
+    ghost left = { others_detached };
+
+    ghost right = { first_detached };
+}
+
+/// Detached buckets of one seat come to another.
+pub(crate) struct TakeIn;
+
+impl Join<View> for TakeIn {
+    ghost use Rattle.bb_memory_seats.specs.Seats.{both_detached};
+    ghost use Rattle.bb_memory_shared_pools.specs.SharedPoolRule.{nobody};
+
+    ghost both = { both_detached };
+
+    ghost spent = { nobody };
+}
+
+/// The first party goes to the new seat.
+pub(crate) struct GiveFirst;
+
+impl Split<View> for GiveFirst {
+    ghost use Rattle.bb_memory_seats.specs.Seats.{first_of, others_of};
+
+    ghost left = { others_of };
+
+    ghost right = { first_of };
+}
+
+/// One seat stands for the parties of two.
+pub(crate) struct Gather;
+
+impl Join<View> for Gather {
+    ghost use Rattle.bb_memory_seats.specs.Seats.{both_of};
+    ghost use Rattle.bb_memory_shared_pools.specs.SharedPoolRule.{nobody};
+
+    ghost both = { both_of };
+
+    ghost spent = { nobody };
+}

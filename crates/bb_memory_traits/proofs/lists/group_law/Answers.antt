@@ -1,5 +1,0 @@
-use Rattle.bb_memory_traits.proofs.GroupSums as groups
-use Rattle.bb_memory_traits.proofs.lists.group_law.Goals as goal
-
-pub returns : goal.returns
-returns c start = record { together = groups.together _ _; within = groups.within _ _ }

@@ -1,0 +1,4 @@
+mod Layouts
+pub mod LineWords
+mod Numbers
+pub mod WholeLines

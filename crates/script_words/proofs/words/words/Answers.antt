@@ -1,0 +1,41 @@
+use Rattle.std.proofs.Common.{◌++◌, ◌∷◌, arith}
+use Rattle.std.proofs.lemmas.Option.{none-some}
+use Rattle.script_words.specs.Words.{list_of}
+use Rattle.script_words.proofs.LineWords.{SoFar, next_number, at_most_five, space_first, so_more}
+use Rattle.script_words.proofs.words.words.Goals as goal
+use Rattle.script_words.proofs.words.words.Goals.{After-number}
+
+-- the line so far, and its next field
+so_far : (c : After-number) → SoFar c.args.line.now c.split_before.result.0.now (list_of c.loop-rest.numbers)
+    (32 ∷ (c.split_before-in-loop-rest.result.0.now ++ c.split_before-in-loop-rest.result.1.now))
+so_far c =
+    rw (space_first c.loop-rest.rest.now c.split_before-in-loop-rest.result.0.now c.split_before-in-loop-rest.result.1.now
+    c.loop-rest.invariant.rest_starts c.loop-rest-test.ensures c.split_before-in-loop-rest.ensures.parts) at c.loop-rest.invariant
+
+pub returns-in_default-clause-none : goal.returns-in_default-clause-none
+returns-in_default-clause-none c other are =
+    let so = so_far (goal.at.returns-in_default-clause-none c).After-number in
+    let (n, small, written, more) = next_number _ _ _ _ _ other so c.split_before-in-loop-rest.ensures.first
+    c.split_before-in-loop-rest.ensures.rest are in
+    none-some n (c.in_default.ensures.each n small written)
+
+pub returns-in_default-and-clause-none : goal.returns-in_default-and-clause-none
+returns-in_default-and-clause-none c other are =
+    let so = so_far (goal.at.returns-in_default-and-clause-none c).After-number in
+    let (n, small, written, more) = next_number _ _ _ _ _ other so c.split_before-in-loop-rest.ensures.first
+    c.split_before-in-loop-rest.ensures.rest are in
+    at_most_five other.numbers (omega (arith, more, c.in_default-and.ensures.full))
+
+pub loop-rest-init : goal.loop-rest-init
+loop-rest-init c = record {
+  text = c.split_before.ensures.parts;
+  name_is = c.split_before.ensures.first;
+  numbers_are = tt;
+  rest_starts = c.split_before.ensures.rest;
+}
+
+pub loop-rest-preserved : goal.loop-rest-preserved
+loop-rest-preserved c =
+    let so = so_far (goal.at.loop-rest-preserved c).After-number in
+    so_more _ _ _ _ _ _ c.in-Some.last so c.in-Some.ensures.written c.in-Some-and.ensures.more
+    c.split_before-in-loop-rest.ensures.rest

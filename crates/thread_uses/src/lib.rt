@@ -1,0 +1,12 @@
+//! Layers of threads that stand on what threads share by its public contracts alone, as users write them: this crate has no
+//! proof files.
+//!
+//! - `bump_workers`: four threads over one bump, which one owner then has again. `pool_workers`: four threads over one pool.
+//! - `thread_arena`: a bump of one thread over a chunk of a shared bump.
+//! - `pool_messages`: messages whose buckets one party takes and another gives back.
+#![tactic(auto)]
+
+pub mod bump_workers;
+pub mod pool_messages;
+pub mod pool_workers;
+pub mod thread_arena;

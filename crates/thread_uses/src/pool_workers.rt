@@ -1,0 +1,97 @@
+//! Threads that take buckets of one pool, and what is known once all of them are back.
+ghost use Rattle.std.specs.Prelude.{◌≡◌, All, IfOk, length};
+ghost use Rattle.bb_memory_traits.specs.declared.layout.Layout.{Layout};
+ghost use Rattle.bb_memory_shared_pools.specs.SharedPool.{AreFresh, HaveMet, HoldApart, PoolParty};
+ghost use Rattle.thread_uses.specs.Threads.{AllComeBack, AsksNextFit, ComesBack, HasAskedNextFit};
+
+use bb_memory_traits::layout::Layout;
+use bb_memory_owned::pool_allocator::pool_count_law;
+use bb_memory_shared_pools::shared_pool::{PoolParty, SharedPoolAllocator};
+use std::alloc::{AllocError, Global};
+use std::thread;
+use std::thread::Threads;
+
+/// Takes a bucket by next fit, where one is free, and hands the party back. The token ends here, so the bucket stays the party's,
+/// with those that it had.
+pub fn take_one(pool: &SharedPoolAllocator, party: PoolParty, layout: Layout) -> PoolParty
+    requires { party.allocator ≡ pool.now }
+    ensures back { ComesBack pool.entry.now party result }
+    ensures once { AsksNextFit layout party result }
+    ensures asked { HasAskedNextFit layout result }
+{
+    let mut party = party;
+    ask_next_fit(pool, &mut party, layout);
+    party
+}
+
+/// Asks for a bucket by next fit.
+fn ask_next_fit(pool: &SharedPoolAllocator, worker: &mut PoolParty, layout: Layout)
+    requires { worker.old.allocator ≡ pool.now }
+    ensures back { ComesBack pool.now worker.old worker.new }
+    ensures asked { AsksNextFit layout worker.old worker.new }
+{
+    let _ = pool.allocate_next_fit(worker, layout);
+}
+
+/// Runs four workers, which take a bucket each, all at once. They meet when they are back: one list of steps has all their logs
+/// and nothing else, and a flag is taken exactly where one of them holds the bucket, or it is detached. It is refused only where
+/// memory was.
+pub fn four_workers<R: Threads + Sync>(
+    rt: &R,
+    alloc: Global,
+    layout: Layout,
+) -> Result<(SharedPoolAllocator, Vec<PoolParty>), AllocError>
+    ensures four { IfOk result (λ made. made.0.scene.parties ≡ 4) }
+    ensures buckets { IfOk result (λ made. made.0.scene.geometry.buckets ≡ 8) }
+    ensures all { IfOk result (λ made. length made.1.items ≡ made.0.scene.parties) }
+    ensures theirs { IfOk result (λ made. All (λ party. party.allocator ≡ made.0) made.1.items) }
+    ensures met { IfOk result (λ made. HaveMet made.0.scene made.1.items) }
+    ensures apart { IfOk result (λ made. HoldApart made.1.items) }
+    ensures asked { IfOk result (λ made. All (HasAskedNextFit layout) made.1.items) }
+{
+    let (pool, parties) = pool_of_four(alloc)?;
+    let mut back = take_one_each(rt, &pool, parties, layout)?;
+    meet(&pool, &mut back);
+    Ok((pool, back))
+}
+
+/// Has the parties meet, which stay as they are.
+fn meet(pool: &SharedPoolAllocator, parties: &mut Vec<PoolParty>)
+    requires { All (λ party. party.allocator ≡ pool.now) parties.old.items }
+    ensures theirs { All (λ party. party.allocator ≡ pool.now) parties.new.items }
+    ensures met { HaveMet pool.now.scene parties.new.items }
+    ensures apart { HoldApart parties.new.items }
+    ensures all { length parties.new.items ≡ length parties.old.items }
+    ensures asked { (layout : Layout) → All (HasAskedNextFit layout) parties.old.items
+        → All (HasAskedNextFit layout) parties.new.items }
+{
+    pool.meet_all(parties);
+}
+
+/// Runs a thread for each party, which takes a bucket, and joins them all.
+fn take_one_each<R: Threads + Sync>(
+    rt: &R,
+    pool: &SharedPoolAllocator,
+    parties: Vec<PoolParty>,
+    layout: Layout,
+) -> Result<Vec<PoolParty>, AllocError>
+    requires { All (λ party. party.allocator ≡ pool.now) parties.items }
+    ensures { IfOk result (λ back. AllComeBack layout pool.now parties.items back.items) }
+{
+    thread::map_vec(rt, parties, &|party| take_one(pool, party, layout))
+}
+
+/// Makes a pool of eight buckets for four parties. It is refused only where memory was, since a pool may be made of this region
+/// and bucket.
+#[tactic(auto, unfolding(bb_memory_traits::specs::LeastPlace::least_place))]
+fn pool_of_four(alloc: Global) -> Result<(SharedPoolAllocator, Vec<PoolParty>), AllocError>
+    ensures parties { IfOk result (λ made. AreFresh made.0 4 made.1.items) }
+    ensures buckets { IfOk result (λ made. made.0.scene.geometry.buckets ≡ 8) }
+{
+    pool_count_law();
+    let bucket = Layout::from_size_align(128, 8).unwrap();
+    let Ok(made) = SharedPoolAllocator::new(alloc, bucket, 4096, 1024, 4) else {
+        return Err(AllocError);
+    };
+    Ok(made)
+}
