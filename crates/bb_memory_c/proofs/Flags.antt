@@ -7,7 +7,7 @@ use Rattle.std.proofs.lemmas.List.{length-replicate}
 use Rattle.std.proofs.lemmas.Option.{same_Some, slice_get-get_or}
 use Rattle.std.proofs.Math.ListN.{set}
 use Rattle.bb_memory_lists.proofs.SliceGets.{length-set_at, slice_get-replicated, slice_get-set_other, slice_get-set_same}
-use Rattle.bb_memory.specs.IndexSets.{Has}
+use Rattle.bb_memory_index_set.specs.IndexSets.{Has}
 use Rattle.bb_memory_shared_pools.specs.SharedPool.{SharedPool}
 use Rattle.bb_memory_c.specs.SharedPools.{AreFlagged}
 

@@ -6,9 +6,9 @@ use Rattle.bb_memory_traits.specs.OneChunkObject.{MayGrow, MayShrink, reserved_a
 use Rattle.bb_memory_traits.specs.PoolObject.{PoolGeometry, IsCut}
 use Rattle.bb_memory_traits.specs.declared.layout.Layout.{Layout}
 use Rattle.bb_memory_traits.specs.declared.allocator.AllocationError.{AllocationError}
-use Rattle.bb_memory.specs.Bump.{Bump, Takes as TakesOfBump}
-use Rattle.bb_memory.specs.OneChunk.{OneChunk, Takes as TakesChunk}
-use Rattle.bb_memory.specs.Pool.{CountedPool, TakesBucket, counted, fresh_pool, held_count}
+use Rattle.bb_memory_bump.specs.Bump.{Bump, Takes as TakesOfBump}
+use Rattle.bb_memory_owned.specs.OneChunk.{OneChunk, Takes as TakesChunk}
+use Rattle.bb_memory_owned.specs.Pool.{CountedPool, TakesBucket, counted, fresh_pool, held_count}
 use Rattle.bb_memory_index_set.specs.IndexSets.{index_words}
 use Rattle.bb_memory_c.specs.Answers.{TellsResized, figure_of, grow_code, no_figure, not_held, shrink_code}
 use Rattle.bb_memory_c.specs.declared.answer.Answer.{Answer}

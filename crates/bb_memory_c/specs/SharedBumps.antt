@@ -4,8 +4,8 @@ use Rattle.bb_memory_traits.specs.Chunk.{Chunk, Region, IsInside, IsRegion}
 use Rattle.bb_memory_traits.specs.declared.layout.Layout.{Layout}
 use Rattle.bb_memory_traits.specs.declared.allocator.AllocationError.{AllocationError}
 use Rattle.bb_memory_bump_machine.specs.BumpLogs.{BumpLog}
-use Rattle.bb_memory.specs.SharedBump.{AreFresh, BumpParty, HasLoaded, IsFoundBy, MayTake, SharedBump, floor_of, scene_at}
-use Rattle.bb_memory.specs.SharedBump.{with_entries}
+use Rattle.bb_memory_bump.specs.SharedBump.{AreFresh, BumpParty, HasLoaded, IsFoundBy, MayTake, SharedBump, floor_of, scene_at}
+use Rattle.bb_memory_bump.specs.SharedBump.{with_entries}
 use Rattle.bb_memory_c.specs.Answers.{ok, malloc_refused, parties_joined}
 use Rattle.bb_memory_c.specs.Calls.{AreKnown, IsOneOf, Parties, left_at}
 use Rattle.bb_memory_c.specs.OneOwner.{bump_info}

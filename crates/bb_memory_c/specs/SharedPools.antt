@@ -7,7 +7,7 @@ use Rattle.bb_memory_traits.specs.PoolObject.{IsCut, PoolGeometry, bucket_place}
 use Rattle.bb_memory_pool_machine.specs.PoolLogs.{PoolLog, IsHeldAfter, held_after}
 use Rattle.bb_memory_traits.specs.declared.layout.Layout.{Layout}
 use Rattle.bb_memory_traits.specs.declared.allocator.AllocationError.{AllocationError}
-use Rattle.bb_memory.specs.IndexSets.{Has}
+use Rattle.bb_memory_index_set.specs.IndexSets.{Has}
 use Rattle.bb_memory_shared_pools.specs.SharedPool.{AreFresh, PoolParty, Serves, SharedPool, TakenBucket, attach_entry, chunk_of}
 use Rattle.bb_memory_shared_pools.specs.SharedPool.{detach_entry, return_entry, taken_bucket, with_entries}
 use Rattle.bb_memory_shared_pools.specs.SharedPoolCaching.{CachingParty, IsOut, ReturnsCaching, TakesCaching}

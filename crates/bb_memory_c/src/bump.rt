@@ -1,7 +1,7 @@
 //! A bump behind a handle.
 ghost use Rattle.std.specs.Prelude.{◌≡◌, Some};
 ghost use Rattle.bb_memory_traits.specs.Chunk.{IsRegion, region_at};
-ghost use Rattle.bb_memory.specs.Bump.{bump_of};
+ghost use Rattle.bb_memory_bump.specs.Bump.{bump_of};
 ghost use Rattle.bb_memory_c.specs.Answers.{ok, uninitialized};
 ghost use Rattle.bb_memory_c.specs.Calls.{Answers, AnswersFree, AnswersInfo, AnswersMake, AnswersRequest};
 ghost use Rattle.bb_memory_c.specs.OneOwner.{BumpAllocates, ShowsBump};

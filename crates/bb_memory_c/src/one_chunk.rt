@@ -1,7 +1,7 @@
 //! A one-chunk allocator behind a handle.
 ghost use Rattle.std.specs.Prelude.{◌≡◌, None, Some};
 ghost use Rattle.bb_memory_traits.specs.Chunk.{IsRegion, region_at};
-ghost use Rattle.bb_memory.specs.OneChunk.{one_chunk_of};
+ghost use Rattle.bb_memory_owned.specs.OneChunk.{one_chunk_of};
 ghost use Rattle.bb_memory_c.specs.Answers.{AnswersStill, TellsOfLayouts, no_figure, uninitialized};
 ghost use Rattle.bb_memory_c.specs.Calls.{Answers, AnswersFree, AnswersInfo, AnswersMake, AnswersRequest, AnswersResize};
 ghost use Rattle.bb_memory_c.specs.Calls.{AnswersReturn, AnswersWhether};

@@ -2,7 +2,7 @@
 ghost use Rattle.std.specs.Prelude.{◌≡◌, IfSome, vec_capacity};
 ghost use Rattle.std.specs.Arc.{arc_value};
 ghost use Rattle.bb_memory_traits.specs.Chunk.{region_at};
-ghost use Rattle.bb_memory.specs.SharedBump.{BumpParty};
+ghost use Rattle.bb_memory_bump.specs.SharedBump.{BumpParty};
 ghost use Rattle.bb_memory_c.specs.Answers.{uninitialized};
 ghost use Rattle.bb_memory_c.specs.Calls.{Answers, AnswersFree, AnswersInfo, AnswersJoin, AnswersLeave, AnswersMake};
 ghost use Rattle.bb_memory_c.specs.Calls.{AnswersRequest, IfBoth, IsThere, left_at, with_party};

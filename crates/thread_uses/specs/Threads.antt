@@ -8,7 +8,7 @@ use Rattle.bb_memory_traits.specs.LeastPlace.{least_place}
 use Rattle.bb_memory_pool_machine.specs.PoolLogs.{IsHeldAfter}
 use Rattle.bb_memory_traits.specs.declared.allocator.AllocationError.{AllocationError}
 use Rattle.bb_memory_traits.specs.declared.layout.Layout.{Layout}
-use Rattle.bb_memory.specs.SharedBump.{AgreeAt, BumpParty, MayTake, greatest_seen, scene_at}
+use Rattle.bb_memory_bump.specs.SharedBump.{AgreeAt, BumpParty, MayTake, greatest_seen, scene_at}
 use Rattle.bb_memory_shared_pools.specs.SharedPool.{PoolParty, SharedPool, TakenBucket, attach_entry, detach_entry, return_entry, with_entries}
 use Rattle.bb_memory_shared_pools.specs.SharedPoolNextFit.{MayTakeFrom, hint_of}
 

@@ -1,6 +1,6 @@
 //! Threads that carve one bump up, and the bump that one owner then has again.
 ghost use Rattle.std.specs.Prelude.{◌≡◌, IfOk};
-ghost use Rattle.bb_memory.specs.SharedBump.{BumpParty, MayTake};
+ghost use Rattle.bb_memory_bump.specs.SharedBump.{BumpParty, MayTake};
 ghost use Rattle.thread_uses.specs.Threads.{Asks, HasAsked, IsCarved};
 
 use bb_memory_bump::bump_allocator::BumpAllocator;

@@ -2,7 +2,7 @@
 ghost use Rattle.std.specs.Prelude.{◌≡◌, ◌+◌, ◌↔◌, ◌≤◌, ◌<◌, ℕ, Some, IfOk, IsOk, Ok, Err, length, slice_get};
 ghost use Rattle.std.specs.Prelude.{slice_index_or, IfErr, OnErr};
 ghost use Rattle.bb_memory_bump_machine.specs.BumpLogs.{BumpLog, chunks_won};
-ghost use Rattle.bb_memory.specs.SharedBump.{HaveChunksApart, MayTake};
+ghost use Rattle.bb_memory_bump.specs.SharedBump.{HaveChunksApart, MayTake};
 ghost use Rattle.bb_memory_traits.specs.Chunk.{AreApart, Chunk, IsInside, IsPart, chunk_end};
 ghost use Rattle.bb_memory_traits.specs.BumpObject.{chunk_at_or_after};
 ghost use Rattle.thread_uses.specs.Threads.{HaveNothingShared, Serves};

@@ -2,7 +2,7 @@
 
 use crate::engine::driving::Driven;
 use script_words::words::{Bounds, Numbers, PARTIES, Text, is, layout, party_of, region, write_words};
-use bb_memory_base::steps::{BumpOutcome, BumpStep, BumpWorld};
+use bb_memory_bump_machine::steps::{BumpOutcome, BumpStep, BumpWorld};
 use std::alloc::{AllocError, Global};
 
 impl Driven for BumpWorld {

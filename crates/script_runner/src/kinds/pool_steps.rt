@@ -2,7 +2,7 @@
 
 use crate::engine::driving::Driven;
 use script_words::words::{Numbers, PARTIES, Text, is, party_of, small, write_words};
-use bb_memory_base::steps::{PoolOutcome, PoolStep, PoolWorld};
+use bb_memory_pool_machine::steps::{PoolOutcome, PoolStep, PoolWorld};
 use std::alloc::{AllocError, Global};
 
 /// The most buckets that a script may ask for.

@@ -1,7 +1,7 @@
 use Rattle.std.proofs.Common.{◌<◌, ap, arith, refl}
 use Rattle.std.proofs.lemmas.Bool.{false≢true}
 use Rattle.bb_memory_traits.specs.Chunk.{region_at}
-use Rattle.bb_memory.specs.Pool.{CountedPool}
+use Rattle.bb_memory_owned.specs.Pool.{CountedPool}
 use Rattle.bb_memory_c.specs.Calls.{MayBeShared}
 use Rattle.bb_memory_c.proofs.Layouts.{not_fails, of_this}
 use Rattle.bb_memory_c.proofs.layout.cut_into.Goals as goal
