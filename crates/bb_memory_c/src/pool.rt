@@ -1,7 +1,8 @@
 //! A pool behind a handle.
 ghost use Rattle.std.specs.Prelude.{◌≡◌};
 ghost use Rattle.bb_memory_traits.specs.Chunk.{region_at};
-ghost use Rattle.bb_memory_owned.specs.Pool.{CountedPool, FreesBucket, HoldsPlace, MayBeCut};
+ghost use Rattle.bb_memory_owned.specs.Pool.{CountedPool, FreesBucket, HoldsPlace};
+ghost use Rattle.bb_memory_geometry.specs.Geometry.{MayBeCut};
 ghost use Rattle.bb_memory_c.specs.Calls.{AnswersFree, AnswersInfo, AnswersNumber, AnswersPlace, AnswersPoolMake};
 ghost use Rattle.bb_memory_c.specs.Calls.{AnswersRequest, AnswersReturn, AnswersWhether, HasRoom};
 ghost use Rattle.bb_memory_c.specs.OneOwner.{MakesPool, PoolAllocates, ShowsPool};

@@ -1,4 +1,4 @@
-use Rattle.bb_memory.proofs.one_chunk_allocator.OneChunkAllocator.TheSendSync.{the_send}
+use Rattle.bb_memory_owned.proofs.one_chunk_allocator.OneChunkAllocator.TheSendSync.{the_send}
 use Rattle.bb_memory_c.proofs.Crossing.{IsSend, owned, owning_send, two_send}
 use Rattle.bb_memory_c.specs.contracts.handle.OneChunkHandle.{the_row, the_type}
 
