@@ -23,7 +23,7 @@ pub fn carve(shared: &SharedBumpAllocator, party: BumpParty, layout: Layout) -> 
     party
 }
 
-/// Runs four workers, which ask a bump for a chunk each, all at once. Then it is one owner's again, and what is used of it is
+/// Runs four workers, which ask a bump for one chunk each, all at once. Then it is one owner's again, and what is used of it is
 /// exactly the greatest position that one of the four has seen. It is refused only where memory was.
 pub fn carved_by_four<R: Threads + Sync>(
     rt: &R,

@@ -33,7 +33,7 @@ fn ask_next_fit(pool: &SharedPoolAllocator, worker: &mut PoolParty, layout: Layo
     let _ = pool.allocate_next_fit(worker, layout);
 }
 
-/// Runs four workers, which take a bucket each, all at once. They meet when they are back: one list of steps has all their logs
+/// Runs four workers at once, which ask for one bucket each. They meet when they are back: one list of steps has all their logs
 /// and nothing else, and a flag is taken exactly where one of them holds the bucket, or it is detached. It is refused only where
 /// memory was.
 pub fn four_workers<R: Threads + Sync>(
