@@ -6,4 +6,5 @@ mod kinds;
 mod marks;
 mod out_of_memory;
 mod owner;
+mod reads;
 mod texts;

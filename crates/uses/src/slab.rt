@@ -79,6 +79,7 @@ impl<A: Allocator + Drop> Slab<A> {
     /// Stores one more record, behind the others. A refusal keeps all. It is refused in this order: with `Layout` where no layout
     /// has as many bytes, with `List` where memory was, with `Refused` as the allocator refuses to give as many, and with
     /// `NoExactChunk` where it gives more. The allocator is asked once, and only behind the first two tests.
+    #[tactic(auto, using(bb_memory_traits::proofs::Layouts::same_layout))]
     pub fn insert(&mut self, bytes: &[u8]) -> Result<(), InsertError>
         ensures stores { Stores A.geometry A.may_allocate self.old bytes.now result self.new }
         ensures asked_once { NotesRequest (A.note_after (A.geometry self.old.allocator))

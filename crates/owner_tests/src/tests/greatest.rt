@@ -1,4 +1,4 @@
-//! The greatest number of buckets that a pool of four held, behind each run.
+//! The greatest number of buckets that a pool of eight held, behind each run.
 use super::checks::{check, layout, same};
 use super::kinds::{fixed_over, pool_over};
 use bb_memory_owned::pool_allocator::{run_fixed_pool, run_pool};
@@ -14,7 +14,7 @@ fn commands() -> [Command; 4] {
 #[test]
 fn a_pool_that_ran_twice(rt: HostRuntime) {
     let (alloc, bucket) = (rt.alloc(), layout(&rt, 16, 8));
-    let pool = pool_over(alloc, bucket, 4096, 64);
+    let pool = pool_over(alloc, bucket, 4096, 128);
     let (mut pool, mut live) = (pool.expect(&rt, "there is such a pool"), Vec::new(alloc));
     check(&rt, run_base(&mut pool, &mut live, &commands()).is_ok());
     same(&rt, pool.greatest_held(), 2);
@@ -25,7 +25,7 @@ fn a_pool_that_ran_twice(rt: HostRuntime) {
 #[test]
 fn a_fixed_pool_that_ran_twice(rt: HostRuntime) {
     let (alloc, bucket) = (rt.alloc(), layout(&rt, 16, 8));
-    let pool = fixed_over::<4>(bucket, 4096, 64);
+    let pool = fixed_over::<8>(bucket, 4096, 128);
     let (mut pool, mut live) = (pool.expect(&rt, "there is such a pool"), Vec::new(alloc));
     check(&rt, run_full(&mut pool, &mut live, &commands()).is_ok());
     same(&rt, pool.greatest_held(), 2);
