@@ -4,8 +4,8 @@ ghost use Rattle.bb_memory_bump.specs.SharedBump.{BumpParty, MayTake, scene_at};
 ghost use Rattle.thread_uses.specs.Threads.{Asks, HasAsked, IsCarved};
 
 use bb_memory_bump::bump_allocator::BumpAllocator;
-use bb_memory_traits::layout::Layout;
 use bb_memory_bump::shared_bump::{BumpParty, SharedBumpAllocator};
+use bb_memory_traits::layout::Layout;
 use std::alloc::{AllocError, Global};
 use std::thread;
 use std::thread::Threads;

@@ -4,9 +4,9 @@ ghost use Rattle.bb_memory_traits.specs.declared.layout.Layout.{Layout};
 ghost use Rattle.bb_memory_shared_pools.specs.SharedPool.{AreFresh, HaveMet, HoldApart, PoolParty};
 ghost use Rattle.thread_uses.specs.Threads.{AllComeBack, AsksNextFit, ComesBack, HasAskedNextFit};
 
-use bb_memory_traits::layout::Layout;
 use bb_memory_owned::pool_allocator::pool_count_law;
 use bb_memory_shared_pools::shared_pool::{PoolParty, SharedPoolAllocator};
+use bb_memory_traits::layout::Layout;
 use std::alloc::{AllocError, Global};
 use std::thread;
 use std::thread::Threads;

@@ -6,9 +6,9 @@ ghost use Rattle.bb_memory_traits.specs.declared.layout.Layout.{Layout};
 ghost use Rattle.bb_memory_traits.specs.HeldBytes.{HeldBytes, held_region};
 ghost use Rattle.uses.specs.Requests.{HoldsThen, IsOfBytes, Leaves, MayGiveLonger, NotesRequest, Stores, records_in};
 
+use bb_memory_lists::lists::append_law;
 use bb_memory_traits::allocator::{AllocationError, Allocator, BaseAllocator};
 use bb_memory_traits::layout::{Chunk, Layout, LayoutError};
-use bb_memory_lists::lists::append_law;
 use bb_memory_traits::region::{Region, live_bytes_law};
 use std::alloc::{AllocError, Global};
 use std::marker::Model;

@@ -4,9 +4,11 @@ ghost use Rattle.bb_memory_pool_machine.specs.PoolLogs.{IsHeldAfter};
 
 use super::checks::refused;
 use super::marks::refuse_memory;
-use bb_memory_traits::layout::Layout;
 use bb_memory_owned::pool_allocator::PoolAllocator;
-use bb_memory_shared_pools::shared_pool::{AllocationError, Bucket, PoolParty, SharedPoolAllocator};
+use bb_memory_shared_pools::shared_pool::{
+    AllocationError, Bucket, PoolParty, SharedPoolAllocator,
+};
+use bb_memory_traits::layout::Layout;
 use std::alloc::Global;
 use std::process::Abort;
 

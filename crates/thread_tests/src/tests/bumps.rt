@@ -4,8 +4,8 @@ ghost use Rattle.std.specs.Prelude.{◌≡◌, All, IfOk, IfSome};
 use super::checks::{check, fail, refused, same};
 use super::marks::refuse_memory;
 use bb_memory_bump::bump_allocator::{AllocationError, BaseAllocator, BumpAllocator};
-use bb_memory_traits::layout::Layout;
 use bb_memory_bump::shared_bump::{BumpParty, SharedBumpAllocator};
+use bb_memory_traits::layout::Layout;
 use std::alloc::Global;
 use std::process::Abort;
 

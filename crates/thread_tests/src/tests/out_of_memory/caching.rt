@@ -3,9 +3,9 @@ ghost use Rattle.std.specs.Prelude.{◌≡◌};
 
 use crate::tests::buckets::two;
 use crate::tests::checks::{check, layout, refused};
+use bb_memory_shared_pools::shared_pool::{CachingParty, PoolParty, SharedPoolAllocator};
 use bb_memory_traits::allocator::AllocationError;
 use bb_memory_traits::layout::Layout;
-use bb_memory_shared_pools::shared_pool::{CachingParty, PoolParty, SharedPoolAllocator};
 use std::alloc::Global;
 use std::process::Abort;
 

@@ -3,10 +3,10 @@ ghost use Rattle.std.specs.Prelude.{◌≡◌, All, IfSome};
 
 use crate::tests::checks::{chunk, fail, layout, none_asked, refused, same};
 use crate::tests::marks::refuse_memory;
-use bb_memory_traits::allocator::{AllocationError, AllocationGrowError};
-use bb_memory_traits::layout::{Chunk, Layout};
 use bb_memory_owned::pool_allocator::FixedSizePoolAllocator;
 use bb_memory_shared_pools::shared_pool::{Bucket, PoolParty, SharedFixedSizePoolAllocator};
+use bb_memory_traits::allocator::{AllocationError, AllocationGrowError};
+use bb_memory_traits::layout::{Chunk, Layout};
 use std::alloc::Global;
 use std::process::Abort;
 

@@ -3,9 +3,11 @@ ghost use Rattle.std.specs.Prelude.{◌≡◌};
 
 use crate::tests::buckets::{counts, fit, found, give, hold, last_of, pool_at_last, take, two};
 use crate::tests::checks::{chunk, layout, none_asked, same};
+use bb_memory_shared_pools::shared_pool::{
+    AllocationShrinkError, Bucket, SharedPoolAllocator, by_number,
+};
 use bb_memory_traits::allocator::AllocationError::{AlignmentFailure, OutOfMemory, SizeTooLarge};
 use bb_memory_traits::layout::{Chunk, Layout};
-use bb_memory_shared_pools::shared_pool::{AllocationShrinkError, Bucket, SharedPoolAllocator, by_number};
 use std::process::Abort;
 
 // row: shared-pool-dropped-bucket, refused-shared-pools
