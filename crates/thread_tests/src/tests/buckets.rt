@@ -3,7 +3,7 @@ ghost use Rattle.std.specs.Prelude.{◌≡◌, ◌<◌, ℕ, All, IfSome};
 ghost use Rattle.bb_memory_base.specs.PoolLogs.{IsHeldAfter};
 
 use super::checks::refused;
-use super::marks::refuse_memory;
+use test_marks::refuse_memory;
 use bb_memory::layout::Layout;
 use bb_memory::pool_allocator::PoolAllocator;
 use bb_memory::shared_pool::{AllocationError, Bucket, PoolParty, SharedPoolAllocator};

@@ -1,5 +1,5 @@
 //! Checks, proved once: a test's own proof carries no more of a check than its call.
-use super::marks::{none_was_asked, some_was_refused};
+use test_marks::{none_was_asked, some_was_refused};
 use bb_memory::layout::{Chunk, Layout};
 use std::alloc::Global;
 use std::fmt::Debug;

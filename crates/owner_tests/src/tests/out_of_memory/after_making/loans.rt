@@ -1,7 +1,7 @@
 //! Loan books, of which a loan alone takes memory.
 use crate::tests::checks::{check, layout, none_asked, refused, same};
 use crate::tests::kinds::pool_over;
-use crate::tests::marks::{none_was_asked, refuse_memory, some_was_refused};
+use test_marks::{none_was_asked, refuse_memory, some_was_refused};
 use crate::tests::out_of_memory::loans::{FULL, NO_MEMORY, one_book, reply};
 use loan_book::LoanCall::{GiveBack, IsOut, Loan, Publish};
 use loan_book::LoanReply::{Kept, Out, Published, Refused, Returned};

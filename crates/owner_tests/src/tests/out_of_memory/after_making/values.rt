@@ -1,6 +1,6 @@
 //! Layouts, roundings, chunks and a region; and the laws.
 use crate::tests::checks::{check, layout, none_asked, refused, same};
-use crate::tests::marks::refuse_memory;
+use test_marks::refuse_memory;
 use bb_memory_bump::bump_allocator::bump_object_law;
 use bb_memory_core::one_chunk_allocator::one_chunk_object_law;
 use bb_memory_core::pool_allocator::{

@@ -2,7 +2,7 @@
 ghost use Rattle.std.specs.Prelude.{◌≡◌, All, IfSome};
 
 use crate::tests::checks::{chunk, fail, layout, none_asked, refused, same};
-use crate::tests::marks::refuse_memory;
+use test_marks::refuse_memory;
 use bb_memory::allocator::{AllocationError, AllocationGrowError};
 use bb_memory::layout::{Chunk, Layout};
 use bb_memory::pool_allocator::FixedSizePoolAllocator;
