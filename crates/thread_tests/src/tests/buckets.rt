@@ -1,5 +1,5 @@
 //! Shared pools of buckets of 128 bytes at 4096, and calls that promise no more than a further call needs.
-ghost use Rattle.std.specs.Prelude.{◌≡◌, ◌<◌, ℕ, All, IfSome};
+ghost use Rattle.std.specs.Prelude.{◌≡◌, ◌<◌, ℕ, All, IfOk, IfSome};
 ghost use Rattle.bb_memory_base.specs.PoolLogs.{IsHeldAfter};
 
 use super::checks::refused;
@@ -26,10 +26,7 @@ fn pool_of(
     if parties == 0 || !PoolAllocator::can_make(bucket, 4096, size) {
         return None;
     }
-    match SharedPoolAllocator::new(alloc, bucket, 4096, size, parties) {
-        Ok((pool, parties)) => Some((pool, parties)),
-        Err(_) => None,
-    }
+    SharedPoolAllocator::new(alloc, bucket, 4096, size, parties).ok()
 }
 
 /// Makes a pool over so many bytes, a second time where memory was refused. It may be refused from here on.
@@ -80,6 +77,26 @@ pub(super) fn two(
     (pool, first, second)
 }
 
+/// Asks for a bucket by a next-fit search, or by a pass.
+pub(super) fn ask<'a>(
+    pool: &'a SharedPoolAllocator,
+    party: &mut PoolParty,
+    layout: Layout,
+    next_fit: bool,
+) -> Result<Bucket<'a>, AllocationError>
+    requires { party.old.allocator ≡ pool.now }
+    ensures party { party.new.allocator ≡ pool.now }
+    ensures kept { (other : ℕ) → IsHeldAfter party.old.log other → IsHeldAfter party.new.log other }
+    ensures bucket { IfOk result (λ bucket. bucket.allocator ≡ pool.now) }
+    ensures held { IfOk result (λ bucket. IsHeldAfter party.new.log bucket.number) }
+{
+    if next_fit {
+        pool.allocate_next_fit(party, layout)
+    } else {
+        pool.allocate(party, layout)
+    }
+}
+
 /// Takes a bucket by a pass.
 pub(super) fn hold<'a>(
     rt: &impl Abort,
@@ -92,10 +109,8 @@ pub(super) fn hold<'a>(
     ensures bucket { result.allocator ≡ pool.now }
     ensures held { IsHeldAfter party.new.log result.number }
 {
-    match pool.allocate(party, layout) {
-        Ok(bucket) => bucket,
-        Err(_) => panic!(rt; "no bucket is free"),
-    }
+    let bucket = ask(pool, party, layout, false).ok();
+    bucket.expect(rt, "a bucket is free")
 }
 
 pub(super) fn found(bucket: &Bucket<'_>) -> Found {
@@ -113,10 +128,7 @@ pub(super) fn take(
     ensures party { party.new.allocator ≡ pool.now }
     ensures kept { (other : ℕ) → IsHeldAfter party.old.log other → IsHeldAfter party.new.log other }
 {
-    match pool.allocate(party, layout) {
-        Ok(bucket) => Ok(found(&bucket)),
-        Err(error) => Err(error),
-    }
+    Ok(found(&ask(pool, party, layout, false)?))
 }
 
 /// Asks for a bucket by a next-fit search, and drops its token.
@@ -126,13 +138,9 @@ pub(super) fn fit(
     layout: Layout,
 ) -> Result<Found, AllocationError>
     requires { party.old.allocator ≡ pool.now }
-    ensures party { party.new.allocator ≡ pool.now }
-    ensures kept { (other : ℕ) → IsHeldAfter party.old.log other → IsHeldAfter party.new.log other }
+    ensures { party.new.allocator ≡ pool.now }
 {
-    match pool.allocate_next_fit(party, layout) {
-        Ok(bucket) => Ok(found(&bucket)),
-        Err(error) => Err(error),
-    }
+    Ok(found(&ask(pool, party, layout, true)?))
 }
 
 pub(super) fn give(pool: &SharedPoolAllocator, party: &mut PoolParty, bucket: Bucket<'_>)

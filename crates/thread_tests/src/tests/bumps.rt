@@ -58,10 +58,8 @@ pub(super) fn share(
         Err(bump) => {
             refused(rt, alloc);
             is_unchanged(rt, alloc, &bump, of);
-            match shared(alloc, bump, parties) {
-                Ok(made) => made,
-                Err(_) => panic!(rt; "there is memory to share a bump"),
-            }
+            let made = shared(alloc, bump, parties).ok();
+            made.expect(rt, "there is memory to share a bump")
         }
     }
 }
@@ -77,10 +75,7 @@ fn shared(
     if parties == 0 {
         return Err(bump);
     }
-    match bump.share(alloc, parties) {
-        Ok(made) => Ok(made),
-        Err((bump, _)) => Err(bump),
-    }
+    bump.share(alloc, parties).map_err(|(bump, _)| bump)
 }
 
 /// Takes the last of these parties out.
@@ -125,10 +120,8 @@ pub(super) fn take(
     let Ok(layout) = Layout::from_size_align(size, align) else {
         return Err(AllocationError::SizeTooLarge);
     };
-    match shared.allocate(party, layout) {
-        Ok(chunk) => Ok((chunk.place(), chunk.len())),
-        Err(error) => Err(error),
-    }
+    let chunk = shared.allocate(party, layout)?;
+    Ok((chunk.place(), chunk.len()))
 }
 
 /// Returns the used space and the free space.

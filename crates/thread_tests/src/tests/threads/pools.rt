@@ -1,11 +1,12 @@
 //! Threads over one shared pool of at most eight buckets.
 ghost use Rattle.std.specs.Prelude.{◌≡◌, All};
 
-use crate::tests::buckets::{last_of, pool_at_last, take as ask};
+use crate::tests::buckets::{ask, give, last_of, pool_at_last, take as found};
 use crate::tests::checks::{check, layout, same};
 use crate::tests::slots::Slots;
 use bb_memory::layout::Layout;
-use bb_memory::shared_pool::{AllocationError, PoolParty, SharedPoolAllocator};
+use bb_memory::shared_pool::AllocationError::OutOfMemory;
+use bb_memory::shared_pool::{PoolParty, SharedPoolAllocator};
 use std::alloc::Global;
 use std::process::Abort;
 use std::thread;
@@ -28,17 +29,12 @@ fn take_one(rt: &impl Abort, pool: &SharedPoolAllocator, work: &Work, party: &mu
     requires { party.old.allocator ≡ pool.now }
     ensures { party.new.allocator ≡ pool.now }
 {
-    let given = if work.next_fit {
-        pool.allocate_next_fit(party, work.layout)
-    } else {
-        pool.allocate(party, work.layout)
-    };
-    if let Ok(bucket) = given {
+    if let Ok(bucket) = ask(pool, party, work.layout, work.next_fit) {
         let at = bucket.number() as usize;
         check(rt, work.buckets.mark(at));
         if work.returns {
             check(rt, work.buckets.unmark(at));
-            pool.deallocate_bucket(party, bucket);
+            give(pool, party, bucket);
         }
     }
 }
@@ -54,22 +50,6 @@ fn take(rt: &impl Abort, pool: &SharedPoolAllocator, work: &Work, mut party: Poo
     party
 }
 
-/// Takes in a thread for each party, all at once.
-fn in_threads(
-    rt: &(impl Threads + Sync + Abort),
-    pool: &SharedPoolAllocator,
-    work: &Work,
-    parties: Vec<PoolParty>,
-) -> Vec<PoolParty>
-    requires { All (λ party. party.allocator ≡ pool.now) parties.items }
-    ensures { All (λ party. party.allocator ≡ pool.entry.now) result.items }
-{
-    match thread::map_vec(rt, parties, &|party| take(rt, pool, work, party)) {
-        Ok(back) => back,
-        Err(_) => panic!(rt; "there is memory for threads"),
-    }
-}
-
 /// Makes a pool of this size for so many parties. Threads do the work, and then all parties meet, and one takes all buckets that
 /// are left: those from `left` on.
 fn all_take(
@@ -80,19 +60,19 @@ fn all_take(
     left: u32,
 ) {
     let (pool, parties) = pool_at_last(rt, alloc, size, parties);
-    let mut back = in_threads(rt, &pool, work, parties);
+    let Ok(mut back) = thread::map_vec(rt, parties, &|party| take(rt, &pool, work, party)) else {
+        panic!(rt; "there is memory for threads");
+    };
     pool.meet_all(&mut back);
     let mut party = last_of(rt, &pool, &mut back);
     for number in left..pool.number_of_buckets() {
         let place = (number as usize).saturating_mul(128).saturating_add(4096);
-        let found = ask(&pool, &mut party, work.layout);
-        same(rt, found, Ok((number, place, 48)));
+        same(rt, found(&pool, &mut party, work.layout), Ok((number, place, 48)));
     }
-    let found = ask(&pool, &mut party, work.layout);
-    same(rt, found, Err(AllocationError::OutOfMemory));
+    same(rt, found(&pool, &mut party, work.layout), Err(OutOfMemory));
 }
 
-/// Takes a bucket 1,000 times, and gives it back, in each of four threads.
+/// Takes a bucket 1,000 times and gives it back, in each of four threads.
 fn take_and_return(rt: &(impl Threads + Sync + Abort), alloc: Global, size: usize, next_fit: bool) {
     let work = Work {
         buckets: Slots::new(rt, alloc, 8),

@@ -20,10 +20,7 @@ fn four(alloc: Global) -> Option<(Four, Vec<PoolParty>)>
     if !FixedSizePoolAllocator::<4>::can_make(bucket, 4096, 1024) {
         return None;
     }
-    match SharedFixedSizePoolAllocator::new(alloc, bucket, 4096, 1024, 1) {
-        Ok((pool, parties)) => Some((pool, parties)),
-        Err(_) => None,
-    }
+    SharedFixedSizePoolAllocator::new(alloc, bucket, 4096, 1024, 1).ok()
 }
 
 /// Takes a bucket, and returns its number.
@@ -31,10 +28,7 @@ fn number(pool: &Four, party: &mut PoolParty, layout: Layout) -> Result<u32, All
     requires { party.old.allocator ≡ pool.now }
     ensures { party.new.allocator ≡ pool.now }
 {
-    match pool.allocate(party, layout) {
-        Ok(bucket) => Ok(bucket.number()),
-        Err(error) => Err(error),
-    }
+    Ok(pool.allocate(party, layout)?.number())
 }
 
 /// Grows a bucket's chunk, and checks the answer.
@@ -61,19 +55,16 @@ fn fills(rt: &impl Abort, pool: &Four, mut parties: Vec<PoolParty>)
 {
     let mut party = parties.pop().expect(rt, "there is a party");
     let (small, medium, large) = (layout(rt, 48, 4), layout(rt, 64, 4), layout(rt, 129, 4));
-    let Ok(mut first) = pool.allocate(&mut party, small) else {
-        return fail(rt, "no bucket is free");
-    };
+    let first = pool.allocate(&mut party, small);
+    let mut first = first.expect(rt, "a bucket is free");
     same(rt, (first.number(), first.chunk().place()), (0, 4096));
     same(rt, number(pool, &mut party, small), Ok(1));
     same(rt, number(pool, &mut party, small), Ok(2));
     same(rt, number(pool, &mut party, small), Ok(3));
-    let fifth = number(pool, &mut party, small);
-    same(rt, fifth, Err(AllocationError::OutOfMemory));
+    same(rt, number(pool, &mut party, small), Err(AllocationError::OutOfMemory));
     let grown = chunk(rt, 4096, 64);
     grow(rt, pool, &mut first, small, medium, Ok(grown));
-    let full = Err(AllocationGrowError::OutOfMemory);
-    grow(rt, pool, &mut first, medium, large, full);
+    grow(rt, pool, &mut first, medium, large, Err(AllocationGrowError::OutOfMemory));
     same(rt, first.chunk(), grown);
 }
 

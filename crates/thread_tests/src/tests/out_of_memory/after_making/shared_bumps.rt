@@ -16,7 +16,8 @@ fn two_parties(rt: HostRuntime) {
     none_asked(&rt, rt.alloc());
 }
 
-// row: share-keeps-position
+/// Where a request for memory is refused, the bump comes back with its text.
+// row: share-keeps-position, refused-share
 #[test]
 fn what_was_used_stays_used(rt: HostRuntime) {
     let (shared, mut a, mut b) = two(&rt, rt.alloc(), (4096, 64, 40));
@@ -25,16 +26,6 @@ fn what_was_used_stays_used(rt: HostRuntime) {
     same(&rt, shared.start_address(), 4096);
     same(&rt, shared.total_space(), 64);
     same(&rt, end(shared, b), (4096, 64, 40));
-    none_asked(&rt, rt.alloc());
-}
-
-/// Where a request for memory is refused, the bump comes back with its text.
-// row: refused-share
-#[test]
-fn a_refused_share_hands_the_bump_back(rt: HostRuntime) {
-    let (shared, mut a, b) = two(&rt, rt.alloc(), (4096, 1024, 48));
-    same(&rt, spaces(&shared, &mut a), (48, 976));
-    same(&rt, end(shared, b), (4096, 1024, 48));
     none_asked(&rt, rt.alloc());
 }
 
