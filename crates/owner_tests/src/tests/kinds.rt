@@ -4,7 +4,6 @@ ghost use Rattle.bb_memory_traits.specs.Chunk.{region_at};
 ghost use Rattle.bb_memory_core.specs.Pool.{StandsFor};
 
 use super::checks::{check, check_at, none_asked, refused, same};
-use test_marks::refuse_memory;
 use super::owner::Owner;
 use bb_memory_bump::bump_allocator::BumpAllocator;
 use bb_memory_core::one_chunk_allocator::OneChunkAllocator;
@@ -13,6 +12,7 @@ use bb_memory_traits::allocator::{BaseAllocator, Command, Reply};
 use bb_memory_traits::layout::Layout;
 use std::alloc::{AllocError, Global};
 use std::process::Abort;
+use test_marks::refuse_memory;
 
 /// The region's start and size, and a bucket's size and alignment.
 pub(super) type Of = [usize; 4];

@@ -1,7 +1,8 @@
 //! Readers and writers that fail at each of their calls in turn, and a script that is cut at every byte.
 use super::checks::check_at;
 use super::table::ends;
-use script_runner::{Status, run};
+use script_runner::Status::{self, Done, Unreadable};
+use script_runner::run;
 use std::alloc::Global;
 use std::io;
 use std::io::{ErrorKind, Read, Write};
@@ -24,13 +25,8 @@ used 1024 free 0 total 1024\n";
 type Row = (&'static [u8], &'static [u8], usize, Status);
 
 const SCRIPTS: [Row; 2] = [
-    (FIRST_PATH, FIRST_PATH_LINES, 49, Status::Done),
-    (
-        b"bump 4096 8\nbad\n",
-        b"line 2: refused\n",
-        4,
-        Status::Unreadable,
-    ),
+    (FIRST_PATH, FIRST_PATH_LINES, 49, Done),
+    (b"bump 4096 8\nbad\n", b"line 2: refused\n", 4, Unreadable),
 ];
 
 /// Gives its bytes seven at a time, and fails at one of its reads.
@@ -85,7 +81,13 @@ impl Write for CountingWriter<'_> {
 }
 
 /// Runs the script of row `bump-first-path` over a failing reader, and checks status and output.
-fn reads(rt: &impl Abort, alloc: Global, fails_read: (usize, ErrorKind), ends: Status, lines: &[u8]) {
+fn reads(
+    rt: &impl Abort,
+    alloc: Global,
+    fails_read: (usize, ErrorKind),
+    ends: Status,
+    lines: &[u8],
+) {
     let mut told = Vec::new(alloc);
     let reader = FailingReader {
         left: FIRST_PATH,
@@ -101,7 +103,7 @@ fn each_read_fails(rt: &impl Abort, alloc: Global, fault: ErrorKind, ends: Statu
     for at in 1..12 {
         reads(rt, alloc, (at, fault), ends, b"");
     }
-    reads(rt, alloc, (12, fault), Status::Done, FIRST_PATH_LINES);
+    reads(rt, alloc, (12, fault), Done, FIRST_PATH_LINES);
 }
 
 // row: reader-fails-in-turn
@@ -110,7 +112,7 @@ fn reader_fails_in_turn(rt: HostRuntime) {
     each_read_fails(&rt, rt.alloc(), ErrorKind::Other, Status::InputFailed);
     each_read_fails(&rt, rt.alloc(), ErrorKind::OutOfMemory, Status::OutOfMemory);
     let interrupted = (3, ErrorKind::Interrupted);
-    reads(&rt, rt.alloc(), interrupted, Status::Done, FIRST_PATH_LINES);
+    reads(&rt, rt.alloc(), interrupted, Done, FIRST_PATH_LINES);
 }
 
 /// Runs a script over a writer. Checks that it ends with this status after so many writes and flushes, and that the output begins
@@ -196,10 +198,10 @@ fn cuts(rt: &impl Abort, alloc: Global, from: usize, to: usize, (status, lines):
 #[test]
 fn script_cut_at_every_byte(rt: HostRuntime) {
     for row in &UNREADABLE_CUTS {
-        cuts(&rt, rt.alloc(), row.0, row.1, (Status::Unreadable, row.2));
+        cuts(&rt, rt.alloc(), row.0, row.1, (Unreadable, row.2));
     }
     for row in &DONE_CUTS {
         let lines = FIRST_PATH_LINES.get(..row.2).unwrap_or(b"no such lines");
-        cuts(&rt, rt.alloc(), row.0, row.1, (Status::Done, lines));
+        cuts(&rt, rt.alloc(), row.0, row.1, (Done, lines));
     }
 }

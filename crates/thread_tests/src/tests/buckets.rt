@@ -3,12 +3,12 @@ ghost use Rattle.std.specs.Prelude.{◌≡◌, ◌<◌, ℕ, All, IfOk, IfSome};
 ghost use Rattle.bb_memory_base.specs.PoolLogs.{IsHeldAfter};
 
 use super::checks::refused;
-use test_marks::refuse_memory;
 use bb_memory::layout::Layout;
 use bb_memory::pool_allocator::PoolAllocator;
 use bb_memory::shared_pool::{AllocationError, Bucket, PoolParty, SharedPoolAllocator};
 use std::alloc::Global;
 use std::process::Abort;
+use test_marks::refuse_memory;
 
 /// A bucket's number, and its chunk's place and length.
 pub(super) type Found = (u32, usize, usize);
@@ -26,7 +26,10 @@ fn pool_of(
     if parties == 0 || !PoolAllocator::can_make(bucket, 4096, size) {
         return None;
     }
-    SharedPoolAllocator::new(alloc, bucket, 4096, size, parties).ok()
+    match SharedPoolAllocator::new(alloc, bucket, 4096, size, parties) {
+        Ok((pool, parties)) => Some((pool, parties)),
+        Err(_) => None,
+    }
 }
 
 /// Makes a pool over so many bytes, a second time where memory was refused. It may be refused from here on.

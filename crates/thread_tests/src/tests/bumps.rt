@@ -1,13 +1,13 @@
 //! Shared bumps, and calls that promise no more than a further call needs.
 ghost use Rattle.std.specs.Prelude.{◌≡◌, All, IfOk, IfSome};
 
-use super::checks::{check, fail, refused, same};
-use test_marks::refuse_memory;
+use super::checks::{check, refused, same};
 use bb_memory::bump_allocator::{AllocationError, BaseAllocator, BumpAllocator};
 use bb_memory::layout::Layout;
 use bb_memory::shared_bump::{BumpParty, SharedBumpAllocator};
 use std::alloc::Global;
 use std::process::Abort;
+use test_marks::refuse_memory;
 
 /// A start, a size and the used space.
 pub(super) type Of = (usize, usize, usize);
@@ -34,10 +34,8 @@ fn is_unchanged(rt: &impl Abort, alloc: Global, bump: &BumpAllocator, of: Of) {
     let text = format!(in alloc;
         "BumpAllocator {{ start: {start}, size: {size}, current_position: {used} }}"
     );
-    match (format!(in alloc; "{bump}"), text) {
-        (Ok(told), Ok(text)) => check(rt, told.as_str() == text.as_str()),
-        _ => fail(rt, "there is memory for a text"),
-    }
+    let told = format!(in alloc; "{bump}").expect(rt, "there is memory for a text");
+    check(rt, told == text.expect(rt, "there is memory for a text"));
 }
 
 /// Shares a bump, a second time where memory was refused: then it comes back unchanged. Memory may be refused from here on.

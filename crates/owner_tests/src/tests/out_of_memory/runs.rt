@@ -33,7 +33,8 @@ fn replies<A: Kind>(
 /// Runs commands by a fresh allocator, and checks the replies.
 fn replied<A: Kind>(rt: &impl Abort, alloc: Global, commands: &[Command], wanted: &[Reply]) {
     let mut owner = made::<A>(rt, alloc, [4096, 1024, 0, 0]);
-    check(rt, replies(rt, alloc, &mut owner, commands).as_slice() == wanted);
+    let told = replies(rt, alloc, &mut owner, commands);
+    check(rt, told.as_slice() == wanted);
 }
 
 fn given(rt: &impl Abort, place: usize, len: usize) -> Reply {
@@ -51,7 +52,13 @@ fn a_bump_is_filled(rt: HostRuntime) {
         Allocate(layout(&rt, 1, 1)),
     ];
     let (first, second) = (given(&rt, 4096, 48), given(&rt, 4160, 10));
-    let wanted = [first, Passed, second, given(&rt, 4170, 950), Refused(OutOfMemory)];
+    let wanted = [
+        first,
+        Passed,
+        second,
+        given(&rt, 4170, 950),
+        Refused(OutOfMemory),
+    ];
     replied::<BumpAllocator>(&rt, rt.alloc(), &commands, &wanted);
 }
 
@@ -59,26 +66,38 @@ fn a_bump_is_filled(rt: HostRuntime) {
 #[test]
 fn one_chunk_is_resized(rt: HostRuntime) {
     let (small, large, wide) = (layout(&rt, 48, 4), layout(&rt, 64, 4), layout(&rt, 64, 8));
-    let commands = [Allocate(small), Shrink(0, large, small), Grow(0, small, wide), Release(0)];
+    let commands = [
+        Allocate(small),
+        Shrink(0, large, small),
+        Grow(0, small, wide),
+        Release(0),
+    ];
     let (whole, shrunk) = (given(&rt, 4096, 1024), given(&rt, 4096, 48));
     let wanted = [whole, shrunk, GrowRefused(AlignmentFailure), Released];
     replied::<OneChunkAllocator>(&rt, rt.alloc(), &commands, &wanted);
 }
 
-/// Takes two buckets of a pool of four, gives one back, and takes one more. After a second run all are held, and a third one
-/// gives no bucket but the one that came back.
-fn fills<A: Buckets>(rt: &impl Abort, alloc: Global, of: Of) {
-    let mut pool = made::<A>(rt, alloc, of);
+/// Takes two buckets, gives one back, and takes one more. Checks how many are held then, and how many were at most.
+fn takes<A: Buckets>(
+    rt: &impl Abort,
+    alloc: Global,
+    pool: &mut Owner<A>,
+    counts: (u32, u32, bool),
+) -> Vec<Reply> {
     let take = Allocate(Layout::empty());
     let commands = [take, take, Release(0), take];
-    for (held, greatest) in [(2u32, 2u32), (4, 4)] {
-        same(rt, replies(rt, alloc, &mut pool, &commands).len(), 4);
-        same(rt, pool.allocator().told(0, 0).0, (held, greatest, held < 4));
-    }
-    let told = replies(rt, alloc, &mut pool, &commands);
-    let full = Refused(OutOfMemory);
-    check(rt, told.starts_with([full, full, Released].as_slice()));
-    same(rt, pool.allocator().told(0, 0).0, (4, 4, false));
+    let told = replies(rt, alloc, pool, &commands);
+    same(rt, pool.allocator().told(0, 0).0, counts);
+    told
+}
+
+/// Takes all buckets of a pool of four by two runs. A third one is refused a bucket.
+fn fills<A: Buckets>(rt: &impl Abort, alloc: Global, of: Of) {
+    let mut pool = made::<A>(rt, alloc, of);
+    same(rt, takes(rt, alloc, &mut pool, (2, 2, true)).len(), 4);
+    same(rt, takes(rt, alloc, &mut pool, (4, 4, false)).len(), 4);
+    let told = takes(rt, alloc, &mut pool, (4, 4, false));
+    same(rt, told.first().copied(), Some(Refused(OutOfMemory)));
 }
 
 /// The fixed pool's region has room for eight buckets.

@@ -1,5 +1,7 @@
 //! Replays of steps. A refused replay leaves its world unchanged, and is made again.
 use crate::tests::checks::{check, chunk, layout, refused, same};
+use bb_memory_base::steps::PoolOutcome::{Loses, Takes};
+use bb_memory_base::steps::PoolStep::Try;
 use bb_memory_base::steps::{BumpOutcome, BumpStep, BumpWorld, PoolOutcome, PoolStep, PoolWorld};
 use std::alloc::{AllocError, Global};
 use std::process::Abort;
@@ -53,17 +55,9 @@ fn a_bump_is_replayed(rt: HostRuntime) {
     same(&rt, world.used_space(), 40);
 }
 
-const STEPS: [PoolStep; 3] = [
-    PoolStep::Try { party: 0 },
-    PoolStep::Try { party: 1 },
-    PoolStep::Try { party: 1 },
-];
+const STEPS: [PoolStep; 3] = [Try { party: 0 }, Try { party: 1 }, Try { party: 1 }];
 
-const OUTCOMES: [PoolOutcome; 3] = [
-    PoolOutcome::Takes(0),
-    PoolOutcome::Loses(0),
-    PoolOutcome::Takes(1),
-];
+const OUTCOMES: [PoolOutcome; 3] = [Takes(0), Loses(0), Takes(1)];
 
 /// Replays the steps, at a second trial where memory was refused: then the pool is still fresh.
 fn replayed_by_pool(rt: &impl Abort, alloc: Global, world: &mut PoolWorld) -> Vec<PoolOutcome> {

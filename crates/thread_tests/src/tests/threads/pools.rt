@@ -50,6 +50,22 @@ fn take(rt: &impl Abort, pool: &SharedPoolAllocator, work: &Work, mut party: Poo
     party
 }
 
+/// Takes in a thread for each party, all at once.
+fn in_threads(
+    rt: &(impl Threads + Sync + Abort),
+    pool: &SharedPoolAllocator,
+    work: &Work,
+    parties: Vec<PoolParty>,
+) -> Vec<PoolParty>
+    requires { All (λ party. party.allocator ≡ pool.now) parties.items }
+    ensures { All (λ party. party.allocator ≡ pool.entry.now) result.items }
+{
+    match thread::map_vec(rt, parties, &|party| take(rt, pool, work, party)) {
+        Ok(back) => back,
+        Err(_) => panic!(rt; "there is memory for threads"),
+    }
+}
+
 /// Makes a pool of this size for so many parties. Threads do the work, and then all parties meet, and one takes all buckets that
 /// are left: those from `left` on.
 fn all_take(
@@ -60,14 +76,16 @@ fn all_take(
     left: u32,
 ) {
     let (pool, parties) = pool_at_last(rt, alloc, size, parties);
-    let Ok(mut back) = thread::map_vec(rt, parties, &|party| take(rt, &pool, work, party)) else {
-        panic!(rt; "there is memory for threads");
-    };
+    let mut back = in_threads(rt, &pool, work, parties);
     pool.meet_all(&mut back);
     let mut party = last_of(rt, &pool, &mut back);
     for number in left..pool.number_of_buckets() {
         let place = (number as usize).saturating_mul(128).saturating_add(4096);
-        same(rt, found(&pool, &mut party, work.layout), Ok((number, place, 48)));
+        same(
+            rt,
+            found(&pool, &mut party, work.layout),
+            Ok((number, place, 48)),
+        );
     }
     same(rt, found(&pool, &mut party, work.layout), Err(OutOfMemory));
 }

@@ -1,12 +1,12 @@
 //! Held buckets: their count, the greatest one so far, buckets by number, and the reads of a request.
 use crate::tests::checks::{check, layout, none_asked, refused, same};
 use crate::tests::kinds::{Kind, fixed_over, pool_over};
-use test_marks::refuse_memory;
 use bb_memory_core::pool_allocator::{
     AllocationError, BaseAllocator, FixedSizePoolAllocator, PoolAllocator,
 };
 use std::alloc::Global;
 use std::process::Abort;
+use test_marks::refuse_memory;
 
 /// How many buckets are held, how many were at most, and whether there is room for one more.
 type Counts = (u32, u32, bool);
@@ -94,8 +94,8 @@ fn goes_round(rt: &impl Abort, alloc: Global, made: Option<impl Buckets>, bucket
         counts(rt, &pool, held, held, buckets);
         takes(rt, &mut pool, 16);
     }
-    for size in [16, 17] {
-        check(rt, pool.allocate(layout(rt, size, 8)).is_err());
+    for (size, align) in [(16, 8), (17, 8), (16, 32)] {
+        check(rt, pool.allocate(layout(rt, size, align)).is_err());
     }
     has_none_between(rt, &mut pool, buckets);
     for number in 0..buckets {

@@ -1,7 +1,6 @@
 //! Calls that clear bytes. The region's bytes are all 7 at first.
 use crate::tests::checks::{check, chunk, layout, none_asked, refused, same};
 use crate::tests::kinds::{Of, fixed_over, fresh};
-use test_marks::refuse_memory;
 use crate::tests::owner::Owner;
 use bb_memory_bump::bump_allocator::BumpAllocator;
 use bb_memory_core::one_chunk_allocator::OneChunkAllocator;
@@ -11,6 +10,7 @@ use bb_memory_traits::allocator::{
 };
 use std::alloc::Global;
 use std::process::Abort;
+use test_marks::refuse_memory;
 use uses::chunk_budget::ChunkBudget;
 
 /// Asks for a chunk, and returns where it begins.

@@ -1,14 +1,14 @@
 //! A shared pool of at most four buckets of 128 bytes.
 ghost use Rattle.std.specs.Prelude.{◌≡◌, All, IfSome};
 
-use crate::tests::checks::{chunk, fail, layout, none_asked, refused, same};
-use test_marks::refuse_memory;
+use crate::tests::checks::{check, chunk, layout, none_asked, refused, same};
 use bb_memory::allocator::{AllocationError, AllocationGrowError};
 use bb_memory::layout::{Chunk, Layout};
 use bb_memory::pool_allocator::FixedSizePoolAllocator;
 use bb_memory::shared_pool::{Bucket, PoolParty, SharedFixedSizePoolAllocator};
 use std::alloc::Global;
 use std::process::Abort;
+use test_marks::refuse_memory;
 
 type Four = SharedFixedSizePoolAllocator<4>;
 
@@ -20,7 +20,10 @@ fn four(alloc: Global) -> Option<(Four, Vec<PoolParty>)>
     if !FixedSizePoolAllocator::<4>::can_make(bucket, 4096, 1024) {
         return None;
     }
-    SharedFixedSizePoolAllocator::new(alloc, bucket, 4096, 1024, 1).ok()
+    match SharedFixedSizePoolAllocator::new(alloc, bucket, 4096, 1024, 1) {
+        Ok((pool, parties)) => Some((pool, parties)),
+        Err(_) => None,
+    }
 }
 
 /// Takes a bucket, and returns its number.
@@ -44,7 +47,7 @@ fn grow(
     ensures { bucket.new.allocator ≡ pool.now }
 {
     if bucket.chunk().place() % old.align() != 0 {
-        return fail(rt, "the bucket isn't aligned");
+        return check(rt, false);
     }
     same(rt, pool.grow(bucket, old, new), wanted);
 }
@@ -61,10 +64,21 @@ fn fills(rt: &impl Abort, pool: &Four, mut parties: Vec<PoolParty>)
     same(rt, number(pool, &mut party, small), Ok(1));
     same(rt, number(pool, &mut party, small), Ok(2));
     same(rt, number(pool, &mut party, small), Ok(3));
-    same(rt, number(pool, &mut party, small), Err(AllocationError::OutOfMemory));
+    same(
+        rt,
+        number(pool, &mut party, small),
+        Err(AllocationError::OutOfMemory),
+    );
     let grown = chunk(rt, 4096, 64);
     grow(rt, pool, &mut first, small, medium, Ok(grown));
-    grow(rt, pool, &mut first, medium, large, Err(AllocationGrowError::OutOfMemory));
+    grow(
+        rt,
+        pool,
+        &mut first,
+        medium,
+        large,
+        Err(AllocationGrowError::OutOfMemory),
+    );
     same(rt, first.chunk(), grown);
 }
 
