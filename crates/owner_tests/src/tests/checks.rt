@@ -15,11 +15,6 @@ pub(super) fn same<T: PartialEq + Debug + Copy>(rt: &impl Abort, found: T, wante
     assert_eq!(rt; found, wanted);
 }
 
-/// Checks a condition. A failure names the number.
-pub(super) fn check_at(rt: &impl Abort, found: bool, at: usize) {
-    assert!(rt; found, "at {at}");
-}
-
 /// Checks that memory was refused.
 pub(super) fn refused(rt: &impl Abort, alloc: Global) {
     assert!(rt; some_was_refused(alloc), "no memory was refused");

@@ -3,12 +3,12 @@ ghost use Rattle.std.specs.Prelude.{◌≡◌, [], IfSome};
 ghost use Rattle.bb_memory_traits.specs.Chunk.{region_at};
 ghost use Rattle.bb_memory_core.specs.Pool.{StandsFor};
 
-use super::checks::{check, check_at, none_asked, refused, same};
+use super::checks::refused;
 use super::owner::Owner;
 use bb_memory_bump::bump_allocator::BumpAllocator;
 use bb_memory_core::one_chunk_allocator::OneChunkAllocator;
 use bb_memory_core::pool_allocator::{FixedSizePoolAllocator, PoolAllocator};
-use bb_memory_traits::allocator::{BaseAllocator, Command, Reply};
+use bb_memory_traits::allocator::{BaseAllocator, Command};
 use bb_memory_traits::layout::Layout;
 use std::alloc::{AllocError, Global};
 use std::process::Abort;

@@ -4,7 +4,6 @@ use super::table::{check_rows, ends};
 use bb_memory_base::steps::{bump_theorem, pool_theorem};
 use script_runner::Status::{self, Done, Unreadable};
 use script_runner::{equality_law, lines_law};
-use std::alloc::Global;
 
 const BUMP: &str = "\
 bump-odd-start-refused | bump 4097 8; alloc 8 8; show | \
