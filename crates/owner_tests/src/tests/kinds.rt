@@ -8,7 +8,7 @@ use super::owner::Owner;
 use bb_memory_bump::bump_allocator::BumpAllocator;
 use bb_memory_core::one_chunk_allocator::OneChunkAllocator;
 use bb_memory_core::pool_allocator::{FixedSizePoolAllocator, PoolAllocator};
-use bb_memory_traits::allocator::{BaseAllocator, Command};
+use bb_memory_traits::allocator::{BaseAllocator, Command, Reply};
 use bb_memory_traits::layout::Layout;
 use std::alloc::{AllocError, Global};
 use std::process::Abort;
