@@ -1,5 +1,7 @@
 //! Replays of steps. A refused replay leaves its world unchanged, and is made again.
 use crate::tests::checks::{check, chunk, layout, refused, same};
+use bb_memory_base::steps::PoolOutcome::{Loses, Takes};
+use bb_memory_base::steps::PoolStep::Try;
 use bb_memory_base::steps::{BumpOutcome, BumpStep, BumpWorld, PoolOutcome, PoolStep, PoolWorld};
 use std::alloc::{AllocError, Global};
 use std::process::Abort;
@@ -32,22 +34,18 @@ fn replayed_by_bump(
     world.replay(steps).expect(rt, "there is memory again")
 }
 
-// row: steps-bump-race, refused-worlds, refused-replay
+// row: refused-worlds, refused-replay
 #[test]
-fn a_bump_is_raced_for(rt: HostRuntime) {
+fn a_bump_is_replayed(rt: HostRuntime) {
     let alloc = rt.alloc();
     let layout = layout(&rt, 40, 1);
     let steps = [
         BumpStep::Read { party: 0, layout },
-        BumpStep::Read { party: 1, layout },
-        BumpStep::Exchange { party: 1 },
         BumpStep::Exchange { party: 0 },
     ];
     let outcomes = [
         BumpOutcome::Sees(0),
-        BumpOutcome::Sees(0),
         BumpOutcome::Wins(chunk(&rt, 4096, 40)),
-        BumpOutcome::RefusedAtLoss(40),
     ];
     let Some(mut world) = made(&rt, alloc, BumpWorld::new(alloc, 4096, 64, 64)) else {
         return;
@@ -57,26 +55,9 @@ fn a_bump_is_raced_for(rt: HostRuntime) {
     same(&rt, world.used_space(), 40);
 }
 
-const STEPS: [PoolStep; 6] = [
-    PoolStep::Try { party: 0 },
-    PoolStep::Try { party: 1 },
-    PoolStep::Try { party: 2 },
-    PoolStep::GiveBack {
-        party: 0,
-        bucket: 0,
-    },
-    PoolStep::Try { party: 1 },
-    PoolStep::Try { party: 2 },
-];
+const STEPS: [PoolStep; 3] = [Try { party: 0 }, Try { party: 1 }, Try { party: 1 }];
 
-const OUTCOMES: [PoolOutcome; 6] = [
-    PoolOutcome::Takes(0),
-    PoolOutcome::Loses(0),
-    PoolOutcome::Loses(0),
-    PoolOutcome::Gives(0),
-    PoolOutcome::Takes(1),
-    PoolOutcome::RefusedAtLoss(1),
-];
+const OUTCOMES: [PoolOutcome; 3] = [Takes(0), Loses(0), Takes(1)];
 
 /// Replays the steps, at a second trial where memory was refused: then the pool is still fresh.
 fn replayed_by_pool(rt: &impl Abort, alloc: Global, world: &mut PoolWorld) -> Vec<PoolOutcome> {
@@ -85,22 +66,17 @@ fn replayed_by_pool(rt: &impl Abort, alloc: Global, world: &mut PoolWorld) -> Ve
     }
     refused(rt, alloc);
     same(rt, (world.holder(0), world.holder(1)), (None, None));
-    let give = PoolStep::GiveBack {
-        party: 0,
-        bucket: 0,
-    };
-    same(rt, world.step(give), PoolOutcome::Passed);
     world.replay(&STEPS).expect(rt, "there is memory again")
 }
 
-// row: steps-pool-never-full, refused-worlds, refused-replay
+// row: refused-worlds, refused-replay
 #[test]
-fn a_pool_is_never_full(rt: HostRuntime) {
+fn a_pool_is_replayed(rt: HostRuntime) {
     let alloc = rt.alloc();
     let Some(mut world) = made(&rt, alloc, PoolWorld::new(alloc, 2, 64)) else {
         return;
     };
     let told = replayed_by_pool(&rt, alloc, &mut world);
     check(&rt, told.as_slice() == OUTCOMES.as_slice());
-    same(&rt, (world.holder(0), world.holder(1)), (None, Some(1)));
+    same(&rt, (world.holder(0), world.holder(1)), (Some(0), Some(1)));
 }
