@@ -7,7 +7,7 @@ use bb_memory_bump::bump_allocator::BumpAllocator;
 use bb_memory_owned::one_chunk_allocator::OneChunkAllocator;
 use bb_memory_owned::pool_allocator::{FixedSizePoolAllocator, PoolAllocator};
 use bb_memory_traits::allocator::AllocationError::OutOfMemory;
-use bb_memory_traits::allocator::AllocationGrowError::AlignmentFailure;
+use bb_memory_traits::allocator::AllocationGrowError::{self, AlignmentFailure, GrowWouldShrink};
 use bb_memory_traits::allocator::Command::{self, Allocate, Grow, Release, Shrink};
 use bb_memory_traits::allocator::Reply::{self, GrowRefused, Passed, Refused, Released};
 use bb_memory_traits::layout::Layout;
@@ -30,9 +30,15 @@ fn replies<A: Kind>(
     A::run(owner, commands).expect(rt, "there is memory for a run")
 }
 
-/// Runs commands by a fresh allocator, and checks the replies.
-fn replied<A: Kind>(rt: &impl Abort, alloc: Global, commands: &[Command], wanted: &[Reply]) {
-    let mut owner = made::<A>(rt, alloc, [4096, 1024, 0, 0]);
+/// Runs commands by a fresh allocator of 1024 bytes at `start`, and checks the replies.
+fn replied<A: Kind>(
+    rt: &impl Abort,
+    alloc: Global,
+    start: usize,
+    commands: &[Command],
+    wanted: &[Reply],
+) {
+    let mut owner = made::<A>(rt, alloc, [start, 1024, 0, 0]);
     let told = replies(rt, alloc, &mut owner, commands);
     check(rt, told.as_slice() == wanted);
 }
@@ -59,22 +65,35 @@ fn a_bump_is_filled(rt: HostRuntime) {
         given(&rt, 4170, 950),
         Refused(OutOfMemory),
     ];
-    replied::<BumpAllocator>(&rt, rt.alloc(), &commands, &wanted);
+    replied::<BumpAllocator>(&rt, rt.alloc(), 4096, &commands, &wanted);
 }
 
-// row: refused-run
+// row: one-resizes, refused-run
 #[test]
 fn one_chunk_is_resized(rt: HostRuntime) {
-    let (small, large, wide) = (layout(&rt, 48, 4), layout(&rt, 64, 4), layout(&rt, 64, 8));
+    let (small, large) = (layout(&rt, 48, 4), layout(&rt, 64, 4));
     let commands = [
         Allocate(small),
-        Shrink(0, large, small),
-        Grow(0, small, wide),
-        Release(0),
+        Shrink(0, large, layout(&rt, 32, 4)),
+        Grow(0, small, large),
+        Grow(0, large, large),
+        Grow(0, small, layout(&rt, 64, 8)),
+        Grow(0, small, layout(&rt, 1022, 4)),
+        Grow(0, small, layout(&rt, 1021, 4)),
+        Grow(0, layout(&rt, 48, 16), layout(&rt, 64, 16)),
     ];
-    let (whole, shrunk) = (given(&rt, 4096, 1024), given(&rt, 4096, 48));
-    let wanted = [whole, shrunk, GrowRefused(AlignmentFailure), Released];
-    replied::<OneChunkAllocator>(&rt, rt.alloc(), &commands, &wanted);
+    let whole = given(&rt, 4100, 1021);
+    let wanted = [
+        whole,
+        given(&rt, 4100, 32),
+        whole,
+        GrowRefused(GrowWouldShrink),
+        GrowRefused(AlignmentFailure),
+        GrowRefused(AllocationGrowError::OutOfMemory),
+        whole,
+        Passed,
+    ];
+    replied::<OneChunkAllocator>(&rt, rt.alloc(), 4097, &commands, &wanted);
 }
 
 /// Takes two buckets, gives one back, and takes one more. Checks how many are held then, and how many were at most.

@@ -1,7 +1,7 @@
 //! Replays of steps. A refused replay leaves its world unchanged, and is made again.
 use crate::tests::checks::{check, chunk, layout, refused, same};
-use bb_memory_base::steps::PoolOutcome::{Loses, Takes};
-use bb_memory_base::steps::PoolStep::Try;
+use bb_memory_base::steps::PoolOutcome::{Gives, Loses, RefusedAtLoss, Takes};
+use bb_memory_base::steps::PoolStep::{GiveBack, Try};
 use bb_memory_base::steps::{BumpOutcome, BumpStep, BumpWorld, PoolOutcome, PoolStep, PoolWorld};
 use std::alloc::{AllocError, Global};
 use std::process::Abort;
@@ -34,18 +34,22 @@ fn replayed_by_bump(
     world.replay(steps).expect(rt, "there is memory again")
 }
 
-// row: refused-worlds, refused-replay
+// row: steps-bump-race, refused-worlds, refused-replay
 #[test]
-fn a_bump_is_replayed(rt: HostRuntime) {
+fn a_bump_is_raced_for(rt: HostRuntime) {
     let alloc = rt.alloc();
     let layout = layout(&rt, 40, 1);
     let steps = [
         BumpStep::Read { party: 0, layout },
+        BumpStep::Read { party: 1, layout },
+        BumpStep::Exchange { party: 1 },
         BumpStep::Exchange { party: 0 },
     ];
     let outcomes = [
         BumpOutcome::Sees(0),
+        BumpOutcome::Sees(0),
         BumpOutcome::Wins(chunk(&rt, 4096, 40)),
+        BumpOutcome::RefusedAtLoss(40),
     ];
     let Some(mut world) = made(&rt, alloc, BumpWorld::new(alloc, 4096, 64, 64)) else {
         return;
@@ -55,9 +59,28 @@ fn a_bump_is_replayed(rt: HostRuntime) {
     same(&rt, world.used_space(), 40);
 }
 
-const STEPS: [PoolStep; 3] = [Try { party: 0 }, Try { party: 1 }, Try { party: 1 }];
+const GIVE: PoolStep = GiveBack {
+    party: 0,
+    bucket: 0,
+};
 
-const OUTCOMES: [PoolOutcome; 3] = [Takes(0), Loses(0), Takes(1)];
+const STEPS: [PoolStep; 6] = [
+    Try { party: 0 },
+    Try { party: 1 },
+    Try { party: 2 },
+    GIVE,
+    Try { party: 1 },
+    Try { party: 2 },
+];
+
+const OUTCOMES: [PoolOutcome; 6] = [
+    Takes(0),
+    Loses(0),
+    Loses(0),
+    Gives(0),
+    Takes(1),
+    RefusedAtLoss(1),
+];
 
 /// Replays the steps, at a second trial where memory was refused: then the pool is still fresh.
 fn replayed_by_pool(rt: &impl Abort, alloc: Global, world: &mut PoolWorld) -> Vec<PoolOutcome> {
@@ -66,17 +89,18 @@ fn replayed_by_pool(rt: &impl Abort, alloc: Global, world: &mut PoolWorld) -> Ve
     }
     refused(rt, alloc);
     same(rt, (world.holder(0), world.holder(1)), (None, None));
+    same(rt, world.step(GIVE), PoolOutcome::Passed);
     world.replay(&STEPS).expect(rt, "there is memory again")
 }
 
-// row: refused-worlds, refused-replay
+// row: steps-pool-never-full, refused-worlds, refused-replay
 #[test]
-fn a_pool_is_replayed(rt: HostRuntime) {
+fn a_pool_is_never_full(rt: HostRuntime) {
     let alloc = rt.alloc();
     let Some(mut world) = made(&rt, alloc, PoolWorld::new(alloc, 2, 64)) else {
         return;
     };
     let told = replayed_by_pool(&rt, alloc, &mut world);
     check(&rt, told.as_slice() == OUTCOMES.as_slice());
-    same(&rt, (world.holder(0), world.holder(1)), (Some(0), Some(1)));
+    same(&rt, (world.holder(0), world.holder(1)), (None, Some(1)));
 }
