@@ -11,7 +11,7 @@
 //     auto number = bb::make<int>(party.get(), 7);                   // empty where the pool refuses
 //     bb::pool_resource nodes(party.get());
 //     std::pmr::list<int> numbers({1, 2, 3}, &nodes);
-//     std::size_t held = pool.info()->held_buckets;                  // no figures where there is no pool
+//     if (party.info()->held_buckets != 4) return;                   // no figures where there is no party
 // `get()` is the handle for each function of bb_memory.h. ThreadSanitizer is told of takings and returns that are made here.
 #ifndef BB_MEMORY_HPP
 #define BB_MEMORY_HPP
