@@ -46,7 +46,7 @@
 //     begins at its place, not even in a chunk of it: by that place another's party or bucket is refused (BB_OTHER_POOL).
 //  7. Call nothing in a signal handler, nor in a child that a process of several threads forked. After any other fork either
 //     parent or child goes on with a region that both map.
-//  8. A region serves one allocator at a time, and is yours while chunks in it are used. But for 6 it may be another's chunk.
+//  8. A region serves one allocator at a time, and is yours while chunks in it are used. It may be another's chunk (but see 6).
 //  9. `malloc`, `realloc` and `free` come from one allocator, which aligns as C says. The archive needs `memset`, too.
 // 10. Return each chunk once. A wild place is refused by a code, and so is a second return before the place is given anew. A
 //     later one takes the chunk from its new holder.
