@@ -292,8 +292,8 @@ uint32_t bb_shared_pool_destroy(bb_shared_pool *);
 // `greatest_held` is the greatest number that `info` found, or all where a request was refused. `refused` counts these requests.
 struct bb_shared_pool_info { struct bb_pool_info pool; size_t refused; };
 uint32_t bb_shared_pool_info(const bb_shared_pool *, struct bb_shared_pool_info *);
-// As of the shared bump. `leave` also gives back what the party holds or caches, so the host uses no chunk in it any more. Both
-// take time in proportion to the number of buckets, and so does each `info` of a shared pool or its party.
+// As of the shared bump. `leave` also gives back what the party holds or caches, so the host uses no chunk in it any more.
+// `join`, `leave` and each `info` of a shared pool or its party take time in proportion to the number of buckets.
 BB_MUST_USE uint32_t bb_shared_pool_join(bb_shared_pool *, bb_pool_party *);
 uint32_t bb_shared_pool_leave(bb_shared_pool *, bb_pool_party *);
 uint32_t bb_pool_party_destroy(bb_pool_party *);
