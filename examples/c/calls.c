@@ -610,8 +610,8 @@ static void run_others(void) {
     EXPECT(bb_shared_bump_destroy(&other) == BB_OK);
 }
 
-// A shared pool may lie in a bucket of another one but bucket 0, where both would begin at one place. Each pool refuses what is of
-// the other.
+// A shared pool may lie in a bucket of another one but bucket 0, where both would begin at one place. Each pool refuses what is
+// the other's.
 static void run_nested(void) {
     bb_shared_pool outer = BB_EMPTY, inner = BB_EMPTY;
     bb_pool_party of_outer = BB_EMPTY, of_inner = BB_EMPTY;
