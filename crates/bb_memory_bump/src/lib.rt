@@ -10,8 +10,7 @@
 //!
 //! Crate `bb_memory` passes all of it on.
 //!
-//! The examples in the comments of this crate stand in `crates/examples/src/comments.rt`, where they are proved; its first
-//! lines have the imports, and the attribute that computes least places.
+//! The examples that comments name are proved; `crates/examples/src/comments.rt` has their imports and attribute, too.
 #![tactic(auto)]
 
 pub use bb_memory_traits::{allocator, layout, region};

@@ -11,8 +11,7 @@
 //! - `figures`: how many buckets are held, and how many requests were refused, for any thread.
 //! - `fixed_size`: the pool of at most a constant of buckets.
 //!
-//! The examples in the comments of this crate stand in `crates/examples/src/comments.rt`, where they are proved; its first
-//! lines have the imports, and the attribute that computes least places.
+//! The examples that comments name are proved; `crates/examples/src/comments.rt` has their imports and attribute, too.
 #![tactic(auto)]
 
 pub mod shared_pool;

@@ -9,8 +9,7 @@
 //! - `run`: calls one after the other, and what a list of them does.
 //! - `laws`: what holds of every book and every answer.
 //!
-//! The examples in the comments of this crate stand in `crates/examples/src/comments.rt`, where they are proved; its first
-//! lines have the imports, and the attribute that computes least places.
+//! The examples that comments name are proved; `crates/examples/src/comments.rt` has their imports and attribute, too.
 #![tactic(auto)]
 
 mod book;

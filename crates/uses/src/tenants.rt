@@ -73,13 +73,7 @@ impl Lease {
 /// Tenants that share an allocator. Each is named by its number, from 0 in the order of their admission, and has a limit in
 /// bytes, within which its chunks stay. The limits together are at most a whole that the maker fixed.
 ///
-/// ```
-/// let mut tenants = Tenants::new(alloc, allocator, 1000);
-/// let tenant = tenants.admit(100)?;
-/// let layout = Layout::from_size_align(101, 1).unwrap();
-/// let refused = tenants.allocate(tenant, layout).is_err();
-/// prove!(refused);
-/// ```
+/// Example: `tenants::over_limit` of `crates/uses`.
 #[derive(Drop)]
 pub struct Tenants<A: Allocator + Drop> {
     allocator: A,
