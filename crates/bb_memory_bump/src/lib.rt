@@ -9,8 +9,6 @@
 //!   - `all_parties`: what a user has who met all of them.
 //!
 //! Crate `bb_memory` passes all of it on.
-//!
-//! The examples that comments name are proved; `crates/examples/src/comments.rt` has their imports and attribute, too.
 #![tactic(auto)]
 
 pub use bb_memory_traits::{allocator, layout, region};

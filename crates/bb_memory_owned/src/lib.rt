@@ -9,8 +9,6 @@
 //! - `heap_allocator`: blocks of bytes from the language's allocator.
 //!
 //! The bump stands in crate `bb_memory_bump`, beside the one that threads share. Crate `bb_memory` passes all of it on.
-//!
-//! The examples that comments name are proved; `crates/examples/src/comments.rt` has their imports and attribute, too.
 #![tactic(auto)]
 
 pub use bb_memory_traits::{allocator, layout, region};

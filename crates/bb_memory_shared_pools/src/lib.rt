@@ -10,8 +10,6 @@
 //! - `detached`: buckets on their way from one party to another.
 //! - `figures`: how many buckets are held, and how many requests were refused, for any thread.
 //! - `fixed_size`: the pool of at most a constant of buckets.
-//!
-//! The examples that comments name are proved; `crates/examples/src/comments.rt` has their imports and attribute, too.
 #![tactic(auto)]
 
 pub mod shared_pool;

@@ -8,8 +8,6 @@
 //!   of commands over any allocator.
 //!
 //! Crate `bb_memory_base` passes all of it on, and adds the machines of atomic steps.
-//!
-//! The examples that comments name are proved; `crates/examples/src/comments.rt` has their imports and attribute, too.
 #![tactic(auto)]
 
 pub mod allocator;

@@ -8,8 +8,6 @@
 //! - `book`: the loan book and its calls.
 //! - `run`: calls one after the other, and what a list of them does.
 //! - `laws`: what holds of every book and every answer.
-//!
-//! The examples that comments name are proved; `crates/examples/src/comments.rt` has their imports and attribute, too.
 #![tactic(auto)]
 
 mod book;
