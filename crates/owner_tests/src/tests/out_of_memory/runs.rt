@@ -82,15 +82,14 @@ fn one_chunk_is_resized(rt: HostRuntime) {
         Grow(0, small, layout(&rt, 1021, 4)),
         Grow(0, layout(&rt, 48, 16), layout(&rt, 64, 16)),
     ];
-    let whole = given(&rt, 4100, 1021);
     let wanted = [
-        whole,
+        given(&rt, 4100, 1021),
         given(&rt, 4100, 32),
-        whole,
+        given(&rt, 4100, 1021),
         GrowRefused(GrowWouldShrink),
         GrowRefused(AlignmentFailure),
         GrowRefused(AllocationGrowError::OutOfMemory),
-        whole,
+        given(&rt, 4100, 1021),
         Passed,
     ];
     replied::<OneChunkAllocator>(&rt, rt.alloc(), 4097, &commands, &wanted);
