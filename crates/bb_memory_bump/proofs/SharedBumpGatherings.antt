@@ -17,8 +17,7 @@ use Rattle.bb_memory_seats.specs.Seats.{HaveLogs, alone, numbered, standing_for,
 use Rattle.bb_memory_bump.specs.SharedBump.{AgreeAt, BumpParty, HaveMet, IsSharedScene, SharedBump, floor_of, greatest_seen}
 use Rattle.bb_memory_bump.specs.SharedBump.{meeting_at, seen_by}
 use Rattle.bb_memory_bump.specs.SharedBumpRule.{IsPartySeat, NumberedLog, SeatView, gathered, meeting_of, met_by, numbered_of}
-use Rattle.bb_memory_bump.specs.SharedBumpRule.{party_in, scene_of, sight}
-use Rattle.bb_memory_bump.specs.SharedBumpRule.{TellsMeeting}
+use Rattle.bb_memory_bump.specs.SharedBumpRule.{party_in, scene_of, sight, TellsMeeting}
 use Rattle.bb_memory_seats.proofs.PartyNumbers.{all_there, has_number, logs_had, numbers_differ, owner}
 use Rattle.bb_memory_lists.proofs.Contained.{contains-none}
 use Rattle.bb_memory_bump.proofs.SharedBumpParties.{party_seat}

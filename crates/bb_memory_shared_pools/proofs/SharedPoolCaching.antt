@@ -7,8 +7,7 @@ use Rattle.std.proofs.lemmas.List.Quantifiers.{all_pairs_push}
 use Rattle.bb_memory_traits.specs.PoolObject.{IsWithin}
 use Rattle.bb_memory_pool_machine.specs.PoolLogs.{IsHeldAfter, PoolLog}
 use Rattle.bb_memory_traits.specs.declared.layout.Layout.{Layout}
-use Rattle.bb_memory_geometry.proofs.Measures.{bucket-inside}
-use Rattle.bb_memory_geometry.proofs.Measures.{bucket_place-multiple}
+use Rattle.bb_memory_geometry.proofs.Measures.{bucket-inside, bucket_place-multiple}
 use Rattle.bb_memory_shared_pools.specs.SharedPool.{IsParty, PoolParty, Serves, SharedPool, TakenBucket}
 use Rattle.bb_memory_shared_pools.specs.SharedPool.{return_entry, taken_bucket, with_entries}
 use Rattle.bb_memory_shared_pools.specs.SharedPoolCaching.{AreCached, CachingParty, IsOut, returns_of}

@@ -15,8 +15,7 @@ use Rattle.bb_memory_pool_machine.proofs.PoolLogSteps.{opening_agrees}
 use Rattle.bb_memory_seats.specs.Seats.{both_of, standing_for, times_in}
 use Rattle.bb_memory_shared_pools.specs.declared.shared_pool.party.Hint.{Hint}
 use Rattle.bb_memory_shared_pools.specs.SharedPool.{HaveMet, IsHeldByOne, IsSharedScene, PoolParty, SharedPool}
-use Rattle.bb_memory_shared_pools.specs.SharedPoolRule.{IsPartySeat, NumberedLog, SeatView, numbered_of, party_in}
-use Rattle.bb_memory_shared_pools.specs.SharedPoolRule.{TellsMeeting}
+use Rattle.bb_memory_shared_pools.specs.SharedPoolRule.{IsPartySeat, NumberedLog, SeatView, numbered_of, party_in, TellsMeeting}
 use Rattle.bb_memory_seats.proofs.PartyNumbers.{all_there, has_number, logs_had, numbers_differ, owner}
 use Rattle.bb_memory_lists.proofs.Contained.{any_contained}
 

@@ -8,17 +8,16 @@ use prog.Atomic.{either}
 use Rattle.atomic_table.specs.Table.{State, Me, Act, keeps, step, stepped, carried_after, Valid, Allows}
 use Rattle.bb_memory_pool_machine.specs.PoolMachine.{PoolScene}
 use Rattle.bb_memory_pool_machine.specs.PoolLogs.{PoolEntry, PoolLog, entry_of, HasLog, IsHeldAfter, IsDetachedAfter, LogsAgree}
-use Rattle.bb_memory_pool_machine.specs.PoolLogs.{Interleaving}
-use Rattle.bb_memory_pool_machine.specs.PoolLogs.{held_after, loss_at, next_bucket, pass_in, with_entry}
+use Rattle.bb_memory_pool_machine.specs.PoolLogs.{Interleaving, held_after, loss_at, next_bucket, pass_in, with_entry}
 use Rattle.bb_memory_pool_machine.specs.declared.steps.pool.PoolStep.TheVariants.{Try, GiveBack, TryAt}
 use Rattle.bb_memory_pool_machine.specs.declared.steps.pool.PoolOutcome.TheVariants.{Takes, Gives, Misses}
 use Rattle.bb_memory_pool_machine.proofs.PoolLogSteps.{give_agrees, lose_agrees, miss_agrees, take_agrees, take_at_agrees}
 use Rattle.bb_memory_pool_machine.proofs.PoolLogFacts.{free_not_held, taken_is_held_alone, length-flags, interleaved_log}
 use Rattle.bb_memory_lists.proofs.SliceGets.{slice_get-set_same, length-set_at}
 use Rattle.bb_memory_shared_pools.specs.SharedPoolRule.{as_word, bucket_of, word_of, words_of, IsSeatOf, SeatView, WordsAndLogsAgree}
-use Rattle.bb_memory_seats.specs.Seats.{alone, number_of, view_log}
 use Rattle.bb_memory_shared_pools.specs.SharedPoolRule.{HasMissedAt, TellsLookAt, TellsReturn, TellsTry, TellsTryAt}
 use Rattle.bb_memory_shared_pools.specs.SharedPoolRule.{looks_at, returns, tries, tries_at}
+use Rattle.bb_memory_seats.specs.Seats.{alone, number_of, view_log}
 use Rattle.bb_memory_shared_pools.proofs.FlagWords.{at_word, changed, found_in, taken_again}
 use Rattle.bb_memory_seats.proofs.Seatings.{seated_step}
 use Rattle.bb_memory_shared_pools.proofs.SharedPoolDetached.{flag_elsewhere, no_hold_left, no_hold_loss, no_hold_other, still_detached}

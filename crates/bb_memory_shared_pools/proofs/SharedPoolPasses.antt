@@ -9,8 +9,7 @@ use Rattle.bb_memory_pool_machine.specs.declared.steps.pool.PoolStep.TheVariants
 use Rattle.bb_memory_pool_machine.specs.declared.steps.pool.PoolOutcome.TheVariants.{Takes}
 use Rattle.bb_memory_seats.specs.Seats.{number_of, view_log}
 use Rattle.bb_memory_shared_pools.specs.SharedPool.{AreAllHeldAfter, losses, refused_pass, taking_pass}
-use Rattle.bb_memory_shared_pools.specs.SharedPoolRule.{IsSeatOf, SeatView}
-use Rattle.bb_memory_shared_pools.specs.SharedPoolRule.{HasRefused, HasTaken, TellsLoss, TellsTaking}
+use Rattle.bb_memory_shared_pools.specs.SharedPoolRule.{IsSeatOf, SeatView, HasRefused, HasTaken, TellsLoss, TellsTaking}
 use Rattle.bb_memory_shared_pools.proofs.SharedPoolRequests.{HasAsked}
 use Rattle.bb_memory_shared_pools.proofs.SharedPoolTries.{held-taking, idle_after_refusal, idle_after_taking, next_after_losses, same_held}
 

@@ -6,8 +6,7 @@ use Rattle.atomic_table.specs.Table.{Me}
 use Rattle.bb_memory_bump_machine.specs.BumpMachine.{BumpScene}
 use Rattle.bb_memory_bump.specs.Bump.{Bump}
 use Rattle.bb_memory_bump.specs.SharedBump.{BumpParty, IsSharedScene, SharedBump}
-use Rattle.bb_memory_bump.specs.SharedBumpRule.{NumberedLog, SeatView, met_by, numbered_of}
-use Rattle.bb_memory_bump.specs.SharedBumpRule.{TellsMeeting}
+use Rattle.bb_memory_bump.specs.SharedBumpRule.{NumberedLog, SeatView, met_by, numbered_of, TellsMeeting}
 use Rattle.bb_memory_bump_machine.proofs.OwnChunks.{agreed_stands}
 use Rattle.bb_memory_bump.proofs.SharedBumpGatherings.{agrees, all_gathered, floors_below}
 use Rattle.bb_memory_bump.proofs.shared_bump.SharedBumpAllocator.into_owner_all.Goals as goal

@@ -1,7 +1,6 @@
 use Rattle.std.proofs.Common.{arith, subst}
 use Rattle.bb_memory_bump.specs.SharedBump.{SharedBump}
-use Rattle.bb_memory_bump.specs.SharedBumpRule.{met_by}
-use Rattle.bb_memory_bump.specs.SharedBumpRule.{TellsMeeting}
+use Rattle.bb_memory_bump.specs.SharedBumpRule.{met_by, TellsMeeting}
 use Rattle.bb_memory_bump.proofs.SharedBumpClosings.{closes}
 use Rattle.bb_memory_bump.proofs.shared_bump.position.Position.close.Goals as goal
 

@@ -2,8 +2,7 @@ use Rattle.std.proofs.Common.{[], length, refl, ◌∷◌, ◌++◌, ◌≡◌, 
 use Rattle.std.specs.Prelude.{All, map}
 use Rattle.bb_memory_pool_machine.specs.PoolMachine.{PoolScene}
 use Rattle.bb_memory_shared_pools.specs.SharedPool.{IsSharedScene, PoolParty, SharedPool}
-use Rattle.bb_memory_shared_pools.specs.SharedPoolRule.{IsPartySeat, NumberedLog, numbered_of}
-use Rattle.bb_memory_shared_pools.specs.SharedPoolRule.{TellsMeeting}
+use Rattle.bb_memory_shared_pools.specs.SharedPoolRule.{IsPartySeat, NumberedLog, numbered_of, TellsMeeting}
 use Rattle.bb_memory_shared_pools.proofs.SharedPoolGatherings.{agrees, all_gathered, met_party, none_met}
 use Rattle.bb_memory_shared_pools.proofs.SharedPoolWholes.{met_apart, one_served}
 use Rattle.bb_memory_shared_pools.proofs.shared_pool.buckets.SharedBucketPool.meet_all.Goals as goal

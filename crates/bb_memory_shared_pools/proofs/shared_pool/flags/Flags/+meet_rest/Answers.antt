@@ -5,8 +5,7 @@ use Rattle.std.proofs.lemmas.List.Elements.{All-pop}
 use Rattle.atomic_table.specs.Table.{Me}
 use Rattle.bb_memory_seats.specs.Seats.{first_of, others_of}
 use Rattle.bb_memory_shared_pools.specs.SharedPool.{PoolParty}
-use Rattle.bb_memory_shared_pools.specs.SharedPoolRule.{NumberedLog, SeatView, numbered_of}
-use Rattle.bb_memory_shared_pools.specs.SharedPoolRule.{TellsMeeting}
+use Rattle.bb_memory_shared_pools.specs.SharedPoolRule.{NumberedLog, SeatView, numbered_of, TellsMeeting}
 use Rattle.bb_memory_shared_pools.proofs.SharedPoolGatherings.{as_it_was, comes, goes_back}
 use Rattle.bb_memory_shared_pools.proofs.shared_pool.flags.Flags.+meet_rest.Goals as goal
 

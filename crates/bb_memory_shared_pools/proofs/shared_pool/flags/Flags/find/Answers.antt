@@ -3,8 +3,7 @@ use Rattle.atomic_table.specs.Table.{Me}
 use Rattle.bb_memory_pool_machine.specs.PoolMachine.{PoolScene}
 use Rattle.bb_memory_seats.specs.Seats.{standing_for}
 use Rattle.bb_memory_shared_pools.specs.SharedPool.{SharedPool}
-use Rattle.bb_memory_shared_pools.specs.SharedPoolRule.{SeatView}
-use Rattle.bb_memory_shared_pools.specs.SharedPoolRule.{TellsMeeting}
+use Rattle.bb_memory_shared_pools.specs.SharedPoolRule.{SeatView, TellsMeeting}
 use Rattle.bb_memory_shared_pools.proofs.SharedPoolMeetings.{meets_as}
 use Rattle.bb_memory_shared_pools.proofs.shared_pool.flags.Flags.find.Goals as goal
 
