@@ -121,20 +121,11 @@ met_party table was number me new party view_is same is = (λ i. party_in (same 
 module _ (pool : SharedPool) (table : TableId) (number : ℕ) (hint : Hint) (me new : Me ℕ SeatView) (party : PoolParty)
     (is : IsPartySeat number hint me) (view_is : party_in table number me.0 ≡ party) (its : party.allocator ≡ pool)
     (back : new ≡ (standing_for pool.scene (numbered_of party ∷ []), [])) where
-  same_seat : new ≡ me
+  pub same_seat : new ≡ me
   same_seat =
       let scene : me.0.scene ≡ pool.scene =
       ap (λ (p : PoolParty). p.allocator.scene) view_is ∙ ap (λ (p : SharedPool). p.scene) its in
       back ∙ (λ i. (standing_for (sym scene i) (numbered_of (sym view_is i) ∷ []), [])) ∙ sym is.seat.seat.is
-
-  pub goes_back : IsPartySeat number hint new
-  goes_back = subst (IsPartySeat number hint) (sym same_seat) is
-
-  pub as_it_was : (new_table : TableId) → new_table ≡ pool.table → party_in new_table number new.0 ≡ party
-  as_it_was new_table same =
-      let own : table ≡ pool.table =
-      ap (λ (p : PoolParty). p.allocator.table) view_is ∙ ap (λ (p : SharedPool). p.table) its in
-      met_party new_table table number me new party view_is (same ∙ sym own) same_seat
 
 -- the seat of parties to which one more comes
 pub comes : (scene : PoolScene) (seat guest there : Me ℕ SeatView) (table : TableId) (number : ℕ) (hint : Hint)

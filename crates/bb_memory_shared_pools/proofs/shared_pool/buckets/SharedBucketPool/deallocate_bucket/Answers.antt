@@ -24,34 +24,26 @@ invariant_of-party g c =
     (returned c.self.inside.flags party.seat.table_id party.seat.me party.number party.hint c.party.invariant own
     c.bucket.inside.number c.give_back.new.seat.me c.give_back.ensures.step)
 
-pub returns-clause-logged : goal.returns-clause-logged
-returns-clause-logged g c =
+pub returns : goal.returns
+returns g c =
     let party = c.party.inside in
+    let old = c.args.party.now in
+    let bucket = c.args.bucket.number in
     let own = ap (λ (p : PoolParty). p.allocator) c.party.view_is ∙ c.requires.party ∙ sym c.self.view_is in
-    party_returned c.self.inside.flags party.seat.table_id party.seat.me party.number party.hint c.party.invariant own
-    c.bucket.inside.number c.give_back.new.seat.table_id c.give_back.new.seat.me c.args.party.now c.party.view_is
+    let logged = party_returned c.self.inside.flags party.seat.table_id party.seat.me party.number party.hint c.party.invariant own
+    c.bucket.inside.number c.give_back.new.seat.table_id c.give_back.new.seat.me old c.party.view_is
     c.give_back.ensures.table c.give_back.ensures.step
-    ∙ ap (λ (b : TakenBucket). with_entries c.args.party.now (return_entry c.args.party.now.number b.number)) c.bucket.view_is
-
-pub returns-clause-party : goal.returns-clause-party
-returns-clause-party g c = ap (λ (p : PoolParty). p.allocator) (returns-clause-logged g c) ∙ c.requires.party
-
-pub returns-clause-is_party : goal.returns-clause-is_party
-returns-clause-is_party g c = record {
-  number = ap (λ (p : PoolParty). p.number) (returns-clause-logged g c);
-  is_party = is_party c.give_back.new.seat.table_id c.party.inside.number _ c.give_back.new.seat.me
-      (invariant_of-party g c);
-}
-
-pub returns-clause-given_back : goal.returns-clause-given_back
-returns-clause-given_back g c held = not_held_after_return c.args.party.now.number c.args.bucket.number c.args.party.now.log
-    (subst (λ (p : PoolParty). IsHeldAfter p.log c.args.bucket.number) (returns-clause-logged g c) held)
-
-pub returns-clause-others_kept : goal.returns-clause-others_kept
-returns-clause-others_kept g c other apart held =
-    subst (λ (p : PoolParty). IsHeldAfter p.log other) (sym (returns-clause-logged g c))
-    (held_after_return c.args.party.now.number c.args.bucket.number other c.args.party.now.log apart held)
-
-pub returns-clause-others : goal.returns-clause-others
-returns-clause-others g c other held = was_held c.args.party.now c.args.bucket.number other
-    (subst (λ (p : PoolParty). IsHeldAfter p.log other) (returns-clause-logged g c) held)
+    ∙ ap (λ (b : TakenBucket). with_entries old (return_entry old.number b.number)) c.bucket.view_is in
+    record {
+      logged = logged;
+      party = ap (λ (p : PoolParty). p.allocator) logged ∙ c.requires.party;
+      is_party = record {
+        number = ap (λ (p : PoolParty). p.number) logged;
+        is_party = is_party c.give_back.new.seat.table_id party.number _ c.give_back.new.seat.me (invariant_of-party g c);
+      };
+      given_back = λ held. not_held_after_return old.number bucket old.log
+          (subst (λ (p : PoolParty). IsHeldAfter p.log bucket) logged held);
+      others_kept = λ other apart held. subst (λ (p : PoolParty). IsHeldAfter p.log other) (sym logged)
+          (held_after_return old.number bucket other old.log apart held);
+      others = λ other held. was_held old bucket other (subst (λ (p : PoolParty). IsHeldAfter p.log other) logged held);
+    }
