@@ -30,41 +30,6 @@ invariant_of-push_reserved t c =
     ∙ ap (λ (m : Me ℕ SeatView). (first_of (meeting_of found m.0), [])) c.gather.ensures.step
     ∙ λ i. (first_of (standing_for (sight (host i) found) (one i ++ seat.0.parties)), []))
 
-pub returns-clause-found : goal.returns-clause-found
-returns-clause-found t c =
-    let scene = c.args.self.now.scene in
-    let host = c.args.seat.now.me in
-    let guest = c.party.inside in
-    let party = c.in-Some.party in
-    let rest = c.pop.new.self.items in
-    let found = c.meet_rest-found.result in
-    let has = c.meet_rest-found.ensures.found in
-    let own = parties_of guest.seat.table_id guest.number guest.seat.me party c.party.invariant c.party.view_is in
-    let all = ap (λ (m : Me ℕ SeatView). map numbered_of rest ++ m.0.parties) c.gather.ensures.step
-    ∙ one_gathered guest.seat.table_id guest.number guest.seat.me party c.args.rest.now.items rest host.0.parties
-    c.party.invariant c.party.view_is c.in-Some.ensures.items in
-    let told = subst (λ (parties : List NumberedLog). TellsMeeting scene parties (met_by c.gather.new.seat.me.0) found) all
-    has.told in
-    let met : met_by c.gather.new.seat.me.0 ≡ max (met_by host.0) (met_by guest.seat.me.0) =
-    ap (λ (m : Me ℕ SeatView). met_by m.0) c.gather.ensures.step in
-    record {
-      table = c.deal-back.ensures.table ∙ has.table ∙ c.gather.ensures.table;
-      seat = c.deal-back.ensures.rest
-          ∙ ap (λ (m : Me ℕ SeatView). (others_of m.0, m.1)) has.seat
-          ∙ ap (λ (m : Me ℕ SeatView). (others_of (meeting_of found m.0), [])) c.gather.ensures.step
-          ∙ λ i. (others_of (standing_for (sight (scene_of host.0) found) (own i ++ host.0.parties)), []);
-      told = record {
-        above = omega (arith, told.above, met);
-        within = told.within;
-        opened = told.opened;
-        logs = told.logs;
-        agree = told.agree;
-        one_a_party = told.one_a_party;
-        theirs = told.theirs;
-        once = told.once;
-      };
-    }
-
 pub returns-clause-rest : goal.returns-clause-rest
 returns-clause-rest t c =
     let bump = c.args.self.now in
@@ -98,14 +63,3 @@ returns-clause-rest t c =
       len = grind (arith, common_steps);
       capacity = grind (arith, common_steps);
     }
-
-pub returns-clause-risen : goal.returns-clause-risen
-returns-clause-risen t c =
-    let found = c.meet_rest-found.result in
-    let Below : BumpParty → Type 0 = λ party. party.met ≤ found in
-    let above = c.meet_rest-found.ensures.found.told.above in
-    let party = ap (λ (p : BumpParty). p.met) c.party.view_is in
-    let met : met_by c.gather.new.seat.me.0 ≡ max (met_by c.args.seat.now.me.0) (met_by c.party.inside.seat.me.0) =
-    ap (λ (m : Me ℕ SeatView). met_by m.0) c.gather.ensures.step in
-    subst (All Below) (sym c.in-Some.ensures.items)
-    (All-push Below c.pop.new.self.items c.in-Some.party c.meet_rest-found.ensures.risen (omega (arith, above, party, met)))

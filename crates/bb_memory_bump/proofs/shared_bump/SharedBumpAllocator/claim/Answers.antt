@@ -79,22 +79,3 @@ loop-seen-smaller g c =
     (rw c.self.view_is at c.exchange-found.ensures.step) in
     let apart = c.if-found-seen.false in
     omega (arith, up, apart)
-
-pub read-seen-requires : goal.read-seen-requires
-read-seen-requires g c = rw c.self.view_is c.requires
-
-pub exchange-found-requires-clause-seat : goal.exchange-found-requires-clause-seat
-exchange-found-requires-clause-seat g c =
-    let before = c.loop-seen.invariant in
-    let seat = c.loop-seen.seat.me in
-    let scene = c.args.self.now.scene in
-    rw c.self.view_is record {
-      table = before.table ∙ c.requires.seat.table;
-      seat = subst (λ (me : Me ℕ SeatView). IsSeatOf scene (number_of me.0) (view_log me.0) seat) (sym before.trying.seat.is)
-          before.trying.seat;
-    }
-
-pub exchange-found-requires-clause-call : goal.exchange-found-requires-clause-call
-exchange-found-requires-clause-call g c =
-    let before = c.loop-seen.invariant.trying in
-    ap (λ (me : Me ℕ SeatView). call_in (view_log me.0)) before.seat.is ∙ before.call

@@ -77,9 +77,3 @@ returns-in-Some-clause-apart c i j one other at at_other apart =
     let met = returns-in-Some-clause-met c in
     met_apart c.args.self.now.scene met.position c.args.parties.now.items met.agree i j one other
     (subst IsSharedScene (ap (λ (b : SharedBump). b.scene) c.self.view_is) c.self.invariant.shared) at at_other apart
-
-pub returns-in_default-clause-apart : goal.returns-in_default-clause-apart
-returns-in_default-clause-apart c i j one other at at_other apart =
-    let met = returns-in_default-clause-met c in
-    met_apart c.args.self.now.scene met.position c.args.parties.now.items met.agree i j one other
-    (subst IsSharedScene (ap (λ (b : SharedBump). b.scene) c.self.view_is) c.self.invariant.shared) at at_other apart

@@ -10,9 +10,6 @@ use Rattle.bb_memory_seats.proofs.Seatings.{fresh_more, given_more}
 use Rattle.bb_memory_bump.proofs.SharedBumpParties.{party_seat}
 use Rattle.bb_memory_bump.proofs.shared_bump.SharedBumpAllocator.seat_parties.Goals as goal
 
-pub deal-seat-requires : goal.deal-seat-requires
-deal-seat-requires c = c.loop-number.invariant.table ∙ sym (ap (λ (b : SharedBump). b.table) c.self.view_is)
-
 pub invariant_of-push_reserved : goal.invariant_of-push_reserved
 invariant_of-push_reserved c =
     let scene = c.args.self.now.scene in
@@ -72,15 +69,4 @@ loop-number-preserved c =
           (ap (λ (p : BumpParty). p.allocator) value_is));
       fresh = λ j below. subst (λ (xs : List BumpParty). slice_get xs j ≡ Some (fresh_party bump j))
           (sym items) (more j (omega arith));
-    }
-
-pub returns : goal.returns
-returns c =
-    let all : c.loop-number.number ≡ c.args.parties = omega arith in
-    let seated = c.loop-number.invariant in
-    record {
-      so_many = sym c.requires.parties;
-      as_many = seated.long ∙ all;
-      fresh = λ number below. seated.fresh number (omega (arith, all, below));
-      theirs = seated.theirs;
     }

@@ -4,10 +4,6 @@ use Rattle.bb_memory_bump.specs.SharedBumpRule.{met_by, TellsMeeting}
 use Rattle.bb_memory_bump.proofs.SharedBumpClosings.{closes}
 use Rattle.bb_memory_bump.proofs.shared_bump.position.Position.close.Goals as goal
 
-pub free-requires : goal.free-requires
-free-requires c k less =
-    let counts = c.close_with-closed.ensures.counts.1 in absurd (omega (arith, counts, c.self.invariant.slots, less))
-
 pub returns : goal.returns
 returns c =
     let me = c.args.seat.me in record {

@@ -20,12 +20,3 @@ compare_exchange-found-requires c =
           (c.requires.behind ∙ ap (λ (s : BumpScene). position_behind s.region (chunk_at s.region c.args.seen c.args.layout))
           (sym scene)),
     )
-
-pub returns : goal.returns
-returns c =
-    let me = c.args.seat.now.me in record {
-      table = c.compare_exchange-found.ensures.0;
-      step = told_exchange c.args.self.now.scene (number_of me.0) (view_log me.0) c.compare_exchange-found.result me
-          c.compare_exchange-found.new.seat.me
-          c.requires.seat.seat c.compare_exchange-found.ensures.2;
-    }

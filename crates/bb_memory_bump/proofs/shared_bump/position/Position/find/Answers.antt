@@ -16,12 +16,3 @@ load-requires c =
           (c.requires.seat
           ∙ ap (λ (s : BumpScene). (standing_for (sight s (met_by me.0)) me.0.parties, [])) (sym scene)),
     )
-
-pub returns : goal.returns
-returns c =
-    let me = c.args.seat.now.me in record {
-      table = c.load.ensures.0;
-      seat = c.load.ensures.2.0 ∙ ap (λ (m : Me ℕ SeatView). (meeting_of c.load.result me.0, m.1)) c.requires.seat;
-      told = subst (λ (s : BumpScene). TellsMeeting s me.0.parties (met_by me.0) c.load.result)
-          (ap (λ (m : Me ℕ SeatView). scene_of m.0) c.requires.seat) c.load.ensures.2.1;
-    }

@@ -15,11 +15,3 @@ load-requires c =
       loads_as c.self.inside.table.shared.key _ _ (number_of me.0) (view_log me.0) (met_by me.0) me
           (of.seat.is ∙ ap (λ s. (alone (sight s (met_by me.0)) (number_of me.0) (view_log me.0), [])) (sym scene)) of.idle,
     )
-
-pub returns : goal.returns
-returns c =
-    let me = c.args.seat.now.me in record {
-      table = c.load.ensures.0;
-      step = told_load c.args.self.now.scene (number_of me.0) (view_log me.0) c.load.result me c.load.new.seat.me
-          c.requires.seat.seat c.load.ensures.2;
-    }
