@@ -1,8 +1,6 @@
-use Rattle.std.proofs.Common.{◌∙◌, ℕ, ap, arith, subst, sym}
-use Rattle.atomic_table.specs.Table.{Me}
-use Rattle.bb_memory_bump_machine.specs.BumpLogs.{call_in}
+use Rattle.std.proofs.Common.{◌∙◌, arith}
 use Rattle.bb_memory_seats.specs.Seats.{number_of, view_log}
-use Rattle.bb_memory_bump.specs.SharedBumpRule.{IsSeatOf, SeatView, met_by}
+use Rattle.bb_memory_bump.specs.SharedBumpRule.{met_by}
 use Rattle.bb_memory_bump.proofs.SharedBumpRequests.{begins, goes_on, raises, refused_at_once, refused_later, wins}
 use Rattle.bb_memory_bump.proofs.shared_bump.SharedBumpAllocator.claim.Goals as goal
 

@@ -1,4 +1,4 @@
-use Rattle.std.proofs.Common.{arith, subst}
+use Rattle.std.proofs.Common.{subst}
 use Rattle.bb_memory_bump.specs.SharedBump.{SharedBump}
 use Rattle.bb_memory_bump.specs.SharedBumpRule.{met_by, TellsMeeting}
 use Rattle.bb_memory_bump.proofs.SharedBumpClosings.{closes}

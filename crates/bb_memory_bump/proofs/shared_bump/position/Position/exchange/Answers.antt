@@ -3,7 +3,6 @@ use Rattle.bb_memory_bump_machine.specs.BumpMachine.{BumpScene, chunk_at, positi
 use Rattle.bb_memory_seats.specs.Seats.{alone, number_of, view_log}
 use Rattle.bb_memory_bump.specs.SharedBumpRule.{met_by, sight}
 use Rattle.bb_memory_bump.proofs.SharedBumpKeeps.{exchanges_as}
-use Rattle.bb_memory_bump.proofs.SharedBumpParties.{told_exchange}
 use Rattle.bb_memory_bump.proofs.shared_bump.position.Position.exchange.Goals as goal
 
 pub compare_exchange-found-requires : goal.compare_exchange-found-requires

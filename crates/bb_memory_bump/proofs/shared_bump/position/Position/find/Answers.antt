@@ -1,8 +1,7 @@
-use Rattle.std.proofs.Common.{[], ℕ, sym, ap, ◌∙◌, arith, subst}
-use Rattle.atomic_table.specs.Table.{Me}
+use Rattle.std.proofs.Common.{[], sym, ap, ◌∙◌, arith}
 use Rattle.bb_memory_bump_machine.specs.BumpMachine.{BumpScene}
 use Rattle.bb_memory_seats.specs.Seats.{standing_for}
-use Rattle.bb_memory_bump.specs.SharedBumpRule.{SeatView, meeting_of, met_by, scene_of, sight, TellsMeeting}
+use Rattle.bb_memory_bump.specs.SharedBumpRule.{met_by, sight}
 use Rattle.bb_memory_bump.proofs.SharedBumpMeetings.{meets_as}
 use Rattle.bb_memory_bump.proofs.shared_bump.position.Position.find.Goals as goal
 

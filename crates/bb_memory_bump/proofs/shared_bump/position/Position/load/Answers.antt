@@ -2,7 +2,6 @@ use Rattle.std.proofs.Common.{[], sym, ap, ◌∙◌, arith}
 use Rattle.bb_memory_seats.specs.Seats.{alone, number_of, view_log}
 use Rattle.bb_memory_bump.specs.SharedBumpRule.{met_by, sight}
 use Rattle.bb_memory_bump.proofs.SharedBumpKeeps.{loads_as}
-use Rattle.bb_memory_bump.proofs.SharedBumpParties.{told_load}
 use Rattle.bb_memory_bump.proofs.shared_bump.position.Position.load.Goals as goal
 
 pub load-requires : goal.load-requires
