@@ -1,7 +1,7 @@
 -- What a request has of its party once its tries have ended, whichever buckets it tried.
 use Rattle.std.proofs.Common.{◌≡◌, ◌≢◌, ℕ, ◌<◌, ◌≤◌, ◌++◌, Bool, true, false, refl, sym, ap, ◌∙◌, subst, arith, Option, Some}
 use Rattle.std.proofs.Common.{None}
-use Rattle.std.specs.Prelude.{MatchOption, Ok, Err, ◌==◌, if◌then◌else◌, ◌%◌}
+use Rattle.std.specs.Prelude.{MatchOption, Ok, Err, ◌==◌, ◌%◌, if◌then◌else◌}
 use Rattle.std.proofs.lemmas.Bool.Decides.{nat_tests}
 use Rattle.atomic_table.specs.Seated.{TableId}
 use Rattle.atomic_table.specs.Table.{Me}
