@@ -1,17 +1,12 @@
 -- From what a step tells to what its party is then.
-use Rattle.std.proofs.Common.{◌≡◌, ℕ, ◌<◌, ◌≤◌, [], ◌∷◌, ◌++◌, refl, sym, ap, ◌∙◌, subst, arith, Option, Some, None}
+use Rattle.std.proofs.Common.{◌≡◌, ℕ, ◌<◌, ◌≤◌, [], ◌∷◌, ◌++◌, refl, sym, ap, ◌∙◌, subst}
 use Rattle.atomic_table.specs.Seated.{TableId}
-use Rattle.atomic_table.specs.Table.{Me, Step}
+use Rattle.atomic_table.specs.Table.{Me}
 use Rattle.bb_memory_bump_machine.specs.BumpMachine.{BumpScene}
-use Rattle.bb_memory_bump_machine.specs.BumpLogs.{BumpLog, entry_of, call_in}
-use Rattle.bb_memory_traits.specs.declared.layout.Layout.{Layout}
-use Rattle.bb_memory_bump_machine.specs.declared.steps.bump.BumpStep.TheVariants.{Load}
-use Rattle.bb_memory_bump_machine.specs.declared.steps.bump.BumpOutcome.TheVariants.{Loaded}
-use Rattle.bb_memory_seats.specs.Seats.{alone, number_of, view_log}
-use Rattle.bb_memory_bump.specs.SharedBump.{BumpParty, IsParty, IsSharedScene, with_entries}
-use Rattle.bb_memory_bump.specs.SharedBumpRule.{IsPartySeat, IsSeatOf, IsSeatOfIdle, SeatView, met_by, party_in, scene_of, sight}
-use Rattle.bb_memory_bump.specs.SharedBumpRule.{TellsExchange, TellsLoad, TellsRead, reads}
-use Rattle.bb_memory_bump.proofs.SharedLogs.{call_next}
+use Rattle.bb_memory_bump_machine.specs.BumpLogs.{BumpLog}
+use Rattle.bb_memory_seats.specs.Seats.{alone, view_log}
+use Rattle.bb_memory_bump.specs.SharedBump.{BumpParty, IsSharedScene, with_entries}
+use Rattle.bb_memory_bump.specs.SharedBumpRule.{IsPartySeat, IsSeatOfIdle, SeatView, met_by, party_in, scene_of, sight}
 
 -- SEATS
 
