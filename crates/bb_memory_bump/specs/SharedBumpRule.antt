@@ -2,7 +2,6 @@
 -- makes it.
 use Rattle.std.specs.Prelude.{◌≡◌, ℕ, ◌<◌, ◌≤◌, List, [], ◌∷◌, ◌++◌, All, None, length, max, ◌≢◌, ◌+◌, ◌%◌, true, false, Option}
 use Rattle.std.specs.Prelude.{Some}
-use Rattle.std.specs.declared.vec.Vec.{Vec}
 use mathlib.Core.Option.{some}
 use lib.ListN.{get_elem?}
 use Rattle.atomic_table.specs.Seated.{TableId}
@@ -11,7 +10,7 @@ use Rattle.bb_memory_traits.specs.Chunk.{IsRegion, region_at, Region, region_end
 use Rattle.bb_memory_bump_machine.specs.BumpMachine.{BumpScene, OngoingCall, chunk_at, fits, read_move, exchange_move}
 use Rattle.bb_memory_bump_machine.specs.BumpLogs.{BumpEntry, BumpLog, Interleaving, LogsAgree, call_in, seen_in, chunks_won, entry_of}
 use Rattle.bb_memory_bump_machine.specs.BumpLogs.{losses_in, HasPositionFrom, CommonInterleaving, HasPositionUpTo}
-use Rattle.bb_memory_seats.specs.Seats.{AreSeated, HasRoomFor, IsAt, Numbered, Seat, alone, fresh_from, number_of, numbered}
+use Rattle.bb_memory_seats.specs.Seats.{AreSeated, IsAt, Numbered, Seat, alone, fresh_from, number_of, numbered}
 use Rattle.bb_memory_seats.specs.Seats.{standing_for, view_log, HaveLogs, times_in}
 use Rattle.bb_memory_bump.specs.SharedBump.{BumpParty, IsSharedScene, SharedBump, scene_at, HasChunksWithin, HaveChunksApart}
 use Rattle.bb_memory_bump.specs.SharedBump.{IsRefused, IsWon}
@@ -85,20 +84,9 @@ IsSeatAt bump here me = IsAt bump.table here (IsSeatOf bump.scene (number_of me.
 abbrev pub IsIdleAt : SharedBump → TableId → Me ℕ SeatView → Type 0
 IsIdleAt bump here me = IsAt bump.table here (IsSeatOfIdle bump.scene (number_of me.0) (view_log me.0) me)
 
--- the seats of two parties
-pub record AreTwoAt (bump : SharedBump) (here : TableId) (me : Me ℕ SeatView) (there : TableId) (other : Me ℕ SeatView)
-    : Type 0 where
-  pub a : IsSeatAt bump here me
-  pub b : IsSeatAt bump there other
-
 -- a seat of any number of parties
 abbrev pub StandsAt : SharedBump → TableId → Me ℕ SeatView → Type 0
 StandsAt bump here me = IsAt bump.table here (me ≡ (standing_for (sight bump.scene (met_by me.0)) me.0.parties, []))
-
--- such a seat, at which these parties may meet, too
-pub record MayMeet (bump : SharedBump) (here : TableId) (me : Me ℕ SeatView) (guests : List BumpParty) : Type 0 where
-  pub seat : StandsAt bump here me
-  pub rest : All (λ party. party.allocator ≡ bump) guests
 
 -- THE RULE
 
@@ -136,14 +124,6 @@ pub record IsOpened (begins : BumpScene) (bump : SharedBump) (here : TableId) (m
   pub scene : bump.scene ≡ begins
   pub table : here ≡ bump.table
   pub seat : me ≡ (all_parties begins, [])
-
--- a seat of its table stands for all its parties, which are so many, and a vector has room for them
-pub record MaySeat {Z : Type 0} (bump : SharedBump) (count : ℕ) (here : TableId) (me : Me ℕ SeatView) (all : Vec BumpParty Z)
-    : Type 0 where
-  pub table : here ≡ bump.table
-  pub seat : me ≡ (all_parties bump.scene, [])
-  pub parties : count ≡ bump.scene.parties
-  pub room : HasRoomFor count all
 
 -- a view of no party
 abbrev pub nobody : SeatView
@@ -225,13 +205,6 @@ loads step old found new = TellsLoad (scene_of old.0) (number_of old.0) (view_lo
 abbrev pub meets : Step ℕ → Me ℕ SeatView → ℕ → Me ℕ SeatView → Type 0
 meets step old found new =
     (new ≡ (meeting_of found old.0, old.1)) × TellsMeeting (scene_of old.0) old.0.parties (met_by old.0) found
-
--- A load by a seat found this position, where these parties have met. The seat stays at its table.
-pub record HasFound (scene : BumpScene) (parties : List NumberedLog) (was : TableId) (old : Me ℕ SeatView) (found : ℕ)
-    (is : TableId) (new : Me ℕ SeatView) : Type 0 where
-  pub table : is ≡ was
-  pub seat : new ≡ (meeting_of found old.0, [])
-  pub told : TellsMeeting scene parties (met_by old.0) found
 
 -- REQUESTS
 

@@ -1,8 +1,7 @@
 -- The rule of a shared pool's words, what its seats and fields stand for, and what each step on a word tells the party that
 -- makes it.
-use Rattle.std.specs.Prelude.{◌≡◌, ℕ, ◌+◌, ◌-◌, Bool, true, false, List, map, replicate, ◌<◌, ◌≤◌, [], All}
+use Rattle.std.specs.Prelude.{◌≡◌, ℕ, ◌+◌, ◌-◌, Bool, true, false, List, map, replicate, ◌<◌, ◌≤◌, []}
 use Rattle.std.specs.Prelude.{None, get_or, length, ◌≢◌, ◌∷◌, ◌++◌}
-use Rattle.std.specs.declared.vec.Vec.{Vec}
 use mathlib.Core.Path.{refl}
 use native.Mathlib.Nat.{zero-lt-suc}
 use Rattle.atomic_table.specs.Seated.{TableId}
@@ -11,13 +10,13 @@ use Rattle.bb_memory_traits.specs.Chunk.{IsRegion, region_at}
 use Rattle.bb_memory_traits.specs.PoolObject.{pool_geometry}
 use Rattle.bb_memory_pool_machine.specs.PoolMachine.{PoolScene}
 use Rattle.bb_memory_pool_machine.specs.PoolLogs.{PoolEntry, PoolLog, Interleaving, IsHeldAfter, IsDetachedAfter, LogsAgree}
-use Rattle.bb_memory_pool_machine.specs.PoolLogs.{next_bucket, pass_in, entry_of, CommonInterleaving, loss_at}
+use Rattle.bb_memory_pool_machine.specs.PoolLogs.{pass_in, entry_of, CommonInterleaving, loss_at}
 use Rattle.bb_memory_traits.specs.declared.layout.Layout.{Layout}
 use Rattle.bb_memory_shared_pools.specs.SharedPool.{PoolParty, IsSharedScene, SharedPool, scene_at, AreAllHeldAfter, detach_entry}
 use Rattle.bb_memory_shared_pools.specs.SharedPool.{refused_pass, return_entry, attach_entry, taking_pass}
 use Rattle.bb_memory_shared_pools.specs.declared.shared_pool.party.Hint.{Hint}
 use Rattle.bb_memory_shared_pools.specs.SharedPoolNextFit.{hint_in, probed, miss_at, misses, refused_search, taking_at, taking_search}
-use Rattle.bb_memory_seats.specs.Seats.{AreSeated, HasRoomFor, IsAt, Numbered, Seat, alone, carrying, fresh_from, number_of}
+use Rattle.bb_memory_seats.specs.Seats.{AreSeated, IsAt, Numbered, Seat, alone, carrying, fresh_from, number_of}
 use Rattle.bb_memory_seats.specs.Seats.{numbered, standing_for, times_detached, view_log, HaveLogs, alone_with, times_in}
 use Rattle.bb_memory_pool_machine.specs.declared.steps.pool.PoolStep.TheVariants.{Try}
 use Rattle.bb_memory_pool_machine.specs.declared.steps.pool.PoolOutcome.TheVariants.{Takes}
@@ -102,25 +101,9 @@ IsSeatAt pool here me = IsAt pool.table here (IsSeatOf pool.scene (number_of me.
 abbrev pub IsIdleAt : SharedPool → TableId → Me ℕ SeatView → Type 0
 IsIdleAt pool here me = IsAt pool.table here (IsSeatOfIdle pool.scene (number_of me.0) (view_log me.0) me)
 
--- the seats of two parties
-pub record AreTwoAt (pool : SharedPool) (here : TableId) (me : Me ℕ SeatView) (there : TableId) (other : Me ℕ SeatView)
-    : Type 0 where
-  pub a : IsSeatAt pool here me
-  pub b : IsSeatAt pool there other
-
 -- a seat of any number of parties
 abbrev pub StandsAt : SharedPool → TableId → Me ℕ SeatView → Type 0
 StandsAt pool here me = IsAt pool.table here (me ≡ (standing_for pool.scene me.0.parties, []))
-
--- such a seat, at which these parties may meet, too
-pub record MayMeet (pool : SharedPool) (here : TableId) (me : Me ℕ SeatView) (guests : List PoolParty) : Type 0 where
-  pub seat : StandsAt pool here me
-  pub rest : All (λ party. party.allocator ≡ pool) guests
-
--- the bucket that the party of a seat tries next
-pub record IsNextFor (pool : SharedPool) (me : Me ℕ SeatView) (bucket : ℕ) : Type 0 where
-  pub next : next_bucket (view_log me.0) ≡ bucket
-  pub below : bucket < pool.scene.geometry.buckets
 
 -- a bucket that is held after the log of a seat's party
 pub record IsHeldAt (pool : SharedPool) (me : Me ℕ SeatView) (bucket : ℕ) : Type 0 where
@@ -131,18 +114,6 @@ pub record IsHeldAt (pool : SharedPool) (me : Me ℕ SeatView) (bucket : ℕ) : 
 pub record IsDetachedAt (pool : SharedPool) (here : TableId) (me : Me ℕ SeatView) (bucket : ℕ) : Type 0 where
   pub at : IsAt pool.table here (me ≡ (carrying pool.scene bucket, []))
   pub below : bucket < pool.scene.geometry.buckets
-
--- the seat of a party, which holds this bucket, and isn't the only one
-pub record MayDetachAt (pool : SharedPool) (here : TableId) (me : Me ℕ SeatView) (bucket : ℕ) : Type 0 where
-  pub others : 1 < pool.scene.parties
-  pub seat : IsSeatAt pool here me
-  pub held : IsHeldAt pool me bucket
-
--- the seat of a party, and that of a detached bucket
-pub record MayAttachAt (pool : SharedPool) (here : TableId) (me : Me ℕ SeatView) (there : TableId) (other : Me ℕ SeatView)
-    (bucket : ℕ) : Type 0 where
-  pub seat : IsIdleAt pool here me
-  pub detached : IsDetachedAt pool there other bucket
 
 -- THE RULE
 
@@ -183,14 +154,6 @@ pub record IsOpened (begins : PoolScene) (pool : SharedPool) (here : TableId) (m
   pub scene : pool.scene ≡ begins
   pub table : here ≡ pool.table
   pub seat : me ≡ (all_parties begins, [])
-
--- A seat of its table stands for all its parties, which are so many, and a vector has room for them.
-pub record MaySeat {Z : Type 0} (pool : SharedPool) (count : ℕ) (here : TableId) (me : Me ℕ SeatView) (all : Vec PoolParty Z)
-    : Type 0 where
-  pub table : here ≡ pool.table
-  pub seat : me ≡ (standing_for pool.scene (fresh_from 0 count), [])
-  pub parties : pool.scene.parties ≡ count
-  pub room : HasRoomFor count all
 
 -- no bytes, at any place
 pub no_bytes : Layout
@@ -321,13 +284,6 @@ detaches step old found new = TellsDetach old.0.scene (number_of old.0) (view_lo
 abbrev pub attaches : Step ℕ → Me ℕ SeatView → ℕ → Me ℕ SeatView → Type 0
 attaches step old found new =
     HasAttachedAt old.0.scene (number_of old.0) (view_log old.0) (get_or old.0.detached 0 0) new
-
--- A load by a seat, where these parties have met. The seat stays as it is.
-pub record HasFound (scene : PoolScene) (parties : List NumberedLog) (was : TableId) (old : Me ℕ SeatView)
-    (is : TableId) (new : Me ℕ SeatView) : Type 0 where
-  pub table : is ≡ was
-  pub seat : new ≡ old
-  pub told : TellsMeeting scene parties
 
 -- PASSES
 

@@ -4,8 +4,7 @@ ghost use Rattle.bb_memory_pool_machine.specs.PoolLogs.{PoolLog};
 ghost use Rattle.bb_memory_seats.specs.Seats.{Stays, number_of, view_log};
 ghost use Rattle.bb_memory_shared_pools.specs.SharedPool.{ServesNextFit};
 ghost use Rattle.bb_memory_shared_pools.specs.SharedPoolNextFit.{MayTakeFrom, probed, hint_of, part_of};
-ghost use Rattle.bb_memory_shared_pools.specs.SharedPoolRule.{IsIdleAt};
-ghost use Rattle.bb_memory_shared_pools.specs.SharedPoolRule.{HasRefusedFrom, HasTakenFrom, IsInSearch};
+ghost use Rattle.bb_memory_shared_pools.specs.SharedPoolRule.{IsIdleAt, HasRefusedFrom, HasTakenFrom, IsInSearch};
 
 use super::bucket::Bucket;
 use super::buckets::SharedBucketPool;
