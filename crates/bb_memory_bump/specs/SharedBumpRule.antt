@@ -119,12 +119,6 @@ pub record IsSharedBump (scene : BumpScene) (start size : ℕ) : Type 0 where
 abbrev pub all_parties : BumpScene → SeatView
 all_parties scene = standing_for (sight scene 0) (fresh_from 0 scene.parties)
 
--- the bump's machine begins at a scene, and a seat of its table stands for all parties
-pub record IsOpened (begins : BumpScene) (bump : SharedBump) (here : TableId) (me : Me ℕ SeatView) : Type 0 where
-  pub scene : bump.scene ≡ begins
-  pub table : here ≡ bump.table
-  pub seat : me ≡ (all_parties begins, [])
-
 -- a view of no party
 abbrev pub nobody : SeatView
 nobody = standing_for (sight (scene_at (region_at 0 0) 0 0) 0) []

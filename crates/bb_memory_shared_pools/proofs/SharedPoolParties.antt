@@ -9,8 +9,7 @@ use Rattle.bb_memory_seats.specs.Seats.{alone, number_of, view_log}
 use Rattle.bb_memory_shared_pools.specs.SharedPool.{IsParty, IsSharedScene, SharedPool}
 use Rattle.bb_memory_shared_pools.specs.declared.shared_pool.party.Hint.{Hint}
 use Rattle.bb_memory_shared_pools.specs.SharedPoolNextFit.{first_hint, hint_in}
-use Rattle.bb_memory_shared_pools.specs.SharedPoolRule.{IsPartySeat, IsSeatOfIdle, SeatView, party_in}
-use Rattle.bb_memory_shared_pools.specs.SharedPoolRule.{HasEnded}
+use Rattle.bb_memory_shared_pools.specs.SharedPoolRule.{IsPartySeat, IsSeatOfIdle, SeatView, party_in, HasEnded}
 use Rattle.bb_memory_shared_pools.proofs.SharedPoolTries.{hint-append, hint_through}
 
 pub party_seat : (scene : PoolScene) (number : ℕ) (hint : Hint) (log : PoolLog) (me : Me ℕ SeatView) →

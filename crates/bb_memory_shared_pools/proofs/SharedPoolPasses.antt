@@ -63,7 +63,7 @@ module _ (scene : PoolScene) (number : ℕ) (log : PoolLog) where
         }
 
   pub refuses : (me : Me ℕ SeatView) → pass_in log ≡ None → IsPassing scene number log scene.geometry.buckets me →
-      HasRefused scene number log me
+      HasRefused scene number log (refused_pass scene.geometry.buckets number) me
   refuses me idle passing = record {
     ended = record { seat = passing.seat; idle = idle_after_refusal scene.geometry.buckets number log idle };
     held = passing.held;
@@ -79,7 +79,8 @@ pass_took scene number log new bucket took = record {
   found = (took.below, took.free);
 }
 
-pub pass_lost : (scene : PoolScene) (number : ℕ) (log : PoolLog) (new : Me ℕ SeatView) → HasRefused scene number log new →
+pub pass_lost : (scene : PoolScene) (number : ℕ) (log : PoolLog) (new : Me ℕ SeatView) →
+    HasRefused scene number log (refused_pass scene.geometry.buckets number) new →
     HasAsked scene number log (refused_pass scene.geometry.buckets number) None new
 pass_lost scene number log new lost = record {
   ended = lost.ended;

@@ -13,9 +13,9 @@ use Rattle.bb_memory_pool_machine.specs.PoolLogs.{PoolEntry, PoolLog, Interleavi
 use Rattle.bb_memory_pool_machine.specs.PoolLogs.{pass_in, entry_of, CommonInterleaving, loss_at}
 use Rattle.bb_memory_traits.specs.declared.layout.Layout.{Layout}
 use Rattle.bb_memory_shared_pools.specs.SharedPool.{PoolParty, IsSharedScene, SharedPool, scene_at, AreAllHeldAfter, detach_entry}
-use Rattle.bb_memory_shared_pools.specs.SharedPool.{refused_pass, return_entry, attach_entry, taking_pass}
+use Rattle.bb_memory_shared_pools.specs.SharedPool.{return_entry, attach_entry, taking_pass}
 use Rattle.bb_memory_shared_pools.specs.declared.shared_pool.party.Hint.{Hint}
-use Rattle.bb_memory_shared_pools.specs.SharedPoolNextFit.{hint_in, probed, miss_at, misses, refused_search, taking_at, taking_search}
+use Rattle.bb_memory_shared_pools.specs.SharedPoolNextFit.{hint_in, probed, miss_at, misses, taking_at, taking_search}
 use Rattle.bb_memory_seats.specs.Seats.{AreSeated, IsAt, Numbered, Seat, alone, carrying, fresh_from, number_of}
 use Rattle.bb_memory_seats.specs.Seats.{numbered, standing_for, times_detached, view_log, HaveLogs, alone_with, times_in}
 use Rattle.bb_memory_pool_machine.specs.declared.steps.pool.PoolStep.TheVariants.{Try}
@@ -149,12 +149,6 @@ pub record IsSharedPool (capped most : ℕ) (scene : PoolScene) : Type 0 where
 abbrev pub all_parties : PoolScene → SeatView
 all_parties scene = standing_for scene (fresh_from 0 scene.parties)
 
--- a pool begins so, and a seat of its table stands for all parties
-pub record IsOpened (begins : PoolScene) (pool : SharedPool) (here : TableId) (me : Me ℕ SeatView) : Type 0 where
-  pub scene : pool.scene ≡ begins
-  pub table : here ≡ pool.table
-  pub seat : me ≡ (all_parties begins, [])
-
 -- no bytes, at any place
 pub no_bytes : Layout
 unfolding lib.Count.ones
@@ -196,10 +190,9 @@ TellsTry scene number log bucket found new =
 abbrev pub HasEnded : PoolScene → ℕ → PoolLog → PoolLog → Me ℕ SeatView → Type 0
 HasEnded scene number log added new = IsSeatOfIdle scene number (log ++ added) new
 
--- an idle party's exchange took this bucket, which wasn't held after the party's log
-pub record HasTakenAt (scene : PoolScene) (number : ℕ) (log : PoolLog) (bucket : ℕ)
-    (new : Me ℕ SeatView) : Type 0 where
-  pub ended : HasEnded scene number log (taking_at number bucket) new
+-- a step of an idle party, which added this entry, took or attached this bucket, which wasn't held after the party's log
+pub record HasGained (scene : PoolScene) (number : ℕ) (log step : PoolLog) (bucket : ℕ) (new : Me ℕ SeatView) : Type 0 where
+  pub ended : HasEnded scene number log step new
   pub free : ¬ IsHeldAfter log bucket
 
 -- an idle party missed the bucket, which is held after the log of a party that is the only one
@@ -211,7 +204,8 @@ pub record HasMissedAt (scene : PoolScene) (number : ℕ) (log : PoolLog) (bucke
 -- an idle party's exchange from free to taken, which finds the flag free or not
 abbrev pub TellsTryAt : PoolScene → ℕ → PoolLog → ℕ → ℕ → Me ℕ SeatView → Type 0
 TellsTryAt scene number log bucket found new =
-    (found ≡ 0 → HasTakenAt scene number log bucket new) × (found ≢ 0 → HasMissedAt scene number log bucket new)
+    (found ≡ 0 → HasGained scene number log (taking_at number bucket) bucket new)
+    × (found ≢ 0 → HasMissedAt scene number log bucket new)
 
 -- An idle party's load of a flag. A taken one is a miss. A free one is no step of the log, and the party is as it was.
 abbrev pub TellsLookAt : PoolScene → ℕ → PoolLog → ℕ → ℕ → Me ℕ SeatView → Type 0
@@ -232,12 +226,6 @@ pub record TellsDetach (scene : PoolScene) (number : ℕ) (log : PoolLog) (bucke
 -- a party detached this bucket, which has gone to a seat of its own
 abbrev pub HasDetachedAt : PoolScene → ℕ → PoolLog → ℕ → Me ℕ SeatView → Type 0
 HasDetachedAt scene number log bucket new = IsSeatOf scene number (log ++ detach_entry number bucket) new
-
--- An idle party attached this bucket, which wasn't held after its log. The log then has the step.
-pub record HasAttachedAt (scene : PoolScene) (number : ℕ) (log : PoolLog) (bucket : ℕ)
-    (new : Me ℕ SeatView) : Type 0 where
-  pub ended : HasEnded scene number log (attach_entry number bucket) new
-  pub not_held : ¬ IsHeldAfter log bucket
 
 -- A load by a seat that stands for these parties: there are flags, and a log for each of the pool's parties, which agree, and
 -- theirs are among them; no two are one.
@@ -260,14 +248,14 @@ pub record TellsTwo (scene : PoolScene) (number : ℕ) (log : PoolLog) (other : 
 
 -- each is of the bucket whose flag is the word
 
-abbrev pub tries : Step ℕ → Me ℕ SeatView → ℕ → Me ℕ SeatView → Type 0
-tries step old found new = TellsTry old.0.scene (number_of old.0) (view_log old.0) (bucket_of step.word) found new
+abbrev pub Telling : Type 1
+Telling = PoolScene → ℕ → PoolLog → ℕ → ℕ → Me ℕ SeatView → Type 0
 
-abbrev pub tries_at : Step ℕ → Me ℕ SeatView → ℕ → Me ℕ SeatView → Type 0
-tries_at step old found new = TellsTryAt old.0.scene (number_of old.0) (view_log old.0) (bucket_of step.word) found new
+abbrev pub tells_of : Telling → Me ℕ SeatView → ℕ → ℕ → Me ℕ SeatView → Type 0
+tells_of tells me bucket found new = tells me.0.scene (number_of me.0) (view_log me.0) bucket found new
 
-abbrev pub looks_at : Step ℕ → Me ℕ SeatView → ℕ → Me ℕ SeatView → Type 0
-looks_at step old found new = TellsLookAt old.0.scene (number_of old.0) (view_log old.0) (bucket_of step.word) found new
+abbrev pub at_flag : Telling → Step ℕ → Me ℕ SeatView → ℕ → Me ℕ SeatView → Type 0
+at_flag tells step old = tells_of tells old (bucket_of step.word)
 
 abbrev pub returns : Step ℕ → Me ℕ SeatView → ℕ → Me ℕ SeatView → Type 0
 returns step old found new = TellsReturn old.0.scene (number_of old.0) (view_log old.0) (bucket_of step.word) new
@@ -283,7 +271,8 @@ detaches step old found new = TellsDetach old.0.scene (number_of old.0) (view_lo
 -- a load of any word by an idle party at whose seat a bucket is detached, and which attaches that bucket
 abbrev pub attaches : Step ℕ → Me ℕ SeatView → ℕ → Me ℕ SeatView → Type 0
 attaches step old found new =
-    HasAttachedAt old.0.scene (number_of old.0) (view_log old.0) (get_or old.0.detached 0 0) new
+    let bucket = get_or old.0.detached 0 0 in
+    HasGained old.0.scene (number_of old.0) (view_log old.0) (attach_entry (number_of old.0) bucket) bucket new
 
 -- PASSES
 
@@ -294,9 +283,9 @@ pub record HasTaken (scene : PoolScene) (number : ℕ) (log : PoolLog) (new : Me
   pub below : bucket < scene.geometry.buckets
   pub free : ¬ IsHeldAfter log bucket
 
--- a refused request: where the party is the only one, all buckets were held after its log
-pub record HasRefused (scene : PoolScene) (number : ℕ) (log : PoolLog) (new : Me ℕ SeatView) : Type 0 where
-  pub ended : HasEnded scene number log (refused_pass scene.geometry.buckets number) new
+-- a refused request, which added these entries: where the party is the only one, all buckets were held after its log
+pub record HasRefused (scene : PoolScene) (number : ℕ) (log refusal : PoolLog) (new : Me ℕ SeatView) : Type 0 where
+  pub ended : HasEnded scene number log refusal new
   pub held : scene.parties ≡ 1 → AreAllHeldAfter log scene.geometry.buckets
 
 -- SEARCHES
@@ -316,9 +305,3 @@ pub record HasTakenFrom (scene : PoolScene) (number : ℕ) (log : PoolLog) (firs
   pub ended : HasEnded scene number log (taking_search scene.geometry.buckets number first probe) new
   pub below : bucket < scene.geometry.buckets
   pub free : ¬ IsHeldAfter log bucket
-
--- a refused request: where the party is the only one, all buckets were held after its log
-pub record HasRefusedFrom (scene : PoolScene) (number : ℕ) (log : PoolLog) (first : ℕ)
-    (new : Me ℕ SeatView) : Type 0 where
-  pub ended : HasEnded scene number log (refused_search scene.geometry.buckets number first) new
-  pub held : scene.parties ≡ 1 → AreAllHeldAfter log scene.geometry.buckets

@@ -7,7 +7,7 @@ ghost use Rattle.std.specs.Prelude.{◌≡◌, ◌≤◌, [], IfOk, Some};
 ghost use Rattle.bb_memory_bump_machine.specs.BumpMachine.{chunk_at, position_behind};
 ghost use Rattle.bb_memory_bump_machine.specs.BumpLogs.{call_in};
 ghost use Rattle.bb_memory_seats.specs.Seats.{IsDealt, MayGather, Stays, number_of, view_log};
-ghost use Rattle.bb_memory_bump.specs.SharedBumpRule.{IsIdleAt, IsOpened, IsSeatAt, StandsAt, gathered, meeting_of, met_by};
+ghost use Rattle.bb_memory_bump.specs.SharedBumpRule.{IsIdleAt, IsSeatAt, StandsAt, all_parties, gathered, meeting_of, met_by};
 ghost use Rattle.bb_memory_bump.specs.SharedBumpRule.{scene_of, MayAsk, TellsExchange, TellsLoad, TellsMeeting, TellsRead};
 ghost use Rattle.bb_memory_bump.specs.SharedBumpRule.{TellsTwo};
 
@@ -44,7 +44,9 @@ impl Position {
         scene: Scene,
     ) -> Result<(Position, Seat<u8, View>), AllocError>
         requires opening { scene.opening ≤ scene.region.size }
-        ensures { IfOk result (λ made. IsOpened scene made.0 made.1.table_id made.1.me) }
+        ensures scene { IfOk result (λ made. made.0.scene ≡ scene) }
+        ensures table { IfOk result (λ made. made.1.table_id ≡ made.0.table) }
+        ensures seat { IfOk result (λ made. made.1.me ≡ (all_parties scene, [])) }
     {
         let (table, seat) = Table::of_words(alloc, &[scene.opening as u64], &scene)?;
         Ok((Position { table }, seat))

@@ -7,7 +7,7 @@ ghost use Rattle.bb_memory_pool_machine.specs.PoolLogs.{IsHeldAfter};
 ghost use Rattle.bb_memory_seats.specs.Seats.{HasRoomFor, Stays, number_of, view_log};
 ghost use Rattle.bb_memory_shared_pools.specs.SharedPool.{AreAllHeldAfter, AreBothOf, AreFresh, AreInterleaved, HasTaker};
 ghost use Rattle.bb_memory_shared_pools.specs.SharedPool.{HaveMet, HoldApart, IsAlignedTo, IsResizedTo, IsSameParty};
-ghost use Rattle.bb_memory_shared_pools.specs.SharedPool.{IsSharedScene, MayTake, chunk_of, return_entry, with_entries};
+ghost use Rattle.bb_memory_shared_pools.specs.SharedPool.{IsSharedScene, MayTake, chunk_of, refused_pass, return_entry, with_entries};
 ghost use Rattle.bb_memory_shared_pools.specs.SharedPoolRule.{IsIdleAt, all_parties, HasRefused, HasTaken};
 
 use super::bucket::Bucket;
@@ -92,7 +92,7 @@ impl<const CAPPED: usize, const MOST: usize> SharedBucketPool<CAPPED, MOST> {
         requires { IsIdleAt self.now seat.old.table_id seat.old.me }
         ensures told { Stays seat.old.table_id seat.new.table_id (MatchOption result
             (HasRefused self.now.scene (number_of seat.old.me.0) (view_log seat.old.me.0)
-            seat.new.me)
+            (refused_pass self.now.scene.geometry.buckets (number_of seat.old.me.0)) seat.new.me)
             (HasTaken self.now.scene (number_of seat.old.me.0) (view_log seat.old.me.0)
             seat.new.me)) }
         ensures fits { IfSome result (λ bucket. bucket + 1 < 2 ^ 32) }

@@ -7,10 +7,12 @@
 //! sharing, and `geometry` touches no word.
 ghost use Rattle.std.specs.Prelude.{◌≡◌, ◌<◌, ◌≤◌, [], IfOk, MatchBool};
 ghost use Rattle.bb_memory_traits.specs.Chunk.{IsRegion};
+ghost use Rattle.bb_memory_shared_pools.specs.SharedPool.{attach_entry};
+ghost use Rattle.bb_memory_shared_pools.specs.SharedPoolNextFit.{taking_at};
 ghost use Rattle.bb_memory_traits.specs.PoolObject.{IsPoolGeometry};
 ghost use Rattle.bb_memory_pool_machine.specs.PoolLogs.{next_bucket};
-ghost use Rattle.bb_memory_shared_pools.specs.SharedPoolRule.{word_of, StandsAt, IsHeldAt, IsIdleAt, IsDetachedAt, IsOpened};
-ghost use Rattle.bb_memory_shared_pools.specs.SharedPoolRule.{IsSeatAt, HasDetachedAt, HasMissedAt, HasTakenAt, HasAttachedAt};
+ghost use Rattle.bb_memory_shared_pools.specs.SharedPoolRule.{word_of, StandsAt, IsHeldAt, IsIdleAt, IsDetachedAt, all_parties};
+ghost use Rattle.bb_memory_shared_pools.specs.SharedPoolRule.{IsSeatAt, HasDetachedAt, HasMissedAt, HasGained};
 ghost use Rattle.bb_memory_shared_pools.specs.SharedPoolRule.{TellsLoss, TellsMeeting, TellsReturn, TellsTaking, TellsTwo};
 ghost use Rattle.bb_memory_seats.specs.Seats.{IsDealt, MayGather, Stays, both_of, number_of, view_log};
 
@@ -70,7 +72,9 @@ impl Flags {
     /// The flags at a scene's opening, all free, and a seat that stands for all its parties.
     pub(super) fn open(alloc: Global, scene: Scene) -> Result<(Flags, Seat<u8, View>), AllocError>
         requires { 1 ≤ scene.parties }
-        ensures opened { IfOk result (λ made. IsOpened scene made.0 made.1.table_id made.1.me) }
+        ensures scene { IfOk result (λ made. made.0.scene ≡ scene) }
+        ensures table { IfOk result (λ made. made.1.table_id ≡ made.0.table) }
+        ensures seat { IfOk result (λ made. made.1.me ≡ (all_parties scene, [])) }
         ensures region { IfOk result (λ made. IsRegion scene.geometry.region) }
         ensures geometry { IfOk result (λ made. IsPoolGeometry scene.geometry) }
     {
@@ -118,8 +122,8 @@ impl Flags {
         requires seat { IsIdleAt self.now seat.old.table_id seat.old.me }
         requires below { bucket < self.now.scene.geometry.buckets }
         ensures { Stays seat.old.table_id seat.new.table_id (MatchBool result
-            (HasTakenAt self.now.scene (number_of seat.old.me.0) (view_log seat.old.me.0)
-            bucket seat.new.me)
+            (HasGained self.now.scene (number_of seat.old.me.0) (view_log seat.old.me.0)
+            (taking_at (number_of seat.old.me.0) bucket) bucket seat.new.me)
             (HasMissedAt self.now.scene (number_of seat.old.me.0) (view_log seat.old.me.0)
             bucket seat.new.me)) }
     {
@@ -164,8 +168,9 @@ impl Flags {
     pub(super) fn attach(&self, seat: &mut Seat<u8, View>, detached: Seat<u8, View>, bucket: u32)
         requires seat { IsIdleAt self.now seat.old.table_id seat.old.me }
         requires detached { IsDetachedAt self.now detached.table_id detached.me bucket }
-        ensures { Stays seat.old.table_id seat.new.table_id (HasAttachedAt self.now.scene
-            (number_of seat.old.me.0) (view_log seat.old.me.0) bucket seat.new.me) }
+        ensures { Stays seat.old.table_id seat.new.table_id (HasGained self.now.scene
+            (number_of seat.old.me.0) (view_log seat.old.me.0)
+            (attach_entry (number_of seat.old.me.0) bucket) bucket seat.new.me) }
     {
         let shared = &self.table.shared;
         shared.join_seat::<TakeIn>(seat, detached);

@@ -4,8 +4,7 @@ use Rattle.std.proofs.lemmas.List.{map-append}
 use Rattle.std.proofs.lemmas.List.Elements.{All-map, All-push}
 use Rattle.bb_memory_bump.specs.SharedBump.{BumpParty, IsSharedScene, meeting_at}
 use Rattle.bb_memory_seats.specs.Seats.{alone, view_log}
-use Rattle.bb_memory_bump.specs.SharedBumpRule.{met_by, numbered_of, party_in, scene_of, sight}
-use Rattle.bb_memory_bump.specs.SharedBumpRule.{TellsMeeting}
+use Rattle.bb_memory_bump.specs.SharedBumpRule.{met_by, numbered_of, party_in, scene_of, sight, TellsMeeting}
 use Rattle.bb_memory_bump.proofs.SharedBumpGatherings.{all_gathered, have_met, met_seat, none_met}
 use Rattle.bb_memory_bump.proofs.SharedBumpWholes.{met_apart}
 use Rattle.bb_memory_bump.proofs.shared_bump.SharedBumpAllocator.meet_all.Goals as goal
