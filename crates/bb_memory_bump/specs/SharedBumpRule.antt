@@ -62,29 +62,23 @@ pub record IsSeatOf (scene : BumpScene) (number : ℕ) (log : BumpLog) (me : Me 
   pub interleaved : Interleaving scene number log (seen_in scene log)
   pub reached : Interleaving scene number log (max (seen_in scene log) (met_by me.0))
 
--- the seat of an idle party
 pub record IsSeatOfIdle (scene : BumpScene) (number : ℕ) (log : BumpLog) (me : Me ℕ SeatView) : Type 0 where
   pub seat : IsSeatOf scene number log me
   pub idle : call_in log ≡ None
 
--- the seat of an idle party with this number
 pub record IsPartySeat (number : ℕ) (me : Me ℕ SeatView) : Type 0 where
   pub seat : IsSeatOfIdle (scene_of me.0) number (view_log me.0) me
   pub below : number < (scene_of me.0).parties
   pub shared : IsSharedScene (scene_of me.0)
   pub met : met_by me.0 ≤ (scene_of me.0).region.size
 
--- SEATS AT A BUMP'S TABLE
-
--- the seat of one party
+-- at a bump's table: the seat of one party, of an idle one, and of any number of parties
 abbrev pub IsSeatAt : SharedBump → TableId → Me ℕ SeatView → Type 0
 IsSeatAt bump here me = IsAt bump.table here (IsSeatOf bump.scene (number_of me.0) (view_log me.0) me)
 
--- the seat of an idle party
 abbrev pub IsIdleAt : SharedBump → TableId → Me ℕ SeatView → Type 0
 IsIdleAt bump here me = IsAt bump.table here (IsSeatOfIdle bump.scene (number_of me.0) (view_log me.0) me)
 
--- a seat of any number of parties
 abbrev pub StandsAt : SharedBump → TableId → Me ℕ SeatView → Type 0
 StandsAt bump here me = IsAt bump.table here (me ≡ (standing_for (sight bump.scene (met_by me.0)) me.0.parties, []))
 
@@ -102,7 +96,6 @@ pub record WordsAndLogsAgree (scene : BumpScene) (state : State ℕ SeatView) : 
   pub seated : AreSeated scene.parties logs state.views
   pub met : (seat : ℕ) (view : SeatView) → get_elem? state.views seat ≡ some view → met_by view ≤ position
 
--- the table has one word, and no slot
 pub record HasOneWord (table : TableId) : Type 0 where
   pub words : table.words ≡ 1
   pub slots : table.slots ≡ 0
@@ -113,17 +106,14 @@ pub record IsSharedBump (scene : BumpScene) (start size : ℕ) : Type 0 where
   pub is_region : IsRegion (region_at start size)
   pub shared : IsSharedScene scene
 
--- DEALING
+-- DEALING AND MEETING
 
 -- the view of the first seat, which stands for all parties
 abbrev pub all_parties : BumpScene → SeatView
 all_parties scene = standing_for (sight scene 0) (fresh_from 0 scene.parties)
 
--- a view of no party
 abbrev pub nobody : SeatView
 nobody = standing_for (sight (scene_at (region_at 0 0) 0 0) 0) []
-
--- MEETING
 
 -- the view of the parties of a guest and of a view, which knows what the last meeting of either found
 abbrev pub gathered : SeatView → SeatView → SeatView
@@ -173,8 +163,7 @@ pub record TellsMeeting (scene : BumpScene) (parties : List NumberedLog) (met fo
 
 -- what a meeting of two found: they are different ones, no chunk of the one overlaps one of the other, and one interleaving has
 -- both logs, which leaves the position
-pub record TellsTwo (scene : BumpScene) (number : ℕ) (log : BumpLog) (other : ℕ)
-    (other_log : BumpLog) (found : ℕ) : Type 0 where
+pub record TellsTwo (scene : BumpScene) (number : ℕ) (log : BumpLog) (other : ℕ) (other_log : BumpLog) (found : ℕ) : Type 0 where
   pub differ : number ≢ other
   pub apart : HaveChunksApart log other_log
   pub interleaved : CommonInterleaving scene number log other other_log found
@@ -182,8 +171,7 @@ pub record TellsTwo (scene : BumpScene) (number : ℕ) (log : BumpLog) (other : 
   pub within : found ≤ scene.region.size
   pub chunks : HasChunksWithin scene.region log found × HasChunksWithin scene.region other_log found
 
--- THE STEPS AS THE TABLE KNOWS THEM
-
+-- the steps as the table knows them
 abbrev pub reads : Option Layout → Step ℕ → Me ℕ SeatView → ℕ → Me ℕ SeatView → Type 0
 reads (Some layout) step old found new =
     TellsRead (scene_of old.0) (number_of old.0) (view_log old.0) (met_by old.0) layout found new
@@ -223,7 +211,6 @@ pub record IsCounted (scene : BumpScene) (log : BumpLog) (met : ℕ) (added : Bu
   pub within : All (HasPositionUpTo scene.region.size scene.region) added
   pub losses : losses_in added ≤ scene.region.size
 
--- A request that has ended: the party is idle, and has added this.
 pub record HasEnded (scene : BumpScene) (number : ℕ) (log : BumpLog) (met : ℕ) (added : BumpLog)
     (new : Me ℕ SeatView) : Type 0 where
   pub seat : IsSeatOfIdle scene number (log ++ added) new

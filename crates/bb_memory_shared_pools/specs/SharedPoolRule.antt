@@ -21,8 +21,6 @@ use Rattle.bb_memory_seats.specs.Seats.{numbered, standing_for, times_detached, 
 use Rattle.bb_memory_pool_machine.specs.declared.steps.pool.PoolStep.TheVariants.{Try}
 use Rattle.bb_memory_pool_machine.specs.declared.steps.pool.PoolOutcome.TheVariants.{Takes}
 
--- Where the flags of a shared pool's buckets stand among the words of its table.
-
 -- The word of a bucket's flag. The first 8 words are no flag, and behind them the flags stand in the order of the buckets.
 abbrev pub word_of : ℕ → ℕ
 word_of bucket = 8 + bucket
@@ -46,14 +44,12 @@ words_of flags = replicate 8 0 ++ map as_word flags
 
 -- SEATS
 
--- a party's number with its log
 abbrev pub NumberedLog : Type 0
 NumberedLog = Numbered PoolEntry
 
 abbrev pub numbered_of : PoolParty → NumberedLog
 numbered_of party = numbered party.number party.log
 
--- what a seat of a shared pool knows
 abbrev pub SeatView : Type 0
 SeatView = Seat PoolScene PoolEntry
 
@@ -73,12 +69,10 @@ pub record IsSeatOf (scene : PoolScene) (number : ℕ) (log : PoolLog) (me : Me 
   pub is : me ≡ (alone scene number log, [])
   pub interleaved : Interleaving scene number log
 
--- the seat of an idle party
 pub record IsSeatOfIdle (scene : PoolScene) (number : ℕ) (log : PoolLog) (me : Me ℕ SeatView) : Type 0 where
   pub seat : IsSeatOf scene number log me
   pub idle : pass_in log ≡ None
 
--- the seat of an idle party with this number and this hint
 pub record IsPartySeat (number : ℕ) (hint : Hint) (me : Me ℕ SeatView) : Type 0 where
   pub seat : IsSeatOfIdle me.0.scene number (view_log me.0) me
   pub below : number < me.0.scene.parties
@@ -91,26 +85,20 @@ pub record IsDetachedSeat (bucket len : ℕ) (me : Me ℕ SeatView) : Type 0 whe
   pub below : bucket < me.0.scene.geometry.buckets
   pub short : len ≤ me.0.scene.geometry.bucket.size
 
--- SEATS AT A POOL'S TABLE
-
--- the seat of one party
+-- at a pool's table: the seat of one party, of an idle one, and of any number of parties
 abbrev pub IsSeatAt : SharedPool → TableId → Me ℕ SeatView → Type 0
 IsSeatAt pool here me = IsAt pool.table here (IsSeatOf pool.scene (number_of me.0) (view_log me.0) me)
 
--- the seat of an idle party
 abbrev pub IsIdleAt : SharedPool → TableId → Me ℕ SeatView → Type 0
 IsIdleAt pool here me = IsAt pool.table here (IsSeatOfIdle pool.scene (number_of me.0) (view_log me.0) me)
 
--- a seat of any number of parties
 abbrev pub StandsAt : SharedPool → TableId → Me ℕ SeatView → Type 0
 StandsAt pool here me = IsAt pool.table here (me ≡ (standing_for pool.scene me.0.parties, []))
 
--- a bucket that is held after the log of a seat's party
 pub record IsHeldAt (pool : SharedPool) (me : Me ℕ SeatView) (bucket : ℕ) : Type 0 where
   pub held : IsHeldAfter (view_log me.0) bucket
   pub below : bucket < pool.scene.geometry.buckets
 
--- the seat of a detached bucket
 pub record IsDetachedAt (pool : SharedPool) (here : TableId) (me : Me ℕ SeatView) (bucket : ℕ) : Type 0 where
   pub at : IsAt pool.table here (me ≡ (carrying pool.scene bucket, []))
   pub below : bucket < pool.scene.geometry.buckets
@@ -133,7 +121,6 @@ pub record WordsAndLogsAgree (scene : PoolScene) (state : State ℕ SeatView) : 
   pub seated : AreSeated scene.parties logs state.views
   pub detached : AreDetached flags logs state.views
 
--- the table has the words of the buckets' flags
 pub record HasWords (table : TableId) (scene : PoolScene) : Type 0 where
   pub words : table.words ≡ words_for scene.geometry.buckets
 
@@ -142,8 +129,6 @@ pub record IsSharedPool (capped most : ℕ) (scene : PoolScene) : Type 0 where
   pub is_region : IsRegion scene.geometry.region
   pub shared : IsSharedScene scene
   pub within : capped ≡ 1 → scene.geometry.buckets ≤ most
-
--- DEALING
 
 -- the view of the first seat, which stands for all parties
 abbrev pub all_parties : PoolScene → SeatView
@@ -162,31 +147,26 @@ no_bytes = record {
   };
 }
 
--- a view of no party
 abbrev pub nobody : SeatView
 nobody = standing_for (scene_at (pool_geometry (region_at 0 0) no_bytes 0) 0) []
 
 -- WHAT A STEP TELLS
 
 -- an exchange took this bucket, which wasn't held after the party's log. The log then has the step
-pub record TellsTaking (scene : PoolScene) (number : ℕ) (log : PoolLog) (bucket : ℕ)
-    (new : Me ℕ SeatView) : Type 0 where
+pub record TellsTaking (scene : PoolScene) (number : ℕ) (log : PoolLog) (bucket : ℕ) (new : Me ℕ SeatView) : Type 0 where
   pub seat : IsSeatOf scene number (log ++ entry_of (Try number) (Takes bucket) ∷ []) new
   pub free : ¬ IsHeldAfter log bucket
 
 -- an exchange lost at this bucket, which is held after the log of a party that is the only one. The log then has the step
-pub record TellsLoss (scene : PoolScene) (number : ℕ) (log : PoolLog) (bucket : ℕ)
-    (new : Me ℕ SeatView) : Type 0 where
+pub record TellsLoss (scene : PoolScene) (number : ℕ) (log : PoolLog) (bucket : ℕ) (new : Me ℕ SeatView) : Type 0 where
   pub seat : let loss = loss_at scene.geometry.buckets bucket in
       IsSeatOf scene number (log ++ entry_of (Try number) loss ∷ []) new
   pub held : scene.parties ≡ 1 → IsHeldAfter log bucket
 
--- an exchange from free to taken, which finds the flag free or not
 abbrev pub TellsTry : PoolScene → ℕ → PoolLog → ℕ → ℕ → Me ℕ SeatView → Type 0
 TellsTry scene number log bucket found new =
     (found ≡ 0 → TellsTaking scene number log bucket new) × (found ≢ 0 → TellsLoss scene number log bucket new)
 
--- Calls that have ended: the party is idle, and has added this.
 abbrev pub HasEnded : PoolScene → ℕ → PoolLog → PoolLog → Me ℕ SeatView → Type 0
 HasEnded scene number log added new = IsSeatOfIdle scene number (log ++ added) new
 
@@ -196,12 +176,10 @@ pub record HasGained (scene : PoolScene) (number : ℕ) (log step : PoolLog) (bu
   pub free : ¬ IsHeldAfter log bucket
 
 -- an idle party missed the bucket, which is held after the log of a party that is the only one
-pub record HasMissedAt (scene : PoolScene) (number : ℕ) (log : PoolLog) (bucket : ℕ)
-    (new : Me ℕ SeatView) : Type 0 where
+pub record HasMissedAt (scene : PoolScene) (number : ℕ) (log : PoolLog) (bucket : ℕ) (new : Me ℕ SeatView) : Type 0 where
   pub ended : HasEnded scene number log (miss_at number bucket) new
   pub held : scene.parties ≡ 1 → IsHeldAfter log bucket
 
--- an idle party's exchange from free to taken, which finds the flag free or not
 abbrev pub TellsTryAt : PoolScene → ℕ → PoolLog → ℕ → ℕ → Me ℕ SeatView → Type 0
 TellsTryAt scene number log bucket found new =
     (found ≡ 0 → HasGained scene number log (taking_at number bucket) bucket new)
@@ -217,10 +195,8 @@ abbrev pub TellsReturn : PoolScene → ℕ → PoolLog → ℕ → Me ℕ SeatVi
 TellsReturn scene number log bucket new = IsSeatOf scene number (log ++ return_entry number bucket) new
 
 -- A party detached this bucket: its log then has the step, and the bucket is detached at its seat.
-pub record TellsDetach (scene : PoolScene) (number : ℕ) (log : PoolLog) (bucket : ℕ)
-    (new : Me ℕ SeatView) : Type 0 where
-  pub is : let longer : PoolLog = log ++ detach_entry number bucket in
-      new ≡ (alone_with scene number longer bucket, [])
+pub record TellsDetach (scene : PoolScene) (number : ℕ) (log : PoolLog) (bucket : ℕ) (new : Me ℕ SeatView) : Type 0 where
+  pub is : let longer : PoolLog = log ++ detach_entry number bucket in new ≡ (alone_with scene number longer bucket, [])
   pub interleaved : Interleaving scene number (log ++ detach_entry number bucket)
 
 -- a party detached this bucket, which has gone to a seat of its own
@@ -238,16 +214,12 @@ pub record TellsMeeting (scene : PoolScene) (parties : List NumberedLog) : Type 
   pub once : (number : ℕ) → number < scene.parties → times_in number parties ≤ 1
 
 -- what a meeting of two found: they are different ones, no bucket is held after both logs, and one interleaving has both
-pub record TellsTwo (scene : PoolScene) (number : ℕ) (log : PoolLog) (other : ℕ)
-    (other_log : PoolLog) : Type 0 where
+pub record TellsTwo (scene : PoolScene) (number : ℕ) (log : PoolLog) (other : ℕ) (other_log : PoolLog) : Type 0 where
   pub differ : number ≢ other
   pub apart : (bucket : ℕ) → IsHeldAfter log bucket → ¬ IsHeldAfter other_log bucket
   pub interleaved : CommonInterleaving scene number log other other_log
 
--- THE STEPS AS THE TABLE KNOWS THEM
-
--- each is of the bucket whose flag is the word
-
+-- the steps as the table knows them, of which each is of the bucket whose flag is the word
 abbrev pub Telling : Type 1
 Telling = PoolScene → ℕ → PoolLog → ℕ → ℕ → Me ℕ SeatView → Type 0
 
@@ -274,11 +246,10 @@ attaches step old found new =
     let bucket = get_or old.0.detached 0 0 in
     HasGained old.0.scene (number_of old.0) (view_log old.0) (attach_entry (number_of old.0) bucket) bucket new
 
--- PASSES
+-- REQUESTS
 
 -- a pass took this bucket, which wasn't held after the log before
-pub record HasTaken (scene : PoolScene) (number : ℕ) (log : PoolLog) (new : Me ℕ SeatView)
-    (bucket : ℕ) : Type 0 where
+pub record HasTaken (scene : PoolScene) (number : ℕ) (log : PoolLog) (new : Me ℕ SeatView) (bucket : ℕ) : Type 0 where
   pub ended : HasEnded scene number log (taking_pass scene.geometry.buckets number bucket) new
   pub below : bucket < scene.geometry.buckets
   pub free : ¬ IsHeldAfter log bucket
@@ -288,11 +259,8 @@ pub record HasRefused (scene : PoolScene) (number : ℕ) (log refusal : PoolLog)
   pub ended : HasEnded scene number log refusal new
   pub held : scene.parties ≡ 1 → AreAllHeldAfter log scene.geometry.buckets
 
--- SEARCHES
-
 -- a search under way: since it began, the seat's party has missed the buckets of the probes before this one
-pub record IsInSearch (scene : PoolScene) (number : ℕ) (log : PoolLog) (first probe : ℕ)
-    (me : Me ℕ SeatView) : Type 0 where
+pub record IsInSearch (scene : PoolScene) (number : ℕ) (log : PoolLog) (first probe : ℕ) (me : Me ℕ SeatView) : Type 0 where
   pub ended : HasEnded scene number log (misses scene.geometry.buckets number first probe) me
   pub held : scene.parties ≡ 1 → (earlier : ℕ) → earlier < probe → IsHeldAfter log (probed scene.geometry.buckets first earlier)
 
