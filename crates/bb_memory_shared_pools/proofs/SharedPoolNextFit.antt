@@ -171,7 +171,7 @@ module _ (scene : PoolScene) (number : ℕ) (log : PoolLog) (first : ℕ) where
         probe < scene.geometry.buckets → HasTakenFrom scene number log first new bucket
     search_takes bucket is tells below =
         let buckets : ℕ = scene.geometry.buckets in
-        let Told : Me ℕ SeatView → Type 0 = λ m. 
+        let Told : Me ℕ SeatView → Type 0 = λ m.
         HasGained scene (number_of m.0) (view_log m.0) (taking_at (number_of m.0) tried) tried new in
         let here = subst Told so_far.ended.seat.is
         (subst (λ (b : ℕ). HasGained scene (number_of me.0) (view_log me.0) (taking_at (number_of me.0) b) b new) is tells) in

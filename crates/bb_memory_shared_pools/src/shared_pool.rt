@@ -23,10 +23,12 @@ mod next_fit;
 mod party;
 mod rule;
 
-pub use bb_memory_traits::allocator::{AllocationError, AllocationGrowError, AllocationShrinkError};
-use bb_memory_traits::layout::Layout;
-use bb_memory_geometry::geometry::Geometry;
 pub use all_parties::shared_pool_meeting_law;
+use bb_memory_geometry::geometry::Geometry;
+pub use bb_memory_traits::allocator::{
+    AllocationError, AllocationGrowError, AllocationShrinkError,
+};
+use bb_memory_traits::layout::Layout;
 pub use bucket::Bucket;
 use buckets::SharedBucketPool;
 pub use caching::CachingParty;

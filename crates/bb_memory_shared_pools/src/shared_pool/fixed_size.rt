@@ -6,9 +6,9 @@ ghost use Rattle.bb_memory_shared_pools.specs.SharedPool.{AreFresh};
 
 use super::buckets::SharedBucketPool;
 use super::party::PoolParty;
+use bb_memory_geometry::geometry::Geometry;
 use bb_memory_traits::allocator::AllocationError;
 use bb_memory_traits::layout::Layout;
-use bb_memory_geometry::geometry::Geometry;
 use std::alloc::Global;
 
 /// Gives buckets of one layout, at most `MAX_NUMBER_OF_BUCKETS` of them, to any number of threads, as

@@ -1,4 +1,4 @@
-use Rattle.std.proofs.Common.{[], rules, ◌≡◌, ◌∷◌, ◌++◌, ◌≤◌, sym, subst, ◌∙◌, arith}
+use Rattle.std.proofs.Common.{[], rules, ◌≡◌, ◌∷◌, ◌++◌, ◌≤◌, sym, subst, arith}
 use Rattle.std.specs.Prelude.{All, map}
 use Rattle.std.proofs.lemmas.List.Elements.{All-push, All-weaker}
 use Rattle.bb_memory_bump.specs.SharedBump.{BumpParty}

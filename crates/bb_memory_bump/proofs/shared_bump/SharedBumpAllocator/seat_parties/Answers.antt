@@ -1,4 +1,4 @@
-use Rattle.std.proofs.Common.{[], rules, ◌≡◌, ◌+◌, ◌≤◌, ◌∷◌, arith, sym, ap, ◌∙◌, refl, subst}
+use Rattle.std.proofs.Common.{[], rules, ◌≡◌, arith, sym, ap, ◌∙◌, refl, subst}
 use Rattle.std.proofs.lemmas.Grind.{common_steps}
 use Rattle.bb_memory_bump.specs.SharedBump.{BumpParty, IsSharedScene, SharedBump, fresh_party}
 use Rattle.bb_memory_seats.specs.Seats.{alone}

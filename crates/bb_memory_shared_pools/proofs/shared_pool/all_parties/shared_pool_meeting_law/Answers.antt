@@ -6,9 +6,9 @@ use Rattle.bb_memory_shared_pools.proofs.shared_pool.all_parties.shared_pool_mee
 pub returns : goal.returns
 returns c = record {
   run = λ scene parties met layouts shared asked.
-    pool_run scene met.1.agree.steps layouts shared.geometry asked;
+      pool_run scene met.1.agree.steps layouts shared.geometry asked;
   sound = λ scene parties met layouts live shared run.
-    run_is_sound scene met.1.agree.steps layouts live shared.geometry run;
+      run_is_sound scene met.1.agree.steps layouts live shared.geometry run;
   flags = met_flags;
   held = met_held;
   logged = met_logged;

@@ -1,4 +1,4 @@
-use Rattle.std.proofs.Common.{rules, [], ◌∷◌, ◌++◌, ◌≡◌, ◌∙◌}
+use Rattle.std.proofs.Common.{rules}
 use Rattle.bb_memory_shared_pools.proofs.SharedPoolGatherings.{agrees, all_gathered, none_met}
 use Rattle.bb_memory_shared_pools.proofs.SharedPoolWholes.{met_apart, one_served}
 use Rattle.bb_memory_shared_pools.proofs.shared_pool.buckets.SharedBucketPool.meet_all.Goals as goal
