@@ -8,9 +8,9 @@ ghost use Rattle.uses.specs.Requests.{HasLeft, IsRefusedUnasked, IsWhyNotAdmitte
 ghost use Rattle.uses.specs.Requests.{chunks_of, lease_at, limit_of, used_by, with_lease, with_tenant, without_lease};
 
 use crate::slab::{self, return_last};
+use bb_memory_lists::lists::{Grouped, append_law, group_law, map_law, position_law, sum_law};
 use bb_memory_traits::allocator::{AllocationError, Allocator, BaseAllocator};
 use bb_memory_traits::layout::{Chunk, Layout};
-use bb_memory_lists::lists::{Grouped, append_law, group_law, map_law, position_law, sum_law};
 use std::alloc::{AllocError, Global};
 use std::marker::Model;
 use thiserror::Error;

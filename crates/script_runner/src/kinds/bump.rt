@@ -1,10 +1,10 @@
 //! A bump that a script drives.
 
 use crate::kinds::allocators::Scripted;
-use script_words::words::{Bounds, Figure, Numbers, region, write_figures};
 use bb_memory_bump::bump_allocator::{BumpAllocator, run_bump};
 use bb_memory_traits::allocator::{Command, Reply};
 use bb_memory_traits::layout::Chunk;
+use script_words::words::{Bounds, Figure, Numbers, region, write_figures};
 use std::alloc::{AllocError, Global};
 use std::io::Write;
 

@@ -1,10 +1,10 @@
 //! A one chunk that a script drives.
 
 use crate::kinds::allocators::Scripted;
-use script_words::words::{Bounds, Figure, Numbers, region, write_figures};
 use bb_memory_owned::one_chunk_allocator::{OneChunkAllocator, run_one_chunk};
 use bb_memory_traits::allocator::{Command, Reply};
 use bb_memory_traits::layout::Chunk;
+use script_words::words::{Bounds, Figure, Numbers, region, write_figures};
 use std::alloc::{AllocError, Global};
 
 impl Scripted for OneChunkAllocator {

@@ -3,12 +3,12 @@ ghost use Rattle.std.specs.Prelude.{◌≡◌, IfSome, Some};
 ghost use Rattle.script_runner.specs.Allocators.{IsPoolPlan, pool_numbers};
 
 use crate::kinds::allocators::Scripted;
-use script_words::words::{Figure, Numbers, is, layout, write_figures};
 use bb_memory_owned::pool_allocator::{
     FixedSizePoolAllocator, PoolAllocator, run_fixed_pool, run_pool,
 };
 use bb_memory_traits::allocator::{Command, Reply};
 use bb_memory_traits::layout::{Chunk, Layout};
+use script_words::words::{Figure, Numbers, is, layout, write_figures};
 use std::alloc::{AllocError, Global};
 
 /// The region that a pool cuts, and the layout of each of its buckets.

@@ -1,8 +1,8 @@
 //! A pool world that a script drives by its steps.
 
 use crate::engine::driving::Driven;
-use script_words::words::{Numbers, PARTIES, Text, is, party_of, small, write_words};
 use bb_memory_pool_machine::steps::{PoolOutcome, PoolStep, PoolWorld};
+use script_words::words::{Numbers, PARTIES, Text, is, party_of, small, write_words};
 use std::alloc::{AllocError, Global};
 
 /// The most buckets that a script may ask for.
