@@ -19,8 +19,7 @@ use Rattle.bb_memory_traits.proofs.LiveLists.{StandsFor-end}
 use Rattle.bb_memory_seats.specs.Seats.{number_of, view_log}
 use Rattle.bb_memory_bump.specs.SharedBump.{BumpParty, IsAnsweredAt, IsFoundBy, IsRefused, IsWon, MayTake, floor_of, seen_by}
 use Rattle.bb_memory_bump.specs.SharedBump.{with_entries}
-use Rattle.bb_memory_bump.specs.SharedBumpRule.{SeatView, met_by, party_in}
-use Rattle.bb_memory_bump.specs.SharedBumpRule.{HasEnded, HasRefused, HasWon, IsCounted}
+use Rattle.bb_memory_bump.specs.SharedBumpRule.{SeatView, met_by, party_in, HasEnded, HasRefused, HasWon, IsCounted}
 use Rattle.bb_memory_bump.proofs.SharedBumpParties.{entries_added}
 
 -- ENTRIES

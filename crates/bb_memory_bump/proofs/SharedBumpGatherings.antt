@@ -2,7 +2,7 @@
 use Rattle.std.proofs.Common.{◌≡◌, ℕ, zero, suc, replicate, ◌<◌, ◌≤◌, List, [], ◌∷◌, ◌++◌, length, refl, sym, ap, ◌∙◌, subst}
 use Rattle.std.proofs.Common.{arith, append_assoc}
 use Rattle.std.proofs.lemmas.List.{length-map, length-replicate, map-append}
-use Rattle.std.specs.Prelude.{map, max, Contains}
+use Rattle.std.specs.Prelude.{map, Contains}
 use Rattle.std.specs.List.{All, AllByRecursion}
 use Rattle.std.proofs.lemmas.List.Elements.{All-contains, All-contains_itself, All-from_recursion, All-nil, All-replicate}
 use Rattle.std.proofs.lemmas.List.Elements.{All-weaker, recursion_from_All}
@@ -13,12 +13,11 @@ use Rattle.bb_memory_bump_machine.specs.BumpLogs.{BumpLog, HasLog, Interleaving,
 use Rattle.bb_memory_bump_machine.proofs.BumpLogs.{opening_agrees}
 use Rattle.bb_memory_bump_machine.proofs.BumpPositions.{interleaved, seen_below}
 use Rattle.bb_memory_bump_machine.proofs.BumpWholes.{opened_below, whole_bounds}
-use Rattle.bb_memory_seats.specs.Seats.{HaveLogs, alone, numbered, standing_for, view_log}
+use Rattle.bb_memory_seats.specs.Seats.{HaveLogs, alone, numbered, view_log}
 use Rattle.bb_memory_bump.specs.SharedBump.{AgreeAt, BumpParty, HaveMet, IsSharedScene, SharedBump, floor_of, greatest_seen}
 use Rattle.bb_memory_bump.specs.SharedBump.{meeting_at, seen_by}
-use Rattle.bb_memory_bump.specs.SharedBumpRule.{IsPartySeat, NumberedLog, SeatView, gathered, meeting_of, met_by, numbered_of}
-use Rattle.bb_memory_bump.specs.SharedBumpRule.{party_in, scene_of, sight}
-use Rattle.bb_memory_bump.specs.SharedBumpRule.{TellsMeeting}
+use Rattle.bb_memory_bump.specs.SharedBumpRule.{IsPartySeat, NumberedLog, SeatView, met_by, numbered_of}
+use Rattle.bb_memory_bump.specs.SharedBumpRule.{party_in, scene_of, sight, TellsMeeting}
 use Rattle.bb_memory_seats.proofs.PartyNumbers.{all_there, has_number, logs_had, numbers_differ, owner}
 use Rattle.bb_memory_lists.proofs.Contained.{contains-none}
 use Rattle.bb_memory_bump.proofs.SharedBumpParties.{party_seat}
@@ -45,14 +44,6 @@ pub one_gathered : (table : TableId) (number : ℕ) (me : Me ℕ SeatView) (part
 one_gathered table number me party items rest own fields view_is is =
     sym (append_assoc (map numbered_of rest) me.0.parties own)
     ∙ ap (λ (all : List NumberedLog). all ++ own) (all_gathered table number me party items rest fields view_is is)
-
--- a guest's parties come to a seat
-pub seat_gathered : (scene : BumpScene) (me new : Me ℕ SeatView) (guest : SeatView) →
-    me ≡ (standing_for (sight scene (met_by me.0)) me.0.parties, []) → new ≡ (gathered me.0 guest, me.1) →
-    new ≡ (standing_for (sight scene (met_by new.0)) new.0.parties, [])
-seat_gathered scene me new guest is new_is =
-    subst (λ (m : Me ℕ SeatView). m ≡ (standing_for (sight scene (met_by m.0)) m.0.parties, [])) (sym new_is)
-    (λ i. (standing_for (sight (scene_of (is i).0) (max (met_by me.0) (met_by guest))) (guest.parties ++ me.0.parties), (is i).1))
 
 -- WHAT A MEETING SAYS
 
@@ -153,20 +144,6 @@ none_met bump items new shared none none_new =
         whole = λ long. let some = shared.parties in absurd (omega (arith, some, long));
       };
     }
-
--- the party that goes back after the meeting
-pub met_party : (table was : TableId) (number found : ℕ) (me new : Me ℕ SeatView) (party : BumpParty) →
-    party_in was number me.0 ≡ party → table ≡ was → new ≡ (meeting_of found me.0, []) →
-    party_in table number new.0 ≡ meeting_at found party
-met_party table was number found me new party view_is same is = λ i. record {
-  allocator = record {
-    table = (same ∙ ap (λ (p : BumpParty). p.allocator.table) view_is) i;
-    scene = (ap (λ (m : Me ℕ SeatView). scene_of m.0) is ∙ ap (λ (p : BumpParty). p.allocator.scene) view_is) i;
-  };
-  number = ap (λ (p : BumpParty). p.number) view_is i;
-  log = (ap (λ (m : Me ℕ SeatView). view_log m.0) is ∙ ap (λ (p : BumpParty). p.log) view_is) i;
-  met = ap (λ (m : Me ℕ SeatView). met_by m.0) is i;
-}
 
 -- the log of one of the parties that met
 its_own : (made : ℕ) (logs : List BumpLog) (before behind : List NumberedLog) (one : NumberedLog) →

@@ -24,8 +24,7 @@ use Rattle.bb_memory_bump_machine.proofs.BumpPositions.{alone_exact, interleaved
 use Rattle.bb_memory_bump_machine.proofs.BumpRuns.{chunk_at-above}
 use Rattle.bb_memory_bump_machine.proofs.BumpWholes.{greater_of-above}
 use Rattle.bb_memory_seats.specs.Seats.{alone}
-use Rattle.bb_memory_bump.specs.SharedBumpRule.{SeatView, WordsAndLogsAgree, sight}
-use Rattle.bb_memory_bump.specs.SharedBumpRule.{Tells, exchanges, loads, reads}
+use Rattle.bb_memory_bump.specs.SharedBumpRule.{SeatView, WordsAndLogsAgree, sight, Tells, exchanges, loads, reads}
 use Rattle.bb_memory_seats.proofs.Seatings.{seated_step}
 use Rattle.bb_memory_bump.proofs.SharedBumpFloors.{met_set}
 use Rattle.bb_memory_bump.proofs.SharedLogs.{seen_next}

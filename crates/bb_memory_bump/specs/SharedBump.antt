@@ -47,7 +47,6 @@ pub record AreFresh (allocator : SharedBump) (count : ℕ) (parties : List BumpP
   pub fresh : (number : ℕ) → number < count → slice_get parties number ≡ Some (fresh_party allocator number)
   pub theirs : All (λ party. party.allocator ≡ allocator) parties
 
--- the party with these more entries in its log
 abbrev pub with_entries : BumpParty → BumpLog → BumpParty
 with_entries party entries = record {
   allocator = party.allocator;
@@ -56,7 +55,6 @@ with_entries party entries = record {
   met = party.met;
 }
 
--- the party after a meeting that found this position
 abbrev pub meeting_at : ℕ → BumpParty → BumpParty
 meeting_at position party = record {
   allocator = party.allocator;
@@ -112,8 +110,7 @@ pub data IsRefused (region : Region) (party : ℕ) (layout : Layout) (added : Bu
 -- each position in these entries is at least the party's floor, and at most the region's size
 pub record IsFoundBy (party : BumpParty) (added : BumpLog) : Type 0 where
   pub seen : All (HasPositionFrom (floor_of party) party.allocator.scene.region) added
-  pub within : let region = party.allocator.scene.region in
-      All (HasPositionUpTo region.size region) added
+  pub within : let region = party.allocator.scene.region in All (HasPositionUpTo region.size region) added
 
 -- WHAT A REQUEST MAY BE ANSWERED
 
@@ -168,12 +165,10 @@ pub record HasLoaded (bump : SharedBump) (old : BumpParty) (found : ℕ) (new : 
   pub within : found ≤ bump.scene.region.size
   pub alone : bump.scene.parties ≡ 1 → found ≡ seen_by old
 
--- both parties are this bump's
 pub record AreBothOf (allocator : SharedBump) (one other : BumpParty) : Type 0 where
   pub a : one.allocator ≡ allocator
   pub b : other.allocator ≡ allocator
 
--- an interleaving that has the logs of both parties
 abbrev pub AreInterleaved : BumpParty → BumpParty → Type 0
 AreInterleaved a b = (position : ℕ) × CommonInterleaving a.allocator.scene a.number a.log b.number b.log position
 

@@ -2,7 +2,6 @@
 -- makes it.
 use Rattle.std.specs.Prelude.{◌≡◌, ℕ, ◌<◌, ◌≤◌, List, [], ◌∷◌, ◌++◌, All, None, length, max, ◌≢◌, ◌+◌, ◌%◌, true, false, Option}
 use Rattle.std.specs.Prelude.{Some}
-use Rattle.std.specs.declared.vec.Vec.{Vec}
 use mathlib.Core.Option.{some}
 use lib.ListN.{get_elem?}
 use Rattle.atomic_table.specs.Seated.{TableId}
@@ -11,7 +10,7 @@ use Rattle.bb_memory_traits.specs.Chunk.{IsRegion, region_at, Region, region_end
 use Rattle.bb_memory_bump_machine.specs.BumpMachine.{BumpScene, OngoingCall, chunk_at, fits, read_move, exchange_move}
 use Rattle.bb_memory_bump_machine.specs.BumpLogs.{BumpEntry, BumpLog, Interleaving, LogsAgree, call_in, seen_in, chunks_won, entry_of}
 use Rattle.bb_memory_bump_machine.specs.BumpLogs.{losses_in, HasPositionFrom, CommonInterleaving, HasPositionUpTo}
-use Rattle.bb_memory_seats.specs.Seats.{AreSeated, HasRoomFor, IsAt, Numbered, Seat, alone, fresh_from, number_of, numbered}
+use Rattle.bb_memory_seats.specs.Seats.{AreSeated, IsAt, Numbered, Seat, alone, fresh_from, number_of, numbered}
 use Rattle.bb_memory_seats.specs.Seats.{standing_for, view_log, HaveLogs, times_in}
 use Rattle.bb_memory_bump.specs.SharedBump.{BumpParty, IsSharedScene, SharedBump, scene_at, HasChunksWithin, HaveChunksApart}
 use Rattle.bb_memory_bump.specs.SharedBump.{IsRefused, IsWon}
@@ -63,42 +62,25 @@ pub record IsSeatOf (scene : BumpScene) (number : ℕ) (log : BumpLog) (me : Me 
   pub interleaved : Interleaving scene number log (seen_in scene log)
   pub reached : Interleaving scene number log (max (seen_in scene log) (met_by me.0))
 
--- the seat of an idle party
 pub record IsSeatOfIdle (scene : BumpScene) (number : ℕ) (log : BumpLog) (me : Me ℕ SeatView) : Type 0 where
   pub seat : IsSeatOf scene number log me
   pub idle : call_in log ≡ None
 
--- the seat of an idle party with this number
 pub record IsPartySeat (number : ℕ) (me : Me ℕ SeatView) : Type 0 where
   pub seat : IsSeatOfIdle (scene_of me.0) number (view_log me.0) me
   pub below : number < (scene_of me.0).parties
   pub shared : IsSharedScene (scene_of me.0)
   pub met : met_by me.0 ≤ (scene_of me.0).region.size
 
--- SEATS AT A BUMP'S TABLE
-
--- the seat of one party
+-- at a bump's table: the seat of one party, of an idle one, and of any number of parties
 abbrev pub IsSeatAt : SharedBump → TableId → Me ℕ SeatView → Type 0
 IsSeatAt bump here me = IsAt bump.table here (IsSeatOf bump.scene (number_of me.0) (view_log me.0) me)
 
--- the seat of an idle party
 abbrev pub IsIdleAt : SharedBump → TableId → Me ℕ SeatView → Type 0
 IsIdleAt bump here me = IsAt bump.table here (IsSeatOfIdle bump.scene (number_of me.0) (view_log me.0) me)
 
--- the seats of two parties
-pub record AreTwoAt (bump : SharedBump) (here : TableId) (me : Me ℕ SeatView) (there : TableId) (other : Me ℕ SeatView)
-    : Type 0 where
-  pub a : IsSeatAt bump here me
-  pub b : IsSeatAt bump there other
-
--- a seat of any number of parties
 abbrev pub StandsAt : SharedBump → TableId → Me ℕ SeatView → Type 0
 StandsAt bump here me = IsAt bump.table here (me ≡ (standing_for (sight bump.scene (met_by me.0)) me.0.parties, []))
-
--- such a seat, at which these parties may meet, too
-pub record MayMeet (bump : SharedBump) (here : TableId) (me : Me ℕ SeatView) (guests : List BumpParty) : Type 0 where
-  pub seat : StandsAt bump here me
-  pub rest : All (λ party. party.allocator ≡ bump) guests
 
 -- THE RULE
 
@@ -114,7 +96,6 @@ pub record WordsAndLogsAgree (scene : BumpScene) (state : State ℕ SeatView) : 
   pub seated : AreSeated scene.parties logs state.views
   pub met : (seat : ℕ) (view : SeatView) → get_elem? state.views seat ≡ some view → met_by view ≤ position
 
--- the table has one word, and no slot
 pub record HasOneWord (table : TableId) : Type 0 where
   pub words : table.words ≡ 1
   pub slots : table.slots ≡ 0
@@ -125,31 +106,14 @@ pub record IsSharedBump (scene : BumpScene) (start size : ℕ) : Type 0 where
   pub is_region : IsRegion (region_at start size)
   pub shared : IsSharedScene scene
 
--- DEALING
+-- DEALING AND MEETING
 
 -- the view of the first seat, which stands for all parties
 abbrev pub all_parties : BumpScene → SeatView
 all_parties scene = standing_for (sight scene 0) (fresh_from 0 scene.parties)
 
--- the bump's machine begins at a scene, and a seat of its table stands for all parties
-pub record IsOpened (begins : BumpScene) (bump : SharedBump) (here : TableId) (me : Me ℕ SeatView) : Type 0 where
-  pub scene : bump.scene ≡ begins
-  pub table : here ≡ bump.table
-  pub seat : me ≡ (all_parties begins, [])
-
--- a seat of its table stands for all its parties, which are so many, and a vector has room for them
-pub record MaySeat {Z : Type 0} (bump : SharedBump) (count : ℕ) (here : TableId) (me : Me ℕ SeatView) (all : Vec BumpParty Z)
-    : Type 0 where
-  pub table : here ≡ bump.table
-  pub seat : me ≡ (all_parties bump.scene, [])
-  pub parties : count ≡ bump.scene.parties
-  pub room : HasRoomFor count all
-
--- a view of no party
 abbrev pub nobody : SeatView
 nobody = standing_for (sight (scene_at (region_at 0 0) 0 0) 0) []
-
--- MEETING
 
 -- the view of the parties of a guest and of a view, which knows what the last meeting of either found
 abbrev pub gathered : SeatView → SeatView → SeatView
@@ -199,8 +163,7 @@ pub record TellsMeeting (scene : BumpScene) (parties : List NumberedLog) (met fo
 
 -- what a meeting of two found: they are different ones, no chunk of the one overlaps one of the other, and one interleaving has
 -- both logs, which leaves the position
-pub record TellsTwo (scene : BumpScene) (number : ℕ) (log : BumpLog) (other : ℕ)
-    (other_log : BumpLog) (found : ℕ) : Type 0 where
+pub record TellsTwo (scene : BumpScene) (number : ℕ) (log : BumpLog) (other : ℕ) (other_log : BumpLog) (found : ℕ) : Type 0 where
   pub differ : number ≢ other
   pub apart : HaveChunksApart log other_log
   pub interleaved : CommonInterleaving scene number log other other_log found
@@ -208,8 +171,7 @@ pub record TellsTwo (scene : BumpScene) (number : ℕ) (log : BumpLog) (other : 
   pub within : found ≤ scene.region.size
   pub chunks : HasChunksWithin scene.region log found × HasChunksWithin scene.region other_log found
 
--- THE STEPS AS THE TABLE KNOWS THEM
-
+-- the steps as the table knows them
 abbrev pub reads : Option Layout → Step ℕ → Me ℕ SeatView → ℕ → Me ℕ SeatView → Type 0
 reads (Some layout) step old found new =
     TellsRead (scene_of old.0) (number_of old.0) (view_log old.0) (met_by old.0) layout found new
@@ -225,13 +187,6 @@ loads step old found new = TellsLoad (scene_of old.0) (number_of old.0) (view_lo
 abbrev pub meets : Step ℕ → Me ℕ SeatView → ℕ → Me ℕ SeatView → Type 0
 meets step old found new =
     (new ≡ (meeting_of found old.0, old.1)) × TellsMeeting (scene_of old.0) old.0.parties (met_by old.0) found
-
--- A load by a seat found this position, where these parties have met. The seat stays at its table.
-pub record HasFound (scene : BumpScene) (parties : List NumberedLog) (was : TableId) (old : Me ℕ SeatView) (found : ℕ)
-    (is : TableId) (new : Me ℕ SeatView) : Type 0 where
-  pub table : is ≡ was
-  pub seat : new ≡ (meeting_of found old.0, [])
-  pub told : TellsMeeting scene parties (met_by old.0) found
 
 -- REQUESTS
 
@@ -256,7 +211,6 @@ pub record IsCounted (scene : BumpScene) (log : BumpLog) (met : ℕ) (added : Bu
   pub within : All (HasPositionUpTo scene.region.size scene.region) added
   pub losses : losses_in added ≤ scene.region.size
 
--- A request that has ended: the party is idle, and has added this.
 pub record HasEnded (scene : BumpScene) (number : ℕ) (log : BumpLog) (met : ℕ) (added : BumpLog)
     (new : Me ℕ SeatView) : Type 0 where
   pub seat : IsSeatOfIdle scene number (log ++ added) new

@@ -6,13 +6,11 @@ ghost use Rattle.bb_memory_traits.specs.BumpObject.{StandsFor};
 ghost use Rattle.bb_memory_bump_machine.specs.BumpLogs.{BumpLog, chunks_won, history_of, losses_in, Interleaving};
 ghost use Rattle.bb_memory_bump_machine.specs.BumpLogs.{IsCallRun, OpensWith, calls_of, live_after};
 ghost use Rattle.bb_memory_bump.specs.SharedBump.{AgreeAt, AreBothOf, AreFresh, AreInterleaved, BumpParty, HasChunksWithin};
-ghost use Rattle.bb_memory_bump.specs.SharedBump.{HaveChunksApart};
-ghost use Rattle.bb_memory_bump.specs.SharedBump.{HasLoaded, HaveMet, IsAnsweredAt, IsFoundBy, IsInterleaved, IsParty};
-ghost use Rattle.bb_memory_bump.specs.SharedBump.{IsSameParty};
-ghost use Rattle.bb_memory_bump.specs.SharedBump.{IsSharedScene, MayTake, MeetAt};
-ghost use Rattle.bb_memory_bump.specs.SharedBump.{floor_of, greatest_seen, meeting_at, scene_at, seen_by};
-ghost use Rattle.bb_memory_bump.specs.SharedBump.{with_entries};
-ghost use Rattle.bb_memory_bump.specs.SharedBumpRule.{MaySeat};
+ghost use Rattle.bb_memory_bump.specs.SharedBump.{HaveChunksApart, HasLoaded, HaveMet, IsAnsweredAt, IsFoundBy, IsInterleaved};
+ghost use Rattle.bb_memory_bump.specs.SharedBump.{IsParty, IsSameParty, IsSharedScene, MayTake, MeetAt, floor_of, greatest_seen};
+ghost use Rattle.bb_memory_bump.specs.SharedBump.{meeting_at, scene_at, seen_by, with_entries};
+ghost use Rattle.bb_memory_bump.specs.SharedBumpRule.{all_parties};
+ghost use Rattle.bb_memory_seats.specs.Seats.{HasRoomFor};
 
 mod all_parties;
 mod meeting;
@@ -281,7 +279,10 @@ impl SharedBumpAllocator {
 
     /// Gives each party a seat of its own.
     fn seat_parties(&self, mut rest: Seat<u8, View>, parties: u32, all: &mut Vec<BumpParty>)
-        requires { MaySeat self.now parties rest.table_id rest.me all.old }
+        requires table { rest.table_id ≡ self.now.table }
+        requires seat { rest.me ≡ (all_parties self.now.scene, []) }
+        requires parties { parties ≡ self.now.scene.parties }
+        requires room { HasRoomFor parties all.old }
         ensures { AreFresh self.now parties all.new.items }
     {
         for number in 0..parties {

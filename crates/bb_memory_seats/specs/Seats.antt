@@ -26,11 +26,9 @@ abbrev pub seat_of : {S E : Type 0} → S → List (Numbered E) → List ℕ →
 seat_of scene parties detached =
     record { scene = scene; parties = parties; detached = detached }
 
--- the view of these parties, with nothing detached
 abbrev pub standing_for : {S E : Type 0} → S → List (Numbered E) → Seat S E
 standing_for scene parties = seat_of scene parties []
 
--- the view of one party
 abbrev pub alone : {S E : Type 0} → S → ℕ → List E → Seat S E
 alone scene number log = standing_for scene (numbered number log ∷ [])
 
@@ -86,8 +84,6 @@ times_in_views number views = total (λ view. times_in number view.parties) view
 pub record AreSeated {S E : Type 0} (made : ℕ) (logs : List (List E)) (views : List (Seat S E)) : Type 0 where
   pub known : (seat : ℕ) (view : Seat S E) → get_elem? views seat ≡ some view → HaveLogs made logs view.parties
   pub once : (number : ℕ) → number < made → times_in_views number views ≡ 1
-
--- WHAT IS DETACHED
 
 -- how often something stands in a list, and is detached in all views
 abbrev pub times_of : ℕ → List ℕ → ℕ

@@ -3,7 +3,6 @@ mod SharedPoolCaching
 mod SharedPoolDetached
 mod SharedPoolDetaching
 mod SharedPoolGatherings
-mod SharedPoolHolds
 mod SharedPoolKeeps
 mod SharedPoolLaws
 mod SharedPoolMeetings

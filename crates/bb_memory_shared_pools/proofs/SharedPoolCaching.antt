@@ -2,13 +2,12 @@
 use Rattle.std.proofs.Common.{◌≡◌, ◌≢◌, ℕ, List, [], ◌∷◌, ◌++◌, length, refl, sym, ap, ◌∙◌, subst, ⊎_elim, append_assoc, arith}
 use Rattle.std.specs.Prelude.{Contains, Ok, ◌⊎◌}
 use Rattle.std.proofs.lemmas.List.{get_or_append_left, get_or_default, get_or_push, length_push}
-use Rattle.std.proofs.lemmas.List.Elements.{All-contains, All-push, Contains-append_left, Contains-push, Contains-push_cases}
+use Rattle.std.proofs.lemmas.List.Elements.{All-push, Contains-append_left, Contains-push, Contains-push_cases}
 use Rattle.std.proofs.lemmas.List.Quantifiers.{all_pairs_push}
 use Rattle.bb_memory_traits.specs.PoolObject.{IsWithin}
 use Rattle.bb_memory_pool_machine.specs.PoolLogs.{IsHeldAfter, PoolLog}
 use Rattle.bb_memory_traits.specs.declared.layout.Layout.{Layout}
-use Rattle.bb_memory_geometry.proofs.Measures.{bucket-inside}
-use Rattle.bb_memory_geometry.proofs.Measures.{bucket_place-multiple}
+use Rattle.bb_memory_geometry.proofs.Measures.{bucket-inside, bucket_place-multiple}
 use Rattle.bb_memory_shared_pools.specs.SharedPool.{IsParty, PoolParty, Serves, SharedPool, TakenBucket}
 use Rattle.bb_memory_shared_pools.specs.SharedPool.{return_entry, taken_bucket, with_entries}
 use Rattle.bb_memory_shared_pools.specs.SharedPoolCaching.{AreCached, CachingParty, IsOut, returns_of}
@@ -81,16 +80,6 @@ cached_while old new cached bucket are uncached still = record {
   held = λ k d below. still _ (λ same. uncached (k, below, get_or_default cached k bucket d below ∙ same)) (are.held k d below);
   differ = are.differ;
 }
-
--- and while it holds one more
-pub cached_still : (old new : PoolParty) (cached : List ℕ) → AreCached old cached →
-    ((other : ℕ) → IsHeldAfter old.log other → IsHeldAfter new.log other) → AreCached new cached
-cached_still old new cached are still = record { held = λ k d below. still _ (are.held k d below); differ = are.differ }
-
--- a bucket that the party didn't hold isn't cached
-pub not_cached : (party : PoolParty) (cached : List ℕ) (bucket : ℕ) → AreCached party cached → ¬ IsHeldAfter party.log bucket →
-    ¬ Contains cached bucket
-not_cached party cached bucket are free at = free (All-contains (λ (b : ℕ). IsHeldAfter party.log b) cached bucket are.held at)
 
 -- ANSWERS AND LOGS
 

@@ -1,5 +1,5 @@
 -- Detaching and attaching a bucket keep words and logs in agreement.
-use Rattle.std.proofs.Common.{◌≡◌, ℕ, ◌<◌, None, List, [], ◌∷◌, ◌++◌, Bool, get_or, refl, sym, ◌∙◌, subst}
+use Rattle.std.proofs.Common.{◌≡◌, ℕ, ◌<◌, None, List, [], ◌∷◌, ◌++◌, Bool, refl, sym, ◌∙◌, subst}
 use Rattle.std.proofs.lemmas.List.{set-get_or}
 use mathlib.Core.Option.{none}
 use Rattle.atomic_table.specs.Table.{Me, keeps, step, Allows}
@@ -13,7 +13,8 @@ use Rattle.bb_memory_pool_machine.proofs.PoolLogSteps.{detach_agrees, detached_a
 use Rattle.bb_memory_lists.proofs.SliceGets.{length-set_at, slice_get-set_same}
 use Rattle.bb_memory_shared_pools.specs.SharedPoolRule.{word_of, SeatView, WordsAndLogsAgree}
 use Rattle.bb_memory_seats.specs.Seats.{alone, alone_with, number_of, view_log}
-use Rattle.bb_memory_shared_pools.specs.SharedPoolRule.{HasAttachedAt, TellsDetach, detaches, attaches}
+use Rattle.bb_memory_shared_pools.specs.SharedPool.{attach_entry}
+use Rattle.bb_memory_shared_pools.specs.SharedPoolRule.{HasGained, TellsDetach, detaches, attaches}
 use Rattle.bb_memory_shared_pools.proofs.FlagWords.{at_word}
 use Rattle.bb_memory_seats.proofs.Seatings.{seated_with}
 use Rattle.bb_memory_shared_pools.proofs.SharedPoolDetached.{no_hold_left, no_hold_other, still_detached, fewer_detached_one, more_detached}
@@ -75,7 +76,7 @@ detaches_as scene slots seat word party bucket log me there is others held =
 
 attaches_one : (scene : PoolScene) (slots seat word party bucket : ℕ) (log : PoolLog) → pass_in log ≡ None →
     Allows (WordsAndLogsAgree scene) slots seat (alone_with scene party log bucket, []) word (λ found. found)
-    (λ _. HasAttachedAt scene party log bucket)
+    (λ _. HasGained scene party log (attach_entry party bucket) bucket)
 attaches_one scene slots seat word party bucket log idle state rule homes at fits =
     let old : SeatView = alone_with scene party log bucket in
     let mine = rule.seated.known seat old at in
@@ -106,7 +107,7 @@ attaches_one scene slots seat word party bucket log idle state rule homes at fit
           seat = record { is = refl; interleaved = longer_interleaved scene rule.flags rule.logs party log entry mine.1 agree };
           idle = idle_after_one log entry idle refl;
         };
-        not_held = moving.no_holder party log mine.1;
+        free = moving.no_holder party log mine.1;
       },
     )
 
@@ -116,5 +117,5 @@ pub attaches_as : (scene : PoolScene) (slots seat word party bucket : ℕ) (log 
     Allows (WordsAndLogsAgree scene) slots seat me word (λ found. found) (attaches (step slots word 0 0 none) me)
 attaches_as scene slots seat word party bucket log me is idle =
     subst (λ (m : Me ℕ SeatView). Allows (WordsAndLogsAgree scene) slots seat m word (λ found. found)
-    (λ _. HasAttachedAt m.0.scene (number_of m.0) (view_log m.0) (get_or m.0.detached 0 0))) (sym is)
+    (attaches (step slots word 0 0 none) m)) (sym is)
     (attaches_one scene slots seat word party bucket log idle)

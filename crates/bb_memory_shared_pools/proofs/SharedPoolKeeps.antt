@@ -8,17 +8,16 @@ use prog.Atomic.{either}
 use Rattle.atomic_table.specs.Table.{State, Me, Act, keeps, step, stepped, carried_after, Valid, Allows}
 use Rattle.bb_memory_pool_machine.specs.PoolMachine.{PoolScene}
 use Rattle.bb_memory_pool_machine.specs.PoolLogs.{PoolEntry, PoolLog, entry_of, HasLog, IsHeldAfter, IsDetachedAfter, LogsAgree}
-use Rattle.bb_memory_pool_machine.specs.PoolLogs.{Interleaving}
-use Rattle.bb_memory_pool_machine.specs.PoolLogs.{held_after, loss_at, next_bucket, pass_in, with_entry}
+use Rattle.bb_memory_pool_machine.specs.PoolLogs.{Interleaving, held_after, loss_at, next_bucket, pass_in, with_entry}
 use Rattle.bb_memory_pool_machine.specs.declared.steps.pool.PoolStep.TheVariants.{Try, GiveBack, TryAt}
 use Rattle.bb_memory_pool_machine.specs.declared.steps.pool.PoolOutcome.TheVariants.{Takes, Gives, Misses}
 use Rattle.bb_memory_pool_machine.proofs.PoolLogSteps.{give_agrees, lose_agrees, miss_agrees, take_agrees, take_at_agrees}
 use Rattle.bb_memory_pool_machine.proofs.PoolLogFacts.{free_not_held, taken_is_held_alone, length-flags, interleaved_log}
 use Rattle.bb_memory_lists.proofs.SliceGets.{slice_get-set_same, length-set_at}
 use Rattle.bb_memory_shared_pools.specs.SharedPoolRule.{as_word, bucket_of, word_of, words_of, IsSeatOf, SeatView, WordsAndLogsAgree}
-use Rattle.bb_memory_seats.specs.Seats.{alone, number_of, view_log}
 use Rattle.bb_memory_shared_pools.specs.SharedPoolRule.{HasMissedAt, TellsLookAt, TellsReturn, TellsTry, TellsTryAt}
-use Rattle.bb_memory_shared_pools.specs.SharedPoolRule.{looks_at, returns, tries, tries_at}
+use Rattle.bb_memory_shared_pools.specs.SharedPoolRule.{Telling, at_flag, returns, tells_of}
+use Rattle.bb_memory_seats.specs.Seats.{alone, number_of, view_log}
 use Rattle.bb_memory_shared_pools.proofs.FlagWords.{at_word, changed, found_in, taken_again}
 use Rattle.bb_memory_seats.proofs.Seatings.{seated_step}
 use Rattle.bb_memory_shared_pools.proofs.SharedPoolDetached.{flag_elsewhere, no_hold_left, no_hold_loss, no_hold_other, still_detached}
@@ -95,13 +94,6 @@ told scene flags logs party log entry at agree = record {
 }
 
 -- STEPS AT A FLAG
-
--- what a step tells of a bucket
-abbrev Telling : Type 1
-Telling = PoolScene → ℕ → PoolLog → ℕ → ℕ → Me ℕ SeatView → Type 0
-
-abbrev tells_of : Telling → Me ℕ SeatView → ℕ → ℕ → Me ℕ SeatView → Type 0
-tells_of tells me bucket found new = tells me.0.scene (number_of me.0) (view_log me.0) bucket found new
 
 -- what a step may do that found a word, which then becomes another
 abbrev Allowed : (ℕ → ℕ) → Telling → PoolScene → State ℕ SeatView → ℕ → ℕ → Me ℕ SeatView → ℕ → Type 0
@@ -226,7 +218,7 @@ module _ (scene : PoolScene) (slots seat word party bucket : ℕ) (log : PoolLog
   where
     -- the party may try the bucket that is next
     pub tries_as : next_bucket log ≡ bucket →
-        Allows (WordsAndLogsAgree scene) slots seat me word exchanged (tries (step slots word 0 1 none) me)
+        Allows (WordsAndLogsAgree scene) slots seat me word exchanged (at_flag TellsTry (step slots word 0 1 none) me)
     tries_as next = steps_as exchanged TellsTry scene slots seat word party bucket log me there is below
         (takes_free TellsTry scene seat party bucket log (entry_of (Try party) (Takes bucket)) (no_hold_other bucket)
         (λ flags logs agree made at free. take_agrees scene flags logs party log bucket agree made at next free)
@@ -238,7 +230,7 @@ module _ (scene : PoolScene) (slots seat word party bucket : ℕ) (log : PoolLog
 
     -- an idle party may try any bucket
     pub tries_at_as : pass_in log ≡ None →
-        Allows (WordsAndLogsAgree scene) slots seat me word exchanged (tries_at (step slots word 0 1 none) me)
+        Allows (WordsAndLogsAgree scene) slots seat me word exchanged (at_flag TellsTryAt (step slots word 0 1 none) me)
     tries_at_as idle =
         let taking : PoolEntry = entry_of (TryAt party bucket) (Takes bucket) in
         steps_as exchanged TellsTryAt scene slots seat word party bucket log me there is below
@@ -253,7 +245,7 @@ module _ (scene : PoolScene) (slots seat word party bucket : ℕ) (log : PoolLog
 
     -- and look at it before
     pub looks_at_as : pass_in log ≡ None →
-        Allows (WordsAndLogsAgree scene) slots seat me word (λ found. found) (looks_at (step slots word 0 0 none) me)
+        Allows (WordsAndLogsAgree scene) slots seat me word (λ found. found) (at_flag TellsLookAt (step slots word 0 0 none) me)
     looks_at_as idle = steps_as (λ found. found) TellsLookAt scene slots seat word party bucket log me there is below
         (stays_free TellsLookAt scene seat party bucket log (λ interleaved. (
           λ _. record { seat = record { is = refl; interleaved = interleaved }; idle = idle },

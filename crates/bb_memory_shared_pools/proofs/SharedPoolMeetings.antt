@@ -9,8 +9,7 @@ use Rattle.bb_memory_pool_machine.specs.PoolMachine.{PoolScene}
 use Rattle.bb_memory_pool_machine.specs.PoolLogs.{PoolLog}
 use Rattle.bb_memory_pool_machine.proofs.PoolLogFacts.{logs_apart, interleaved_logs}
 use Rattle.bb_memory_seats.specs.Seats.{numbered, standing_for}
-use Rattle.bb_memory_shared_pools.specs.SharedPoolRule.{NumberedLog, SeatView, WordsAndLogsAgree}
-use Rattle.bb_memory_shared_pools.specs.SharedPoolRule.{TellsMeeting, TellsTwo, meets}
+use Rattle.bb_memory_shared_pools.specs.SharedPoolRule.{NumberedLog, SeatView, WordsAndLogsAgree, TellsMeeting, TellsTwo, meets}
 use Rattle.bb_memory_seats.proofs.Seatings.{once_in, two_parties}
 
 -- what the rule tells a seat

@@ -11,7 +11,7 @@ use Rattle.bb_memory_pool_machine.specs.PoolLogs.{PoolLog, IsHeldAfter}
 use Rattle.bb_memory_seats.specs.Seats.{number_of, view_log}
 use Rattle.bb_memory_shared_pools.specs.SharedPoolNextFit.{probed, miss_at, misses, start_of, refused_search, taking_at, taking_search}
 use Rattle.bb_memory_shared_pools.specs.SharedPoolRule.{IsSeatOfIdle, SeatView}
-use Rattle.bb_memory_shared_pools.specs.SharedPoolRule.{HasMissedAt, HasRefusedFrom, HasTakenAt, HasTakenFrom, IsInSearch}
+use Rattle.bb_memory_shared_pools.specs.SharedPoolRule.{HasMissedAt, HasRefused, HasGained, HasTakenFrom, IsInSearch}
 use Rattle.bb_memory_shared_pools.proofs.SharedPoolRequests.{HasAsked}
 use Rattle.bb_memory_pool_machine.proofs.PoolHolders.{held_through}
 use Rattle.bb_memory_shared_pools.specs.declared.shared_pool.party.Hint.{Hint}
@@ -166,13 +166,15 @@ module _ (scene : PoolScene) (number : ℕ) (log : PoolLog) (first : ℕ) where
               (sym (missed_same buckets number first probe tried log) ∙ here.held one);
         }
 
-    pub search_takes : (bucket : ℕ) → bucket ≡ tried → HasTakenAt scene (number_of me.0) (view_log me.0) bucket new →
+    pub search_takes : (bucket : ℕ) → bucket ≡ tried → HasGained scene (number_of me.0) (view_log me.0)
+        (taking_at (number_of me.0) bucket) bucket new →
         probe < scene.geometry.buckets → HasTakenFrom scene number log first new bucket
     search_takes bucket is tells below =
         let buckets : ℕ = scene.geometry.buckets in
-        let Told : Me ℕ SeatView → Type 0 = λ m. HasTakenAt scene (number_of m.0) (view_log m.0) tried new in
+        let Told : Me ℕ SeatView → Type 0 = λ m.
+        HasGained scene (number_of m.0) (view_log m.0) (taking_at (number_of m.0) tried) tried new in
         let here = subst Told so_far.ended.seat.is
-        (subst (λ (b : ℕ). HasTakenAt scene (number_of me.0) (view_log me.0) b new) is tells) in
+        (subst (λ (b : ℕ). HasGained scene (number_of me.0) (view_log me.0) (taking_at (number_of me.0) b) b new) is tells) in
         let free : ¬ IsHeldAfter log tried = λ held. here.free (missed_same buckets number first probe tried log ∙ held) in
         record {
           probe = probe;
@@ -185,7 +187,7 @@ module _ (scene : PoolScene) (number : ℕ) (log : PoolLog) (first : ℕ) where
         }
 
   pub search_refuses : (me : Me ℕ SeatView) → IsInSearch scene number log first scene.geometry.buckets me →
-      HasRefusedFrom scene number log first me
+      HasRefused scene number log (refused_search scene.geometry.buckets number first) me
   search_refuses me so_far = record {
     ended = so_far.ended;
     held = λ one bucket below.
@@ -204,7 +206,7 @@ search_took scene number log first new bucket took = record {
 }
 
 pub search_lost : (scene : PoolScene) (number : ℕ) (log : PoolLog) (first : ℕ) (new : Me ℕ SeatView) →
-    HasRefusedFrom scene number log first new →
+    HasRefused scene number log (refused_search scene.geometry.buckets number first) new →
     HasAsked scene number log (refused_search scene.geometry.buckets number first) None new
 search_lost scene number log first new lost = record {
   ended = lost.ended;

@@ -1,18 +1,17 @@
 -- How a pass goes on: from its first exchange to the step that ends it.
-use Rattle.std.proofs.Common.{◌≡◌, ℕ, ◌+◌, ◌<◌, [], ◌∷◌, ◌++◌, append_assoc, append-nil, add-one, refl, sym, ap, ◌∙◌, subst}
+use Rattle.std.proofs.Common.{◌≡◌, ℕ, ◌+◌, ◌<◌, [], ◌∷◌, ◌++◌, append_assoc, append-nil, add-one, sym, ap, ◌∙◌, subst}
 use Rattle.std.proofs.Common.{arith, Some, None}
 use borrow.Author.Count.{below_more}
 use Rattle.atomic_table.specs.Table.{Me}
 use Rattle.bb_memory_pool_machine.specs.PoolMachine.{PoolScene}
-use Rattle.bb_memory_pool_machine.specs.PoolLogs.{PoolEntry, PoolLog, entry_of, IsHeldAfter, loss_at, next_bucket, pass_in}
+use Rattle.bb_memory_pool_machine.specs.PoolLogs.{PoolEntry, PoolLog, entry_of, IsHeldAfter, loss_at, pass_in}
 use Rattle.bb_memory_pool_machine.specs.declared.steps.pool.PoolStep.TheVariants.{Try}
 use Rattle.bb_memory_pool_machine.specs.declared.steps.pool.PoolOutcome.TheVariants.{Takes}
 use Rattle.bb_memory_seats.specs.Seats.{number_of, view_log}
 use Rattle.bb_memory_shared_pools.specs.SharedPool.{AreAllHeldAfter, losses, refused_pass, taking_pass}
-use Rattle.bb_memory_shared_pools.specs.SharedPoolRule.{IsSeatOf, SeatView}
-use Rattle.bb_memory_shared_pools.specs.SharedPoolRule.{HasRefused, HasTaken, TellsLoss, TellsTaking}
+use Rattle.bb_memory_shared_pools.specs.SharedPoolRule.{IsSeatOf, SeatView, HasRefused, HasTaken, TellsLoss, TellsTaking}
 use Rattle.bb_memory_shared_pools.proofs.SharedPoolRequests.{HasAsked}
-use Rattle.bb_memory_shared_pools.proofs.SharedPoolTries.{held-taking, idle_after_refusal, idle_after_taking, next_after_losses, same_held}
+use Rattle.bb_memory_shared_pools.proofs.SharedPoolTries.{held-taking, idle_after_refusal, idle_after_taking, same_held}
 
 -- a pass under way: since it began, the seat's party has lost at the buckets below this one
 pub record IsPassing (scene : PoolScene) (number : ℕ) (log : PoolLog) (bucket : ℕ) (me : Me ℕ SeatView) : Type 0 where
@@ -31,18 +30,6 @@ module _ (scene : PoolScene) (number : ℕ) (log : PoolLog) where
     seat = subst (λ (l : PoolLog). IsSeatOf scene number l me) (sym (append-nil log)) of;
     held = λ one other below. absurd (omega arith);
   }
-
-  -- the seat goes on to stand for the party alone
-  pub passing_seat : (me : Me ℕ SeatView) (bucket : ℕ) → IsPassing scene number log bucket me →
-      IsSeatOf scene (number_of me.0) (view_log me.0) me
-  passing_seat me bucket passing =
-      subst (λ (m : Me ℕ SeatView). IsSeatOf scene (number_of m.0) (view_log m.0) m) (sym passing.seat.is)
-      record { is = refl; interleaved = passing.seat.interleaved }
-
-  pub passing_next : (me : Me ℕ SeatView) (bucket : ℕ) → pass_in log ≡ None → bucket < scene.geometry.buckets →
-      IsPassing scene number log bucket me → next_bucket (view_log me.0) ≡ bucket
-  passing_next me bucket idle below passing = ap (λ (m : Me ℕ SeatView). next_bucket (view_log m.0)) passing.seat.is
-      ∙ next_after_losses scene.geometry.buckets number bucket log idle below
 
   module _ (me new : Me ℕ SeatView) (bucket : ℕ) (passing : IsPassing scene number log bucket me) where
     -- one more loss. Where the party is the only one, the bucket is held after its log, as all before
@@ -76,7 +63,7 @@ module _ (scene : PoolScene) (number : ℕ) (log : PoolLog) where
         }
 
   pub refuses : (me : Me ℕ SeatView) → pass_in log ≡ None → IsPassing scene number log scene.geometry.buckets me →
-      HasRefused scene number log me
+      HasRefused scene number log (refused_pass scene.geometry.buckets number) me
   refuses me idle passing = record {
     ended = record { seat = passing.seat; idle = idle_after_refusal scene.geometry.buckets number log idle };
     held = passing.held;
@@ -92,7 +79,8 @@ pass_took scene number log new bucket took = record {
   found = (took.below, took.free);
 }
 
-pub pass_lost : (scene : PoolScene) (number : ℕ) (log : PoolLog) (new : Me ℕ SeatView) → HasRefused scene number log new →
+pub pass_lost : (scene : PoolScene) (number : ℕ) (log : PoolLog) (new : Me ℕ SeatView) →
+    HasRefused scene number log (refused_pass scene.geometry.buckets number) new →
     HasAsked scene number log (refused_pass scene.geometry.buckets number) None new
 pass_lost scene number log new lost = record {
   ended = lost.ended;

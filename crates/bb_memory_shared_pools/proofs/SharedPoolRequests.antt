@@ -1,7 +1,7 @@
 -- What a request has of its party once its tries have ended, whichever buckets it tried.
 use Rattle.std.proofs.Common.{◌≡◌, ◌≢◌, ℕ, ◌<◌, ◌≤◌, ◌++◌, Bool, true, false, refl, sym, ap, ◌∙◌, subst, arith, Option, Some}
 use Rattle.std.proofs.Common.{None}
-use Rattle.std.specs.Prelude.{MatchOption, Ok, Err, ◌==◌, if◌then◌else◌, ◌%◌}
+use Rattle.std.specs.Prelude.{MatchOption, Ok, Err, ◌==◌, ◌%◌, if◌then◌else◌}
 use Rattle.std.proofs.lemmas.Bool.Decides.{nat_tests}
 use Rattle.atomic_table.specs.Seated.{TableId}
 use Rattle.atomic_table.specs.Table.{Me}
@@ -14,12 +14,10 @@ use Rattle.bb_memory_traits.specs.declared.allocator.AllocationError.{Allocation
 use Rattle.bb_memory_pool_machine.proofs.PoolHolders.{held_through}
 use Rattle.bb_memory_pool_machine.proofs.PoolSteps.{test_apart}
 use Rattle.bb_memory_seats.specs.Seats.{number_of, view_log}
-use Rattle.bb_memory_geometry.proofs.Measures.{bucket-inside}
-use Rattle.bb_memory_geometry.proofs.Measures.{bucket_place-multiple}
+use Rattle.bb_memory_geometry.proofs.Measures.{bucket-inside, bucket_place-multiple}
 use Rattle.bb_memory_shared_pools.specs.declared.shared_pool.party.Hint.{Hint}
 use Rattle.bb_memory_shared_pools.specs.SharedPool.{AreAllHeldAfter, PoolParty, ServesNextFit, SharedPool, chunk_of, taken_bucket}
-use Rattle.bb_memory_shared_pools.specs.SharedPoolRule.{IsPartySeat, SeatView, party_in, pool_in}
-use Rattle.bb_memory_shared_pools.specs.SharedPoolRule.{HasEnded}
+use Rattle.bb_memory_shared_pools.specs.SharedPoolRule.{IsPartySeat, SeatView, party_in, pool_in, HasEnded}
 use Rattle.bb_memory_shared_pools.proofs.SharedPoolParties.{is_party}
 
 -- whether a bucket is held behind tries that took this one, or none

@@ -1,16 +1,15 @@
 -- What a pass, a step of an idle party and a return make of a log.
-use Rattle.std.proofs.Common.{◌≡◌, ◌≢◌, ℕ, zero, suc, ◌+◌, ◌<◌, ◌≤◌, Bool, true, false, [], ◌∷◌, ◌++◌, refl, sym, ap, ◌∙◌, arith}
+use Rattle.std.proofs.Common.{◌≡◌, ℕ, zero, suc, ◌+◌, ◌<◌, ◌≤◌, Bool, true, false, [], ◌∷◌, ◌++◌, refl, sym, ap, ◌∙◌, arith}
 use Rattle.std.proofs.Common.{Option, None}
-use Rattle.std.specs.Prelude.{fold, unwrap_or, nat_lt, ◌==◌, if◌then◌else◌}
+use Rattle.std.specs.Prelude.{fold, nat_lt, ◌==◌, if◌then◌else◌}
 use Rattle.std.proofs.lemmas.Bool.Decides.{nat_tests}
-use Rattle.bb_memory_pool_machine.specs.PoolLogs.{PoolEntry, PoolLog, entry_of, held_after, IsHeldAfter, pass_after, pass_in, next_bucket}
-use Rattle.bb_memory_pool_machine.specs.PoolLogs.{loss_at}
+use Rattle.bb_memory_pool_machine.specs.PoolLogs.{PoolEntry, PoolLog, entry_of, held_after, pass_after, pass_in, loss_at}
 use Rattle.bb_memory_pool_machine.specs.declared.steps.pool.PoolStep.TheVariants.{Try}
 use Rattle.bb_memory_pool_machine.specs.declared.steps.pool.PoolOutcome.TheVariants.{Takes, Loses, RefusedAtLoss}
 use Rattle.bb_memory_pool_machine.proofs.PoolHolders.{held_through}
 use Rattle.bb_memory_shared_pools.specs.declared.shared_pool.party.Hint.{Hint}
 use Rattle.bb_memory_shared_pools.specs.SharedPoolNextFit.{hint_after}
-use Rattle.bb_memory_shared_pools.specs.SharedPool.{detach_entry, losses, taking_pass, refused_pass, return_entry}
+use Rattle.bb_memory_shared_pools.specs.SharedPool.{losses, taking_pass, refused_pass}
 
 abbrev pass_through : Option ℕ → PoolLog → Option ℕ
 pass_through pass log = fold (λ pass entry. pass_after pass entry.outcome) pass log
@@ -75,24 +74,6 @@ test_below m n below = grind (arith, nat_tests)
 pub test_not_below : (m n : ℕ) → n ≤ m → nat_lt m n ≡ false
 test_not_below m n least = grind (arith, nat_tests)
 
--- after losses at some of the buckets the next one is tried
-next-losses : (buckets party lost : ℕ) → lost < buckets → unwrap_or (pass_through None (losses buckets party lost)) 0 ≡ lost
-next-losses buckets party zero below = refl
-next-losses buckets party (suc lost) below =
-    let before : Option ℕ = pass_through None (losses buckets party lost) in
-    ap (λ (pass : Option ℕ). unwrap_or pass 0) (
-    pass-append None (losses buckets party lost) (entry_of (Try party) (loss_at buckets lost) ∷ [])
-    ∙ ap (λ (more : Bool). pass_after before (if more then Loses lost else RefusedAtLoss lost))
-    (test_below (lost + 1) buckets (omega arith)))
-    ∙ (let same : lost + 1 ≡ suc lost = omega arith in same)
-
-pub next_after_losses : (buckets party lost : ℕ) (log : PoolLog) → pass_in log ≡ None → lost < buckets →
-    next_bucket (log ++ losses buckets party lost) ≡ lost
-next_after_losses buckets party lost log idle below = ap (λ (pass : Option ℕ). unwrap_or pass 0) (
-    pass-append None log (losses buckets party lost)
-    ∙ ap (λ (pass : Option ℕ). pass_through pass (losses buckets party lost)) idle)
-    ∙ next-losses buckets party lost below
-
 -- WHOLE PASSES
 
 -- with all lost, a pass is over
@@ -131,43 +112,3 @@ pub idle_after_one : (log : PoolLog) (entry : PoolEntry) → pass_in log ≡ Non
     pass_in (log ++ entry ∷ []) ≡ None
 idle_after_one log entry idle is =
     pass-append None log (entry ∷ []) ∙ ap (λ (pass : Option ℕ). pass_after pass entry.outcome) idle ∙ is
-
--- RETURNS
-
-pub idle_after_return : (party bucket : ℕ) (log : PoolLog) → pass_in log ≡ None →
-    pass_in (log ++ return_entry party bucket) ≡ None
-idle_after_return party bucket log idle = pass-append None log (return_entry party bucket) ∙ idle
-
-pub not_held_after_return : (party bucket : ℕ) (log : PoolLog) → ¬ IsHeldAfter (log ++ return_entry party bucket) bucket
-not_held_after_return party bucket log held =
-    let same : (bucket == bucket) ≡ true = grind (arith, nat_tests) in
-    let gone : held_through bucket false (log ++ return_entry party bucket) ≡ false =
-    held-append bucket false log (return_entry party bucket)
-    ∙ ap (λ (b : Bool). if b then false else held_through bucket false log) same in
-    let no : false ≡ true = sym gone ∙ held in cc
-
-pub held_after_return : (party bucket other : ℕ) (log : PoolLog) → other ≢ bucket → IsHeldAfter log other →
-    IsHeldAfter (log ++ return_entry party bucket) other
-held_after_return party bucket other log apart held =
-    let differ : (bucket == other) ≡ false = grind (arith, nat_tests) in
-    held-append other false log (return_entry party bucket)
-    ∙ ap (λ (b : Bool). if b then false else held_through other false log) differ
-    ∙ held
-
--- DETACHING AND ATTACHING
-
-pub not_held_after_detach : (party bucket : ℕ) (log : PoolLog) → ¬ IsHeldAfter (log ++ detach_entry party bucket) bucket
-not_held_after_detach party bucket log held =
-    let same : (bucket == bucket) ≡ true = grind (arith, nat_tests) in
-    let gone : held_through bucket false (log ++ detach_entry party bucket) ≡ false =
-    held-append bucket false log (detach_entry party bucket)
-    ∙ ap (λ (b : Bool). if b then false else held_through bucket false log) same in
-    let no : false ≡ true = sym gone ∙ held in cc
-
-pub held_after_detach : (party bucket other : ℕ) (log : PoolLog) → other ≢ bucket → IsHeldAfter log other →
-    IsHeldAfter (log ++ detach_entry party bucket) other
-held_after_detach party bucket other log apart held =
-    let differ : (bucket == other) ≡ false = grind (arith, nat_tests) in
-    held-append other false log (detach_entry party bucket)
-    ∙ ap (λ (b : Bool). if b then false else held_through other false log) differ
-    ∙ held

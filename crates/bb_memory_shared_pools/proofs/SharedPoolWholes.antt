@@ -1,7 +1,7 @@
 -- What all parties of a pool have who met.
 use Rattle.std.proofs.Common.{◌≡◌, ◌≢◌, ℕ, zero, suc, ◌≤◌, ◌+◌, ◌<◌, List, [], ◌∷◌, length, refl, sym, ap, ◌∙◌, subst, arith}
 use Rattle.std.proofs.Common.{Some, true}
-use Rattle.std.specs.Prelude.{◌↔◌, Any, Contains, nat_lt, slice_get, if◌then◌else◌, Bool, false}
+use Rattle.std.specs.Prelude.{◌↔◌, Any, Contains, nat_lt, slice_get, Bool, false, if◌then◌else◌}
 use Rattle.std.specs.List.{All}
 use Rattle.std.proofs.lemmas.Option.{slice_get_within}
 use Rattle.std.proofs.lemmas.List.Elements.{All-append, All-cons, All-contains, All-contains_itself, All-nil, All-weaker}

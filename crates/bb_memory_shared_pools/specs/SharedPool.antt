@@ -48,7 +48,6 @@ pub record AreFresh (allocator : SharedPool) (count : ℕ) (parties : List PoolP
   pub fresh : (number : ℕ) → number < count → slice_get parties number ≡ Some (fresh_party allocator number)
   pub theirs : All (λ party. party.allocator ≡ allocator) parties
 
--- the party with these more entries in its log
 abbrev pub with_entries : PoolParty → PoolLog → PoolParty
 with_entries party entries =
     record { allocator = party.allocator; number = party.number; log = party.log ++ entries }
@@ -62,7 +61,6 @@ pub record TakenBucket : Type 0 where
 abbrev pub taken_bucket : SharedPool → ℕ → ℕ → TakenBucket
 taken_bucket allocator number len = record { allocator = allocator; number = number; len = len }
 
--- the bucket with another length
 abbrev pub resized : TakenBucket → ℕ → TakenBucket
 resized bucket len = taken_bucket bucket.allocator bucket.number len
 
@@ -189,17 +187,14 @@ pub record HasFoundAllHeld (party : PoolParty) (is : IsParty party) (beginning :
   pub last : ℕ
   pub its_last : let history = history_of party.allocator.scene is.interleaved.steps in
       entries_by party.number (take (last + 1) history) ≡ beginning
-  pub refused : let history = history_of party.allocator.scene is.interleaved.steps in
-      IsRefusedAt history party.number last
+  pub refused : let history = history_of party.allocator.scene is.interleaved.steps in IsRefusedAt history party.number last
   pub found : (bucket : ℕ) → bucket < party.allocator.scene.geometry.buckets →
       FoundHeld party.allocator.scene is.interleaved.steps party.number last bucket
 
--- both parties are this pool's
 pub record AreBothOf (allocator : SharedPool) (one other : PoolParty) : Type 0 where
   pub a : one.allocator ≡ allocator
   pub b : other.allocator ≡ allocator
 
--- an interleaving that has the logs of both parties
 abbrev pub AreInterleaved : PoolParty → PoolParty → Type 0
 AreInterleaved a b = CommonInterleaving a.allocator.scene a.number a.log b.number b.log
 
@@ -209,16 +204,13 @@ AreInterleaved a b = CommonInterleaving a.allocator.scene a.number a.log b.numbe
 abbrev pub HaveAllNumbers : ℕ → List PoolParty → Type 0
 HaveAllNumbers count parties = (number : ℕ) → number < count → Contains (map (λ party. party.number) parties) number
 
--- some party of these holds the bucket
 abbrev pub IsHeldByOne : List PoolParty → ℕ → Type 0
 IsHeldByOne parties bucket = Any (λ party. IsHeldAfter party.log bucket) parties
 
--- no bucket is held by two of these parties
 abbrev pub HoldApart : List PoolParty → Type 0
 HoldApart parties = (i j : ℕ) (one other : PoolParty) (bucket : ℕ) → slice_get parties i ≡ Some one
     → slice_get parties j ≡ Some other → i ≢ j → IsHeldAfter one.log bucket → ¬ IsHeldAfter other.log bucket
 
--- some party of these has detached the bucket
 abbrev pub WasDetachedByOne : List PoolParty → ℕ → Type 0
 WasDetachedByOne parties bucket = Any (λ party. WasDetached party.log bucket) parties
 
@@ -226,12 +218,10 @@ WasDetachedByOne parties bucket = Any (λ party. WasDetached party.log bucket) p
 abbrev pub IsHeldOrDetached : PoolScene → List PoolStep → List PoolParty → ℕ → Type 0
 IsHeldOrDetached scene steps parties bucket = IsHeldByOne parties bucket ⊎ IsDetached (left_by scene steps) bucket
 
--- the step took a bucket
 abbrev pub IsTaking : PoolOutcome → Type 0
 IsTaking (Takes bucket) = Unit {0}
 IsTaking _ = ⊥
 
--- some step of the log took a bucket
 abbrev pub TookOne : PoolLog → Type 0
 TookOne log = Any (λ entry. IsTaking entry.outcome) log
 
@@ -259,8 +249,6 @@ pub record AgreeWith (scene : PoolScene) (flags : List Bool) (parties : List Poo
 abbrev pub HaveMet : PoolScene → List PoolParty → Type 0
 HaveMet scene parties = (flags : List Bool) × AgreeWith scene flags parties
 
--- RUNS
-
 -- the takings and returns of the party's interleaving are a run of the pool object, from the empty list to this one
 abbrev pub IsHistoryRun : (party : PoolParty) → IsParty party → List Layout → List Chunk → Type 0
 IsHistoryRun party is layouts live = IsPoolRun party.allocator.scene is.interleaved.steps layouts live
@@ -283,7 +271,6 @@ pub record HasDetached (pool : SharedPool) (old : PoolParty) (bucket : TakenBuck
   pub others_kept : (other : ℕ) → other ≢ bucket.number → IsHeldAfter old.log other → IsHeldAfter new.log other
   pub others : (other : ℕ) → IsHeldAfter new.log other → IsHeldAfter old.log other
 
--- a party and a detached bucket are this pool's
 pub record AreOf (pool : SharedPool) (party : PoolParty) (detached : TakenBucket) : Type 0 where
   pub its_party : party.allocator ≡ pool
   pub its_bucket : detached.allocator ≡ pool

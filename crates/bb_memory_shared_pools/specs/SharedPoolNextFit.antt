@@ -35,7 +35,6 @@ hint_after hint _ = hint
 abbrev pub first_hint : PoolScene → ℕ → Hint
 first_hint scene number = record { bucket = part_of scene number; came_back = false }
 
--- the hint of a party with this log
 abbrev pub hint_in : PoolScene → ℕ → PoolLog → Hint
 hint_in scene number log = fold (λ hint entry. hint_after hint entry.outcome) (first_hint scene number) log
 
@@ -45,11 +44,9 @@ hint_of party = (hint_in party.allocator.scene party.number party.log).bucket
 
 -- WHAT CALLS ADD TO A LOG
 
--- a step that takes this bucket
 abbrev pub taking_at : ℕ → ℕ → PoolLog
 taking_at party bucket = entry_of (TryAt party bucket) (Takes bucket) ∷ []
 
--- a step that misses this bucket
 abbrev pub miss_at : ℕ → ℕ → PoolLog
 miss_at party bucket = entry_of (TryAt party bucket) (Misses bucket) ∷ []
 
@@ -107,15 +104,13 @@ MayTakeFrom first party layout (Err SizeIsZero) new = ⊥
 
 -- In the party's interleaving there is this step of the search that follows these entries: at some probe of it, the party missed
 -- the bucket, which was held then in the run.
-pub record MissesInSearch (party : PoolParty) (is : IsParty party) (before : PoolLog)
-    (first bucket : ℕ) : Type 0 where
+pub record MissesInSearch (party : PoolParty) (is : IsParty party) (before : PoolLog) (first bucket : ℕ) : Type 0 where
   pub probe : ℕ
   pub step : ℕ
   pub its_probe : let history = history_of party.allocator.scene is.interleaved.steps in
       let buckets = party.allocator.scene.geometry.buckets in
       entries_by party.number (take (step + 1) history) ≡ before ++ misses buckets party.number first (probe + 1)
-  pub missed : let history = history_of party.allocator.scene is.interleaved.steps in
-      MissesAt history party.number bucket step
+  pub missed : let history = history_of party.allocator.scene is.interleaved.steps in MissesAt history party.number bucket step
   pub held : IsHeldInRun party.allocator.scene (take step is.interleaved.steps) bucket
 
 -- the search has found each bucket held in the run, each at a step of its own, as a miss is of one bucket

@@ -1,8 +1,7 @@
 -- The rule of a shared pool's words, what its seats and fields stand for, and what each step on a word tells the party that
 -- makes it.
-use Rattle.std.specs.Prelude.{◌≡◌, ℕ, ◌+◌, ◌-◌, Bool, true, false, List, map, replicate, ◌<◌, ◌≤◌, [], All}
+use Rattle.std.specs.Prelude.{◌≡◌, ℕ, ◌+◌, ◌-◌, Bool, true, false, List, map, replicate, ◌<◌, ◌≤◌, []}
 use Rattle.std.specs.Prelude.{None, get_or, length, ◌≢◌, ◌∷◌, ◌++◌}
-use Rattle.std.specs.declared.vec.Vec.{Vec}
 use mathlib.Core.Path.{refl}
 use native.Mathlib.Nat.{zero-lt-suc}
 use Rattle.atomic_table.specs.Seated.{TableId}
@@ -11,18 +10,16 @@ use Rattle.bb_memory_traits.specs.Chunk.{IsRegion, region_at}
 use Rattle.bb_memory_traits.specs.PoolObject.{pool_geometry}
 use Rattle.bb_memory_pool_machine.specs.PoolMachine.{PoolScene}
 use Rattle.bb_memory_pool_machine.specs.PoolLogs.{PoolEntry, PoolLog, Interleaving, IsHeldAfter, IsDetachedAfter, LogsAgree}
-use Rattle.bb_memory_pool_machine.specs.PoolLogs.{next_bucket, pass_in, entry_of, CommonInterleaving, loss_at}
+use Rattle.bb_memory_pool_machine.specs.PoolLogs.{pass_in, entry_of, CommonInterleaving, loss_at}
 use Rattle.bb_memory_traits.specs.declared.layout.Layout.{Layout}
 use Rattle.bb_memory_shared_pools.specs.SharedPool.{PoolParty, IsSharedScene, SharedPool, scene_at, AreAllHeldAfter, detach_entry}
-use Rattle.bb_memory_shared_pools.specs.SharedPool.{refused_pass, return_entry, attach_entry, taking_pass}
+use Rattle.bb_memory_shared_pools.specs.SharedPool.{return_entry, attach_entry, taking_pass}
 use Rattle.bb_memory_shared_pools.specs.declared.shared_pool.party.Hint.{Hint}
-use Rattle.bb_memory_shared_pools.specs.SharedPoolNextFit.{hint_in, probed, miss_at, misses, refused_search, taking_at, taking_search}
-use Rattle.bb_memory_seats.specs.Seats.{AreSeated, HasRoomFor, IsAt, Numbered, Seat, alone, carrying, fresh_from, number_of}
+use Rattle.bb_memory_shared_pools.specs.SharedPoolNextFit.{hint_in, probed, miss_at, misses, taking_at, taking_search}
+use Rattle.bb_memory_seats.specs.Seats.{AreSeated, IsAt, Numbered, Seat, alone, carrying, fresh_from, number_of}
 use Rattle.bb_memory_seats.specs.Seats.{numbered, standing_for, times_detached, view_log, HaveLogs, alone_with, times_in}
 use Rattle.bb_memory_pool_machine.specs.declared.steps.pool.PoolStep.TheVariants.{Try}
 use Rattle.bb_memory_pool_machine.specs.declared.steps.pool.PoolOutcome.TheVariants.{Takes}
-
--- Where the flags of a shared pool's buckets stand among the words of its table.
 
 -- The word of a bucket's flag. The first 8 words are no flag, and behind them the flags stand in the order of the buckets.
 abbrev pub word_of : ℕ → ℕ
@@ -47,14 +44,12 @@ words_of flags = replicate 8 0 ++ map as_word flags
 
 -- SEATS
 
--- a party's number with its log
 abbrev pub NumberedLog : Type 0
 NumberedLog = Numbered PoolEntry
 
 abbrev pub numbered_of : PoolParty → NumberedLog
 numbered_of party = numbered party.number party.log
 
--- what a seat of a shared pool knows
 abbrev pub SeatView : Type 0
 SeatView = Seat PoolScene PoolEntry
 
@@ -74,12 +69,10 @@ pub record IsSeatOf (scene : PoolScene) (number : ℕ) (log : PoolLog) (me : Me 
   pub is : me ≡ (alone scene number log, [])
   pub interleaved : Interleaving scene number log
 
--- the seat of an idle party
 pub record IsSeatOfIdle (scene : PoolScene) (number : ℕ) (log : PoolLog) (me : Me ℕ SeatView) : Type 0 where
   pub seat : IsSeatOf scene number log me
   pub idle : pass_in log ≡ None
 
--- the seat of an idle party with this number and this hint
 pub record IsPartySeat (number : ℕ) (hint : Hint) (me : Me ℕ SeatView) : Type 0 where
   pub seat : IsSeatOfIdle me.0.scene number (view_log me.0) me
   pub below : number < me.0.scene.parties
@@ -92,57 +85,23 @@ pub record IsDetachedSeat (bucket len : ℕ) (me : Me ℕ SeatView) : Type 0 whe
   pub below : bucket < me.0.scene.geometry.buckets
   pub short : len ≤ me.0.scene.geometry.bucket.size
 
--- SEATS AT A POOL'S TABLE
-
--- the seat of one party
+-- at a pool's table: the seat of one party, of an idle one, and of any number of parties
 abbrev pub IsSeatAt : SharedPool → TableId → Me ℕ SeatView → Type 0
 IsSeatAt pool here me = IsAt pool.table here (IsSeatOf pool.scene (number_of me.0) (view_log me.0) me)
 
--- the seat of an idle party
 abbrev pub IsIdleAt : SharedPool → TableId → Me ℕ SeatView → Type 0
 IsIdleAt pool here me = IsAt pool.table here (IsSeatOfIdle pool.scene (number_of me.0) (view_log me.0) me)
 
--- the seats of two parties
-pub record AreTwoAt (pool : SharedPool) (here : TableId) (me : Me ℕ SeatView) (there : TableId) (other : Me ℕ SeatView)
-    : Type 0 where
-  pub a : IsSeatAt pool here me
-  pub b : IsSeatAt pool there other
-
--- a seat of any number of parties
 abbrev pub StandsAt : SharedPool → TableId → Me ℕ SeatView → Type 0
 StandsAt pool here me = IsAt pool.table here (me ≡ (standing_for pool.scene me.0.parties, []))
 
--- such a seat, at which these parties may meet, too
-pub record MayMeet (pool : SharedPool) (here : TableId) (me : Me ℕ SeatView) (guests : List PoolParty) : Type 0 where
-  pub seat : StandsAt pool here me
-  pub rest : All (λ party. party.allocator ≡ pool) guests
-
--- the bucket that the party of a seat tries next
-pub record IsNextFor (pool : SharedPool) (me : Me ℕ SeatView) (bucket : ℕ) : Type 0 where
-  pub next : next_bucket (view_log me.0) ≡ bucket
-  pub below : bucket < pool.scene.geometry.buckets
-
--- a bucket that is held after the log of a seat's party
 pub record IsHeldAt (pool : SharedPool) (me : Me ℕ SeatView) (bucket : ℕ) : Type 0 where
   pub held : IsHeldAfter (view_log me.0) bucket
   pub below : bucket < pool.scene.geometry.buckets
 
--- the seat of a detached bucket
 pub record IsDetachedAt (pool : SharedPool) (here : TableId) (me : Me ℕ SeatView) (bucket : ℕ) : Type 0 where
   pub at : IsAt pool.table here (me ≡ (carrying pool.scene bucket, []))
   pub below : bucket < pool.scene.geometry.buckets
-
--- the seat of a party, which holds this bucket, and isn't the only one
-pub record MayDetachAt (pool : SharedPool) (here : TableId) (me : Me ℕ SeatView) (bucket : ℕ) : Type 0 where
-  pub others : 1 < pool.scene.parties
-  pub seat : IsSeatAt pool here me
-  pub held : IsHeldAt pool me bucket
-
--- the seat of a party, and that of a detached bucket
-pub record MayAttachAt (pool : SharedPool) (here : TableId) (me : Me ℕ SeatView) (there : TableId) (other : Me ℕ SeatView)
-    (bucket : ℕ) : Type 0 where
-  pub seat : IsIdleAt pool here me
-  pub detached : IsDetachedAt pool there other bucket
 
 -- THE RULE
 
@@ -162,7 +121,6 @@ pub record WordsAndLogsAgree (scene : PoolScene) (state : State ℕ SeatView) : 
   pub seated : AreSeated scene.parties logs state.views
   pub detached : AreDetached flags logs state.views
 
--- the table has the words of the buckets' flags
 pub record HasWords (table : TableId) (scene : PoolScene) : Type 0 where
   pub words : table.words ≡ words_for scene.geometry.buckets
 
@@ -172,25 +130,9 @@ pub record IsSharedPool (capped most : ℕ) (scene : PoolScene) : Type 0 where
   pub shared : IsSharedScene scene
   pub within : capped ≡ 1 → scene.geometry.buckets ≤ most
 
--- DEALING
-
 -- the view of the first seat, which stands for all parties
 abbrev pub all_parties : PoolScene → SeatView
 all_parties scene = standing_for scene (fresh_from 0 scene.parties)
-
--- a pool begins so, and a seat of its table stands for all parties
-pub record IsOpened (begins : PoolScene) (pool : SharedPool) (here : TableId) (me : Me ℕ SeatView) : Type 0 where
-  pub scene : pool.scene ≡ begins
-  pub table : here ≡ pool.table
-  pub seat : me ≡ (all_parties begins, [])
-
--- A seat of its table stands for all its parties, which are so many, and a vector has room for them.
-pub record MaySeat {Z : Type 0} (pool : SharedPool) (count : ℕ) (here : TableId) (me : Me ℕ SeatView) (all : Vec PoolParty Z)
-    : Type 0 where
-  pub table : here ≡ pool.table
-  pub seat : me ≡ (standing_for pool.scene (fresh_from 0 count), [])
-  pub parties : pool.scene.parties ≡ count
-  pub room : HasRoomFor count all
 
 -- no bytes, at any place
 pub no_bytes : Layout
@@ -205,50 +147,43 @@ no_bytes = record {
   };
 }
 
--- a view of no party
 abbrev pub nobody : SeatView
 nobody = standing_for (scene_at (pool_geometry (region_at 0 0) no_bytes 0) 0) []
 
 -- WHAT A STEP TELLS
 
 -- an exchange took this bucket, which wasn't held after the party's log. The log then has the step
-pub record TellsTaking (scene : PoolScene) (number : ℕ) (log : PoolLog) (bucket : ℕ)
-    (new : Me ℕ SeatView) : Type 0 where
+pub record TellsTaking (scene : PoolScene) (number : ℕ) (log : PoolLog) (bucket : ℕ) (new : Me ℕ SeatView) : Type 0 where
   pub seat : IsSeatOf scene number (log ++ entry_of (Try number) (Takes bucket) ∷ []) new
   pub free : ¬ IsHeldAfter log bucket
 
 -- an exchange lost at this bucket, which is held after the log of a party that is the only one. The log then has the step
-pub record TellsLoss (scene : PoolScene) (number : ℕ) (log : PoolLog) (bucket : ℕ)
-    (new : Me ℕ SeatView) : Type 0 where
+pub record TellsLoss (scene : PoolScene) (number : ℕ) (log : PoolLog) (bucket : ℕ) (new : Me ℕ SeatView) : Type 0 where
   pub seat : let loss = loss_at scene.geometry.buckets bucket in
       IsSeatOf scene number (log ++ entry_of (Try number) loss ∷ []) new
   pub held : scene.parties ≡ 1 → IsHeldAfter log bucket
 
--- an exchange from free to taken, which finds the flag free or not
 abbrev pub TellsTry : PoolScene → ℕ → PoolLog → ℕ → ℕ → Me ℕ SeatView → Type 0
 TellsTry scene number log bucket found new =
     (found ≡ 0 → TellsTaking scene number log bucket new) × (found ≢ 0 → TellsLoss scene number log bucket new)
 
--- Calls that have ended: the party is idle, and has added this.
 abbrev pub HasEnded : PoolScene → ℕ → PoolLog → PoolLog → Me ℕ SeatView → Type 0
 HasEnded scene number log added new = IsSeatOfIdle scene number (log ++ added) new
 
--- an idle party's exchange took this bucket, which wasn't held after the party's log
-pub record HasTakenAt (scene : PoolScene) (number : ℕ) (log : PoolLog) (bucket : ℕ)
-    (new : Me ℕ SeatView) : Type 0 where
-  pub ended : HasEnded scene number log (taking_at number bucket) new
+-- a step of an idle party, which added this entry, took or attached this bucket, which wasn't held after the party's log
+pub record HasGained (scene : PoolScene) (number : ℕ) (log step : PoolLog) (bucket : ℕ) (new : Me ℕ SeatView) : Type 0 where
+  pub ended : HasEnded scene number log step new
   pub free : ¬ IsHeldAfter log bucket
 
 -- an idle party missed the bucket, which is held after the log of a party that is the only one
-pub record HasMissedAt (scene : PoolScene) (number : ℕ) (log : PoolLog) (bucket : ℕ)
-    (new : Me ℕ SeatView) : Type 0 where
+pub record HasMissedAt (scene : PoolScene) (number : ℕ) (log : PoolLog) (bucket : ℕ) (new : Me ℕ SeatView) : Type 0 where
   pub ended : HasEnded scene number log (miss_at number bucket) new
   pub held : scene.parties ≡ 1 → IsHeldAfter log bucket
 
--- an idle party's exchange from free to taken, which finds the flag free or not
 abbrev pub TellsTryAt : PoolScene → ℕ → PoolLog → ℕ → ℕ → Me ℕ SeatView → Type 0
 TellsTryAt scene number log bucket found new =
-    (found ≡ 0 → HasTakenAt scene number log bucket new) × (found ≢ 0 → HasMissedAt scene number log bucket new)
+    (found ≡ 0 → HasGained scene number log (taking_at number bucket) bucket new)
+    × (found ≢ 0 → HasMissedAt scene number log bucket new)
 
 -- An idle party's load of a flag. A taken one is a miss. A free one is no step of the log, and the party is as it was.
 abbrev pub TellsLookAt : PoolScene → ℕ → PoolLog → ℕ → ℕ → Me ℕ SeatView → Type 0
@@ -260,21 +195,13 @@ abbrev pub TellsReturn : PoolScene → ℕ → PoolLog → ℕ → Me ℕ SeatVi
 TellsReturn scene number log bucket new = IsSeatOf scene number (log ++ return_entry number bucket) new
 
 -- A party detached this bucket: its log then has the step, and the bucket is detached at its seat.
-pub record TellsDetach (scene : PoolScene) (number : ℕ) (log : PoolLog) (bucket : ℕ)
-    (new : Me ℕ SeatView) : Type 0 where
-  pub is : let longer : PoolLog = log ++ detach_entry number bucket in
-      new ≡ (alone_with scene number longer bucket, [])
+pub record TellsDetach (scene : PoolScene) (number : ℕ) (log : PoolLog) (bucket : ℕ) (new : Me ℕ SeatView) : Type 0 where
+  pub is : let longer : PoolLog = log ++ detach_entry number bucket in new ≡ (alone_with scene number longer bucket, [])
   pub interleaved : Interleaving scene number (log ++ detach_entry number bucket)
 
 -- a party detached this bucket, which has gone to a seat of its own
 abbrev pub HasDetachedAt : PoolScene → ℕ → PoolLog → ℕ → Me ℕ SeatView → Type 0
 HasDetachedAt scene number log bucket new = IsSeatOf scene number (log ++ detach_entry number bucket) new
-
--- An idle party attached this bucket, which wasn't held after its log. The log then has the step.
-pub record HasAttachedAt (scene : PoolScene) (number : ℕ) (log : PoolLog) (bucket : ℕ)
-    (new : Me ℕ SeatView) : Type 0 where
-  pub ended : HasEnded scene number log (attach_entry number bucket) new
-  pub not_held : ¬ IsHeldAfter log bucket
 
 -- A load by a seat that stands for these parties: there are flags, and a log for each of the pool's parties, which agree, and
 -- theirs are among them; no two are one.
@@ -287,24 +214,20 @@ pub record TellsMeeting (scene : PoolScene) (parties : List NumberedLog) : Type 
   pub once : (number : ℕ) → number < scene.parties → times_in number parties ≤ 1
 
 -- what a meeting of two found: they are different ones, no bucket is held after both logs, and one interleaving has both
-pub record TellsTwo (scene : PoolScene) (number : ℕ) (log : PoolLog) (other : ℕ)
-    (other_log : PoolLog) : Type 0 where
+pub record TellsTwo (scene : PoolScene) (number : ℕ) (log : PoolLog) (other : ℕ) (other_log : PoolLog) : Type 0 where
   pub differ : number ≢ other
   pub apart : (bucket : ℕ) → IsHeldAfter log bucket → ¬ IsHeldAfter other_log bucket
   pub interleaved : CommonInterleaving scene number log other other_log
 
--- THE STEPS AS THE TABLE KNOWS THEM
+-- the steps as the table knows them, of which each is of the bucket whose flag is the word
+abbrev pub Telling : Type 1
+Telling = PoolScene → ℕ → PoolLog → ℕ → ℕ → Me ℕ SeatView → Type 0
 
--- each is of the bucket whose flag is the word
+abbrev pub tells_of : Telling → Me ℕ SeatView → ℕ → ℕ → Me ℕ SeatView → Type 0
+tells_of tells me bucket found new = tells me.0.scene (number_of me.0) (view_log me.0) bucket found new
 
-abbrev pub tries : Step ℕ → Me ℕ SeatView → ℕ → Me ℕ SeatView → Type 0
-tries step old found new = TellsTry old.0.scene (number_of old.0) (view_log old.0) (bucket_of step.word) found new
-
-abbrev pub tries_at : Step ℕ → Me ℕ SeatView → ℕ → Me ℕ SeatView → Type 0
-tries_at step old found new = TellsTryAt old.0.scene (number_of old.0) (view_log old.0) (bucket_of step.word) found new
-
-abbrev pub looks_at : Step ℕ → Me ℕ SeatView → ℕ → Me ℕ SeatView → Type 0
-looks_at step old found new = TellsLookAt old.0.scene (number_of old.0) (view_log old.0) (bucket_of step.word) found new
+abbrev pub at_flag : Telling → Step ℕ → Me ℕ SeatView → ℕ → Me ℕ SeatView → Type 0
+at_flag tells step old = tells_of tells old (bucket_of step.word)
 
 abbrev pub returns : Step ℕ → Me ℕ SeatView → ℕ → Me ℕ SeatView → Type 0
 returns step old found new = TellsReturn old.0.scene (number_of old.0) (view_log old.0) (bucket_of step.word) new
@@ -320,34 +243,24 @@ detaches step old found new = TellsDetach old.0.scene (number_of old.0) (view_lo
 -- a load of any word by an idle party at whose seat a bucket is detached, and which attaches that bucket
 abbrev pub attaches : Step ℕ → Me ℕ SeatView → ℕ → Me ℕ SeatView → Type 0
 attaches step old found new =
-    HasAttachedAt old.0.scene (number_of old.0) (view_log old.0) (get_or old.0.detached 0 0) new
+    let bucket = get_or old.0.detached 0 0 in
+    HasGained old.0.scene (number_of old.0) (view_log old.0) (attach_entry (number_of old.0) bucket) bucket new
 
--- A load by a seat, where these parties have met. The seat stays as it is.
-pub record HasFound (scene : PoolScene) (parties : List NumberedLog) (was : TableId) (old : Me ℕ SeatView)
-    (is : TableId) (new : Me ℕ SeatView) : Type 0 where
-  pub table : is ≡ was
-  pub seat : new ≡ old
-  pub told : TellsMeeting scene parties
-
--- PASSES
+-- REQUESTS
 
 -- a pass took this bucket, which wasn't held after the log before
-pub record HasTaken (scene : PoolScene) (number : ℕ) (log : PoolLog) (new : Me ℕ SeatView)
-    (bucket : ℕ) : Type 0 where
+pub record HasTaken (scene : PoolScene) (number : ℕ) (log : PoolLog) (new : Me ℕ SeatView) (bucket : ℕ) : Type 0 where
   pub ended : HasEnded scene number log (taking_pass scene.geometry.buckets number bucket) new
   pub below : bucket < scene.geometry.buckets
   pub free : ¬ IsHeldAfter log bucket
 
--- a refused request: where the party is the only one, all buckets were held after its log
-pub record HasRefused (scene : PoolScene) (number : ℕ) (log : PoolLog) (new : Me ℕ SeatView) : Type 0 where
-  pub ended : HasEnded scene number log (refused_pass scene.geometry.buckets number) new
+-- a refused request, which added these entries: where the party is the only one, all buckets were held after its log
+pub record HasRefused (scene : PoolScene) (number : ℕ) (log refusal : PoolLog) (new : Me ℕ SeatView) : Type 0 where
+  pub ended : HasEnded scene number log refusal new
   pub held : scene.parties ≡ 1 → AreAllHeldAfter log scene.geometry.buckets
 
--- SEARCHES
-
 -- a search under way: since it began, the seat's party has missed the buckets of the probes before this one
-pub record IsInSearch (scene : PoolScene) (number : ℕ) (log : PoolLog) (first probe : ℕ)
-    (me : Me ℕ SeatView) : Type 0 where
+pub record IsInSearch (scene : PoolScene) (number : ℕ) (log : PoolLog) (first probe : ℕ) (me : Me ℕ SeatView) : Type 0 where
   pub ended : HasEnded scene number log (misses scene.geometry.buckets number first probe) me
   pub held : scene.parties ≡ 1 → (earlier : ℕ) → earlier < probe → IsHeldAfter log (probed scene.geometry.buckets first earlier)
 
@@ -360,9 +273,3 @@ pub record HasTakenFrom (scene : PoolScene) (number : ℕ) (log : PoolLog) (firs
   pub ended : HasEnded scene number log (taking_search scene.geometry.buckets number first probe) new
   pub below : bucket < scene.geometry.buckets
   pub free : ¬ IsHeldAfter log bucket
-
--- a refused request: where the party is the only one, all buckets were held after its log
-pub record HasRefusedFrom (scene : PoolScene) (number : ℕ) (log : PoolLog) (first : ℕ)
-    (new : Me ℕ SeatView) : Type 0 where
-  pub ended : HasEnded scene number log (refused_search scene.geometry.buckets number first) new
-  pub held : scene.parties ≡ 1 → AreAllHeldAfter log scene.geometry.buckets

@@ -2,8 +2,7 @@
 ghost use Rattle.std.specs.Prelude.{◌≡◌, ◌≤◌, ◌++◌, [], All, map};
 ghost use Rattle.bb_memory_seats.specs.Seats.{HasNow, Stays, standing_for};
 ghost use Rattle.bb_memory_bump.specs.SharedBump.{meeting_at};
-ghost use Rattle.bb_memory_bump.specs.SharedBumpRule.{MayMeet, met_by, numbered_of, sight};
-ghost use Rattle.bb_memory_bump.specs.SharedBumpRule.{HasFound};
+ghost use Rattle.bb_memory_bump.specs.SharedBumpRule.{StandsAt, TellsMeeting, meeting_of, met_by, numbered_of, sight};
 
 use super::rule::View;
 use super::{BumpParty, SharedBumpAllocator};
@@ -12,10 +11,12 @@ use atomic_table::Seat;
 impl SharedBumpAllocator {
     /// These parties meet those of the seat, and go back to their own.
     pub(super) fn meet_rest(&self, seat: &mut Seat<u8, View>, rest: &mut Vec<BumpParty>) -> usize
-        requires { MayMeet self.now seat.old.table_id seat.old.me rest.old.items }
-        ensures found { HasFound self.now.scene
-            (map numbered_of rest.old.items ++ seat.old.me.0.parties)
-            seat.old.table_id seat.old.me result seat.new.table_id seat.new.me }
+        requires seat { StandsAt self.now seat.old.table_id seat.old.me }
+        requires rest { All (λ party. party.allocator ≡ self.now) rest.old.items }
+        ensures table { seat.new.table_id ≡ seat.old.table_id }
+        ensures seat { seat.new.me ≡ (meeting_of result seat.old.me.0, []) }
+        ensures told { TellsMeeting self.now.scene
+            (map numbered_of rest.old.items ++ seat.old.me.0.parties) (met_by seat.old.me.0) result }
         ensures rest { HasNow (map (meeting_at result) rest.old.items) rest.old rest.new }
         ensures risen { All (λ party. party.met ≤ result) rest.old.items }
     {
@@ -35,7 +36,8 @@ impl SharedBumpAllocator {
 
     /// These parties go to the seat, before its own.
     pub(super) fn gather_rest(&self, seat: &mut Seat<u8, View>, mut rest: Vec<BumpParty>)
-        requires { MayMeet self.now seat.old.table_id seat.old.me rest.items }
+        requires seat { StandsAt self.now seat.old.table_id seat.old.me }
+        requires rest { All (λ party. party.allocator ≡ self.now) rest.items }
         ensures seat { Stays seat.old.table_id seat.new.table_id (seat.new.me
             ≡ (
               standing_for (sight self.now.scene (met_by seat.new.me.0))

@@ -7,9 +7,8 @@ ghost use Rattle.std.specs.Prelude.{◌≡◌, ◌≤◌, [], IfOk, Some};
 ghost use Rattle.bb_memory_bump_machine.specs.BumpMachine.{chunk_at, position_behind};
 ghost use Rattle.bb_memory_bump_machine.specs.BumpLogs.{call_in};
 ghost use Rattle.bb_memory_seats.specs.Seats.{IsDealt, MayGather, Stays, number_of, view_log};
-ghost use Rattle.bb_memory_bump.specs.SharedBumpRule.{AreTwoAt, IsIdleAt, IsOpened, IsSeatAt, StandsAt, gathered, meeting_of};
-ghost use Rattle.bb_memory_bump.specs.SharedBumpRule.{met_by, scene_of};
-ghost use Rattle.bb_memory_bump.specs.SharedBumpRule.{HasFound, MayAsk, TellsExchange, TellsLoad, TellsMeeting, TellsRead};
+ghost use Rattle.bb_memory_bump.specs.SharedBumpRule.{IsIdleAt, IsSeatAt, StandsAt, all_parties, gathered, meeting_of, met_by};
+ghost use Rattle.bb_memory_bump.specs.SharedBumpRule.{scene_of, MayAsk, TellsExchange, TellsLoad, TellsMeeting, TellsRead};
 ghost use Rattle.bb_memory_bump.specs.SharedBumpRule.{TellsTwo};
 
 use super::rule::{
@@ -45,7 +44,9 @@ impl Position {
         scene: Scene,
     ) -> Result<(Position, Seat<u8, View>), AllocError>
         requires opening { scene.opening ≤ scene.region.size }
-        ensures { IfOk result (λ made. IsOpened scene made.0 made.1.table_id made.1.me) }
+        ensures scene { IfOk result (λ made. made.0.scene ≡ scene) }
+        ensures table { IfOk result (λ made. made.1.table_id ≡ made.0.table) }
+        ensures seat { IfOk result (λ made. made.1.me ≡ (all_parties scene, [])) }
     {
         let (table, seat) = Table::of_words(alloc, &[scene.opening as u64], &scene)?;
         Ok((Position { table }, seat))
@@ -114,15 +115,17 @@ impl Position {
     /// A load that asks where the parties of one seat have met.
     pub(super) fn find(&self, seat: &mut Seat<u8, View>) -> usize
         requires { StandsAt self.now seat.old.table_id seat.old.me }
-        ensures { HasFound self.now.scene seat.old.me.0.parties
-            seat.old.table_id seat.old.me result seat.new.table_id seat.new.me }
+        ensures table { seat.new.table_id ≡ seat.old.table_id }
+        ensures seat { seat.new.me ≡ (meeting_of result seat.old.me.0, []) }
+        ensures told { TellsMeeting self.now.scene seat.old.me.0.parties (met_by seat.old.me.0) result }
     {
         self.table.shared.load::<Meets>(seat, 0) as usize
     }
 
     /// Two parties meet at one seat, load the position there, and go back to their own.
     pub(super) fn meet(&self, a: &mut Seat<u8, View>, b: &mut Seat<u8, View>) -> usize
-        requires { AreTwoAt self.now a.old.table_id a.old.me b.old.table_id b.old.me }
+        requires a { IsSeatAt self.now a.old.table_id a.old.me }
+        requires b { IsSeatAt self.now b.old.table_id b.old.me }
         ensures a { Stays a.old.table_id a.new.table_id
             (a.new.me ≡ (meeting_of result a.old.me.0, [])) }
         ensures b { Stays b.old.table_id b.new.table_id

@@ -3,8 +3,7 @@ ghost use Rattle.std.specs.Prelude.{◌≡◌, ◌≤◌, ◌%◌, false, IfSome
 ghost use Rattle.bb_memory_traits.specs.Chunk.{IsInside};
 ghost use Rattle.bb_memory_bump_machine.specs.BumpMachine.{fits};
 ghost use Rattle.bb_memory_seats.specs.Seats.{Stays, number_of, view_log};
-ghost use Rattle.bb_memory_bump.specs.SharedBumpRule.{met_by};
-ghost use Rattle.bb_memory_bump.specs.SharedBumpRule.{HasRefused, HasWon, IsFor, MayAsk};
+ghost use Rattle.bb_memory_bump.specs.SharedBumpRule.{met_by, HasRefused, HasWon, IsFor, MayAsk};
 
 use super::SharedBumpAllocator;
 use super::rule::{Asked, View};

@@ -4,13 +4,11 @@ ghost use Rattle.std.specs.Prelude.{◌+◌, IfSome, MatchOption, length};
 ghost use Rattle.bb_memory_traits.specs.Chunk.{IsRegion, Chunk, IsInside};
 ghost use Rattle.bb_memory_traits.specs.PoolObject.{IsWithin, MayGrow, MayShrink};
 ghost use Rattle.bb_memory_pool_machine.specs.PoolLogs.{IsHeldAfter};
-ghost use Rattle.bb_memory_seats.specs.Seats.{Stays, number_of, view_log};
-ghost use Rattle.bb_memory_shared_pools.specs.SharedPool.{AreAllHeldAfter, AreBothOf, AreFresh, AreInterleaved, HasTaker, HaveMet};
-ghost use Rattle.bb_memory_shared_pools.specs.SharedPool.{HoldApart, IsAlignedTo};
-ghost use Rattle.bb_memory_shared_pools.specs.SharedPool.{IsResizedTo, IsSameParty, IsSharedScene, MayTake, chunk_of};
-ghost use Rattle.bb_memory_shared_pools.specs.SharedPool.{return_entry, with_entries};
-ghost use Rattle.bb_memory_shared_pools.specs.SharedPoolRule.{IsIdleAt, MaySeat};
-ghost use Rattle.bb_memory_shared_pools.specs.SharedPoolRule.{HasRefused, HasTaken};
+ghost use Rattle.bb_memory_seats.specs.Seats.{HasRoomFor, Stays, number_of, view_log};
+ghost use Rattle.bb_memory_shared_pools.specs.SharedPool.{AreAllHeldAfter, AreBothOf, AreFresh, AreInterleaved, HasTaker};
+ghost use Rattle.bb_memory_shared_pools.specs.SharedPool.{HaveMet, HoldApart, IsAlignedTo, IsResizedTo, IsSameParty};
+ghost use Rattle.bb_memory_shared_pools.specs.SharedPool.{IsSharedScene, MayTake, chunk_of, refused_pass, return_entry, with_entries};
+ghost use Rattle.bb_memory_shared_pools.specs.SharedPoolRule.{IsIdleAt, all_parties, HasRefused, HasTaken};
 
 use super::bucket::Bucket;
 use super::flags::Flags;
@@ -72,7 +70,10 @@ impl<const CAPPED: usize, const MOST: usize> SharedBucketPool<CAPPED, MOST> {
 
     /// Gives each party a seat of its own.
     fn seat_parties(&self, mut rest: Seat<u8, View>, parties: u32, all: &mut Vec<PoolParty>)
-        requires { MaySeat self.now parties rest.table_id rest.me all.old }
+        requires table { rest.table_id ≡ self.now.table }
+        requires seat { rest.me ≡ (all_parties self.now.scene, []) }
+        requires parties { parties ≡ self.now.scene.parties }
+        requires room { HasRoomFor parties all.old }
         ensures { AreFresh self.now parties all.new.items }
     {
         for number in 0..parties {
@@ -91,7 +92,7 @@ impl<const CAPPED: usize, const MOST: usize> SharedBucketPool<CAPPED, MOST> {
         requires { IsIdleAt self.now seat.old.table_id seat.old.me }
         ensures told { Stays seat.old.table_id seat.new.table_id (MatchOption result
             (HasRefused self.now.scene (number_of seat.old.me.0) (view_log seat.old.me.0)
-            seat.new.me)
+            (refused_pass self.now.scene.geometry.buckets (number_of seat.old.me.0)) seat.new.me)
             (HasTaken self.now.scene (number_of seat.old.me.0) (view_log seat.old.me.0)
             seat.new.me)) }
         ensures fits { IfSome result (λ bucket. bucket + 1 < 2 ^ 32) }

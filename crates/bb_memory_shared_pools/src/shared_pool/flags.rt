@@ -7,12 +7,14 @@
 //! sharing, and `geometry` touches no word.
 ghost use Rattle.std.specs.Prelude.{◌≡◌, ◌<◌, ◌≤◌, [], IfOk, MatchBool};
 ghost use Rattle.bb_memory_traits.specs.Chunk.{IsRegion};
+ghost use Rattle.bb_memory_shared_pools.specs.SharedPool.{attach_entry};
+ghost use Rattle.bb_memory_shared_pools.specs.SharedPoolNextFit.{taking_at};
 ghost use Rattle.bb_memory_traits.specs.PoolObject.{IsPoolGeometry};
-ghost use Rattle.bb_memory_shared_pools.specs.SharedPoolRule.{word_of, MayDetachAt, MayAttachAt, StandsAt};
+ghost use Rattle.bb_memory_pool_machine.specs.PoolLogs.{next_bucket};
+ghost use Rattle.bb_memory_shared_pools.specs.SharedPoolRule.{word_of, StandsAt, IsHeldAt, IsIdleAt, IsDetachedAt, all_parties};
+ghost use Rattle.bb_memory_shared_pools.specs.SharedPoolRule.{IsSeatAt, HasDetachedAt, HasMissedAt, HasGained};
+ghost use Rattle.bb_memory_shared_pools.specs.SharedPoolRule.{TellsLoss, TellsMeeting, TellsReturn, TellsTaking, TellsTwo};
 ghost use Rattle.bb_memory_seats.specs.Seats.{IsDealt, MayGather, Stays, both_of, number_of, view_log};
-ghost use Rattle.bb_memory_shared_pools.specs.SharedPoolRule.{AreTwoAt, IsHeldAt, IsIdleAt, IsDetachedAt, IsNextFor, IsOpened, IsSeatAt};
-ghost use Rattle.bb_memory_shared_pools.specs.SharedPoolRule.{HasFound, HasDetachedAt, HasMissedAt, HasTakenAt, HasAttachedAt};
-ghost use Rattle.bb_memory_shared_pools.specs.SharedPoolRule.{TellsLoss, TellsReturn, TellsTaking, TellsTwo};
 
 use super::rule::{
     Agreement, Attaches, Detaches, Gather, GiveDetached, GiveFirst, LooksAt, Meets, Returns, Scene,
@@ -70,7 +72,9 @@ impl Flags {
     /// The flags at a scene's opening, all free, and a seat that stands for all its parties.
     pub(super) fn open(alloc: Global, scene: Scene) -> Result<(Flags, Seat<u8, View>), AllocError>
         requires { 1 ≤ scene.parties }
-        ensures opened { IfOk result (λ made. IsOpened scene made.0 made.1.table_id made.1.me) }
+        ensures scene { IfOk result (λ made. made.0.scene ≡ scene) }
+        ensures table { IfOk result (λ made. made.1.table_id ≡ made.0.table) }
+        ensures seat { IfOk result (λ made. made.1.me ≡ (all_parties scene, [])) }
         ensures region { IfOk result (λ made. IsRegion scene.geometry.region) }
         ensures geometry { IfOk result (λ made. IsPoolGeometry scene.geometry) }
     {
@@ -97,7 +101,8 @@ impl Flags {
     /// One exchange on the flag of the bucket that the party tries next: whether it took the bucket.
     pub(super) fn try_flag(&self, seat: &mut Seat<u8, View>, bucket: u32) -> bool
         requires seat { IsSeatAt self.now seat.old.table_id seat.old.me }
-        requires next { IsNextFor self.now seat.old.me bucket }
+        requires next { next_bucket (view_log seat.old.me.0) ≡ bucket }
+        requires below { bucket < self.now.scene.geometry.buckets }
         ensures { Stays seat.old.table_id seat.new.table_id (MatchBool result
             (TellsTaking self.now.scene (number_of seat.old.me.0) (view_log seat.old.me.0)
             bucket seat.new.me)
@@ -117,8 +122,8 @@ impl Flags {
         requires seat { IsIdleAt self.now seat.old.table_id seat.old.me }
         requires below { bucket < self.now.scene.geometry.buckets }
         ensures { Stays seat.old.table_id seat.new.table_id (MatchBool result
-            (HasTakenAt self.now.scene (number_of seat.old.me.0) (view_log seat.old.me.0)
-            bucket seat.new.me)
+            (HasGained self.now.scene (number_of seat.old.me.0) (view_log seat.old.me.0)
+            (taking_at (number_of seat.old.me.0) bucket) bucket seat.new.me)
             (HasMissedAt self.now.scene (number_of seat.old.me.0) (view_log seat.old.me.0)
             bucket seat.new.me)) }
     {
@@ -147,7 +152,9 @@ impl Flags {
     /// A load of its word, by the party after whose log this bucket is held, and which isn't the only one. What is returned has
     /// the bucket detached.
     pub(super) fn detach(&self, seat: &mut Seat<u8, View>, bucket: u32) -> Seat<u8, View>
-        requires { MayDetachAt self.now seat.old.table_id seat.old.me bucket }
+        requires others { 1 < self.now.scene.parties }
+        requires seat { IsSeatAt self.now seat.old.table_id seat.old.me }
+        requires held { IsHeldAt self.now seat.old.me bucket }
         ensures step { Stays self.now.table seat.new.table_id (HasDetachedAt self.now.scene
             (number_of seat.old.me.0) (view_log seat.old.me.0) bucket seat.new.me) }
         ensures detached { IsDetachedAt self.now result.table_id result.me bucket }
@@ -159,10 +166,11 @@ impl Flags {
     /// A load of word 0, by an idle party to whose seat this bucket detached comes. So a party that attaches buckets takes no
     /// line of flags from the party that takes the next ones.
     pub(super) fn attach(&self, seat: &mut Seat<u8, View>, detached: Seat<u8, View>, bucket: u32)
-        requires { MayAttachAt self.now seat.old.table_id seat.old.me
-            detached.table_id detached.me bucket }
-        ensures { Stays seat.old.table_id seat.new.table_id (HasAttachedAt self.now.scene
-            (number_of seat.old.me.0) (view_log seat.old.me.0) bucket seat.new.me) }
+        requires seat { IsIdleAt self.now seat.old.table_id seat.old.me }
+        requires detached { IsDetachedAt self.now detached.table_id detached.me bucket }
+        ensures { Stays seat.old.table_id seat.new.table_id (HasGained self.now.scene
+            (number_of seat.old.me.0) (view_log seat.old.me.0)
+            (attach_entry (number_of seat.old.me.0) bucket) bucket seat.new.me) }
     {
         let shared = &self.table.shared;
         shared.join_seat::<TakeIn>(seat, detached);
@@ -181,15 +189,17 @@ impl Flags {
     /// A load where the parties of one seat have met.
     pub(super) fn find(&self, seat: &mut Seat<u8, View>)
         requires { StandsAt self.now seat.old.table_id seat.old.me }
-        ensures { HasFound self.now.scene seat.old.me.0.parties
-            seat.old.table_id seat.old.me seat.new.table_id seat.new.me }
+        ensures table { seat.new.table_id ≡ seat.old.table_id }
+        ensures seat { seat.new.me ≡ seat.old.me }
+        ensures told { TellsMeeting self.now.scene seat.old.me.0.parties }
     {
         self.table.shared.load::<Meets>(seat, 0);
     }
 
     /// Two parties meet at one seat, load a word there, and go back to their own.
     pub(super) fn meet(&self, a: &mut Seat<u8, View>, b: &mut Seat<u8, View>)
-        requires { AreTwoAt self.now a.old.table_id a.old.me b.old.table_id b.old.me }
+        requires a { IsSeatAt self.now a.old.table_id a.old.me }
+        requires b { IsSeatAt self.now b.old.table_id b.old.me }
         ensures a { Stays a.old.table_id a.new.table_id (a.new.me ≡ a.old.me) }
         ensures b { Stays b.old.table_id b.new.table_id (b.new.me ≡ b.old.me) }
         ensures met { TellsTwo self.now.scene

@@ -1,8 +1,7 @@
 //! Any number of parties at one seat.
-ghost use Rattle.std.specs.Prelude.{◌++◌, map};
+ghost use Rattle.std.specs.Prelude.{◌≡◌, ◌++◌, All, map};
 ghost use Rattle.bb_memory_seats.specs.Seats.{HasNow};
-ghost use Rattle.bb_memory_shared_pools.specs.SharedPoolRule.{MayMeet, numbered_of};
-ghost use Rattle.bb_memory_shared_pools.specs.SharedPoolRule.{HasFound};
+ghost use Rattle.bb_memory_shared_pools.specs.SharedPoolRule.{StandsAt, TellsMeeting, numbered_of};
 
 use super::flags::Flags;
 use super::party::PoolParty;
@@ -12,10 +11,12 @@ use atomic_table::Seat;
 impl Flags {
     /// These parties meet those of the seat, and go back to their own.
     pub(super) fn meet_rest(&self, seat: &mut Seat<u8, View>, rest: &mut Vec<PoolParty>)
-        requires { MayMeet self.now seat.old.table_id seat.old.me rest.old.items }
-        ensures found { HasFound self.now.scene
-            (map numbered_of rest.old.items ++ seat.old.me.0.parties)
-            seat.old.table_id seat.old.me seat.new.table_id seat.new.me }
+        requires seat { StandsAt self.now seat.old.table_id seat.old.me }
+        requires rest { All (λ party. party.allocator ≡ self.now) rest.old.items }
+        ensures table { seat.new.table_id ≡ seat.old.table_id }
+        ensures seat { seat.new.me ≡ seat.old.me }
+        ensures told { TellsMeeting self.now.scene
+            (map numbered_of rest.old.items ++ seat.old.me.0.parties) }
         ensures rest { HasNow rest.old.items rest.old rest.new }
     {
         let Some(party) = rest.pop() else {

@@ -3,9 +3,8 @@ ghost use Rattle.std.specs.Prelude.{◌≡◌, ℕ, ◌+◌, ◌<◌, ◌^◌, I
 ghost use Rattle.bb_memory_pool_machine.specs.PoolLogs.{PoolLog};
 ghost use Rattle.bb_memory_seats.specs.Seats.{Stays, number_of, view_log};
 ghost use Rattle.bb_memory_shared_pools.specs.SharedPool.{ServesNextFit};
-ghost use Rattle.bb_memory_shared_pools.specs.SharedPoolNextFit.{MayTakeFrom, probed, hint_of, part_of};
-ghost use Rattle.bb_memory_shared_pools.specs.SharedPoolRule.{IsIdleAt};
-ghost use Rattle.bb_memory_shared_pools.specs.SharedPoolRule.{HasRefusedFrom, HasTakenFrom, IsInSearch};
+ghost use Rattle.bb_memory_shared_pools.specs.SharedPoolNextFit.{MayTakeFrom, probed, hint_of, part_of, refused_search};
+ghost use Rattle.bb_memory_shared_pools.specs.SharedPoolRule.{IsIdleAt, HasRefused, HasTakenFrom, IsInSearch};
 
 use super::bucket::Bucket;
 use super::buckets::SharedBucketPool;
@@ -44,8 +43,9 @@ impl<const CAPPED: usize, const MOST: usize> SharedBucketPool<CAPPED, MOST> {
     fn next_fit(&self, seat: &mut Seat<u8, View>, first: u32) -> Option<u32>
         requires { IsIdleAt self.now seat.old.table_id seat.old.me }
         ensures told { Stays seat.old.table_id seat.new.table_id (MatchOption result
-            (HasRefusedFrom self.now.scene (number_of seat.old.me.0) (view_log seat.old.me.0)
-            first seat.new.me)
+            (HasRefused self.now.scene (number_of seat.old.me.0) (view_log seat.old.me.0)
+            (refused_search self.now.scene.geometry.buckets (number_of seat.old.me.0) first)
+            seat.new.me)
             (HasTakenFrom self.now.scene (number_of seat.old.me.0) (view_log seat.old.me.0)
             first seat.new.me)) }
         ensures fits { IfSome result (λ bucket. bucket + 1 < 2 ^ 32) }
@@ -69,7 +69,8 @@ impl<const CAPPED: usize, const MOST: usize> SharedBucketPool<CAPPED, MOST> {
         requires some { 0 < self.now.scene.geometry.buckets }
         ensures told { Stays seat.old.table_id seat.new.table_id ((number : ℕ) (log : PoolLog)
             → IsInSearch self.now.scene number log first 1 seat.old.me → MatchOption result
-            (HasRefusedFrom self.now.scene number log first seat.new.me)
+            (HasRefused self.now.scene number log
+            (refused_search self.now.scene.geometry.buckets number first) seat.new.me)
             (HasTakenFrom self.now.scene number log first seat.new.me)) }
         ensures fits { IfSome result (λ bucket. bucket + 1 < 2 ^ 32) }
     {

@@ -45,27 +45,27 @@ impl TableRule<u8, View, Scene> for Agreement {
 pub(crate) struct Tries;
 
 impl Play<u8, View> for Tries {
-    ghost use Rattle.bb_memory_shared_pools.specs.SharedPoolRule.{tries};
+    ghost use Rattle.bb_memory_shared_pools.specs.SharedPoolRule.{TellsTry, at_flag};
 
-    ghost then = { tries };
+    ghost then = { at_flag TellsTry };
 }
 
 /// An exchange from free to taken, by a party that is in no pass.
 pub(crate) struct TriesAt;
 
 impl Play<u8, View> for TriesAt {
-    ghost use Rattle.bb_memory_shared_pools.specs.SharedPoolRule.{tries_at};
+    ghost use Rattle.bb_memory_shared_pools.specs.SharedPoolRule.{TellsTryAt, at_flag};
 
-    ghost then = { tries_at };
+    ghost then = { at_flag TellsTryAt };
 }
 
 /// A load of a flag by a party that is in no pass.
 pub(crate) struct LooksAt;
 
 impl Play<u8, View> for LooksAt {
-    ghost use Rattle.bb_memory_shared_pools.specs.SharedPoolRule.{looks_at};
+    ghost use Rattle.bb_memory_shared_pools.specs.SharedPoolRule.{TellsLookAt, at_flag};
 
-    ghost then = { looks_at };
+    ghost then = { at_flag TellsLookAt };
 }
 
 /// A store of free, by a party after whose log the bucket is held.

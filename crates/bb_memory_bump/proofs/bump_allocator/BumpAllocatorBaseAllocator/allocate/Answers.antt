@@ -1,4 +1,4 @@
-use Rattle.std.proofs.Common.{◌≡◌, ◌+◌, ◌-◌, ◌<◌, ◌≤◌, ◌++◌, ◌∷◌, [], refl, arith, ap, sym, ◌∙◌, subst}
+use Rattle.std.proofs.Common.{◌≡◌, ◌+◌, ◌-◌, ◌<◌, ◌≤◌, ◌++◌, ◌∷◌, [], arith, ap, sym, ◌∙◌, subst}
 use Rattle.bb_memory_traits.specs.Chunk.{region_end, Chunk, chunk_end}
 use Rattle.bb_memory_traits.specs.BumpObject.{StandsFor, chunk_at_or_after, next_chunk}
 use Rattle.bb_memory_traits.proofs.LiveLists.{StandsFor-end, StandsFor-push}
@@ -45,24 +45,3 @@ returns-clause-appended c = λ live stands.
     rw c.end.ensures (subst (λ n. StandsFor bump.region n (live ++ chunk ∷ [])) used
     (StandsFor-push bump.region bump.used live chunk here (omega (arith, told.above, end, back))
     (omega (arith, told.value.0, ap (λ (k : Chunk). chunk_end k) told.value.1))))
-
-pub returns-in_default-clause-kept : goal.returns-in_default-clause-kept
-returns-in_default-clause-kept c = λ live stands. stands
-
-pub returns-in_default-clause-value : goal.returns-in_default-clause-value
-returns-in_default-clause-value c =
-    let bump = bump_of c.self.inside.start c.self.inside.size (c.self.inside.last + 1 - c.self.inside.start) in
-    let back : bump.region.start + bump.used ≡ c.self.inside.last + 1 = omega (arith, c.self.invariant.1) in
-    let same = ap (λ v. chunk_end (chunk_at_or_after v c.args.layout)) back in
-    let full : region_end bump.region < chunk_end (chunk_at_or_after (bump.region.start + bump.used) c.args.layout) =
-    omega (arith, c.in_default.ensures.value, same) in
-    rw (← c.self.view_is) record {
-      accepted = (λ given. absurd (cc given), λ room. absurd (omega (arith, full, room.1)));
-      size_is_zero = (λ is. absurd (cc is), λ zero. absurd (omega (arith, zero)));
-      out_of_memory = (λ is. (omega arith, full), λ why. refl);
-      begins = tt;
-      exact_size = tt;
-      behind = tt;
-      used = tt;
-      unchanged = refl;
-    }

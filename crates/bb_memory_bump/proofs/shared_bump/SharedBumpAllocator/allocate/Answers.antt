@@ -44,8 +44,5 @@ returns-clause-won c = (says c).won
 pub returns-clause-none_won : goal.returns-clause-none_won
 returns-clause-none_won c = (says c).none_won
 
-pub returns-clause-floor : goal.returns-clause-floor
-returns-clause-floor c = (says c).floor
-
 pub returns-clause-alone : goal.returns-clause-alone
 returns-clause-alone c = (says c).alone

@@ -1,8 +1,6 @@
-use Rattle.std.proofs.Common.{◌∙◌, ℕ, ap, arith, subst, sym}
-use Rattle.atomic_table.specs.Table.{Me}
-use Rattle.bb_memory_bump_machine.specs.BumpLogs.{call_in}
+use Rattle.std.proofs.Common.{◌∙◌, arith}
 use Rattle.bb_memory_seats.specs.Seats.{number_of, view_log}
-use Rattle.bb_memory_bump.specs.SharedBumpRule.{IsSeatOf, SeatView, met_by}
+use Rattle.bb_memory_bump.specs.SharedBumpRule.{met_by}
 use Rattle.bb_memory_bump.proofs.SharedBumpRequests.{begins, goes_on, raises, refused_at_once, refused_later, wins}
 use Rattle.bb_memory_bump.proofs.shared_bump.SharedBumpAllocator.claim.Goals as goal
 
@@ -79,22 +77,3 @@ loop-seen-smaller g c =
     (rw c.self.view_is at c.exchange-found.ensures.step) in
     let apart = c.if-found-seen.false in
     omega (arith, up, apart)
-
-pub read-seen-requires : goal.read-seen-requires
-read-seen-requires g c = rw c.self.view_is c.requires
-
-pub exchange-found-requires-clause-seat : goal.exchange-found-requires-clause-seat
-exchange-found-requires-clause-seat g c =
-    let before = c.loop-seen.invariant in
-    let seat = c.loop-seen.seat.me in
-    let scene = c.args.self.now.scene in
-    rw c.self.view_is record {
-      table = before.table ∙ c.requires.seat.table;
-      seat = subst (λ (me : Me ℕ SeatView). IsSeatOf scene (number_of me.0) (view_log me.0) seat) (sym before.trying.seat.is)
-          before.trying.seat;
-    }
-
-pub exchange-found-requires-clause-call : goal.exchange-found-requires-clause-call
-exchange-found-requires-clause-call g c =
-    let before = c.loop-seen.invariant.trying in
-    ap (λ (me : Me ℕ SeatView). call_in (view_log me.0)) before.seat.is ∙ before.call

@@ -1,4 +1,4 @@
-use Rattle.std.proofs.Common.{◌≡◌, ◌≤◌, ◌++◌, [], All, map, ℕ, length}
+use Rattle.std.proofs.Common.{[], ◌≡◌, ◌≤◌, ◌++◌, All, map, ℕ, length}
 use Rattle.bb_memory_seats.specs.Seats.{standing_for}
 use Rattle.bb_memory_bump.specs.SharedBump.{BumpParty}
 use Rattle.bb_memory_bump.specs.SharedBumpRule.{met_by, numbered_of, sight}

@@ -1,4 +1,4 @@
-use Rattle.std.proofs.Common.{◌≡◌, ◌-◌, ◌<◌, ◌≤◌, ℕ, [], All, Some, length, vec_len, vec_capacity}
+use Rattle.std.proofs.Common.{[], ◌≡◌, ◌-◌, ◌<◌, ◌≤◌, ℕ, All, Some, length, vec_len, vec_capacity}
 use Rattle.std.specs.Prelude.{slice_get}
 use Rattle.bb_memory_bump.specs.SharedBump.{fresh_party}
 use Rattle.bb_memory_seats.specs.Seats.{fresh_from, standing_for}

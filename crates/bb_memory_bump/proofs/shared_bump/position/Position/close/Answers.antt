@@ -1,13 +1,8 @@
-use Rattle.std.proofs.Common.{arith, subst}
+use Rattle.std.proofs.Common.{subst}
 use Rattle.bb_memory_bump.specs.SharedBump.{SharedBump}
-use Rattle.bb_memory_bump.specs.SharedBumpRule.{met_by}
-use Rattle.bb_memory_bump.specs.SharedBumpRule.{TellsMeeting}
+use Rattle.bb_memory_bump.specs.SharedBumpRule.{met_by, TellsMeeting}
 use Rattle.bb_memory_bump.proofs.SharedBumpClosings.{closes}
 use Rattle.bb_memory_bump.proofs.shared_bump.position.Position.close.Goals as goal
-
-pub free-requires : goal.free-requires
-free-requires c k less =
-    let counts = c.close_with-closed.ensures.counts.1 in absurd (omega (arith, counts, c.self.invariant.slots, less))
 
 pub returns : goal.returns
 returns c =

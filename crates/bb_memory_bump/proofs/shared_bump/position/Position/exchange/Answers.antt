@@ -3,7 +3,6 @@ use Rattle.bb_memory_bump_machine.specs.BumpMachine.{BumpScene, chunk_at, positi
 use Rattle.bb_memory_seats.specs.Seats.{alone, number_of, view_log}
 use Rattle.bb_memory_bump.specs.SharedBumpRule.{met_by, sight}
 use Rattle.bb_memory_bump.proofs.SharedBumpKeeps.{exchanges_as}
-use Rattle.bb_memory_bump.proofs.SharedBumpParties.{told_exchange}
 use Rattle.bb_memory_bump.proofs.shared_bump.position.Position.exchange.Goals as goal
 
 pub compare_exchange-found-requires : goal.compare_exchange-found-requires
@@ -20,12 +19,3 @@ compare_exchange-found-requires c =
           (c.requires.behind ∙ ap (λ (s : BumpScene). position_behind s.region (chunk_at s.region c.args.seen c.args.layout))
           (sym scene)),
     )
-
-pub returns : goal.returns
-returns c =
-    let me = c.args.seat.now.me in record {
-      table = c.compare_exchange-found.ensures.0;
-      step = told_exchange c.args.self.now.scene (number_of me.0) (view_log me.0) c.compare_exchange-found.result me
-          c.compare_exchange-found.new.seat.me
-          c.requires.seat.seat c.compare_exchange-found.ensures.2;
-    }

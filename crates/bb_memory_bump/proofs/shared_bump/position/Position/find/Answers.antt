@@ -1,9 +1,7 @@
-use Rattle.std.proofs.Common.{[], ℕ, sym, ap, ◌∙◌, arith, subst}
-use Rattle.atomic_table.specs.Table.{Me}
+use Rattle.std.proofs.Common.{[], sym, ap, ◌∙◌, arith}
 use Rattle.bb_memory_bump_machine.specs.BumpMachine.{BumpScene}
 use Rattle.bb_memory_seats.specs.Seats.{standing_for}
-use Rattle.bb_memory_bump.specs.SharedBumpRule.{SeatView, meeting_of, met_by, scene_of, sight}
-use Rattle.bb_memory_bump.specs.SharedBumpRule.{TellsMeeting}
+use Rattle.bb_memory_bump.specs.SharedBumpRule.{met_by, sight}
 use Rattle.bb_memory_bump.proofs.SharedBumpMeetings.{meets_as}
 use Rattle.bb_memory_bump.proofs.shared_bump.position.Position.find.Goals as goal
 
@@ -17,12 +15,3 @@ load-requires c =
           (c.requires.seat
           ∙ ap (λ (s : BumpScene). (standing_for (sight s (met_by me.0)) me.0.parties, [])) (sym scene)),
     )
-
-pub returns : goal.returns
-returns c =
-    let me = c.args.seat.now.me in record {
-      table = c.load.ensures.0;
-      seat = c.load.ensures.2.0 ∙ ap (λ (m : Me ℕ SeatView). (meeting_of c.load.result me.0, m.1)) c.requires.seat;
-      told = subst (λ (s : BumpScene). TellsMeeting s me.0.parties (met_by me.0) c.load.result)
-          (ap (λ (m : Me ℕ SeatView). scene_of m.0) c.requires.seat) c.load.ensures.2.1;
-    }

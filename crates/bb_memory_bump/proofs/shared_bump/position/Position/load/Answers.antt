@@ -2,7 +2,6 @@ use Rattle.std.proofs.Common.{[], sym, ap, ◌∙◌, arith}
 use Rattle.bb_memory_seats.specs.Seats.{alone, number_of, view_log}
 use Rattle.bb_memory_bump.specs.SharedBumpRule.{met_by, sight}
 use Rattle.bb_memory_bump.proofs.SharedBumpKeeps.{loads_as}
-use Rattle.bb_memory_bump.proofs.SharedBumpParties.{told_load}
 use Rattle.bb_memory_bump.proofs.shared_bump.position.Position.load.Goals as goal
 
 pub load-requires : goal.load-requires
@@ -15,11 +14,3 @@ load-requires c =
       loads_as c.self.inside.table.shared.key _ _ (number_of me.0) (view_log me.0) (met_by me.0) me
           (of.seat.is ∙ ap (λ s. (alone (sight s (met_by me.0)) (number_of me.0) (view_log me.0), [])) (sym scene)) of.idle,
     )
-
-pub returns : goal.returns
-returns c =
-    let me = c.args.seat.now.me in record {
-      table = c.load.ensures.0;
-      step = told_load c.args.self.now.scene (number_of me.0) (view_log me.0) c.load.result me c.load.new.seat.me
-          c.requires.seat.seat c.load.ensures.2;
-    }

@@ -1,8 +1,7 @@
 use Rattle.std.proofs.Common.{List, ℕ, ◌++◌, ap, ◌∙◌, subst}
 use Rattle.atomic_table.specs.Table.{Me}
 use Rattle.bb_memory_seats.specs.Seats.{head_of, number_of, view_log}
-use Rattle.bb_memory_bump.specs.SharedBumpRule.{NumberedLog, SeatView, met_by}
-use Rattle.bb_memory_bump.specs.SharedBumpRule.{TellsMeeting}
+use Rattle.bb_memory_bump.specs.SharedBumpRule.{NumberedLog, SeatView, met_by, TellsMeeting}
 use Rattle.bb_memory_bump.proofs.SharedBumpMeetings.{two_met}
 use Rattle.bb_memory_bump.proofs.shared_bump.position.Position.meet.Goals as goal
 

@@ -2,7 +2,6 @@ use Rattle.std.proofs.Common.{[], sym, ap, ◌∙◌, arith}
 use Rattle.bb_memory_seats.specs.Seats.{alone, number_of, view_log}
 use Rattle.bb_memory_bump.specs.SharedBumpRule.{met_by, sight}
 use Rattle.bb_memory_bump.proofs.SharedBumpKeeps.{reads_as}
-use Rattle.bb_memory_bump.proofs.SharedBumpParties.{told_read}
 use Rattle.bb_memory_bump.proofs.shared_bump.position.Position.read.Goals as goal
 
 pub load-requires : goal.load-requires
@@ -18,12 +17,3 @@ load-requires g c =
           (of.seat.is ∙ ap (λ s. (alone (sight s (met_by me.0)) (number_of me.0) (view_log me.0), [])) (sym scene)) of.idle
           c.requires.asks c.requires.told,
     )
-
-pub returns : goal.returns
-returns g c =
-    let me = c.args.seat.now.me in record {
-      table = c.load.ensures.0;
-      step = told_read c.args.self.now.scene (number_of me.0)
-          (view_log me.0) c.args._layout c.load.result g.L.Asked.layout _ me c.load.new.seat.me
-          c.requires.seat.seat.seat c.requires.told c.load.ensures.2;
-    }

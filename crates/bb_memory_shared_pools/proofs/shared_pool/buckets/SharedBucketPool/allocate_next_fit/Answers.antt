@@ -1,11 +1,11 @@
-use Rattle.std.proofs.Common.{◌+◌, false, Some, None, ap, ◌∙◌, arith}
+use Rattle.std.proofs.Common.{◌+◌, false, ap, ◌∙◌, arith}
 use Rattle.bb_memory_traits.specs.PoolObject.{PoolGeometry}
 use Rattle.bb_memory_traits.specs.declared.layout.Layout.{Layout}
 use Rattle.bb_memory_traits.specs.declared.allocator.AllocationError.TheVariants.{OutOfMemory}
 use Rattle.bb_memory_seats.specs.Seats.{number_of, view_log}
 use Rattle.bb_memory_shared_pools.specs.SharedPool.{PoolParty, SharedPool}
 use Rattle.bb_memory_shared_pools.proofs.SharedPoolParties.{seated_then}
-use Rattle.bb_memory_shared_pools.proofs.SharedPoolRequests.{refused, served, stays}
+use Rattle.bb_memory_shared_pools.proofs.SharedPoolRequests.{refused, served}
 use Rattle.bb_memory_shared_pools.proofs.SharedPoolNextFit.{hint-misses, hint_by_search, search_lost, search_took}
 use Rattle.bb_memory_shared_pools.proofs.shared_pool.buckets.SharedBucketPool.allocate_next_fit.Goals as goal
 
@@ -29,27 +29,6 @@ invariant_of-party-in-None g c =
     seated_then c.args.self.now party.seat.table_id me party.number party.hint c.party.invariant own
     c.next_fit.new.seat.me _ party.hint (hint-misses buckets (number_of me.0) party.hint.bucket buckets party.hint)
     c.in-None.ensures.told.step.ended
-
-pub returns-in-Some-clause-party : goal.returns-in-Some-clause-party
-returns-in-Some-clause-party g c =
-    let old = c.party.inside in
-    let new = c.next_fit.new.seat in
-    let took = c.in-Some.ensures.told.step in
-    stays c.args.self.now old.seat.table_id new.table_id old.seat.me new.me old.number old.hint _ _ c.args.party.now c.args.layout
-    c.party.invariant (invariant_of-party g c) c.party.view_is c.requires.party (Some c.in-Some.number)
-    c.next_fit.ensures.told.table
-    (search_took c.args.self.now.scene (number_of old.seat.me.0) (view_log old.seat.me.0) old.hint.bucket new.me c.in-Some.number
-    took)
-
-pub returns-in-None-clause-party : goal.returns-in-None-clause-party
-returns-in-None-clause-party g c =
-    let old = c.party.inside in
-    let new = c.next_fit.new.seat in
-    stays c.args.self.now old.seat.table_id new.table_id old.seat.me new.me old.number old.hint _ _ c.args.party.now c.args.layout
-    c.party.invariant (invariant_of-party-in-None g c) c.party.view_is c.requires.party None
-    c.next_fit.ensures.told.table
-    (search_lost c.args.self.now.scene (number_of old.seat.me.0) (view_log old.seat.me.0) old.hint.bucket new.me
-    c.in-None.ensures.told.step)
 
 pub returns-in-Some-clause-serves : goal.returns-in-Some-clause-serves
 returns-in-Some-clause-serves g c =

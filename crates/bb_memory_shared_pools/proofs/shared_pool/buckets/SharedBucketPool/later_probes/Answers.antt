@@ -1,12 +1,9 @@
-use Rattle.std.proofs.Common.{◌≡◌, ℕ, ◌∙◌, arith, refl, ap, subst}
+use Rattle.std.proofs.Common.{◌≡◌, ℕ, ◌∙◌, arith, ap, subst}
 use Rattle.bb_memory_pool_machine.specs.PoolMachine.{PoolScene}
 use Rattle.bb_memory_shared_pools.specs.SharedPoolNextFit.{probed}
 use Rattle.bb_memory_shared_pools.specs.SharedPoolRule.{IsInSearch}
 use Rattle.bb_memory_shared_pools.proofs.SharedPoolNextFit.{idle_where, search_goes_on, search_refuses, search_takes}
 use Rattle.bb_memory_shared_pools.proofs.shared_pool.buckets.SharedBucketPool.later_probes.Goals as goal
-
-pub loop-probe-init : goal.loop-probe-init
-loop-probe-init g c = record { table = refl; idle = c.requires.seat.seat; so_far = λ number log begun. begun }
 
 pub returns-then-try_at-clause-told : goal.returns-then-try_at-clause-told
 returns-then-try_at-clause-told g c =

@@ -1,33 +1,7 @@
-use Rattle.std.proofs.Common.{◌≡◌, ℕ, ◌∙◌, arith, refl, sym, ap, subst}
+use Rattle.std.proofs.Common.{◌≡◌, ℕ, ◌∙◌, arith, subst}
 use Rattle.bb_memory_seats.specs.Seats.{number_of, view_log}
-use Rattle.bb_memory_shared_pools.specs.SharedPool.{SharedPool}
-use Rattle.bb_memory_shared_pools.proofs.SharedPoolPasses.{IsPassing, begins, goes_on, passing_next, passing_seat, refuses, takes}
+use Rattle.bb_memory_shared_pools.proofs.SharedPoolPasses.{IsPassing, goes_on, refuses, takes}
 use Rattle.bb_memory_shared_pools.proofs.shared_pool.buckets.SharedBucketPool.pass.Goals as goal
-
-pub loop-bucket-init : goal.loop-bucket-init
-loop-bucket-init g c =
-    let me = c.args.seat.now.me in
-    record {
-      table = refl;
-      passing = begins c.args.self.now.scene (number_of me.0) (view_log me.0) me c.requires.seat.seat;
-    }
-
-pub try_flag-requires-clause-seat : goal.try_flag-requires-clause-seat
-try_flag-requires-clause-seat g c =
-    let me = c.args.seat.now.me in
-    let seat = passing_seat c.args.self.now.scene (number_of me.0) (view_log me.0) c.loop-bucket.seat.me c.loop-bucket.bucket
-    c.loop-bucket.invariant.passing in record {
-      table = c.loop-bucket.invariant.table ∙ c.requires.table ∙ sym (ap (λ (p : SharedPool). p.table) c.self.view_is);
-      seat = rw (← c.self.view_is) at seat;
-    }
-
-pub try_flag-requires-clause-next : goal.try_flag-requires-clause-next
-try_flag-requires-clause-next g c =
-    let me = c.args.seat.now.me in record {
-      next = passing_next c.args.self.now.scene (number_of me.0) (view_log me.0) c.loop-bucket.seat.me c.loop-bucket.bucket
-          c.requires.seat.idle (omega arith) c.loop-bucket.invariant.passing;
-      below = rw c.self.view_is (omega arith);
-    }
 
 pub returns-then-try_flag-clause-told : goal.returns-then-try_flag-clause-told
 returns-then-try_flag-clause-told g c =

@@ -1,17 +1,7 @@
 use Rattle.std.proofs.Common.{arith, sym, ap, ◌∙◌}
-use Rattle.std.proofs.lemmas.Grind.{common_steps}
 use Rattle.bb_memory_shared_pools.specs.SharedPoolCaching.{CachingParty}
-use Rattle.bb_memory_shared_pools.proofs.SharedPoolCaching.{cached_less, last_fresh, last_out, out_less, served_last}
+use Rattle.bb_memory_shared_pools.proofs.SharedPoolCaching.{last_fresh, last_out, out_less, served_last}
 use Rattle.bb_memory_shared_pools.proofs.shared_pool.caching.CachingParty.allocate.Goals as goal
-
-pub invariant_of-self : goal.invariant_of-self
-invariant_of-self g c = (
-  cached_less c.self.inside.party c.self.inside.cached.items c.pop.new.self.items c.in-Some.number c.in-Some.ensures.items
-      c.self.invariant.0,
-  grind (arith, common_steps),
-  grind (arith, common_steps),
-  c.self.invariant.3,
-)
 
 pub returns-in-Some-clause-taken : goal.returns-in-Some-clause-taken
 returns-in-Some-clause-taken g c =

@@ -1,10 +1,7 @@
-use Rattle.std.proofs.Common.{[], ℕ, sym, ap, ◌∙◌, arith, subst}
-use Rattle.atomic_table.specs.Table.{Me}
+use Rattle.std.proofs.Common.{[], sym, ap, ◌∙◌, arith}
 use Rattle.bb_memory_pool_machine.specs.PoolMachine.{PoolScene}
 use Rattle.bb_memory_seats.specs.Seats.{standing_for}
 use Rattle.bb_memory_shared_pools.specs.SharedPool.{SharedPool}
-use Rattle.bb_memory_shared_pools.specs.SharedPoolRule.{SeatView}
-use Rattle.bb_memory_shared_pools.specs.SharedPoolRule.{TellsMeeting}
 use Rattle.bb_memory_shared_pools.proofs.SharedPoolMeetings.{meets_as}
 use Rattle.bb_memory_shared_pools.proofs.shared_pool.flags.Flags.find.Goals as goal
 
@@ -18,12 +15,3 @@ load-requires c =
       meets_as c.self.inside.table.shared.key _ _ 0 me.0.parties me
           (c.requires.seat ∙ ap (λ (s : PoolScene). (standing_for s me.0.parties, [])) (sym key)),
     )
-
-pub returns : goal.returns
-returns c =
-    let me = c.args.seat.now.me in record {
-      table = c.load.ensures.0;
-      seat = c.load.ensures.2.0;
-      told = subst (λ (s : PoolScene). TellsMeeting s me.0.parties)
-          (ap (λ (m : Me ℕ SeatView). m.0.scene) c.requires.seat) c.load.ensures.2.1;
-    }

@@ -1,8 +1,7 @@
 use Rattle.std.proofs.Common.{List, ℕ, ◌++◌, ap, ◌∙◌, subst}
 use Rattle.atomic_table.specs.Table.{Me}
 use Rattle.bb_memory_seats.specs.Seats.{head_of, number_of, view_log}
-use Rattle.bb_memory_shared_pools.specs.SharedPoolRule.{NumberedLog, SeatView}
-use Rattle.bb_memory_shared_pools.specs.SharedPoolRule.{TellsMeeting}
+use Rattle.bb_memory_shared_pools.specs.SharedPoolRule.{NumberedLog, SeatView, TellsMeeting}
 use Rattle.bb_memory_shared_pools.proofs.SharedPoolMeetings.{two_met}
 use Rattle.bb_memory_shared_pools.proofs.shared_pool.flags.Flags.meet.Goals as goal
 

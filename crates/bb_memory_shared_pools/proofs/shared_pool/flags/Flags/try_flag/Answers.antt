@@ -11,12 +11,12 @@ compare_exchange-found-requires c =
     let key : c.self.inside.table.shared.key ≡ c.args.self.now.scene =
     c.self.invariant.0 ∙ ap (λ (p : SharedPool). p.scene) c.self.view_is in
     let words = c.self.invariant.1 in
-    let below = rw (← c.self.view_is) at c.requires.next.below in
+    let below = rw (← c.self.view_is) at c.requires.below in
     let counted = words.words in (
       c.requires.seat.table ∙ sym (ap (λ (p : SharedPool). p.table) c.self.view_is),
       omega arith,
       tries_as c.self.inside.table.shared.key _ _ c.word_of.result (number_of me.0) c.args.bucket (view_log me.0) me
           c.word_of.ensures
           (c.requires.seat.seat.is ∙ ap (λ (s : PoolScene). (alone s (number_of me.0) (view_log me.0), [])) (sym key))
-          (subst (λ (s : PoolScene). c.args.bucket < s.geometry.buckets) (sym key) c.requires.next.below) c.requires.next.next,
+          (subst (λ (s : PoolScene). c.args.bucket < s.geometry.buckets) (sym key) c.requires.below) c.requires.next,
     )
