@@ -12,7 +12,7 @@ use Rattle.bb_memory_lists.proofs.SliceSets.{slice_get-same, slice_get-set_other
 use Rattle.bb_memory_pool_machine.proofs.PoolSteps.{StepKind, takes, takes_at, gives, detaches, attaches, kind_of, same_from_test}
 use Rattle.bb_memory_pool_machine.proofs.PoolSteps.{test_same, test_apart}
 
-abbrev is_holder : ℕ → Option Flag → Bool
+abbrev pub is_holder : ℕ → Option Flag → Bool
 is_holder party (Some (HeldBy holder)) = holder == party
 is_holder party _ = false
 
@@ -54,7 +54,7 @@ abbrev held_by : ℕ → ℕ → Bool → PoolStep → PoolOutcome → Bool
 held_by party bucket held step outcome = if is_by party step then held_after bucket held outcome else held
 
 -- that changes as the flag does
-step_holds : (state : PoolState) (step : PoolStep) (move : PoolMove) (party bucket : ℕ) (held : Bool) →
+pub step_holds : (state : PoolState) (step : PoolStep) (move : PoolMove) (party bucket : ℕ) (held : Bool) →
     StepKind state step move → held ≡ is_holder party (slice_get state.flags bucket) →
     held_by party bucket held step move.outcome ≡ is_holder party (slice_get move.state.flags bucket)
 step_holds state step move party bucket held (takes other at next free) =
@@ -87,7 +87,7 @@ steps_hold state (step ∷ steps) party bucket held before =
     held_through-log party bucket held (is_by party step) (entry_of step move.outcome) log
     ∙ steps_hold move.state steps party bucket (held_by party bucket held step move.outcome) now
 
-nobody_holds : (n party bucket : ℕ) → false ≡ is_holder party (slice_get (replicate n Free) bucket)
+pub nobody_holds : (n party bucket : ℕ) → false ≡ is_holder party (slice_get (replicate n Free) bucket)
 nobody_holds zero party bucket = refl
 nobody_holds (suc n) party zero = refl
 nobody_holds (suc n) party (suc bucket) = nobody_holds n party bucket
