@@ -92,13 +92,13 @@ after-push state [] step = refl
 after-push state (first ∷ steps) step = after-push (pool_step state first).state steps step
 
 -- the step of a party that makes this move leaves flags and logs that agree again
-pub agree_on : (scene : PoolScene) (flags : List Bool) (logs : List PoolLog) (party : ℕ) (log : PoolLog) (step : PoolStep)
-    (agree : LogsAgree scene flags logs) → HasLog logs party log →
-    is_by party step ≡ true → ((other : ℕ) → party ≢ other → is_by other step ≡ false) →
+pub agree_on : (scene : PoolScene) (flags : List Bool) (logs : List PoolLog) (party : ℕ) (log : PoolLog)
+    (agree : LogsAgree scene flags logs) → HasLog logs party log → (step : PoolStep) →
+    ((other : ℕ) → is_by other step ≡ (party == other)) →
     (move : PoolMove) → pool_step (left_by scene agree.steps) step ≡ move → IsAllowed move.outcome →
     (new : List Bool) → taken_flags move.state ≡ new →
     LogsAgree scene new (with_entry logs party log (entry_of step move.outcome))
-agree_on scene flags logs party log step agree at mine others move is allowed new leaves =
+agree_on scene flags logs party log agree at step by move is allowed new leaves =
     let opening : PoolState = opening_state scene in
     let history : PoolLog = history_of scene agree.steps in
     let entry : PoolEntry = entry_of step move.outcome in
@@ -110,5 +110,6 @@ agree_on scene flags logs party log step agree at mine others move is allowed ne
       allowed = subst (All Allowed) (sym longer) (All-push Allowed history entry agree.allowed allowed);
       leaves = ap taken_flags (after-push opening agree.steps step) ∙ ap (λ (m : PoolMove). taken_flags m.state) is ∙ leaves;
       each = λ other found there. ap (entries_by other) longer
-          ∙ logs-push (λ p e. is_by p e.step) logs party log history entry at mine others agree.each other found there;
+          ∙ logs-push (λ p e. is_by p e.step) logs party log history entry at (by party ∙ test_same party party refl)
+          (λ o apart. by o ∙ test_apart party o apart) agree.each other found there;
     }

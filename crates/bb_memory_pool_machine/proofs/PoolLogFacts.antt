@@ -105,7 +105,7 @@ log_there (log ∷ logs) zero below = (log, refl)
 log_there (log ∷ logs) (suc party) below = log_there logs party (omega arith)
 
 -- a party whose log holds a bucket is its holder
-holder_from_log : (scene : PoolScene) (flags : List Bool) (logs : List PoolLog) (party : ℕ) (log : PoolLog) (bucket : ℕ)
+pub holder_from_log : (scene : PoolScene) (flags : List Bool) (logs : List PoolLog) (party : ℕ) (log : PoolLog) (bucket : ℕ)
     (agree : LogsAgree scene flags logs) → HasLog logs party log →
     IsHeldAfter log bucket → IsHolder (left_by scene agree.steps) bucket party
 holder_from_log scene flags logs party log bucket agree at holds =
