@@ -2,17 +2,18 @@
 use Rattle.std.proofs.Common.{◌≡◌, ◌≢◌, ℕ, ◌+◌, ◌<◌, ◌≤◌, List, [], ◌∷◌, ◌++◌, refl, sym, ap, ◌∙◌, subst, arith, Bool, true}
 use Rattle.std.proofs.Common.{false, Some, None}
 use Rattle.std.specs.Prelude.{if◌then◌else◌, count_by}
+use Rattle.std.proofs.lemmas.Bool.{eqb-true, eq-eqb}
 use Rattle.std.proofs.lemmas.List.Sums.{sum_by-cons}
 use Rattle.std.proofs.lemmas.Option.{same_Some}
 use Rattle.bb_memory_traits.specs.Chunk.{Region}
-use Rattle.bb_memory_bump_machine.specs.BumpMachine.{OngoingCall, BumpState, BumpMove, BumpScene, IsIdle, IsInCall, opening_state}
-use Rattle.bb_memory_bump_machine.specs.BumpMachine.{bump_step, bump_after, left_by, BumpStep, Exchange}
+use Rattle.bb_memory_bump_machine.specs.BumpMachine.{OngoingCall, BumpState, BumpMove, PartyMove, BumpScene, IsIdle, IsInCall, opening_state}
+use Rattle.bb_memory_bump_machine.specs.BumpMachine.{bump_step, bump_after, left_by, moved, BumpStep, Exchange}
 use Rattle.bb_memory_bump_machine.specs.BumpLogs.{BumpEntry, BumpLog, entry_at, bump_history, stretch_after, outcome_after, entries_by}
 use Rattle.bb_memory_bump_machine.specs.BumpLogs.{is_by, HasNoClear, is_loss, is_beginning, IsLossAt, losses_in, calls_begun_in}
 use Rattle.bb_memory_traits.proofs.LiveLists.{StandsFor-within}
-use Rattle.bb_memory_bump_machine.proofs.BumpSteps.{test_same, StepView, step_view, sees, refuses_read, wins, loses, refuses_loss, loads}
-use Rattle.bb_memory_bump_machine.proofs.BumpSteps.{clears, passes, others_stay, written, each_call-set, idle_or_in_call, in_call_or_idle}
-use Rattle.bb_memory_bump_machine.proofs.BumpSteps.{one_call}
+use Rattle.bb_memory_lists.proofs.SliceGets.{slice_get-set_same}
+use Rattle.bb_memory_bump_machine.proofs.BumpSteps.{StepView, ExchangeView, step_view, reads, sees, refuses_read, exchanges, wins, loses}
+use Rattle.bb_memory_bump_machine.proofs.BumpSteps.{refuses_loss, loads, clears, passes, others_stay, written, each_call-set, one_there}
 use Rattle.bb_memory_bump_machine.proofs.BumpRuns.{bump_after-append, chunk_at-above}
 use Rattle.bb_memory_bump_machine.proofs.BumpStretches.{IsClear, not_clear, healthy_after, stretch_rises}
 
@@ -27,18 +28,16 @@ less_when_apart position old seen apart same below = grind (arith, apart)
 
 step_sees : (region : Region) (state : BumpState) (step : BumpStep) (move : BumpMove) (party : ℕ) →
     StepView region state step move → ¬ IsClear step → SeesNoMore state party → SeesNoMore move.state party
-step_sees region state step move party (sees other layout idle asks fit) not below =
-    each_call-set (λ call. call.seen ≤ state.position) state.calls other party
-    (Some (record { layout = layout; seen = state.position })) below (omega arith)
-step_sees region state step move party (refuses_read other layout idle asks fit) not below =
+step_sees region state step move party (reads other layout turn idle asks (sees fit)) not below =
+    each_call-set (λ call. call.seen ≤ state.position) state.calls other party turn.call below (omega arith)
+step_sees region state step move party (reads other layout turn idle asks (refuses_read fit)) not below =
     each_call-set (λ call. call.seen ≤ state.position) state.calls other party None below tt
-step_sees region state step move party (wins other old at same) not below =
-    each_call-set (λ call. call.seen ≤ move.state.position) state.calls other party None
+step_sees region state step move party (exchanges other old turn at (wins same)) not below =
+    each_call-set (λ call. call.seen ≤ turn.position) state.calls other party None
     (λ call is. omega (arith, below call is, chunk_at-above region state.position old.layout)) tt
-step_sees region state step move party (loses other old at apart fit) not below =
-    each_call-set (λ call. call.seen ≤ state.position) state.calls other party
-    (Some (record { layout = old.layout; seen = state.position })) below (omega arith)
-step_sees region state step move party (refuses_loss other old at apart fit) not below =
+step_sees region state step move party (exchanges other old turn at (loses apart fit)) not below =
+    each_call-set (λ call. call.seen ≤ state.position) state.calls other party turn.call below (omega arith)
+step_sees region state step move party (exchanges other old turn at (refuses_loss apart fit)) not below =
     each_call-set (λ call. call.seen ≤ state.position) state.calls other party None below tt
 step_sees region state step move party clears not below = absurd (not tt)
 step_sees region state step move party _ not below = below
@@ -52,9 +51,7 @@ stretch_sees region state (step ∷ steps) party none below =
     (step_sees region state step (bump_step region state step) party (step_view region state step) parts.0 below)
 
 pub idle_sees : (state : BumpState) (party : ℕ) → IsIdle state party → SeesNoMore state party
-idle_sees state party idle = λ call is.
-    let both : Some None ≡ Some (Some call) = sym idle ∙ is in
-    let none : None ≡ Some call = same_Some None (Some call) both in absurd (cc)
+idle_sees state party idle = λ call is. let none = same_Some None (Some call) (sym idle ∙ is) in absurd (cc)
 
 -- ONE STEP
 
@@ -72,29 +69,32 @@ data IdleTurn (next : BumpState) (party : ℕ) (lost begun : ℕ) : Type 0 where
 abbrev weight : Bool → Bool → ℕ
 weight own counted = if own then (if counted then 1 else 0) else 0
 
+exchange_turn : (region : Region) (state : BumpState) (party : ℕ) (call : OngoingCall) (turn : PartyMove) →
+    IsInCall state party call → call.seen ≤ state.position → ExchangeView region state.position call turn →
+    CallTurn (moved state party turn).state party call (weight true (is_loss turn.outcome))
+exchange_turn region state party call turn is below (wins same) =
+    ends (slice_get-set_same state.calls party None (Some call) is)
+    (omega (arith, chunk_at-above region state.position call.layout))
+exchange_turn region state party call turn is below (loses apart fit) =
+    goes_on (record { layout = call.layout; seen = state.position })
+    (slice_get-set_same state.calls party turn.call (Some call) is) (grind (arith, apart))
+exchange_turn region state party call turn is below (refuses_loss apart fit) =
+    ends (slice_get-set_same state.calls party None (Some call) is) (grind (arith, apart))
+
 own_call_turn : (region : Region) (state : BumpState) (step : BumpStep) (move : BumpMove) (party : ℕ) (call : OngoingCall) →
     StepView region state step move →
     ¬ IsClear step → is_by party step ≡ true → IsInCall state party call → call.seen ≤ state.position →
     CallTurn move.state party call (weight true (is_loss move.outcome))
-own_call_turn region state step move party call (wins other old at same) not by is below =
-    ends (written state other party (Some old) None by at) (omega (arith, chunk_at-above region state.position old.layout))
-own_call_turn region state step move party call (loses other old at apart fit) not by is below =
-    let own = ap (λ (c : OngoingCall). c.seen) (one_call state other party old call by at is) in
-    let less : call.seen < state.position = less_when_apart state.position old.seen call.seen apart own below in
-    goes_on (record { layout = old.layout; seen = state.position })
-    (written state other party (Some old) (Some (record { layout = old.layout; seen = state.position })) by at) (omega arith)
-own_call_turn region state step move party call (refuses_loss other old at apart fit) not by is below =
-    let own = ap (λ (c : OngoingCall). c.seen) (one_call state other party old call by at is) in
-    let less : call.seen < state.position = less_when_apart state.position old.seen call.seen apart own below in
-    ends (written state other party (Some old) None by at) (omega arith)
+own_call_turn region state step move party call (exchanges other old turn at view) not by is below =
+    let own = same_Some old call (one_there state other party (Some old) (Some call) by at is) in
+    subst (λ p. CallTurn (moved state p turn).state party call (weight true (is_loss turn.outcome))) (sym (eqb-true other party by))
+    (exchange_turn region state party call turn is below (subst (λ c. ExchangeView region state.position c turn) own view))
 own_call_turn region state step move party call clears not by is below = absurd (not tt)
 own_call_turn region state step move party call (passes other) not by is below = goes_on call is (omega arith)
-own_call_turn region state step move party call (sees other layout idle asks fit) not by is below =
-    absurd (idle_or_in_call state other party call by idle is)
-own_call_turn region state step move party call (refuses_read other layout idle asks fit) not by is below =
-    absurd (idle_or_in_call state other party call by idle is)
+own_call_turn region state step move party call (reads other layout turn idle asks view) not by is below =
+    absurd (let none = one_there state other party None (Some call) by idle is in cc)
 own_call_turn region state step move party call (loads other idle) not by is below =
-    absurd (idle_or_in_call state other party call by idle is)
+    absurd (let none = one_there state other party None (Some call) by idle is in cc)
 
 call_turn : (region : Region) (state : BumpState) (step : BumpStep) (party : ℕ) (call : OngoingCall) (own : Bool) →
     is_by party step ≡ own → ¬ IsClear step → IsInCall state party call → call.seen ≤ state.position →
@@ -108,20 +108,14 @@ call_turn region state step party call false by not is below =
 own_idle_turn : (region : Region) (state : BumpState) (step : BumpStep) (move : BumpMove) (party : ℕ) →
     StepView region state step move → ¬ IsClear step → is_by party step ≡ true → IsIdle state party →
     IdleTurn move.state party (weight true (is_loss move.outcome)) (weight true (is_beginning move.outcome))
-own_idle_turn region state step move party (sees other layout idle asks fit) not by now =
-    let call : OngoingCall = record { layout = layout; seen = state.position } in
-    begins call (written state other party None (Some call) by idle) refl refl
-own_idle_turn region state step move party (refuses_read other layout idle asks fit) not by now =
+own_idle_turn region state step move party (reads other layout turn idle asks (sees fit)) not by now =
+    begins (record { layout = layout; seen = state.position }) (written state other party None turn.call by idle) refl refl
+own_idle_turn region state step move party (reads other layout turn idle asks (refuses_read fit)) not by now =
     stays (written state other party None None by idle) refl
-own_idle_turn region state step move party (wins other call at same) not by now =
-    absurd (in_call_or_idle state other party call by at now)
-own_idle_turn region state step move party (loses other call at apart fit) not by now =
-    absurd (in_call_or_idle state other party call by at now)
-own_idle_turn region state step move party (refuses_loss other call at apart fit) not by now =
-    absurd (in_call_or_idle state other party call by at now)
-own_idle_turn region state step move party (loads other idle) not by now = stays now refl
+own_idle_turn region state step move party (exchanges other call turn at view) not by now =
+    absurd (let none = one_there state other party (Some call) None by at now in cc)
 own_idle_turn region state step move party clears not by now = absurd (not tt)
-own_idle_turn region state step move party (passes other) not by now = stays now refl
+own_idle_turn region state step move party _ not by now = stays now refl
 
 idle_turn : (region : Region) (state : BumpState) (step : BumpStep) (party : ℕ) (own : Bool) → is_by party step ≡ own →
     ¬ IsClear step → IsIdle state party →
@@ -246,13 +240,16 @@ losses_few scene before stretch party within idle none few =
 loss_raises : (region : Region) (state : BumpState) (move : BumpMove) (party position : ℕ) (call : OngoingCall) →
     StepView region state (Exchange party) move → IsInCall state party call → call.seen ≤ state.position →
     IsLossAt position move.outcome → call.seen < position
-loss_raises region state move party position call (wins other old at same) is below lost = absurd lost
-loss_raises region state move party position call (loses other old at apart fit) is below lost =
-    let own = ap (λ (c : OngoingCall). c.seen) (one_call state other other old call (test_same other other refl) at is) in
-    omega (arith, lost, less_when_apart state.position old.seen call.seen apart own below)
-loss_raises region state move party position call (refuses_loss other old at apart fit) is below lost =
-    let own = ap (λ (c : OngoingCall). c.seen) (one_call state other other old call (test_same other other refl) at is) in
-    omega (arith, lost, less_when_apart state.position old.seen call.seen apart own below)
+loss_raises region state move party position call (exchanges other old turn at view) is below lost =
+    let own = same_Some old call (one_there state other other (Some old) (Some call) (eq-eqb other other refl) at is) in
+    raised turn view (ap (λ (c : OngoingCall). c.seen) own) lost
+  where
+    raised : (turn : PartyMove) → ExchangeView region state.position old turn → old.seen ≡ call.seen →
+        IsLossAt position turn.outcome → call.seen < position
+    raised turn (wins same) own lost = absurd lost
+    raised turn (loses apart fit) own lost = omega (arith, lost, less_when_apart state.position old.seen call.seen apart own below)
+    raised turn (refuses_loss apart fit) own lost =
+        omega (arith, lost, less_when_apart state.position old.seen call.seen apart own below)
 loss_raises region state move party position call (passes other) is below lost = absurd lost
 
 pub losses_raise : (scene : BumpScene) (before stretch : List BumpStep) (party position : ℕ) (call : OngoingCall) →

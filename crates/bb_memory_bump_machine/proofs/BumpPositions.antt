@@ -2,7 +2,8 @@
 use Rattle.std.proofs.Common.{◌≡◌, ℕ, ◌≤◌, List, [], ◌∷◌, length, refl, sym, ap, ◌∙◌, subst, arith, Bool, true, false}
 use Rattle.std.proofs.Common.{Option, Some, None}
 use Rattle.std.specs.Prelude.{if◌then◌else◌, IfSome}
-use Rattle.std.specs.List.{AllByRecursion}
+use Rattle.std.specs.List.{All, AllByRecursion}
+use Rattle.std.proofs.lemmas.List.Elements.{All-filter, All-from_recursion, recursion_from_All}
 use Rattle.std.proofs.lemmas.List.{length-replicate}
 use Rattle.bb_memory_traits.specs.Chunk.{Region, Chunk}
 use Rattle.bb_memory_traits.specs.BumpObject.{StandsFor}
@@ -12,7 +13,7 @@ use Rattle.bb_memory_bump_machine.specs.BumpLogs.{BumpEntry, BumpLog, entry_at, 
 use Rattle.bb_memory_bump_machine.specs.BumpLogs.{live_after, IsAllowed, AllAllowed, HasLog, LogsAgree, Interleaving, CommonInterleaving}
 use Rattle.bb_memory_bump_machine.specs.BumpLogs.{HasPositionUpTo, position_in, greater_of, greatest_in, seen_in}
 use Rattle.bb_memory_traits.proofs.LiveLists.{StandsFor-within}
-use Rattle.bb_memory_bump_machine.proofs.BumpSteps.{StepView, step_view, wins, clears, passes}
+use Rattle.bb_memory_bump_machine.proofs.BumpSteps.{StepView, step_view, reads, sees, exchanges, wins, clears, passes}
 use Rattle.bb_memory_bump_machine.proofs.BumpRuns.{chunk_at-above, calls_stand}
 use Rattle.bb_memory_bump_machine.proofs.BumpStretches.{healthy_after, stretch_rises}
 use Rattle.bb_memory_bump_machine.proofs.BumpAllowed.{first_allowed, rest_allowed, no_clear_when_allowed, parties_stay, owner_of}
@@ -22,7 +23,8 @@ use Rattle.bb_memory_bump_machine.proofs.BumpAllowed.{first_allowed, rest_allowe
 -- an allowed step leaves the greater of the position before it and the one in its outcome
 pub step_leaves : (region : Region) (state : BumpState) (step : BumpStep) (move : BumpMove) → StepView region state step move →
     IsAllowed move.outcome → greater_of state.position (position_in region move.outcome) ≡ move.state.position
-step_leaves region state step move (wins party call is same) allowed =
+step_leaves region state step move (reads party layout turn idle asks (sees fit)) allowed = omega arith
+step_leaves region state step move (exchanges party call turn is (wins same)) allowed =
     omega (arith, chunk_at-above region state.position call.layout)
 step_leaves region state step move clears allowed = absurd allowed
 step_leaves region state step move (passes other) allowed = absurd allowed
@@ -54,26 +56,16 @@ history_below region state (step ∷ steps) allowed =
       history_below region move.state steps rest,
     )
 
-all_own : (P : BumpEntry → Type 0) (own : Bool) (entry : BumpEntry) (log : BumpLog) → P entry → AllByRecursion P log →
-    AllByRecursion P (if own then entry ∷ log else log)
-all_own P true entry log here rest = (here, rest)
-all_own P false entry log here rest = rest
-
-all_in_log : (P : BumpEntry → Type 0) (party : ℕ) (history : BumpLog) → AllByRecursion P history →
-    AllByRecursion P (entries_by party history)
-all_in_log P party [] all = tt
-all_in_log P party (entry ∷ history) (here, rest) =
-    all_own P (is_by party entry.step) entry (entries_by party history) here (all_in_log P party history rest)
-
 log_below : (scene : BumpScene) (position : ℕ) (logs : List BumpLog) (party : ℕ) (log : BumpLog) → LogsAgree scene position logs →
     HasLog logs party log → AllByRecursion (HasPositionUpTo position scene.region) log
 log_below scene position logs party log agree at =
     let history = history_of scene agree.steps in
     let left = (left_by scene agree.steps).position in
     let all = history_below scene.region (opening_state scene) agree.steps agree.allowed in
-    let own = all_in_log (HasPositionUpTo left scene.region) party history all in
-    let mine = subst (AllByRecursion (HasPositionUpTo left scene.region)) (agree.each party log at) own in
-    subst (λ (bound : ℕ). AllByRecursion (HasPositionUpTo bound scene.region) log) agree.leaves mine
+    let P : BumpEntry → Type 0 = HasPositionUpTo left scene.region in
+    let own = All-filter (λ (e : BumpEntry). is_by party e.step) P history (All-from_recursion P history all) in
+    subst (λ (bound : ℕ). AllByRecursion (HasPositionUpTo bound scene.region) log) agree.leaves
+    (recursion_from_All P log (subst (All P) (agree.each party log at) own))
 
 pub position_risen : (scene : BumpScene) (position : ℕ) (logs : List BumpLog) → LogsAgree scene position logs →
     scene.opening ≤ position

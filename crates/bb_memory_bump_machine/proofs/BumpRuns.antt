@@ -15,8 +15,8 @@ use Rattle.bb_memory_bump_machine.specs.BumpLogs.{bump_calls, calls_of, calls_af
 use Rattle.bb_memory_traits.proofs.LeastPlaces.{least_place-is}
 use Rattle.bb_memory_traits.proofs.LiveLists.{StandsFor-end, StandsFor-push, StandsFor-empty}
 use Rattle.bb_memory_lists.proofs.SliceGets.{slice_get-replicated}
-use Rattle.bb_memory_bump_machine.proofs.BumpSteps.{StepView, step_view, sees, refuses_read, wins, loses, refuses_loss, loads, clears}
-use Rattle.bb_memory_bump_machine.proofs.BumpSteps.{passes, all_fitting-step}
+use Rattle.bb_memory_bump_machine.proofs.BumpSteps.{StepView, step_view, reads, refuses_read, exchanges, wins, refuses_loss, clears}
+use Rattle.bb_memory_bump_machine.proofs.BumpSteps.{all_fitting-step}
 
 -- CALLS ONE AFTER ANOTHER
 
@@ -101,36 +101,23 @@ call_won region live position layout stands asks fit =
       stands = StandsFor-won region position live layout stands fit;
     }
 
--- a call that is under way fits at the position where that is what it has seen
-pub fits_when_seen : (region : Region) (state : BumpState) (call : OngoingCall) → state.position ≡ call.seen →
-    fits region call.seen call.layout ≡ true → fits region state.position call.layout ≡ true
-fits_when_seen region state call same fit = ap (λ position. fits region position call.layout) same ∙ fit
-
 step_makes : (region : Region) (state : BumpState) (live : List Chunk) (step : BumpStep) (move : BumpMove) →
     StepView region state step move → StandsFor region state.position live → AllFitting region state →
     MakesCalls region live (decided move.outcome (asked_by state step)) move.state.position
-step_makes region state live step move (sees party layout idle asks fit) stands fitting =
-    call_none region live state.position stands
-step_makes region state live step move (refuses_read party layout idle asks fit) stands fitting =
+step_makes region state live step move (reads party layout turn idle asks (refuses_read fit)) stands fitting =
     call_refused region live state.position layout stands asks fit
-step_makes region state live step move (wins party call is same) stands fitting =
+step_makes region state live step move (exchanges party call turn is (wins same)) stands fitting =
     let chunk = chunk_at region state.position call.layout in
     let own = fitting party call is in
-    let now : fits region state.position call.layout ≡ true = fits_when_seen region state call same own.fitting in
-    let made = call_won region live state.position call.layout stands own.asks now in
-    let asked = sym (ap layout_in is) in
+    let now : fits region state.position call.layout ≡ true =
+    ap (λ position. fits region position call.layout) same ∙ own.fitting in
     subst (λ (layout : Option Layout). MakesCalls region live (decided (Wins chunk) layout) (position_behind region chunk))
-    asked made
-step_makes region state live step move (loses party call is apart fit) stands fitting =
-    call_none region live state.position stands
-step_makes region state live step move (refuses_loss party call is apart fit) stands fitting =
-    let made = call_refused region live state.position call.layout stands (fitting party call is).asks fit in
-    let asked = sym (ap layout_in is) in
+    (sym (ap layout_in is)) (call_won region live state.position call.layout stands own.asks now)
+step_makes region state live step move (exchanges party call turn is (refuses_loss apart fit)) stands fitting =
     subst (λ (layout : Option Layout). MakesCalls region live (decided (RefusedAtLoss state.position) layout) state.position)
-    asked made
-step_makes region state live step move (loads party idle) stands fitting = call_none region live state.position stands
+    (sym (ap layout_in is)) (call_refused region live state.position call.layout stands (fitting party call is).asks fit)
 step_makes region state live step move clears stands fitting = record { run = ([], refl, refl); stands = StandsFor-empty region }
-step_makes region state live step move (passes other) stands fitting = call_none region live state.position stands
+step_makes region state live step move _ stands fitting = call_none region live state.position stands
 
 -- ANY LIST OF STEPS
 
