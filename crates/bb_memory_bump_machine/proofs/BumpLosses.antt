@@ -7,15 +7,14 @@ use Rattle.std.proofs.lemmas.List.Sums.{sum_by-cons}
 use Rattle.std.proofs.lemmas.Option.{same_Some}
 use Rattle.bb_memory_traits.specs.Chunk.{Region}
 use Rattle.bb_memory_bump_machine.specs.BumpMachine.{OngoingCall, BumpState, BumpMove, PartyMove, BumpScene, IsIdle, IsInCall, opening_state}
-use Rattle.bb_memory_bump_machine.specs.BumpMachine.{bump_step, bump_after, left_by, moved, BumpStep, Exchange}
+use Rattle.bb_memory_bump_machine.specs.BumpMachine.{bump_step, bump_after, left_by, moved, BumpStep, BumpOutcome, Exchange}
 use Rattle.bb_memory_bump_machine.specs.BumpLogs.{BumpEntry, BumpLog, entry_at, bump_history, stretch_after, outcome_after, entries_by}
 use Rattle.bb_memory_bump_machine.specs.BumpLogs.{is_by, HasNoClear, is_loss, is_beginning, IsLossAt, losses_in, calls_begun_in}
-use Rattle.bb_memory_traits.proofs.LiveLists.{StandsFor-within}
 use Rattle.bb_memory_lists.proofs.SliceGets.{slice_get-set_same}
 use Rattle.bb_memory_bump_machine.proofs.BumpSteps.{StepView, ExchangeView, step_view, reads, sees, refuses_read, exchanges, wins, loses}
 use Rattle.bb_memory_bump_machine.proofs.BumpSteps.{refuses_loss, loads, clears, passes, others_stay, written, each_call-set, one_there}
 use Rattle.bb_memory_bump_machine.proofs.BumpRuns.{bump_after-append, chunk_at-above}
-use Rattle.bb_memory_bump_machine.proofs.BumpStretches.{IsClear, not_clear, healthy_after, stretch_rises}
+use Rattle.bb_memory_bump_machine.proofs.BumpStretches.{IsClear, not_clear, position_in_size, stretch_rises}
 
 -- WHAT A CALL HAS SEEN
 
@@ -128,99 +127,91 @@ idle_turn region state step party false by not now =
 
 -- OVER A STRETCH
 
-losses_from : Region → BumpState → List BumpStep → ℕ → ℕ
-losses_from region state steps party = losses_in (entries_by party (bump_history region state steps))
-
-begun_from : Region → BumpState → List BumpStep → ℕ → ℕ
-begun_from region state steps party = calls_begun_in (entries_by party (bump_history region state steps))
-
 count_own : (own : Bool) (counted : BumpEntry → Bool) (entry : BumpEntry) (log : BumpLog) →
     count_by counted (if own then entry ∷ log else log) ≡ weight own (counted entry) + count_by counted log
 count_own true counted entry log = sum_by-cons (λ entry. if counted entry then 1 else 0) entry log
 count_own false counted entry log = omega arith
 
-losses_from-cons : (region : Region) (state : BumpState) (step : BumpStep) (steps : List BumpStep) (party : ℕ) →
-    losses_from region state (step ∷ steps) party ≡
-    weight (is_by party step) (is_loss (bump_step region state step).outcome) + losses_from region
-    (bump_step region state step).state steps party
-unfolding losses_from
-losses_from-cons region state step steps party =
-    count_own (is_by party step) (λ entry. is_loss entry.outcome) (entry_at region state step)
-    (entries_by party (bump_history region (bump_step region state step).state steps))
+module _ (region : Region) (party : ℕ) where
+  -- how often a step of the party has such an outcome
+  counted_from : (BumpOutcome → Bool) → BumpState → List BumpStep → ℕ
+  counted_from counted state steps = count_by (λ entry. counted entry.outcome) (entries_by party (bump_history region state steps))
 
-begun_from-cons : (region : Region) (state : BumpState) (step : BumpStep) (steps : List BumpStep) (party : ℕ) →
-    begun_from region state (step ∷ steps) party ≡
-    weight (is_by party step) (is_beginning (bump_step region state step).outcome) + begun_from region
-    (bump_step region state step).state steps party
-unfolding begun_from
-begun_from-cons region state step steps party =
-    count_own (is_by party step) (λ entry. is_beginning entry.outcome) (entry_at region state step)
-    (entries_by party (bump_history region (bump_step region state step).state steps))
+  abbrev losses_from : BumpState → List BumpStep → ℕ
+  losses_from state steps = counted_from is_loss state steps
 
-losses_from-nil : (region : Region) (state : BumpState) (party : ℕ) → losses_from region state [] party ≡ 0
-unfolding losses_from
-losses_from-nil region state party = refl
+  abbrev begun_from : BumpState → List BumpStep → ℕ
+  begun_from state steps = counted_from is_beginning state steps
 
--- an idle party that begins no call loses nothing
-idle_loses_nothing : (region : Region) (state : BumpState) (steps : List BumpStep) (party : ℕ) →
-    HasNoClear steps → IsIdle state party → begun_from region state steps party ≡ 0 → losses_from region state steps party ≡ 0
-idle_loses_nothing region state [] party none now few = losses_from-nil region state party
-idle_loses_nothing region state (step ∷ steps) party none now few =
-    let parts = not_clear step steps none in
-    let next = (bump_step region state step).state in
-    let count = losses_from-cons region state step steps party in
-    let begun = begun_from-cons region state step steps party in
-    elim (idle_turn region state step party (is_by party step) refl parts.0 now) as
-    (λ _. losses_from region state (step ∷ steps) party ≡ 0) [
-      | stays later lost ↦
-          let rest = idle_loses_nothing region next steps party parts.1 later (omega (arith, begun, few)) in
-          omega (arith, count, lost, rest)
-      | begins call is lost one ↦ absurd (omega (arith, begun, few, one))
-    ]
+  counted_from-cons : (counted : BumpOutcome → Bool) (state : BumpState) (step : BumpStep) (steps : List BumpStep) →
+      counted_from counted state (step ∷ steps) ≡ weight (is_by party step) (counted (bump_step region state step).outcome)
+      + counted_from counted (bump_step region state step).state steps
+  unfolding counted_from
+  counted_from-cons counted state step steps =
+      count_own (is_by party step) (λ entry. counted entry.outcome) (entry_at region state step)
+      (entries_by party (bump_history region (bump_step region state step).state steps))
 
--- a call that goes on loses at most what is above the position that it has seen
-call_loses_little : (region : Region) (state : BumpState) (steps : List BumpStep) (party : ℕ) (call : OngoingCall) →
-    HasNoClear steps → SeesNoMore state party → IsInCall state party call → begun_from region state steps party ≡ 0 →
-    losses_from region state steps party + call.seen ≤ (bump_after region state steps).position
-call_loses_little region state [] party call none below is few = omega (arith, losses_from-nil region state party, below call is)
-call_loses_little region state (step ∷ steps) party call none below is few =
-    let parts = not_clear step steps none in
-    let next = (bump_step region state step).state in
-    let count = losses_from-cons region state step steps party in
-    let begun = begun_from-cons region state step steps party in
-    let none_later : begun_from region next steps party ≡ 0 = omega (arith, begun, few) in
-    elim (call_turn region state step party call (is_by party step) refl parts.0 is (below call is))
-    as (λ _. losses_from region state (step ∷ steps) party + call.seen ≤ (bump_after region next steps).position) [
-      | goes_on later at more ↦
-          let rest = call_loses_little region next steps party later parts.1
-          (step_sees region state step (bump_step region state step) party (step_view region state step) parts.0 below)
-          at none_later in
-          omega (arith, count, more, rest)
-      | ends at more ↦
-          let rest = idle_loses_nothing region next steps party parts.1 at none_later in
-          omega (arith, count, more, rest, stretch_rises region next steps parts.1)
-    ]
+  counted_from-nil : (counted : BumpOutcome → Bool) (state : BumpState) → counted_from counted state [] ≡ 0
+  unfolding counted_from
+  counted_from-nil counted state = refl
 
-one_call_loses_little : (region : Region) (state : BumpState) (steps : List BumpStep) (party : ℕ) →
-    HasNoClear steps → IsIdle state party →
-    begun_from region state steps party ≤ 1 → losses_from region state steps party ≤ (bump_after region state steps).position
-one_call_loses_little region state [] party none now few = omega (arith, losses_from-nil region state party)
-one_call_loses_little region state (step ∷ steps) party none now few =
-    let parts = not_clear step steps none in
-    let next = (bump_step region state step).state in
-    let count = losses_from-cons region state step steps party in
-    let begun = begun_from-cons region state step steps party in
-    elim (idle_turn region state step party (is_by party step) refl parts.0 now)
-    as (λ _. losses_from region state (step ∷ steps) party ≤ (bump_after region next steps).position) [
-      | stays later lost ↦
-          let rest = one_call_loses_little region next steps party parts.1 later (omega (arith, begun, few)) in
-          omega (arith, count, lost, rest)
-      | begins call is lost one ↦
-          let below = step_sees region state step (bump_step region state step) party (step_view region state step) parts.0
-          (idle_sees state party now) in
-          let rest = call_loses_little region next steps party call parts.1 below is (omega (arith, begun, few, one)) in
-          omega (arith, count, lost, rest)
-    ]
+  -- an idle party that begins no call loses nothing
+  idle_loses_nothing : (state : BumpState) (steps : List BumpStep) → HasNoClear steps → IsIdle state party →
+      begun_from state steps ≡ 0 → losses_from state steps ≡ 0
+  idle_loses_nothing state [] none now few = counted_from-nil is_loss state
+  idle_loses_nothing state (step ∷ steps) none now few =
+      let parts = not_clear step steps none in
+      let next = (bump_step region state step).state in
+      let count = counted_from-cons is_loss state step steps in
+      let begun = counted_from-cons is_beginning state step steps in
+      elim (idle_turn region state step party (is_by party step) refl parts.0 now) as
+      (λ _. losses_from state (step ∷ steps) ≡ 0) [
+        | stays later lost ↦
+            let rest = idle_loses_nothing next steps parts.1 later (omega (arith, begun, few)) in omega (arith, count, lost, rest)
+        | begins call is lost one ↦ absurd (omega (arith, begun, few, one))
+      ]
+
+  -- a call that goes on loses at most what is above the position that it has seen
+  call_loses_little : (state : BumpState) (steps : List BumpStep) (call : OngoingCall) →
+      HasNoClear steps → SeesNoMore state party → IsInCall state party call → begun_from state steps ≡ 0 →
+      losses_from state steps + call.seen ≤ (bump_after region state steps).position
+  call_loses_little state [] call none below is few = omega (arith, counted_from-nil is_loss state, below call is)
+  call_loses_little state (step ∷ steps) call none below is few =
+      let parts = not_clear step steps none in
+      let move = bump_step region state step in
+      let next = move.state in
+      let count = counted_from-cons is_loss state step steps in
+      let begun = counted_from-cons is_beginning state step steps in
+      let none_later : begun_from next steps ≡ 0 = omega (arith, begun, few) in
+      elim (call_turn region state step party call (is_by party step) refl parts.0 is (below call is))
+      as (λ _. losses_from state (step ∷ steps) + call.seen ≤ (bump_after region next steps).position) [
+        | goes_on later at more ↦
+            let sees_next = step_sees region state step move party (step_view region state step) parts.0 below in
+            let rest = call_loses_little next steps later parts.1 sees_next at none_later in omega (arith, count, more, rest)
+        | ends at more ↦
+            let rest = idle_loses_nothing next steps parts.1 at none_later in
+            omega (arith, count, more, rest, stretch_rises region next steps parts.1)
+      ]
+
+  one_call_loses_little : (state : BumpState) (steps : List BumpStep) → HasNoClear steps → IsIdle state party →
+      begun_from state steps ≤ 1 → losses_from state steps ≤ (bump_after region state steps).position
+  one_call_loses_little state [] none now few = omega (arith, counted_from-nil is_loss state)
+  one_call_loses_little state (step ∷ steps) none now few =
+      let parts = not_clear step steps none in
+      let move = bump_step region state step in
+      let next = move.state in
+      let count = counted_from-cons is_loss state step steps in
+      let begun = counted_from-cons is_beginning state step steps in
+      elim (idle_turn region state step party (is_by party step) refl parts.0 now)
+      as (λ _. losses_from state (step ∷ steps) ≤ (bump_after region next steps).position) [
+        | stays later lost ↦
+            let rest = one_call_loses_little next steps parts.1 later (omega (arith, begun, few)) in omega (arith, count, lost, rest)
+        | begins call is lost one ↦
+            let view = step_view region state step in
+            let below = step_sees region state step move party view parts.0 (idle_sees state party now) in
+            let rest = call_loses_little next steps call parts.1 below is (omega (arith, begun, few, one)) in
+            omega (arith, count, lost, rest)
+      ]
 
 -- FROM THE OPENING
 
@@ -228,14 +219,11 @@ pub losses_few : (scene : BumpScene) (before stretch : List BumpStep) (party : �
     IsIdle (left_by scene before) party → HasNoClear stretch →
     calls_begun_in (entries_by party (stretch_after scene before stretch)) ≤ 1 →
     losses_in (entries_by party (stretch_after scene before stretch)) ≤ scene.region.size
-unfolding losses_from begun_from
+unfolding counted_from
 losses_few scene before stretch party within idle none few =
-    let state = left_by scene before in
-    let little = one_call_loses_little scene.region state stretch party none idle few in
-    let healthy = healthy_after scene (before ++ stretch) within in
+    let little = one_call_loses_little scene.region party (left_by scene before) stretch none idle few in
     let same = ap (λ (state : BumpState). state.position) (bump_after-append scene.region (opening_state scene) before stretch) in
-    let within = StandsFor-within scene.region (left_by scene (before ++ stretch)).position healthy.live healthy.stands in
-    omega (arith, little, same, within)
+    omega (arith, little, same, position_in_size scene (before ++ stretch) within)
 
 loss_raises : (region : Region) (state : BumpState) (move : BumpMove) (party position : ℕ) (call : OngoingCall) →
     StepView region state (Exchange party) move → IsInCall state party call → call.seen ≤ state.position →

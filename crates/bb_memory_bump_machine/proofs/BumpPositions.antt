@@ -12,10 +12,9 @@ use Rattle.bb_memory_bump_machine.specs.BumpMachine.{bump_step, bump_after, left
 use Rattle.bb_memory_bump_machine.specs.BumpLogs.{BumpEntry, BumpLog, entry_at, bump_history, history_of, is_by, entries_by, OpensWith}
 use Rattle.bb_memory_bump_machine.specs.BumpLogs.{live_after, IsAllowed, AllAllowed, HasLog, LogsAgree, Interleaving, CommonInterleaving}
 use Rattle.bb_memory_bump_machine.specs.BumpLogs.{HasPositionUpTo, position_in, greater_of, greatest_in, seen_in}
-use Rattle.bb_memory_traits.proofs.LiveLists.{StandsFor-within}
 use Rattle.bb_memory_bump_machine.proofs.BumpSteps.{StepView, step_view, reads, sees, exchanges, wins, clears, passes}
 use Rattle.bb_memory_bump_machine.proofs.BumpRuns.{chunk_at-above, calls_stand}
-use Rattle.bb_memory_bump_machine.proofs.BumpStretches.{healthy_after, stretch_rises}
+use Rattle.bb_memory_bump_machine.proofs.BumpStretches.{position_in_size, stretch_rises}
 use Rattle.bb_memory_bump_machine.proofs.BumpAllowed.{first_allowed, rest_allowed, no_clear_when_allowed, parties_stay, owner_of}
 
 -- POSITIONS IN A LOG
@@ -75,9 +74,7 @@ position_risen scene position logs agree =
 
 pub position_within : (scene : BumpScene) (position : ℕ) (logs : List BumpLog) → scene.opening ≤ scene.region.size →
     LogsAgree scene position logs → position ≤ scene.region.size
-position_within scene position logs within agree =
-    let healthy = healthy_after scene agree.steps within in
-    omega (arith, StandsFor-within scene.region (left_by scene agree.steps).position healthy.live healthy.stands, agree.leaves)
+position_within scene position logs within agree = omega (arith, position_in_size scene agree.steps within, agree.leaves)
 
 -- WHAT A PARTY HAS SEEN
 

@@ -39,6 +39,12 @@ healthy_after scene steps within =
       fitting = fitting_after scene.region (opening_state scene) steps (fitting_at_opening scene);
     }
 
+pub position_in_size : (scene : BumpScene) (steps : List BumpStep) → scene.opening ≤ scene.region.size →
+    (left_by scene steps).position ≤ scene.region.size
+position_in_size scene steps within =
+    let healthy = healthy_after scene steps within in
+    StandsFor-within scene.region (left_by scene steps).position healthy.live healthy.stands
+
 -- ONE STEP
 
 -- the object's list grows by what is won, whatever it is
