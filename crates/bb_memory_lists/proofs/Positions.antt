@@ -53,14 +53,6 @@ slice_get-unremoved (y ∷ ys) (suc n) (suc j) x apart at =
     let still = slice_get-unremoved ys n j x (λ same. apart (ap suc same)) at in
     (suc still.0, still.1)
 
--- AN ELEMENT IN FRONT
-
-pub contains-behind : (x y : ℕ) (xs : List ℕ) → Contains xs y → Contains (x ∷ xs) y
-contains-behind x y xs has = (suc has.0, omega (arith, has.1), has.2)
-
-pub contains-first : (x y : ℕ) (xs : List ℕ) → x ≡ y → Contains (x ∷ xs) y
-contains-first x y xs same = (zero, omega arith, same)
-
 -- THE FIRST POSITION THAT PASSES A TEST
 
 one_more : (passes : Bool) (before items : ℕ) → before < items → cond (not passes) (1 + before) 0 < suc items

@@ -69,7 +69,7 @@ pub nobody_else : (scene : PoolScene) (steps : List PoolStep) (party : ℕ) → 
 nobody_else scene steps party past allowed =
     let absent : IsAbsent (opening_state scene) party = record {
       nowhere = omega (arith, length-replicate {A = Option ℕ} scene.parties None, past);
-      holds = λ bucket. sym (nobody_holds scene.geometry.buckets party bucket);
+      holds = nobody_holds scene.geometry.buckets party;
     } in
     let each = recursion_from_All (λ (e : PoolEntry). IsAllowed e.outcome) (history_of scene steps) allowed in
     absent_steps (opening_state scene) steps party absent each

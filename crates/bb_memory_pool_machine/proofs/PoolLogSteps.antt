@@ -2,7 +2,7 @@
 use Rattle.std.proofs.Common.{◌≡◌, ℕ, zero, suc, ◌+◌, ◌<◌, List, [], ◌∷◌, ◌++◌, length, map, replicate, refl, sym, ap, ◌∙◌, subst}
 use Rattle.std.proofs.Common.{arith, Bool, true, false, true≢false, Option, Some, None, inl, inr}
 use Rattle.std.specs.Prelude.{◌==◌, slice_get, slice_set, nat_lt, if◌then◌else◌, fold, All}
-use Rattle.std.proofs.lemmas.Bool.{cases_eq}
+use Rattle.std.proofs.lemmas.Bool.{cases_eq, lt-ltb}
 use Rattle.std.proofs.lemmas.Option.{same_Some, slice_get_within, get_or_from_slice_get}
 use Rattle.std.proofs.lemmas.List.Elements.{All-nil}
 use Rattle.std.proofs.lemmas.List.Sums.{fold_push}
@@ -13,8 +13,8 @@ use Rattle.bb_memory_pool_machine.specs.PoolMachine.{pool_step, left_by, Flag, F
 use Rattle.bb_memory_pool_machine.specs.PoolMachine.{Detach, Attach, Takes, Loses, RefusedAtLoss, Gives, Misses, Detaches, Attaches}
 use Rattle.bb_memory_pool_machine.specs.PoolLogs.{entry_of, PoolLog, PoolEntry, HasLog, held_after, pass_in, next_bucket, loss_at}
 use Rattle.bb_memory_pool_machine.specs.PoolLogs.{is_taken, IsAllowed, IsHeldAfter, IsDetachedAfter, LogsAgree, with_entry, is_by}
-use Rattle.bb_memory_lists.proofs.SliceSets.{slice_get-set_other, slice_get-set_same}
-use Rattle.bb_memory_pool_machine.proofs.PoolSteps.{calls-left_by, test_below, length-left_by, test_same}
+use Rattle.bb_memory_lists.proofs.SliceGets.{slice_get-set_apart, slice_get-set_at}
+use Rattle.bb_memory_pool_machine.proofs.PoolSteps.{calls-left_by, length-left_by, test_same}
 use Rattle.bb_memory_pool_machine.proofs.PoolFlags.{free_from_flag, taken_from_flag, taken_flags-again, taken_flags-set}
 use Rattle.bb_memory_pool_machine.proofs.PoolLogFacts.{holder_from_log, held_is_taken, logs_apart, detached_from_logs}
 use Rattle.bb_memory_pool_machine.proofs.PoolLogEntries.{log_pass, agree_on}
@@ -124,7 +124,7 @@ module _ (scene : PoolScene) (flags : List Bool) (logs : List PoolLog) (party : 
   detach_agrees =
       let state : PoolState = left_by scene agree.steps in
       let found = holder_from_log scene flags logs party log bucket agree at holds in
-      let more = test_below 1 (length state.calls) (omega (arith, calls-left_by scene agree.steps, others)) in
+      let more = lt-ltb 1 (length state.calls) (omega (arith, calls-left_by scene agree.steps, others)) in
       let is = ap (detach_flag state party bucket) found
       ∙ ap (λ (b : Bool). if b then detach state bucket else passed state) (test_same party party refl)
       ∙ ap (λ (b : Bool). if b then detaching state bucket else passed state) more in
@@ -139,10 +139,10 @@ module _ (scene : PoolScene) (flags : List Bool) (logs : List PoolLog) (party : 
         taken = held_is_taken scene flags logs party log bucket agree at holds;
         no_holder = λ other found there held. elim (cases_eq party other) [
           | inl same ↦
-              let is = same_Some longer found (sym (slice_get-set_same logs party other longer log same at) ∙ there) in
+              let is = same_Some longer found (sym (slice_get-set_at logs party other longer log same at) ∙ there) in
               not_held_detached party bucket log (subst (λ (l : PoolLog). IsHeldAfter l bucket) (sym is) held)
           | inr apart ↦
-              let kept = slice_get-set_other logs party other longer apart in
+              let kept = slice_get-set_apart logs party other longer apart in
               apart (logs_apart scene flags logs party log other found bucket agree at (sym kept ∙ there) holds held)
         ];
       }
