@@ -1,12 +1,12 @@
 -- Which layouts there are.
-use Rattle.std.proofs.Common.{◌≡◌, ℕ, suc, ◌+◌, ◌-◌, ◌*◌, ◌/◌, ◌%◌, ◌^◌, ◌<◌, ◌≤◌, ◌↔◌, ⊎_elim, arith, refl, sym, ap, ◌∙◌, inl}
+use Rattle.std.proofs.Common.{◌≡◌, ℕ, suc, ◌+◌, ◌-◌, ◌*◌, ◌/◌, ◌%◌, ◌^◌, ◌<◌, ◌≤◌, ◌↔◌, IsTrue, ⊎_elim, arith, refl, sym, ap, ◌∙◌, inl}
 use Rattle.std.proofs.Common.{inr, div-add-mod', mul-le-mul_right, pow_pos, pow_mono, pow-add, pow-suc}
 use Rattle.std.proofs.Math.Nat.{mul_assoc}
 use Rattle.std.proofs.lemmas.Bool.{cases_lt}
 use Rattle.std.proofs.lemmas.Nat.{mod-mul-add}
 use Rattle.std.proofs.Props.{props}
 use Rattle.std.specs.Align.{IsLayout}
-use Rattle.std.specs.Int.{IsPowerOfTwo}
+use Rattle.std.specs.Int.{IsPowerOfTwo, is_power_of_two}
 use mathlib.Core.HLevel.{is_prop→PathP}
 use Rattle.bb_memory_traits.specs.LeastPlace.{least_place}
 use Rattle.bb_memory_traits.specs.Chunk.{Layout}
@@ -35,10 +35,11 @@ power-divides low high p q le = elim (cases_lt q.0 p.0) [
       (2 ^ (q.0 - p.0), q.1 ∙ ap (λ j. 2 ^ j) parts ∙ pow-add 2 (q.0 - p.0) p.0 ∙ ap (λ m. 2 ^ (q.0 - p.0) * m) (sym p.1))
 ]
 
--- A size fits once it is rounded up exactly where it is at most what an alignment leaves of 2 ^ 63.
-pub fits-up_to : (size align : ℕ) → IsPowerOfTwo align → align < 2 ^ 64 →
-    (align ≤ 2 ^ 63) × ((least_place size align < 2 ^ 63) ↔ (size ≤ 2 ^ 63 - align))
-fits-up_to size align power small =
+-- a size and a power of two are a layout exactly where the size is at most what the alignment leaves of 2 ^ 63
+pub valid-up_to : (size align : ℕ) → IsTrue (is_power_of_two align) → align < 2 ^ 64 →
+    (align ≤ 2 ^ 63) × (IsLayout size align ↔ (size ≤ 2 ^ 63 - align))
+valid-up_to size align test small =
+    let power = power_of_two-from_test align test in
     let low : align ≤ 2 ^ 63 = elim (cases_lt power.0 64) [
       | inl below ↦ omega (arith, power.1, pow_mono {i = power.0} {j = 63} (omega arith))
       | inr above ↦ absurd (omega (arith, power.1, pow_mono {i = 64} {j = power.0} above))
@@ -49,18 +50,20 @@ fits-up_to size align power small =
     let k = place.multiple.0 in (
       low,
       (
-        λ fits. elim (cases_lt k whole.0) [
-          | inl less ↦ let more = mul-le-mul_right {m = k + 1} {n = whole.0} align (omega arith) in
-              omega (arith, place.above, place.multiple.1, whole.1, more)
-          | inr past ↦ absurd (omega (arith, fits, place.multiple.1, whole.1, mul-le-mul_right align past))
-        ],
-        λ below. elim (cases_lt 0 whole.0) [
+        λ layout.
+            let fits = ((layout-plain size align).0 layout).1 in
+            elim (cases_lt k whole.0) [
+              | inl less ↦ let more = mul-le-mul_right {m = k + 1} {n = whole.0} align (omega arith) in
+                  omega (arith, place.above, place.multiple.1, whole.1, more)
+              | inr past ↦ absurd (omega (arith, fits, place.multiple.1, whole.1, mul-le-mul_right align past))
+            ],
+        λ below. (layout-plain size align).1 (power, elim (cases_lt 0 whole.0) [
           | inl some ↦
               let before : whole.0 ≡ (whole.0 - 1) + 1 = omega arith in
               let parts : whole.0 * align ≡ (whole.0 - 1) * align + align = omega (arith, ap (λ m. m * align) before) in
               omega (arith, positive, parts, whole.1, place.least (whole.0 - 1) (omega (arith, below, parts, whole.1)))
           | inr none ↦ let nothing : whole.0 ≡ 0 = omega arith in absurd (omega (arith, whole.1, ap (λ m. m * align) nothing))
-        ],
+        ]),
       ),
     )
 
