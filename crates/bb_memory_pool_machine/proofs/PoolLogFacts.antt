@@ -104,13 +104,21 @@ log_there [] party below = absurd (omega arith)
 log_there (log ∷ logs) zero below = (log, refl)
 log_there (log ∷ logs) (suc party) below = log_there logs party (omega arith)
 
--- a party whose log holds a bucket is its holder
-pub holder_from_log : (scene : PoolScene) (flags : List Bool) (logs : List PoolLog) (party : ℕ) (log : PoolLog) (bucket : ℕ)
-    (agree : LogsAgree scene flags logs) → HasLog logs party log →
-    IsHeldAfter log bucket → IsHolder (left_by scene agree.steps) bucket party
-holder_from_log scene flags logs party log bucket agree at holds =
-    (holder_in_log scene agree.steps party bucket).1
-    (subst (λ (l : PoolLog). IsHeldAfter l bucket) (sym (agree.each party log at)) holds)
+module _ (scene : PoolScene) (flags : List Bool) (logs : List PoolLog) (party : ℕ) (log : PoolLog) (bucket : ℕ)
+    (agree : LogsAgree scene flags logs) (at : HasLog logs party log) where
+  -- a party whose log holds a bucket is its holder
+  pub holder_from_log : IsHeldAfter log bucket → IsHolder (left_by scene agree.steps) bucket party
+  holder_from_log holds = (holder_in_log scene agree.steps party bucket).1
+      (subst (λ (l : PoolLog). IsHeldAfter l bucket) (sym (agree.each party log at)) holds)
+
+  pub free_not_held : slice_get flags bucket ≡ Some false → ¬ IsHeldAfter log bucket
+  free_not_held free holds =
+      free_not_holder (left_by scene agree.steps) bucket party
+      (free_from_flag (left_by scene agree.steps) flags bucket agree.leaves free) (holder_from_log holds)
+
+  pub held_is_taken : IsHeldAfter log bucket → slice_get flags bucket ≡ Some true
+  held_is_taken holds =
+      flag_from_taken (left_by scene agree.steps) flags bucket agree.leaves (inl (party, holder_from_log holds))
 
 pub logs_apart : (scene : PoolScene) (flags : List Bool) (logs : List PoolLog) (party : ℕ) (log : PoolLog) (other : ℕ)
     (other_log : PoolLog) (bucket : ℕ) → LogsAgree scene flags logs → HasLog logs party log →
@@ -120,53 +128,42 @@ logs_apart scene flags logs party log other other_log bucket agree at other_at h
     let two = holder_from_log scene flags logs other other_log bucket agree other_at other_holds in
     same_holder (left_by scene agree.steps) bucket party other one two
 
-pub free_not_held : (scene : PoolScene) (flags : List Bool) (logs : List PoolLog) (party : ℕ) (log : PoolLog) (bucket : ℕ) →
-    LogsAgree scene flags logs → HasLog logs party log → slice_get flags bucket ≡ Some false → ¬ IsHeldAfter log bucket
-free_not_held scene flags logs party log bucket agree at free holds =
-    let none = free_from_flag (left_by scene agree.steps) flags bucket agree.leaves free in
-    let holder = holder_from_log scene flags logs party log bucket agree at holds in
-    free_not_holder (left_by scene agree.steps) bucket party none holder
+module _ (scene : PoolScene) (flags : List Bool) (logs : List PoolLog) (bucket : ℕ) (agree : LogsAgree scene flags logs) where
+  -- the log of a bucket's holder holds it, and the holder was made
+  holder_made : (party : ℕ) → IsHolder (left_by scene agree.steps) bucket party →
+      (party < scene.parties) × IsHeldAfter (log_of scene agree.steps party) bucket
+  holder_made party held =
+      let holds = (holder_in_log scene agree.steps party bucket).0 held in
+      elim (cases_lt party scene.parties) [
+        | inl made ↦ (made, holds)
+        | inr past ↦
+            let none = nobody_else scene agree.steps party (omega arith) agree.allowed in
+            let held : IsHeldAfter [] bucket = subst (λ (l : PoolLog). IsHeldAfter l bucket) none holds in absurd (cc)
+      ]
 
-pub held_is_taken : (scene : PoolScene) (flags : List Bool) (logs : List PoolLog) (party : ℕ) (log : PoolLog) (bucket : ℕ) →
-    LogsAgree scene flags logs → HasLog logs party log → IsHeldAfter log bucket → slice_get flags bucket ≡ Some true
-held_is_taken scene flags logs party log bucket agree at holds =
-    let holder = holder_from_log scene flags logs party log bucket agree at holds in
-    flag_from_taken (left_by scene agree.steps) flags bucket agree.leaves (inl (party, holder))
+  -- where each party's log is in the list, a bucket that is taken is held after one of them, or is detached
+  pub taken_is_held_whole : ((party : ℕ) → party < scene.parties → (log : PoolLog) × HasLog logs party log) →
+      slice_get flags bucket ≡ Some true →
+      ((party : ℕ) × (log : PoolLog) × (party < scene.parties) × HasLog logs party log × IsHeldAfter log bucket)
+      ⊎ IsDetached (left_by scene agree.steps) bucket
+  taken_is_held_whole each taken =
+      elim (taken_from_flag (left_by scene agree.steps) flags bucket agree.leaves taken) [
+        | inr detached ↦ inr detached
+        | inl held ↦
+            let made = holder_made held.0 held.1 in
+            let own = each held.0 made.0 in
+            let holds = subst (λ (l : PoolLog). IsHeldAfter l bucket) (agree.each held.0 own.0 own.1) made.1 in
+            inl (held.0, own.0, made.0, own.1, holds)
+      ]
 
--- the log of a bucket's holder holds it, and the holder was made
-holder_made : (scene : PoolScene) (flags : List Bool) (logs : List PoolLog) (bucket party : ℕ)
-    (agree : LogsAgree scene flags logs) →
-    IsHolder (left_by scene agree.steps) bucket party →
-    (party < scene.parties) × IsHeldAfter (log_of scene agree.steps party) bucket
-holder_made scene flags logs bucket party agree held =
-    let holds = (holder_in_log scene agree.steps party bucket).0 held in
-    elim (cases_lt party scene.parties) [
-      | inl made ↦ (made, holds)
-      | inr past ↦
-          let none = nobody_else scene agree.steps party (omega arith) agree.allowed in
-          let held : IsHeldAfter [] bucket = subst (λ (l : PoolLog). IsHeldAfter l bucket) none holds in absurd (cc)
-    ]
-
--- where each party's log is in the list, a bucket that is taken is held after one of them, or is detached
-pub taken_is_held_whole : (scene : PoolScene) (flags : List Bool) (logs : List PoolLog) (bucket : ℕ)
-    (agree : LogsAgree scene flags logs) →
-    ((party : ℕ) → party < scene.parties → (log : PoolLog) × HasLog logs party log) →
-    slice_get flags bucket ≡ Some true →
-    ((party : ℕ) × (log : PoolLog) × (party < scene.parties) × HasLog logs party log × IsHeldAfter log bucket)
-    ⊎ IsDetached (left_by scene agree.steps) bucket
-taken_is_held_whole scene flags logs bucket agree each taken =
-    elim (taken_from_flag (left_by scene agree.steps) flags bucket agree.leaves taken) [
-      | inr detached ↦ inr detached
-      | inl held ↦
-          let made = holder_made scene flags logs bucket held.0 agree held.1 in
-          let own = each held.0 made.0 in inl (
-            held.0,
-            own.0,
-            made.0,
-            own.1,
-            subst (λ (l : PoolLog). IsHeldAfter l bucket) (agree.each held.0 own.0 own.1) made.1,
-          )
-    ]
+  -- where each party that was made has its log in the list, a bucket is detached where flags and logs say so
+  pub detached_from_logs : length logs ≡ scene.parties → IsDetachedAfter flags logs bucket →
+      IsDetached (left_by scene agree.steps) bucket
+  detached_from_logs all moving =
+      elim (taken_is_held_whole (λ party there. log_there logs party (omega arith)) moving.taken) [
+        | inr detached ↦ detached
+        | inl held ↦ absurd (moving.no_holder held.0 held.1 held.3 held.4)
+      ]
 
 pub taken_is_held_alone : (scene : PoolScene) (flags : List Bool) (logs : List PoolLog) (log : PoolLog) (bucket : ℕ) →
     LogsAgree scene flags logs → scene.parties ≡ 1 → HasLog logs 0 log →
@@ -175,7 +172,7 @@ taken_is_held_alone scene flags logs log bucket agree one at taken =
     elim (taken_from_flag (left_by scene agree.steps) flags bucket agree.leaves taken) [
       | inr detached ↦ absurd (none_detached_alone scene agree.steps bucket one detached)
       | inl held ↦
-          let made = holder_made scene flags logs bucket held.0 agree held.1 in
+          let made = holder_made scene flags logs bucket agree held.0 held.1 in
           let first : held.0 ≡ 0 = omega (arith, one, made.0) in
           subst (λ (l : PoolLog). IsHeldAfter l bucket) (ap (log_of scene agree.steps) first ∙ agree.each 0 log at) made.1
     ]
@@ -185,22 +182,6 @@ pub length-flags : (scene : PoolScene) (flags : List Bool) (logs : List PoolLog)
 length-flags scene flags logs agree =
     ap (λ (f : List Bool). length f) (sym agree.leaves) ∙ length-map (left_by scene agree.steps).flags is_taken
     ∙ length-left_by scene agree.steps
-
--- DETACHED BUCKETS
-
--- where each party that was made has its log in the list, a bucket is detached where flags and logs say so
-pub detached_from_logs : (scene : PoolScene) (flags : List Bool) (logs : List PoolLog) (bucket : ℕ)
-    (agree : LogsAgree scene flags logs) → length logs ≡ scene.parties → IsDetachedAfter flags logs bucket →
-    IsDetached (left_by scene agree.steps) bucket
-detached_from_logs scene flags logs bucket agree all moving =
-    elim (taken_from_flag (left_by scene agree.steps) flags bucket agree.leaves moving.taken) [
-      | inr detached ↦ detached
-      | inl held ↦
-          let made = holder_made scene flags logs bucket held.0 agree held.1 in
-          let at = log_there logs held.0 (omega (arith, all, made.0)) in
-          let own = subst (λ (l : PoolLog). IsHeldAfter l bucket) (agree.each held.0 at.0 at.1) made.1 in
-          absurd (moving.no_holder held.0 at.0 at.1 own)
-    ]
 
 -- INTERLEAVINGS
 

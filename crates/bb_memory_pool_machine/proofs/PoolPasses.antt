@@ -95,33 +95,26 @@ taken_at_loss state step move bucket _ lost = absurd lost
 
 -- ONE PASS
 
--- the party is in a pass from after step k to step last
+-- the party is in a pass after these steps, from so many to so many of them
 abbrev PassLasts : PoolState → List PoolStep → ℕ → ℕ → ℕ → Type 0
-PassLasts state steps party k last = (j : ℕ) → k < j → j ≤ last → (at : ℕ) × IsInCall (pool_after state (take j steps)) party at
+PassLasts state steps party low last = (j : ℕ) → low ≤ j → j ≤ last → (at : ℕ) × IsInCall (pool_after state (take j steps)) party at
 
 -- the pass that is refused at step last lost the bucket at one of the steps, or before them
 data Behind (state : PoolState) (steps : List PoolStep) (party last bucket : ℕ) : Type 0 where
   lost_at : (k : ℕ) → k ≤ last → LosesAt (pool_history state steps) party bucket k →
-      PassLasts state steps party k last → Behind state steps party last bucket
-  earlier : bucket < progress_of (slice_get state.calls party) →
-      ((j : ℕ) → j ≤ last → (at : ℕ) × IsInCall (pool_after state (take j steps)) party at) → Behind state steps party last bucket
+      PassLasts state steps party (suc k) last → Behind state steps party last bucket
+  earlier : bucket < progress_of (slice_get state.calls party) → PassLasts state steps party 0 last →
+      Behind state steps party last bucket
+
+from_next : (state : PoolState) (step : PoolStep) (steps : List PoolStep) (party low last : ℕ) →
+    PassLasts (pool_step state step).state steps party low last → PassLasts state (step ∷ steps) party (suc low) (suc last)
+from_next state step steps party low last rest zero after within = absurd (omega arith)
+from_next state step steps party low last rest (suc j) after within = rest j (omega arith) (omega arith)
 
 from_start : (state : PoolState) (step : PoolStep) (steps : List PoolStep) (party last : ℕ) → (at : ℕ) × IsInCall state party at →
-    ((j : ℕ) → j ≤ last → (at : ℕ) × IsInCall (pool_after (pool_step state step).state (take j steps)) party at) → (j : ℕ) →
-    j ≤ suc last → (at : ℕ) × IsInCall (pool_after state (take j (step ∷ steps))) party at
-from_start state step steps party last start rest zero within = start
-from_start state step steps party last start rest (suc j) within = rest j (omega arith)
-
-from_next : (state : PoolState) (step : PoolStep) (steps : List PoolStep) (party last k : ℕ) →
-    PassLasts (pool_step state step).state steps party k last → PassLasts state (step ∷ steps) party (suc k) (suc last)
-from_next state step steps party last k rest zero after within = absurd (omega arith)
-from_next state step steps party last k rest (suc j) after within = rest j (omega arith) (omega arith)
-
-after_first : (state : PoolState) (step : PoolStep) (steps : List PoolStep) (party last : ℕ) →
-    ((j : ℕ) → j ≤ last → (at : ℕ) × IsInCall (pool_after (pool_step state step).state (take j steps)) party at) →
-    PassLasts state (step ∷ steps) party 0 (suc last)
-after_first state step steps party last rest zero after within = absurd (omega arith)
-after_first state step steps party last rest (suc j) after within = rest j (omega arith)
+    PassLasts (pool_step state step).state steps party 0 last → PassLasts state (step ∷ steps) party 0 (suc last)
+from_start state step steps party last start rest zero after within = start
+from_start state step steps party last start rest (suc j) after within = rest j (omega arith) (omega arith)
 
 entry_parts : (step other : PoolStep) (outcome found : PoolOutcome) → Some (entry_of step outcome) ≡ Some (entry_of other found) →
     (step ≡ other) × (outcome ≡ found)
@@ -155,10 +148,9 @@ all_behind state (step ∷ steps) party zero bucket refused below =
           (λ j after within. absurd (omega arith))
     ]
   where
-    only_now : bucket < progress_of (slice_get state.calls party) → (j : ℕ) → j ≤ zero →
-        (at : ℕ) × IsInCall (pool_after state (take j (step ∷ steps))) party at
-    only_now before zero within = in_pass_from_progress state party bucket (slice_get state.calls party) refl before
-    only_now before (suc j) within = absurd (omega arith)
+    only_now : bucket < progress_of (slice_get state.calls party) → PassLasts state (step ∷ steps) party 0 zero
+    only_now before zero after within = in_pass_from_progress state party bucket (slice_get state.calls party) refl before
+    only_now before (suc j) after within = absurd (omega arith)
 all_behind state (step ∷ steps) party (suc last) bucket refused below =
     let move : PoolMove = pool_step state step in
     let refused_later : IsRefusedAt (pool_history move.state steps) party last =
@@ -169,14 +161,14 @@ all_behind state (step ∷ steps) party (suc last) bucket refused below =
     elim rest as (λ _. Behind state (step ∷ steps) party (suc last) bucket) [
       | lost_at k within lost pass ↦
           lost_at (suc k) (omega arith) (loses_later state step steps party bucket k lost)
-          (from_next state step steps party last k pass)
+          (from_next state step steps party (suc k) last pass)
       | earlier less pass ↦ elim (at_progress state step move party bucket (kind_of state step) less) [
         | inl before ↦
             let start = in_pass_from_progress state party bucket (slice_get state.calls party) refl before in
             earlier before (from_start state step steps party last start pass)
         | inr lost ↦
             let first = loses_first state step steps party bucket lost.0 lost.1 in
-            lost_at zero (omega arith) first (after_first state step steps party last pass)
+            lost_at zero (omega arith) first (from_next state step steps party 0 last pass)
       ]
     ]
 
@@ -214,7 +206,7 @@ refused_found_held scene steps party last bucket is refused below =
         step = k;
         before = within;
         loses = lost;
-        one_pass = pass;
+        one_pass = λ j after. pass j (omega arith);
         held = λ layouts live run.
             let taken = taken_at_entry state steps party bucket k lost in
             (taken_is_held scene (take k steps) layouts live bucket is run below).0 taken;
