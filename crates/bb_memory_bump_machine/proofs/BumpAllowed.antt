@@ -2,7 +2,7 @@
 use Rattle.std.proofs.Common.{◌≡◌, ◌≢◌, ℕ, ◌<◌, ◌≤◌, List, [], ◌∷◌, length, refl, sym, ap, ◌∙◌, arith, Bool, true, false, Option}
 use Rattle.std.proofs.Common.{Some, None}
 use Rattle.std.specs.Prelude.{slice_get, if◌then◌else◌, is_some}
-use Rattle.std.proofs.lemmas.Bool.{eqb-true, eq-eqb}
+use Rattle.std.proofs.lemmas.Bool.{eqb-true, eq-eqb, ne_eqb}
 use Rattle.std.proofs.lemmas.Option.{slice_get_within}
 use Rattle.std.proofs.lemmas.List.{length-replicate, length-set}
 use Rattle.std.proofs.lemmas.List.Elements.{All-head, All-nil, All-tail}
@@ -72,18 +72,11 @@ owner_of region state step move clears allowed = absurd allowed
 owner_of region state step move (passes other) allowed = absurd allowed
 
 -- a step is one party's alone
-pub one_party : (party other : ℕ) (step : BumpStep) → party ≢ other → is_by party step ≡ true → is_by other step ≡ true → ⊥
-one_party party other (Read p layout) apart own others = apart (sym (eqb-true p party own) ∙ eqb-true p other others)
-one_party party other (Exchange p) apart own others = apart (sym (eqb-true p party own) ∙ eqb-true p other others)
-one_party party other (Load p) apart own others = apart (sym (eqb-true p party own) ∙ eqb-true p other others)
-one_party party other Clear apart own others = cc
-
-not_by : (party other : ℕ) (step : BumpStep) → party ≢ other → is_by party step ≡ true → is_by other step ≡ false
-not_by party other step apart own = not_true (is_by other step) (one_party party other step apart own)
-  where
-    not_true : (test : Bool) → ¬ (test ≡ true) → test ≡ false
-    not_true false not = refl
-    not_true true not = absurd (not refl)
+pub not_by : (party other : ℕ) (step : BumpStep) → party ≢ other → is_by party step ≡ true → is_by other step ≡ false
+not_by party other (Read p layout) apart own = ne_eqb p other (λ same. apart (sym (eqb-true p party own) ∙ same))
+not_by party other (Exchange p) apart own = ne_eqb p other (λ same. apart (sym (eqb-true p party own) ∙ same))
+not_by party other (Load p) apart own = ne_eqb p other (λ same. apart (sym (eqb-true p party own) ∙ same))
+not_by party other Clear apart own = refl
 
 -- NOBODY ELSE
 

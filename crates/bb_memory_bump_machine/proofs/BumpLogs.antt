@@ -18,7 +18,8 @@ use Rattle.bb_memory_bump_machine.specs.BumpLogs.{LogsAgree, with_entry}
 use Rattle.bb_memory_lists.proofs.SliceGets.{slice_get-replicate}
 use Rattle.bb_memory_lists.proofs.Logs.{logs-push}
 use Rattle.bb_memory_bump_machine.proofs.BumpAllowed.{none_allowed}
-use Rattle.bb_memory_bump_machine.proofs.BumpSteps.{StepView, step_view, reads, sees, refuses_read, exchanges, wins, loses}
+use Rattle.bb_memory_bump_machine.proofs.BumpSteps.{StepView, ReadView, ExchangeView, step_view, read_move_view, exchange_move_view}
+use Rattle.bb_memory_bump_machine.proofs.BumpSteps.{reads, sees, refuses_read, exchanges, wins, loses}
 use Rattle.bb_memory_bump_machine.proofs.BumpSteps.{refuses_loss, others_stay, written, one_there}
 
 -- THE CALL OF A PARTY
@@ -136,22 +137,16 @@ module _ (scene : BumpScene) (position : ℕ) (logs : List BumpLog) (party : ℕ
 
 -- EACH KIND OF STEP
 
-read_allowed : (position : ℕ) (layout : Layout) (fitting : Bool) →
-    IsAllowed (if fitting then seeing (Sees position) position layout else ending (RefusedAtRead position) position).outcome
-read_allowed position layout true = tt
-read_allowed position layout false = tt
+read_stays : (region : Region) (position : ℕ) (layout : Layout) (turn : PartyMove) → ReadView region position layout turn →
+    IsAllowed turn.outcome × (turn.position ≡ position)
+read_stays region position layout turn (sees fit) = (tt, refl)
+read_stays region position layout turn (refuses_read fit) = (tt, refl)
 
-read_stays : (position : ℕ) (layout : Layout) (fitting : Bool) →
-    (if fitting then seeing (Sees position) position layout else ending (RefusedAtRead position) position).position ≡ position
-read_stays position layout true = refl
-read_stays position layout false = refl
-
-exchange_allowed : (position behind : ℕ) (chunk : Chunk) (layout : Layout) (same fitting : Bool) →
-    IsAllowed (if same then ending (Wins chunk) behind
-    else (if fitting then seeing (Loses position) position layout else ending (RefusedAtLoss position) position)).outcome
-exchange_allowed position behind chunk layout true fitting = tt
-exchange_allowed position behind chunk layout false true = tt
-exchange_allowed position behind chunk layout false false = tt
+exchange_allowed : (region : Region) (position : ℕ) (call : OngoingCall) (turn : PartyMove) →
+    ExchangeView region position call turn → IsAllowed turn.outcome
+exchange_allowed region position call turn (wins same) = tt
+exchange_allowed region position call turn (loses apart fit) = tt
+exchange_allowed region position call turn (refuses_loss apart fit) = tt
 
 pub read_agrees : (scene : BumpScene) (position : ℕ) (logs : List BumpLog) (party : ℕ) (log : BumpLog) (layout : Layout) →
     LogsAgree scene position logs → HasLog logs party log → party < scene.parties → call_in log ≡ None → 0 < layout.size →
@@ -160,24 +155,22 @@ pub read_agrees : (scene : BumpScene) (position : ℕ) (logs : List BumpLog) (pa
 read_agrees scene position logs party log layout agree at within is asks =
     let state = left_by scene agree.steps in
     let turn = λ (found : ℕ). read_move scene.region found layout in
+    let stays = λ (found : ℕ). read_stays scene.region found layout (turn found) (read_move_view scene.region found layout) in
     let moves = ap (read scene.region state party layout) (agreed_call scene position logs party log agree at None within is)
     ∙ ap (λ (empty : Bool). if empty then passed state else moved state party (turn state.position))
     (ne_eqb layout.size 0 (λ none. omega arith)) in
     subst (λ (left : ℕ). LogsAgree scene left (with_entry logs party log (entry_of (Read party layout) (turn position).outcome)))
-    (read_stays position layout (fits scene.region position layout))
-    (turn_agrees scene position logs party log agree at (Read party layout) (λ other. refl) turn
-    (λ found. read_allowed found layout (fits scene.region found layout)) moves)
+    (stays position).1
+    (turn_agrees scene position logs party log agree at (Read party layout) (λ other. refl) turn (λ found. (stays found).0) moves)
 
 pub exchange_agrees : (scene : BumpScene) (position : ℕ) (logs : List BumpLog) (party : ℕ) (log : BumpLog) (call : OngoingCall) →
     LogsAgree scene position logs → HasLog logs party log → party < scene.parties → call_in log ≡ Some call →
     LogsAgree scene (exchange_move scene.region position call).position
     (with_entry logs party log (entry_of (Exchange party) (exchange_move scene.region position call).outcome))
 exchange_agrees scene position logs party log call agree at within is =
-    let chunk = λ (found : ℕ). chunk_at scene.region found call.layout in
-    turn_agrees scene position logs party log agree at (Exchange party) (λ other. refl)
-    (λ found. exchange_move scene.region found call)
-    (λ found. exchange_allowed found (position_behind scene.region (chunk found)) (chunk found) call.layout (found == call.seen)
-    (fits scene.region found call.layout))
+    let turn = λ (found : ℕ). exchange_move scene.region found call in
+    turn_agrees scene position logs party log agree at (Exchange party) (λ other. refl) turn
+    (λ found. exchange_allowed scene.region found call (turn found) (exchange_move_view scene.region found call))
     (ap (exchange scene.region (left_by scene agree.steps) party)
     (agreed_call scene position logs party log agree at (Some call) within is))
 

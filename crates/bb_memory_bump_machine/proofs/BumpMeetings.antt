@@ -1,5 +1,5 @@
 -- What two parties' logs say of one another: their chunks are apart.
-use Rattle.std.proofs.Common.{◌≡◌, ◌≢◌, ℕ, ◌≤◌, List, [], ◌∷◌, ◌++◌, refl, subst, arith, Bool, true, false}
+use Rattle.std.proofs.Common.{◌≡◌, ◌≢◌, ℕ, ◌≤◌, List, [], ◌∷◌, ◌++◌, refl, sym, ◌∙◌, subst, arith, Bool, true, false, true≢false}
 use Rattle.std.specs.Prelude.{if◌then◌else◌}
 use Rattle.std.specs.List.{All}
 use Rattle.std.proofs.lemmas.List.Elements.{All-append, All-cons, All-from_recursion, All-head, All-nil, All-tail}
@@ -11,7 +11,7 @@ use Rattle.bb_memory_bump_machine.specs.BumpLogs.{LogsAgree, CommonInterleaving}
 use Rattle.bb_memory_traits.proofs.LiveLists.{all_above, all_end_by, in_order-front, in_order-rest, stands_for_some}
 use Rattle.bb_memory_bump_machine.proofs.BumpRuns.{fitting_at_opening}
 use Rattle.bb_memory_bump_machine.proofs.BumpStretches.{stretch_stands}
-use Rattle.bb_memory_bump_machine.proofs.BumpAllowed.{no_clear_when_allowed, one_party}
+use Rattle.bb_memory_bump_machine.proofs.BumpAllowed.{no_clear_when_allowed, not_by}
 use Rattle.bb_memory_bump_machine.proofs.BumpPositions.{both_interleaved}
 
 -- FACTS OF EACH CHUNK
@@ -81,7 +81,7 @@ logs_apart v party other (entry ∷ history) apart ordered =
     let behind = λ (p : ℕ). apart_behind end won (chunks_won (entries_by p history)) below
     (all_in_log (λ y. end ≤ y.place) p history above) in
     apart_entry (is_by party entry.step) (is_by other entry.step) entry (entries_by party history) (entries_by other history)
-    (one_party party other entry.step apart)
+    (λ own others. true≢false (sym others ∙ not_by party other entry.step apart own))
     (behind other) (behind party) (logs_apart end party other history apart rest)
 
 -- where one interleaving has both logs, their chunks are apart

@@ -7,7 +7,7 @@ use Rattle.std.proofs.lemmas.Option.{same_Some}
 use Rattle.bb_memory_traits.specs.Chunk.{Region}
 use Rattle.bb_memory_traits.specs.declared.layout.Layout.{Layout}
 use Rattle.bb_memory_bump_machine.specs.BumpMachine.{OngoingCall, BumpState, BumpMove, PartyMove, IsIdle, IsInCall, IsFitting, AllFitting, chunk_at}
-use Rattle.bb_memory_bump_machine.specs.BumpMachine.{fits, position_behind, ending, seeing, passed, moved, read, exchange, load}
+use Rattle.bb_memory_bump_machine.specs.BumpMachine.{fits, position_behind, ending, seeing, read_move, exchange_move, passed, moved, read, exchange, load}
 use Rattle.bb_memory_bump_machine.specs.BumpMachine.{bump_step, BumpStep, Read, Exchange, Load, Clear, Sees, RefusedAtRead, Wins, Loses}
 use Rattle.bb_memory_bump_machine.specs.BumpMachine.{RefusedAtLoss, Loaded, Cleared}
 use Rattle.bb_memory_bump_machine.specs.BumpLogs.{is_by}
@@ -40,38 +40,42 @@ pub data StepView (region : Region) (state : BumpState) : BumpStep → BumpMove 
   clears : StepView region state Clear (record { outcome = Cleared; state = record { position = 0; calls = state.calls } })
   passes : (step : BumpStep) → StepView region state step (passed state)
 
+module _ (region : Region) (position : ℕ) where
+  read_fit : (layout : Layout) (fitting : Bool) → fits region position layout ≡ fitting → ReadView region position layout
+      (if fitting then seeing (Sees position) position layout else ending (RefusedAtRead position) position)
+  read_fit layout true fit = sees fit
+  read_fit layout false fit = refuses_read fit
+
+  pub read_move_view : (layout : Layout) → ReadView region position layout (read_move region position layout)
+  read_move_view layout = read_fit layout (fits region position layout) refl
+
+  exchange_fit : (call : OngoingCall) (same fitting : Bool) → (position == call.seen) ≡ same →
+      fits region position call.layout ≡ fitting → let chunk = chunk_at region position call.layout in
+      ExchangeView region position call (if same then ending (Wins chunk) (position_behind region chunk)
+      else (if fitting then seeing (Loses position) position call.layout else ending (RefusedAtLoss position) position))
+  exchange_fit call true fitting same fit = wins (eqb-true position call.seen same)
+  exchange_fit call false true same fit = loses (eqb-false position call.seen same) fit
+  exchange_fit call false false same fit = refuses_loss (eqb-false position call.seen same) fit
+
+  pub exchange_move_view : (call : OngoingCall) → ExchangeView region position call (exchange_move region position call)
+  exchange_move_view call = exchange_fit call (position == call.seen) (fits region position call.layout) refl refl
+
 module _ (region : Region) (state : BumpState) (party : ℕ) where
-  idle_view : (layout : Layout) (empty fitting : Bool) → IsIdle state party →
-      (layout.size == 0) ≡ empty → fits region state.position layout ≡ fitting →
-      StepView region state (Read party layout) (if empty then passed state else moved state party (if fitting
-      then seeing (Sees state.position) state.position layout
-      else ending (RefusedAtRead state.position) state.position))
-  idle_view layout true fitting idle size fit = passes (Read party layout)
-  idle_view layout false true idle size fit = reads party layout _ idle (omega (arith, eqb-false layout.size 0 size)) (sees fit)
-  idle_view layout false false idle size fit =
-      reads party layout _ idle (omega (arith, eqb-false layout.size 0 size)) (refuses_read fit)
+  idle_view : (layout : Layout) (empty : Bool) → IsIdle state party → (layout.size == 0) ≡ empty →
+      StepView region state (Read party layout)
+      (if empty then passed state else moved state party (read_move region state.position layout))
+  idle_view layout true idle size = passes (Read party layout)
+  idle_view layout false idle size =
+      reads party layout _ idle (omega (arith, eqb-false layout.size 0 size)) (read_move_view region state.position layout)
 
   read_view : (layout : Layout) (now : Option (Option OngoingCall)) → slice_get state.calls party ≡ now →
       StepView region state (Read party layout) (read region state party layout now)
-  read_view layout (Some None) is = idle_view layout (layout.size == 0) (fits region state.position layout) is refl refl
+  read_view layout (Some None) is = idle_view layout (layout.size == 0) is refl
   read_view layout _ is = passes (Read party layout)
-
-  call_view : (call : OngoingCall) (same fitting : Bool) →
-      (state.position == call.seen) ≡ same → fits region state.position call.layout ≡ fitting →
-      ExchangeView region state.position call (if same
-      then ending (Wins (chunk_at region state.position call.layout))
-      (position_behind region (chunk_at region state.position call.layout))
-      else (if fitting
-      then seeing (Loses state.position) state.position call.layout
-      else ending (RefusedAtLoss state.position) state.position))
-  call_view call true fitting same fit = wins (eqb-true state.position call.seen same)
-  call_view call false true same fit = loses (eqb-false state.position call.seen same) fit
-  call_view call false false same fit = refuses_loss (eqb-false state.position call.seen same) fit
 
   exchange_view : (now : Option (Option OngoingCall)) → slice_get state.calls party ≡ now →
       StepView region state (Exchange party) (exchange region state party now)
-  exchange_view (Some (Some call)) is = exchanges party call _ is
-      (call_view call (state.position == call.seen) (fits region state.position call.layout) refl refl)
+  exchange_view (Some (Some call)) is = exchanges party call _ is (exchange_move_view region state.position call)
   exchange_view _ is = passes (Exchange party)
 
   load_view : (now : Option (Option OngoingCall)) → slice_get state.calls party ≡ now →
