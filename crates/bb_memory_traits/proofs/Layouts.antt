@@ -8,9 +8,8 @@ use Rattle.std.proofs.Props.{props}
 use Rattle.std.specs.Align.{IsLayout}
 use Rattle.std.specs.Int.{IsPowerOfTwo, is_power_of_two}
 use mathlib.Core.HLevel.{is_prop→PathP}
-use Rattle.bb_memory_traits.specs.LeastPlace.{least_place}
+use Rattle.bb_memory_traits.specs.LeastPlace.{least_place, IsUsual}
 use Rattle.bb_memory_traits.specs.Chunk.{Layout}
-use Rattle.bb_memory_traits.specs.LeastPlace.{IsUsual}
 use Rattle.bb_memory_traits.proofs.LeastPlaces.{least_place-is}
 use Rattle.bb_memory_traits.proofs.PowersOfTwo.{power_of_two-from_test, power_of_two-test, power_of_two-positive}
 
