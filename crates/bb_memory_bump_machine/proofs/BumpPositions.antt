@@ -55,17 +55,6 @@ history_below region state (step ∷ steps) allowed =
       history_below region move.state steps rest,
     )
 
-log_below : (scene : BumpScene) (position : ℕ) (logs : List BumpLog) (party : ℕ) (log : BumpLog) → LogsAgree scene position logs →
-    HasLog logs party log → AllByRecursion (HasPositionUpTo position scene.region) log
-log_below scene position logs party log agree at =
-    let history = history_of scene agree.steps in
-    let left = (left_by scene agree.steps).position in
-    let all = history_below scene.region (opening_state scene) agree.steps agree.allowed in
-    let P : BumpEntry → Type 0 = HasPositionUpTo left scene.region in
-    let own = All-filter (λ (e : BumpEntry). is_by party e.step) P history (All-from_recursion P history all) in
-    subst (λ (bound : ℕ). AllByRecursion (HasPositionUpTo bound scene.region) log) agree.leaves
-    (recursion_from_All P log (subst (All P) (agree.each party log at) own))
-
 pub position_risen : (scene : BumpScene) (position : ℕ) (logs : List BumpLog) → LogsAgree scene position logs →
     scene.opening ≤ position
 position_risen scene position logs agree =
@@ -85,12 +74,24 @@ greatest_in-below region seen bound (entry ∷ log) below (here, rest) =
     let found = position_in region entry.outcome in
     greatest_in-below region (greater_of seen found) bound log (greater_below seen bound found below here) rest
 
--- a party has seen no more than the position
-pub seen_below : (scene : BumpScene) (position : ℕ) (logs : List BumpLog) (party : ℕ) (log : BumpLog) →
-    LogsAgree scene position logs → HasLog logs party log → seen_in scene log ≤ position
-seen_below scene position logs party log agree at =
-    greatest_in-below scene.region scene.opening position log (position_risen scene position logs agree)
-    (log_below scene position logs party log agree at)
+module _ (scene : BumpScene) (position : ℕ) (logs : List BumpLog) (party : ℕ) (log : BumpLog)
+    (agree : LogsAgree scene position logs) (at : HasLog logs party log) where
+  log_below : AllByRecursion (HasPositionUpTo position scene.region) log
+  log_below =
+      let history = history_of scene agree.steps in
+      let P : BumpEntry → Type 0 = HasPositionUpTo (left_by scene agree.steps).position scene.region in
+      let all = All-from_recursion P history (history_below scene.region (opening_state scene) agree.steps agree.allowed) in
+      let own = All-filter (λ (e : BumpEntry). is_by party e.step) P history all in
+      subst (λ (bound : ℕ). AllByRecursion (HasPositionUpTo bound scene.region) log) agree.leaves
+      (recursion_from_All P log (subst (All P) (agree.each party log at) own))
+
+  -- a party has seen no more than the position
+  pub seen_below : seen_in scene log ≤ position
+  seen_below =
+      greatest_in-below scene.region scene.opening position log (position_risen scene position logs agree) log_below
+
+  pub interleaved : Interleaving scene party log position
+  interleaved = record { steps = agree.steps; allowed = agree.allowed; leaves = agree.leaves; logged = agree.each party log at }
 
 -- ONE PARTY ALONE
 
@@ -126,11 +127,6 @@ alone_exact scene position logs log one agree at =
     sym agree.leaves ∙ sym exact ∙ ap (seen_in scene) (agree.each 0 log at)
 
 -- INTERLEAVINGS
-
-pub interleaved : (scene : BumpScene) (position : ℕ) (logs : List BumpLog) (party : ℕ) (log : BumpLog) →
-    LogsAgree scene position logs → HasLog logs party log → Interleaving scene party log position
-interleaved scene position logs party log agree at =
-    record { steps = agree.steps; allowed = agree.allowed; leaves = agree.leaves; logged = agree.each party log at }
 
 pub both_interleaved : (scene : BumpScene) (position : ℕ) (logs : List BumpLog) (party : ℕ) (log : BumpLog) (other : ℕ)
     (other_log : BumpLog) → LogsAgree scene position logs → HasLog logs party log → HasLog logs other other_log →

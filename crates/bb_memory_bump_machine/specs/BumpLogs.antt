@@ -21,11 +21,9 @@ pub record BumpEntry : Type 0 where
 abbrev pub entry_of : BumpStep → BumpOutcome → BumpEntry
 entry_of step outcome = record { step = step; outcome = outcome }
 
--- a log: entries in order
 abbrev pub BumpLog : Type 0
 BumpLog = List BumpEntry
 
--- the entry of a step that is taken in this state
 abbrev pub entry_at : Region → BumpState → BumpStep → BumpEntry
 entry_at region state step = entry_of step (bump_step region state step).outcome
 
@@ -35,7 +33,6 @@ bump_history region state [] = []
 bump_history region state (step ∷ steps) =
     entry_at region state step ∷ bump_history region (bump_step region state step).state steps
 
--- the history of a list of steps from the opening
 abbrev pub history_of : BumpScene → List BumpStep → BumpLog
 history_of scene steps = bump_history scene.region (opening_state scene) steps
 
@@ -46,13 +43,11 @@ stretch_after scene before stretch = bump_history scene.region (left_by scene be
 abbrev pub outcomes_of : BumpLog → List BumpOutcome
 outcomes_of history = map (λ entry. entry.outcome) history
 
--- the answer to a step that comes after these
 abbrev pub outcome_after : BumpScene → List BumpStep → BumpStep → BumpOutcome
 outcome_after scene steps step = (bump_step scene.region (left_by scene steps) step).outcome
 
 -- PARTIES
 
--- the step is this party's
 abbrev pub is_by : ℕ → BumpStep → Bool
 is_by party (Read other layout) = other == party
 is_by party (Exchange other) = other == party
@@ -63,7 +58,6 @@ is_by party Clear = false
 abbrev pub entries_by : ℕ → BumpLog → BumpLog
 entries_by party history = filter (λ entry. is_by party entry.step) history
 
--- a party's log in a list of steps from the opening
 abbrev pub log_of : BumpScene → List BumpStep → ℕ → BumpLog
 log_of scene steps party = entries_by party (history_of scene steps)
 
@@ -83,7 +77,6 @@ abbrev pub chunks_won : BumpLog → List Chunk
 chunks_won [] = []
 chunks_won (entry ∷ history) = won_at entry.outcome ++ chunks_won history
 
--- an exchange that is lost
 abbrev pub is_loss : BumpOutcome → Bool
 is_loss (Loses position) = true
 is_loss (RefusedAtLoss position) = true
@@ -175,7 +168,6 @@ IsAllowed _ = Unit {0}
 abbrev pub AllAllowed : BumpLog → Type 0
 AllAllowed history = All (λ entry. IsAllowed entry.outcome) history
 
--- the party's log stands in the list of logs, at the party's number
 abbrev pub HasLog : List BumpLog → ℕ → BumpLog → Type 0
 HasLog logs party log = slice_get logs party ≡ Some log
 
@@ -187,7 +179,6 @@ pub record LogsAgree (scene : BumpScene) (position : ℕ) (logs : List BumpLog) 
   pub leaves : (left_by scene steps).position ≡ position
   pub each : (party : ℕ) (log : BumpLog) → HasLog logs party log → log_of scene steps party ≡ log
 
--- the logs after one more entry of a party, whose log was this
 abbrev pub with_entry : List BumpLog → ℕ → BumpLog → BumpEntry → List BumpLog
 with_entry logs party log entry = slice_set logs party (log ++ entry ∷ [])
 
@@ -258,7 +249,6 @@ bump_calls region state (step ∷ steps) =
     decided (bump_step region state step).outcome (asked_by state step)
     ++ bump_calls region (bump_step region state step).state steps
 
--- the calls that steps from the opening decide
 abbrev pub calls_of : BumpScene → List BumpStep → List BumpCall
 calls_of scene steps = bump_calls scene.region (opening_state scene) steps
 

@@ -95,7 +95,6 @@ exchange_move region position call =
     let chunk = chunk_at region position call.layout in
     if position == call.seen then ending (Wins chunk) (position_behind region chunk) else loss_move region position call.layout
 
--- the answer to a step, and the state after it
 pub record BumpMove : Type 0 where
   pub outcome : BumpOutcome
   pub state : BumpState
@@ -104,7 +103,6 @@ pub record BumpMove : Type 0 where
 abbrev pub passed : BumpState → BumpMove
 passed state = record { outcome = Passed; state = state }
 
--- the party moves so
 abbrev pub moved : BumpState → ℕ → PartyMove → BumpMove
 moved state party turn = record {
   outcome = turn.outcome;
@@ -125,18 +123,15 @@ abbrev pub load : BumpState → Option (Option OngoingCall) → BumpMove
 load state (Some None) = record { outcome = Loaded state.position; state = state }
 load state _ = passed state
 
--- an atomic step
 abbrev pub bump_step : Region → BumpState → BumpStep → BumpMove
 bump_step region state (Read party layout) = read region state party layout (slice_get state.calls party)
 bump_step region state (Exchange party) = exchange region state party (slice_get state.calls party)
 bump_step region state (Load party) = load state (slice_get state.calls party)
 bump_step region state Clear = record { outcome = Cleared; state = record { position = 0; calls = state.calls } }
 
--- the state that a list of steps leaves
 abbrev pub bump_after : Region → BumpState → List BumpStep → BumpState
 bump_after region state [] = state
 bump_after region state (step ∷ steps) = bump_after region (bump_step region state step).state steps
 
--- the state that a list of steps from the opening leaves
 abbrev pub left_by : BumpScene → List BumpStep → BumpState
 left_by scene steps = bump_after scene.region (opening_state scene) steps

@@ -40,23 +40,14 @@ opened region parties =
     let scene : BumpScene = record { region = region; opening = 0; parties = parties } in
     record { region = region; state = opening_state scene }
 
--- the world in another state
 abbrev pub in_state : BumpWorld → BumpState → BumpWorld
 in_state world state = record { region = world.region; state = state }
 
--- the machine's answer to a step, and the world after it
-abbrev pub outcome_of : BumpWorld → BumpStep → BumpOutcome
-outcome_of world step = (bump_step world.region world.state step).outcome
-
-abbrev pub after_step : BumpWorld → BumpStep → BumpWorld
-after_step world step = in_state world (bump_step world.region world.state step).state
-
 -- the answer of a call that takes a step, and the world after it
 pub record Steps (old : BumpWorld) (step : BumpStep) (answer : BumpOutcome) (new : BumpWorld) : Type 0 where
-  pub outcome : answer ≡ outcome_of old step
-  pub state : new ≡ after_step old step
+  pub outcome : answer ≡ (bump_step old.region old.state step).outcome
+  pub state : new ≡ in_state old (bump_step old.region old.state step).state
 
--- the answers to a list of steps
 abbrev pub outcomes_of : BumpWorld → List BumpStep → List BumpOutcome
 outcomes_of world steps = histories.outcomes_of (histories.bump_history world.region world.state steps)
 

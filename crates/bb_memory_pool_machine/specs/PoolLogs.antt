@@ -19,7 +19,6 @@ pub record PoolEntry : Type 0 where
 abbrev pub entry_of : PoolStep → PoolOutcome → PoolEntry
 entry_of step outcome = record { step = step; outcome = outcome }
 
--- a log: entries in order
 abbrev pub PoolLog : Type 0
 PoolLog = List PoolEntry
 
@@ -28,7 +27,6 @@ abbrev pub pool_history : PoolState → List PoolStep → PoolLog
 pool_history state [] = []
 pool_history state (step ∷ steps) = entry_of step (pool_step state step).outcome ∷ pool_history (pool_step state step).state steps
 
--- the history of a list of steps from the opening
 abbrev pub history_of : PoolScene → List PoolStep → PoolLog
 history_of scene steps = pool_history (opening_state scene) steps
 
@@ -37,7 +35,6 @@ outcomes_of history = map (λ entry. entry.outcome) history
 
 -- PARTIES
 
--- the step is this party's
 abbrev pub is_by : ℕ → PoolStep → Bool
 is_by party (Try other) = other == party
 is_by party (GiveBack other bucket) = other == party
@@ -49,7 +46,6 @@ is_by party (Attach other bucket) = other == party
 abbrev pub entries_by : ℕ → PoolLog → PoolLog
 entries_by party history = filter (λ entry. is_by party entry.step) history
 
--- a party's log in a list of steps from the opening
 abbrev pub log_of : PoolScene → List PoolStep → ℕ → PoolLog
 log_of scene steps party = entries_by party (history_of scene steps)
 
@@ -67,7 +63,6 @@ held_after bucket held _ = held
 abbrev pub IsHeldAfter : PoolLog → ℕ → Type 0
 IsHeldAfter log bucket = fold (λ held entry. held_after bucket held entry.outcome) false log ≡ true
 
--- some step of the log detached the bucket
 abbrev pub WasDetached : PoolLog → ℕ → Type 0
 WasDetached log bucket = Any (λ entry. entry.outcome ≡ Detaches bucket) log
 
@@ -82,7 +77,6 @@ pass_after pass _ = pass
 abbrev pub pass_in : PoolLog → Option ℕ
 pass_in log = fold (λ pass entry. pass_after pass entry.outcome) None log
 
--- the bucket that a party with this log tries next
 abbrev pub next_bucket : PoolLog → ℕ
 next_bucket log = unwrap_or (pass_in log) 0
 
@@ -107,7 +101,6 @@ IsAllowed _ = Unit {0}
 abbrev pub AllAllowed : PoolLog → Type 0
 AllAllowed history = All (λ entry. IsAllowed entry.outcome) history
 
--- the party's log stands in the list of logs, at the party's number
 abbrev pub HasLog : List PoolLog → ℕ → PoolLog → Type 0
 HasLog logs party log = slice_get logs party ≡ Some log
 
@@ -124,7 +117,6 @@ pub record IsDetachedAfter (flags : List Bool) (logs : List PoolLog) (bucket : �
   pub taken : slice_get flags bucket ≡ Some true
   pub no_holder : (party : ℕ) (log : PoolLog) → HasLog logs party log → ¬ IsHeldAfter log bucket
 
--- the logs, where a party's has one more entry
 abbrev pub with_entry : List PoolLog → ℕ → PoolLog → PoolEntry → List PoolLog
 with_entry logs party log entry = slice_set logs party (log ++ entry ∷ [])
 
@@ -160,7 +152,6 @@ pub record AreAsked (geometry : PoolGeometry) (steps : List PoolStep) (layouts :
   pub one_a_step : length layouts ≡ length steps
   pub within : All (IsWithin geometry.bucket) layouts
 
--- The calls of a history are a run of the pool object, from `old` to `new`.
 abbrev pub IsCallRun : PoolGeometry → List Chunk → List Layout → PoolLog → List Chunk → Type 0
 IsCallRun geometry old layouts history new = IsRun (PoolCall geometry) old layouts (outcomes_of history) new
 
@@ -175,7 +166,6 @@ pub record IsRefusedAt (history : PoolLog) (party k : ℕ) : Type 0 where
   pub bucket : ℕ
   pub there : slice_get history k ≡ Some (entry_of (Try party) (RefusedAtLoss bucket))
 
--- a loss of this bucket
 abbrev pub IsLossAt : ℕ → PoolOutcome → Type 0
 IsLossAt bucket (Loses other) = other ≡ bucket
 IsLossAt bucket (RefusedAtLoss other) = other ≡ bucket

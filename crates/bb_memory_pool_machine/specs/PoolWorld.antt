@@ -4,7 +4,6 @@ use Rattle.std.specs.declared.vec.Vec.{Vec}
 use Rattle.bb_memory_pool_machine.specs.PoolMachine.{PoolState, all_free, pool_step, pool_after, Flag, PoolStep, PoolOutcome}
 use Rattle.bb_memory_pool_machine.specs.PoolLogs as histories
 
--- the machine's state
 abbrev pub PoolWorld : Type 0
 PoolWorld = PoolState
 
@@ -19,19 +18,11 @@ IsPoolWorld world = length world.flags < 2 ^ 32
 abbrev pub opened : ℕ → ℕ → PoolWorld
 opened buckets parties = all_free buckets parties
 
--- the machine's answer to a step, and the world after it
-abbrev pub outcome_of : PoolWorld → PoolStep → PoolOutcome
-outcome_of world step = (pool_step world step).outcome
-
-abbrev pub after_step : PoolWorld → PoolStep → PoolWorld
-after_step world step = (pool_step world step).state
-
 -- the answer of a call that takes a step, and the world after it
 pub record Steps (old : PoolWorld) (step : PoolStep) (answer : PoolOutcome) (new : PoolWorld) : Type 0 where
-  pub outcome : answer ≡ outcome_of old step
-  pub state : new ≡ after_step old step
+  pub outcome : answer ≡ (pool_step old step).outcome
+  pub state : new ≡ (pool_step old step).state
 
--- the answers to a list of steps
 abbrev pub outcomes_of : PoolWorld → List PoolStep → List PoolOutcome
 outcomes_of world steps = histories.outcomes_of (histories.pool_history world steps)
 

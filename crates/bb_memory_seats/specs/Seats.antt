@@ -30,7 +30,6 @@ seat_of scene parties detached =
 abbrev pub standing_for : {S E : Type 0} → S → List (Numbered E) → Seat S E
 standing_for scene parties = seat_of scene parties []
 
--- the view of one party
 abbrev pub alone : {S E : Type 0} → S → ℕ → List E → Seat S E
 alone scene number log = standing_for scene (numbered number log ∷ [])
 
@@ -69,7 +68,6 @@ abbrev pub one_if : Bool → ℕ
 one_if true = 1
 one_if false = 0
 
--- a figure of each element, summed up
 abbrev pub total : {V : Type 0} → (V → ℕ) → List V → ℕ
 total figure [] = 0
 total figure (x ∷ xs) = figure x + total figure xs

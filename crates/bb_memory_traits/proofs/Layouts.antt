@@ -1,5 +1,5 @@
 -- Which layouts there are.
-use Rattle.std.proofs.Common.{◌≡◌, ℕ, suc, ◌+◌, ◌-◌, ◌*◌, ◌/◌, ◌%◌, ◌^◌, ◌<◌, ◌≤◌, ◌↔◌, IsTrue, ⊎_elim, arith, refl, sym, ap, ◌∙◌, inl}
+use Rattle.std.proofs.Common.{◌≡◌, ℕ, zero, suc, ◌+◌, ◌-◌, ◌*◌, ◌/◌, ◌%◌, ◌^◌, ◌<◌, ◌≤◌, ◌↔◌, IsTrue, ◌⊎◌, arith, refl, sym, ap, ◌∙◌, inl}
 use Rattle.std.proofs.Common.{inr, div-add-mod', mul-le-mul_right, pow_pos, pow_mono, pow-add, pow-suc}
 use Rattle.std.proofs.Math.Nat.{mul_assoc}
 use Rattle.std.proofs.lemmas.Bool.{cases_lt}
@@ -115,27 +115,23 @@ same_layout a b size align = λ i. record {
 
 -- USUAL LAYOUTS
 
-usual-at : (size align k : ℕ) → size ≤ 2 ^ 62 → 0 < align → align ≤ 4096 → align ≡ 2 ^ k → IsLayout size align
-usual-at size align k small positive low power = record {
-  power_of_two = power_of_two-test align (k, power);
-  positive = positive;
-  fits = omega arith;
-}
+-- one of so many powers of two, from this one on
+abbrev IsAmong : ℕ → ℕ → ℕ → Type 0
+IsAmong align k zero = align ≡ 2 ^ k
+IsAmong align k (suc more) = (align ≡ 2 ^ k) ⊎ IsAmong align (k + 1) more
+
+low_power : (align k more : ℕ) → k + more ≤ 12 → IsAmong align k more → (j : ℕ) × (align ≡ 2 ^ j) × (j ≤ 12)
+low_power align k zero low is = (k, is, omega arith)
+low_power align k (suc more) low (inl is) = (k, is, omega arith)
+low_power align k (suc more) low (inr is) = low_power align (k + 1) more (omega arith) is
 
 -- usual layouts are accepted
 pub usual-accepted : (size align : ℕ) → IsUsual size align → IsLayout size align
 usual-accepted size align usual =
-    let small = usual.small in
-    ⊎_elim (λ e. usual-at size align 0 small (omega (arith, e)) (omega (arith, e)) e)
-    (⊎_elim (λ e. usual-at size align 1 small (omega (arith, e)) (omega (arith, e)) e)
-    (⊎_elim (λ e. usual-at size align 2 small (omega (arith, e)) (omega (arith, e)) e)
-    (⊎_elim (λ e. usual-at size align 3 small (omega (arith, e)) (omega (arith, e)) e)
-    (⊎_elim (λ e. usual-at size align 4 small (omega (arith, e)) (omega (arith, e)) e)
-    (⊎_elim (λ e. usual-at size align 5 small (omega (arith, e)) (omega (arith, e)) e)
-    (⊎_elim (λ e. usual-at size align 6 small (omega (arith, e)) (omega (arith, e)) e)
-    (⊎_elim (λ e. usual-at size align 7 small (omega (arith, e)) (omega (arith, e)) e)
-    (⊎_elim (λ e. usual-at size align 8 small (omega (arith, e)) (omega (arith, e)) e)
-    (⊎_elim (λ e. usual-at size align 9 small (omega (arith, e)) (omega (arith, e)) e)
-    (⊎_elim (λ e. usual-at size align 10 small (omega (arith, e)) (omega (arith, e)) e)
-    (⊎_elim (λ e. usual-at size align 11 small (omega (arith, e)) (omega (arith, e)) e)
-    (λ e. usual-at size align 12 small (omega (arith, e)) (omega (arith, e)) e)))))))))))) usual.power
+    let power = low_power align 0 12 (omega arith) usual.power in
+    let low : align ≤ 4096 = omega (arith, power.1, pow_mono {i = power.0} {j = 12} power.2) in
+    let small = usual.small in record {
+      power_of_two = power_of_two-test align (power.0, power.1);
+      positive = power_of_two-positive align (power.0, power.1);
+      fits = omega arith;
+    }
