@@ -4,10 +4,10 @@ use Rattle.std.specs.Prelude.{if◌then◌else◌}
 use Rattle.std.specs.List.{All}
 use Rattle.std.proofs.lemmas.List.Elements.{All-append, All-cons, All-from_recursion, All-head, All-nil, All-tail}
 use Rattle.bb_memory_traits.specs.Chunk.{Chunk, chunk_end, AreApart}
-use Rattle.bb_memory_traits.specs.BumpObject.{end_of_last, IsInOrder}
-use Rattle.bb_memory_bump_machine.specs.BumpMachine.{BumpScene, opening_state}
+use Rattle.bb_memory_traits.specs.BumpObject.{end_of_last, IsInOrder, StandsFor}
+use Rattle.bb_memory_bump_machine.specs.BumpMachine.{BumpScene, BumpStep, left_by, opening_state}
 use Rattle.bb_memory_bump_machine.specs.BumpLogs.{BumpEntry, BumpLog, history_of, is_by, entries_by, won_at, chunks_won, HasLog}
-use Rattle.bb_memory_bump_machine.specs.BumpLogs.{LogsAgree, CommonInterleaving}
+use Rattle.bb_memory_bump_machine.specs.BumpLogs.{LogsAgree, CommonInterleaving, AllAllowed, OpensWith}
 use Rattle.bb_memory_traits.proofs.LiveLists.{all_above, all_end_by, in_order-front, in_order-rest, stands_for_some}
 use Rattle.bb_memory_bump_machine.proofs.BumpRuns.{fitting_at_opening}
 use Rattle.bb_memory_bump_machine.proofs.BumpStretches.{stretch_stands}
@@ -84,6 +84,13 @@ logs_apart v party other (entry ∷ history) apart ordered =
     (λ own others. true≢false (sym others ∙ not_by party other entry.step apart own))
     (behind other) (behind party) (logs_apart end party other history apart rest)
 
+-- allowed steps leave a position that stands for the chunks of before and those won since
+pub allowed_stands : (scene : BumpScene) (live : List Chunk) (steps : List BumpStep) → AllAllowed (history_of scene steps) →
+    OpensWith scene live → StandsFor scene.region (left_by scene steps).position (live ++ chunks_won (history_of scene steps))
+allowed_stands scene live steps allowed opens =
+    let none = no_clear_when_allowed scene.region (opening_state scene) steps allowed in
+    stretch_stands scene.region (opening_state scene) live steps none opens (fitting_at_opening scene)
+
 -- where one interleaving has both logs, their chunks are apart
 pub common_apart : (scene : BumpScene) (position party : ℕ) (log : BumpLog) (other : ℕ) (other_log : BumpLog) →
     scene.opening ≤ scene.region.size → CommonInterleaving scene party log other other_log position → party ≢ other →
@@ -91,8 +98,7 @@ pub common_apart : (scene : BumpScene) (position party : ℕ) (log : BumpLog) (o
 common_apart scene position party log other other_log within common apart =
     let history = history_of scene common.steps in
     let some = stands_for_some scene.region scene.opening within in
-    let none = no_clear_when_allowed scene.region (opening_state scene) common.steps common.allowed in
-    let stands = stretch_stands scene.region (opening_state scene) some.0 common.steps none some.1 (fitting_at_opening scene) in
+    let stands = allowed_stands scene some.0 common.steps common.allowed some.1 in
     let ordered = in_order-rest scene.region.start some.0 (chunks_won history) stands.in_order in
     let both = logs_apart (end_of_last scene.region.start some.0) party other history apart ordered in
     let first = subst (λ (l : BumpLog). AllApart (chunks_won l) (chunks_won (entries_by other history))) common.logged both in

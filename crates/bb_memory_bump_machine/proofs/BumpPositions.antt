@@ -93,39 +93,6 @@ module _ (scene : BumpScene) (position : ℕ) (logs : List BumpLog) (party : ℕ
   pub interleaved : Interleaving scene party log position
   interleaved = record { steps = agree.steps; allowed = agree.allowed; leaves = agree.leaves; logged = agree.each party log at }
 
--- ONE PARTY ALONE
-
--- where there is one party, each allowed step of a party is its own
-own_alone : (region : Region) (state : BumpState) (step : BumpStep) (move : BumpMove) → StepView region state step move →
-    IsAllowed move.outcome → length state.calls ≡ 1 → is_by 0 step ≡ true
-own_alone region state step move view allowed one =
-    let owner = owner_of region state step move view allowed in
-    let none : owner.party ≡ 0 = omega (arith, owner.there, one) in
-    ap (λ (p : ℕ). is_by p step) (sym none) ∙ owner.own
-
-greatest_alone : (region : Region) (state : BumpState) (steps : List BumpStep) → length state.calls ≡ 1 →
-    AllAllowed (bump_history region state steps) →
-    greatest_in region state.position (entries_by 0 (bump_history region state steps)) ≡ (bump_after region state steps).position
-greatest_alone region state [] one allowed = refl
-greatest_alone region state (step ∷ steps) one allowed =
-    let here = first_allowed region state step steps allowed in
-    let rest = rest_allowed region state step steps allowed in
-    let move = bump_step region state step in
-    let view = step_view region state step in
-    let entry = entry_at region state step in
-    let later = entries_by 0 (bump_history region move.state steps) in
-    ap (λ (own : Bool). greatest_in region state.position (if own then entry ∷ later else later))
-    (own_alone region state step move view here one)
-    ∙ ap (λ (position : ℕ). greatest_in region position later) (step_leaves region state step move view here)
-    ∙ greatest_alone region move.state steps (parties_stay region state step move view ∙ one) rest
-
-pub alone_exact : (scene : BumpScene) (position : ℕ) (logs : List BumpLog) (log : BumpLog) → scene.parties ≡ 1 →
-    LogsAgree scene position logs → HasLog logs 0 log → position ≡ seen_in scene log
-alone_exact scene position logs log one agree at =
-    let exact =
-    greatest_alone scene.region (opening_state scene) agree.steps (length-replicate scene.parties None ∙ one) agree.allowed in
-    sym agree.leaves ∙ sym exact ∙ ap (seen_in scene) (agree.each 0 log at)
-
 -- INTERLEAVINGS
 
 pub both_interleaved : (scene : BumpScene) (position : ℕ) (logs : List BumpLog) (party : ℕ) (log : BumpLog) (other : ℕ)

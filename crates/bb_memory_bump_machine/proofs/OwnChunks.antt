@@ -10,7 +10,7 @@ use Rattle.bb_memory_bump_machine.specs.BumpLogs.{OpensWith, live_after, BumpEnt
 use Rattle.bb_memory_bump_machine.specs.BumpLogs.{chunks_won, AllAllowed, Interleaving, LogsAgree}
 use Rattle.bb_memory_traits.proofs.LiveLists.{all_above, all_end_by, apart_from_order, end_of_last-above, in_order-append, in_order-front}
 use Rattle.bb_memory_traits.proofs.LiveLists.{in_order-rest, stands_for_some}
-use Rattle.bb_memory_bump_machine.proofs.BumpMeetings.{all_in_log, all_parts, apart_behind}
+use Rattle.bb_memory_bump_machine.proofs.BumpMeetings.{all_in_log, all_parts, allowed_stands, apart_behind}
 use Rattle.bb_memory_bump_machine.proofs.BumpRuns.{fitting_at_opening}
 use Rattle.bb_memory_bump_machine.proofs.BumpStretches.{stretch_grows, stretch_stands}
 use Rattle.bb_memory_bump_machine.proofs.BumpAllowed.{no_clear_when_allowed}
@@ -36,14 +36,7 @@ in_order_own v party (entry ∷ history) ordered =
     own_entry v (is_by party entry.step) entry (entries_by party history) (end_of_last-above v won front) front
     (in_order_own (end_of_last v won) party history rest)
 
--- allowed steps leave a position that stands for the chunks of before and those won since
-allowed_stands : (scene : BumpScene) (live : List Chunk) (steps : List BumpStep) → AllAllowed (history_of scene steps) →
-    OpensWith scene live → StandsFor scene.region (left_by scene steps).position (live ++ chunks_won (history_of scene steps))
-allowed_stands scene live steps allowed opens =
-    let none = no_clear_when_allowed scene.region (opening_state scene) steps allowed in
-    stretch_stands scene.region (opening_state scene) live steps none opens (fitting_at_opening scene)
-
--- and the object's list is just these
+-- after allowed steps the object's list is the one of before with the chunks won since
 allowed_grow : (scene : BumpScene) (live : List Chunk) (steps : List BumpStep) → AllAllowed (history_of scene steps) →
     live_after scene live steps ≡ live ++ chunks_won (history_of scene steps)
 allowed_grow scene live steps allowed =
