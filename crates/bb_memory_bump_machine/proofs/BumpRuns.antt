@@ -62,20 +62,6 @@ pub chunk_at-above : (region : Region) (position : ℕ) (layout : Layout) →
     region.start + position ≤ (chunk_at region position layout).place
 chunk_at-above region position layout = (least_place-is (region.start + position) layout.align layout.valid.positive).above
 
--- one more chunk is won
-pub StandsFor-won : (region : Region) (position : ℕ) (live : List Chunk) (layout : Layout) → StandsFor region position live →
-    fits region position layout ≡ true →
-    StandsFor region (position_behind region (chunk_at region position layout)) (live ++ chunk_at region position layout ∷ [])
-StandsFor-won region position live layout stands fit =
-    let chunk = chunk_at region position layout in
-    StandsFor-push region position live chunk stands
-    (omega (arith, StandsFor-end region position live stands, chunk_at-above region position layout))
-    (leb-true (chunk_end chunk) (region_end region) fit)
-
-call_none : (region : Region) (live : List Chunk) (position : ℕ) → StandsFor region position live →
-    MakesCalls region live [] position
-call_none region live position stands = record { run = refl; stands = stands }
-
 call_refused : (region : Region) (live : List Chunk) (position : ℕ) (layout : Layout) → StandsFor region position live →
     0 < layout.size → fits region position layout ≡ false →
     MakesCalls region live (Allocate layout (Err OutOfMemory) ∷ []) position
@@ -98,7 +84,8 @@ call_won region live position layout stands asks fit =
         record { answers = (asks, within, chunk_at-next region position live layout stands); leaves = refl },
         refl,
       );
-      stands = StandsFor-won region position live layout stands fit;
+      stands = StandsFor-push region position live chunk stands
+          (omega (arith, StandsFor-end region position live stands, chunk_at-above region position layout)) within;
     }
 
 step_makes : (region : Region) (state : BumpState) (live : List Chunk) (step : BumpStep) (move : BumpMove) →
@@ -117,14 +104,14 @@ step_makes region state live step move (exchanges party call turn is (refuses_lo
     subst (λ (layout : Option Layout). MakesCalls region live (decided (RefusedAtLoss state.position) layout) state.position)
     (sym (ap layout_in is)) (call_refused region live state.position call.layout stands (fitting party call is).asks fit)
 step_makes region state live step move clears stands fitting = record { run = ([], refl, refl); stands = StandsFor-empty region }
-step_makes region state live step move _ stands fitting = call_none region live state.position stands
+step_makes region state live step move _ stands fitting = record { run = refl; stands = stands }
 
 -- ANY LIST OF STEPS
 
 pub steps_make : (region : Region) (state : BumpState) (live : List Chunk) (steps : List BumpStep) →
     StandsFor region state.position live →
     AllFitting region state → MakesCalls region live (bump_calls region state steps) (bump_after region state steps).position
-steps_make region state live [] stands fitting = call_none region live state.position stands
+steps_make region state live [] stands fitting = record { run = refl; stands = stands }
 steps_make region state live (step ∷ steps) stands fitting =
     let move = bump_step region state step in
     let view = step_view region state step in

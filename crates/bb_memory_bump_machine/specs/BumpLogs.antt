@@ -171,8 +171,7 @@ AllAllowed history = All (λ entry. IsAllowed entry.outcome) history
 abbrev pub HasLog : List BumpLog → ℕ → BumpLog → Type 0
 HasLog logs party log = slice_get logs party ≡ Some log
 
--- some list of steps, each a party's and allowed, leaves this position, and has as the steps of each party in the list
--- of logs exactly its log, in order
+-- some list of steps, each a party's and allowed, leaves this position, and has as each party's own steps its log, in order
 pub record LogsAgree (scene : BumpScene) (position : ℕ) (logs : List BumpLog) : Type 0 where
   pub steps : List BumpStep
   pub allowed : AllAllowed (history_of scene steps)
@@ -182,8 +181,7 @@ pub record LogsAgree (scene : BumpScene) (position : ℕ) (logs : List BumpLog) 
 abbrev pub with_entry : List BumpLog → ℕ → BumpLog → BumpEntry → List BumpLog
 with_entry logs party log entry = slice_set logs party (log ++ entry ∷ [])
 
--- an interleaving of this party's log with some logs of the others, which leaves this position: a list of steps, each
--- allowed, that has as the party's steps exactly its log, in order
+-- an interleaving of this party's log with some logs of the others: allowed steps with just this log, which leave this position
 pub record Interleaving (scene : BumpScene) (party : ℕ) (log : BumpLog) (position : ℕ) : Type 0 where
   pub steps : List BumpStep
   pub allowed : AllAllowed (history_of scene steps)

@@ -69,22 +69,18 @@ pub record PartyMove : Type 0 where
   pub position : ℕ
   pub call : Option OngoingCall
 
--- the party is idle afterwards
 abbrev pub ending : BumpOutcome → ℕ → PartyMove
 ending outcome position = record { outcome = outcome; position = position; call = None }
 
--- the party is in a call afterwards, and has seen this position
 abbrev pub seeing : BumpOutcome → ℕ → Layout → PartyMove
 seeing outcome position layout =
     let call : OngoingCall = record { layout = layout; seen = position } in
     record { outcome = outcome; position = position; call = Some call }
 
--- a read that finds this position
 abbrev pub read_move : Region → ℕ → Layout → PartyMove
 read_move region position layout =
     if fits region position layout then seeing (Sees position) position layout else ending (RefusedAtRead position) position
 
--- an exchange that is lost at this position
 abbrev pub loss_move : Region → ℕ → Layout → PartyMove
 loss_move region position layout =
     if fits region position layout then seeing (Loses position) position layout else ending (RefusedAtLoss position) position

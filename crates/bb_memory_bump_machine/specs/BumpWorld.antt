@@ -6,7 +6,6 @@ use Rattle.bb_memory_bump_machine.specs.BumpMachine.{OngoingCall, BumpState, Bum
 use Rattle.bb_memory_bump_machine.specs.BumpMachine.{bump_step, bump_after, BumpStep, BumpOutcome}
 use Rattle.bb_memory_bump_machine.specs.BumpLogs as histories
 
--- the region, and the machine's state
 pub record BumpWorld : Type 0 where
   pub region : Region
   pub state : BumpState
@@ -17,13 +16,11 @@ world_of start size position calls = record {
   state = record { position = position; calls = calls };
 }
 
--- the world's position is inside the region, and each call fits at what it has seen
 pub record IsBumpWorld (world : BumpWorld) : Type 0 where
   pub region : IsRegion world.region
   pub within : world.state.position ≤ world.region.size
   pub fitting : AllFitting world.region world.state
 
--- a position in a region
 pub record IsPositionIn (region : Region) (position : ℕ) : Type 0 where
   pub region_is : IsRegion region
   pub within : position ≤ region.size

@@ -38,12 +38,6 @@ detached_set state at bucket before after there another now = elim (cases_eq at 
   | inr apart ↦ sym (slice_get-set_apart state.flags at bucket after apart) ∙ now
 ]
 
-somebody : (party : ℕ) → ¬ (HeldBy party ≡ Detached)
-somebody party same = absurd (cc)
-
-nobody : ¬ (Free ≡ Detached)
-nobody same = absurd (cc)
-
 -- the step detaches this bucket, where there are two parties at least
 record DetachesThis (state : PoolState) (move : PoolMove) (bucket : ℕ) : Type 0 where
   outcome : move.outcome ≡ Detaches bucket
@@ -52,17 +46,17 @@ record DetachesThis (state : PoolState) (move : PoolMove) (bucket : ℕ) : Type 
 detached_step : (state : PoolState) (step : PoolStep) (move : PoolMove) (bucket : ℕ) → StepKind state step move →
     IsDetached move.state bucket → IsDetached state bucket ⊎ DetachesThis state move bucket
 detached_step state step move bucket (takes other at next free) now =
-    inl (detached_set state at bucket Free (HeldBy other) free (somebody other) now)
+    inl (detached_set state at bucket Free (HeldBy other) free (λ same. absurd (cc)) now)
 detached_step state step move bucket (takes_at other at idle free) now =
-    inl (detached_set state at bucket Free (HeldBy other) free (somebody other) now)
+    inl (detached_set state at bucket Free (HeldBy other) free (λ same. absurd (cc)) now)
 detached_step state step move bucket (gives other at taken) now =
-    inl (detached_set state at bucket (HeldBy other) Free taken nobody now)
+    inl (detached_set state at bucket (HeldBy other) Free taken (λ same. absurd (cc)) now)
 detached_step state step move bucket (detaches other at taken others) now = elim (cases_eq at bucket) [
   | inl same ↦ inr record { outcome = ap Detaches same; others = others }
   | inr apart ↦ inl (sym (slice_get-set_apart state.flags at bucket Detached apart) ∙ now)
 ]
 detached_step state step move bucket (attaches other at idle detached) now =
-    inl (detached_set state at bucket Detached (HeldBy other) detached (somebody other) now)
+    inl (detached_set state at bucket Detached (HeldBy other) detached (λ same. absurd (cc)) now)
 detached_step state step move bucket _ now = inl now
 
 -- WHERE THERE IS NO OTHER PARTY

@@ -107,25 +107,11 @@ holder_in_log scene steps party bucket =
     let found = slice_get (left_by scene steps).flags bucket in
     ((λ holder. same ∙ test_from_holder party found holder), (λ holds. holder_from_test party found (sym same ∙ holds)))
 
--- a flag is one thing
-same_flag : (state : PoolState) (bucket : ℕ) (one other : Flag) → IsFlag state bucket one → IsFlag state bucket other →
-    one ≡ other
-same_flag state bucket one other is also = same_Some one other (sym is ∙ also)
-
--- so it has one holder
+-- a flag has one holder
 pub same_holder : (state : PoolState) (bucket party other : ℕ) → IsHolder state bucket party → IsHolder state bucket other →
     party ≡ other
 same_holder state bucket party other one two =
-    let same = same_flag state bucket (HeldBy party) (HeldBy other) one two in cc
-
--- and where it is free or the bucket is detached, none
-pub free_not_holder : (state : PoolState) (bucket party : ℕ) → IsFlag state bucket Free → ¬ IsHolder state bucket party
-free_not_holder state bucket party free held =
-    let same = same_flag state bucket Free (HeldBy party) free held in absurd (cc)
-
-pub detached_not_holder : (state : PoolState) (bucket party : ℕ) → IsDetached state bucket → ¬ IsHolder state bucket party
-detached_not_holder state bucket party detached held =
-    let same = same_flag state bucket Detached (HeldBy party) detached held in absurd (cc)
+    let same = same_Some (HeldBy party) (HeldBy other) (sym one ∙ two) in cc
 
 -- no two parties hold one bucket
 pub one_holder : (scene : PoolScene) (steps : List PoolStep) (party other bucket : ℕ) →
@@ -139,4 +125,4 @@ one_holder scene steps party other bucket mine yours =
 pub detached_unheld : (scene : PoolScene) (steps : List PoolStep) (party bucket : ℕ) →
     IsDetached (left_by scene steps) bucket → ¬ IsHeldAfter (log_of scene steps party) bucket
 detached_unheld scene steps party bucket detached held =
-    detached_not_holder (left_by scene steps) bucket party detached ((holder_in_log scene steps party bucket).1 held)
+    let same = same_Some Detached (HeldBy party) (sym detached ∙ (holder_in_log scene steps party bucket).1 held) in absurd (cc)

@@ -4,7 +4,7 @@ use Rattle.std.proofs.Common.{arith, Bool, true, false, Option, Some, None, inl,
 use Rattle.std.specs.Prelude.{◌⊎◌, ◌==◌, slice_get, if◌then◌else◌}
 use Rattle.std.specs.List.{AllByRecursion}
 use Rattle.std.proofs.lemmas.Bool.{cases_lt}
-use Rattle.std.proofs.lemmas.Option.{slice_get_within}
+use Rattle.std.proofs.lemmas.Option.{same_Some, slice_get_within}
 use Rattle.std.proofs.lemmas.List.{length-map, length-replicate}
 use Rattle.std.proofs.lemmas.List.Elements.{recursion_from_All}
 use Rattle.bb_memory_pool_machine.specs.PoolMachine.{PoolScene, PoolState, PoolMove, IsFlag, IsHolder, IsDetached, pool_step, taking}
@@ -16,7 +16,7 @@ use Rattle.bb_memory_pool_machine.specs.PoolLogs.{IsDetachedAfter, LogsAgree, is
 use Rattle.bb_memory_pool_machine.proofs.PoolSteps.{IsNext, StepKind, takes, takes_at, loses, is_refused, gives, misses, detaches}
 use Rattle.bb_memory_pool_machine.proofs.PoolSteps.{attaches, passes, kind_of, calls-step, length-left_by, test_apart}
 use Rattle.bb_memory_pool_machine.proofs.PoolFlags.{free_from_flag, taken_from_flag, flag_from_taken}
-use Rattle.bb_memory_pool_machine.proofs.PoolHolders.{is_holder, step_holds, nobody_holds, free_not_holder, holder_in_log, same_holder}
+use Rattle.bb_memory_pool_machine.proofs.PoolHolders.{is_holder, step_holds, nobody_holds, holder_in_log, same_holder}
 use Rattle.bb_memory_pool_machine.proofs.PoolDetached.{none_detached_alone, none_detached_at_opening, none_held_at_opening}
 use Rattle.bb_memory_pool_machine.proofs.PoolDetached.{none_taken_at_opening}
 
@@ -113,8 +113,8 @@ module _ (scene : PoolScene) (flags : List Bool) (logs : List PoolLog) (party : 
 
   pub free_not_held : slice_get flags bucket ≡ Some false → ¬ IsHeldAfter log bucket
   free_not_held free holds =
-      free_not_holder (left_by scene agree.steps) bucket party
-      (free_from_flag (left_by scene agree.steps) flags bucket agree.leaves free) (holder_from_log holds)
+      let is_free = free_from_flag (left_by scene agree.steps) flags bucket agree.leaves free in
+      let same = same_Some Free (HeldBy party) (sym is_free ∙ holder_from_log holds) in absurd (cc)
 
   pub held_is_taken : IsHeldAfter log bucket → slice_get flags bucket ≡ Some true
   held_is_taken holds =

@@ -86,7 +86,6 @@ loss_at buckets bucket = if nat_lt (bucket + 1) buckets then Loses bucket else R
 
 -- FLAGS AND LOGS
 
--- a flag is taken where a party holds the bucket, or the bucket is detached
 abbrev pub is_taken : Flag → Bool
 is_taken Free = false
 is_taken _ = true
@@ -104,8 +103,7 @@ AllAllowed history = All (λ entry. IsAllowed entry.outcome) history
 abbrev pub HasLog : List PoolLog → ℕ → PoolLog → Type 0
 HasLog logs party log = slice_get logs party ≡ Some log
 
--- some list of steps, each allowed, leaves these flags, and has as the steps of each party in the list of logs exactly its log,
--- in order
+-- some list of steps, each allowed, leaves these flags, and has as each party's own steps exactly its log, in order
 pub record LogsAgree (scene : PoolScene) (flags : List Bool) (logs : List PoolLog) : Type 0 where
   pub steps : List PoolStep
   pub allowed : AllAllowed (history_of scene steps)
@@ -120,8 +118,7 @@ pub record IsDetachedAfter (flags : List Bool) (logs : List PoolLog) (bucket : �
 abbrev pub with_entry : List PoolLog → ℕ → PoolLog → PoolEntry → List PoolLog
 with_entry logs party log entry = slice_set logs party (log ++ entry ∷ [])
 
--- an interleaving of this party's log with some logs of the others: a list of steps, each allowed, that has as the party's steps
--- exactly its log, in order
+-- an interleaving of this party's log with some logs of the others: a list of steps, each allowed, with just this log
 pub record Interleaving (scene : PoolScene) (party : ℕ) (log : PoolLog) : Type 0 where
   pub steps : List PoolStep
   pub allowed : AllAllowed (history_of scene steps)
@@ -159,7 +156,7 @@ IsCallRun geometry old layouts history new = IsRun (PoolCall geometry) old layou
 abbrev pub IsPoolRun : PoolScene → List PoolStep → List Layout → List Chunk → Type 0
 IsPoolRun scene steps layouts live = IsCallRun scene.geometry [] layouts (history_of scene steps) live
 
--- REFUSED PASSES
+-- REFUSED PASSES, AND MISSES
 
 -- entry k of the history is the party's, and its pass is refused there
 pub record IsRefusedAt (history : PoolLog) (party k : ℕ) : Type 0 where
@@ -195,8 +192,6 @@ pub record FoundHeld (scene : PoolScene) (steps : List PoolStep) (party last buc
   pub one_pass : IsOnePass scene steps party step last
   pub loses : LosesAt (history_of scene steps) party bucket step
   pub held : IsHeldInRun scene (take step steps) bucket
-
--- MISSES
 
 -- entry k of the history is the party's, and a miss of this bucket
 abbrev pub MissesAt : PoolLog → ℕ → ℕ → ℕ → Type 0

@@ -59,7 +59,6 @@ IsInCall state party bucket = slice_get state.calls party ≡ Some (Some bucket)
 
 -- STEPS
 
--- the answer to a step, and the state after it
 pub record PoolMove : Type 0 where
   pub outcome : PoolOutcome
   pub state : PoolState
