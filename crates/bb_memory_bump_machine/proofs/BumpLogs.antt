@@ -1,25 +1,24 @@
 -- A party's log says what the party is in, and a step adds to it alone.
-use Rattle.std.proofs.Common.{◌≡◌, ◌≢◌, ℕ, ◌<◌, List, [], ◌∷◌, ◌++◌, refl, sym, ap, ◌∙◌, subst, arith, Bool, true, false, Option}
+use Rattle.std.proofs.Common.{◌≡◌, ℕ, ◌<◌, List, [], ◌∷◌, ◌++◌, refl, sym, ap, ◌∙◌, subst, arith, Bool, true, false, Option}
 use Rattle.std.proofs.Common.{Some, None}
 use Rattle.std.specs.Prelude.{slice_get, ◌==◌, if◌then◌else◌, option_map}
 use Rattle.std.specs.List.{All}
 use Rattle.std.proofs.lemmas.Bool.{eq-eqb, ne_eqb}
 use Rattle.std.proofs.lemmas.List.Elements.{All-push}
-use Rattle.std.proofs.lemmas.Option.{same_Some, slice_get_within, get_or_from_slice_get}
-use Rattle.bb_memory_traits.specs.Chunk.{Region, Chunk}
+use Rattle.std.proofs.lemmas.Option.{slice_get_within, get_or_from_slice_get}
+use Rattle.bb_memory_traits.specs.Chunk.{Region}
 use Rattle.bb_memory_traits.specs.declared.layout.Layout.{Layout}
-use Rattle.bb_memory_bump_machine.specs.BumpMachine.{OngoingCall, BumpState, BumpMove, PartyMove, BumpScene, opening_state, chunk_at, fits}
-use Rattle.bb_memory_bump_machine.specs.BumpMachine.{position_behind, read_move, exchange_move, ending, seeing, passed, moved, read}
-use Rattle.bb_memory_bump_machine.specs.BumpMachine.{exchange, load, bump_step, bump_after, left_by, BumpStep, Read, Exchange, Load, Sees}
-use Rattle.bb_memory_bump_machine.specs.BumpMachine.{RefusedAtRead, Wins, Loses, RefusedAtLoss, Loaded}
-use Rattle.bb_memory_bump_machine.specs.BumpLogs.{BumpEntry, BumpLog, entry_of, entry_at, bump_history, history_of, is_by, entries_by}
-use Rattle.bb_memory_bump_machine.specs.BumpLogs.{log_of, seen_at, call_after, call_through, call_in, IsAllowed, AllAllowed, HasLog}
-use Rattle.bb_memory_bump_machine.specs.BumpLogs.{LogsAgree, with_entry}
+use Rattle.bb_memory_bump_machine.specs.BumpMachine.{OngoingCall, BumpState, BumpMove, PartyMove, BumpScene, opening_state}
+use Rattle.bb_memory_bump_machine.specs.BumpMachine.{read_move, exchange_move, passed, moved, read, exchange, load, bump_step}
+use Rattle.bb_memory_bump_machine.specs.BumpMachine.{bump_after, left_by, BumpStep, Read, Exchange, Load, Loaded}
+use Rattle.bb_memory_bump_machine.specs.BumpLogs.{BumpEntry, BumpLog, entry_of, entry_at, bump_history, history_of, is_by}
+use Rattle.bb_memory_bump_machine.specs.BumpLogs.{entries_by, log_of, seen_at, call_after, call_through, call_in, IsAllowed}
+use Rattle.bb_memory_bump_machine.specs.BumpLogs.{AllAllowed, HasLog, LogsAgree, with_entry}
 use Rattle.bb_memory_lists.proofs.SliceGets.{slice_get-replicate}
 use Rattle.bb_memory_lists.proofs.Logs.{logs-push}
 use Rattle.bb_memory_bump_machine.proofs.BumpAllowed.{none_allowed}
-use Rattle.bb_memory_bump_machine.proofs.BumpSteps.{StepView, ReadView, ExchangeView, step_view, read_move_view, exchange_move_view}
-use Rattle.bb_memory_bump_machine.proofs.BumpSteps.{reads, sees, refuses_read, exchanges, wins, loses}
+use Rattle.bb_memory_bump_machine.proofs.BumpSteps.{StepView, ReadView, ExchangeView, step_view, read_move_view}
+use Rattle.bb_memory_bump_machine.proofs.BumpSteps.{exchange_move_view, reads, sees, refuses_read, exchanges, wins, loses}
 use Rattle.bb_memory_bump_machine.proofs.BumpSteps.{refuses_loss, others_stay, written, one_there}
 
 -- THE CALL OF A PARTY
@@ -119,7 +118,7 @@ module _ (scene : BumpScene) (position : ℕ) (logs : List BumpLog) (party : ℕ
       LogsAgree scene (turn position).position (with_entry logs party log (entry_of step (turn position).outcome))
   turn_agrees step by turn allowed is =
       let state = left_by scene agree.steps in
-      subst (λ (found : ℕ). LogsAgree scene (turn found).position (with_entry logs party log (entry_of step (turn found).outcome)))
+      subst (λ found. LogsAgree scene (turn found).position (with_entry logs party log (entry_of step (turn found).outcome)))
       agree.leaves (agree_on step by (moved state party (turn state.position)) is (allowed state.position))
 
   agreed_call : (call : Option OngoingCall) → party < scene.parties → call_in log ≡ call →

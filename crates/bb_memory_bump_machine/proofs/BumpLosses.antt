@@ -6,13 +6,16 @@ use Rattle.std.proofs.lemmas.Bool.{eqb-true, eq-eqb}
 use Rattle.std.proofs.lemmas.List.Sums.{sum_by-cons}
 use Rattle.std.proofs.lemmas.Option.{same_Some}
 use Rattle.bb_memory_traits.specs.Chunk.{Region}
-use Rattle.bb_memory_bump_machine.specs.BumpMachine.{OngoingCall, BumpState, BumpMove, PartyMove, BumpScene, IsIdle, IsInCall, opening_state}
-use Rattle.bb_memory_bump_machine.specs.BumpMachine.{bump_step, bump_after, left_by, moved, BumpStep, BumpOutcome, Exchange}
-use Rattle.bb_memory_bump_machine.specs.BumpLogs.{BumpEntry, BumpLog, entry_at, bump_history, stretch_after, outcome_after, entries_by}
-use Rattle.bb_memory_bump_machine.specs.BumpLogs.{is_by, HasNoClear, is_loss, is_beginning, IsLossAt, losses_in, calls_begun_in}
+use Rattle.bb_memory_bump_machine.specs.BumpMachine.{OngoingCall, BumpState, BumpMove, PartyMove, BumpScene, IsIdle, IsInCall}
+use Rattle.bb_memory_bump_machine.specs.BumpMachine.{opening_state, bump_step, bump_after, left_by, moved, BumpStep, BumpOutcome}
+use Rattle.bb_memory_bump_machine.specs.BumpMachine.{Exchange}
+use Rattle.bb_memory_bump_machine.specs.BumpLogs.{BumpEntry, BumpLog, entry_at, bump_history, stretch_after, outcome_after}
+use Rattle.bb_memory_bump_machine.specs.BumpLogs.{entries_by, is_by, HasNoClear, is_loss, is_beginning, IsLossAt, losses_in}
+use Rattle.bb_memory_bump_machine.specs.BumpLogs.{calls_begun_in}
 use Rattle.bb_memory_lists.proofs.SliceGets.{slice_get-set_same}
-use Rattle.bb_memory_bump_machine.proofs.BumpSteps.{StepView, ExchangeView, step_view, reads, sees, refuses_read, exchanges, wins, loses}
-use Rattle.bb_memory_bump_machine.proofs.BumpSteps.{refuses_loss, loads, clears, passes, others_stay, written, each_call-set, one_there}
+use Rattle.bb_memory_bump_machine.proofs.BumpSteps.{StepView, ExchangeView, step_view, reads, sees, refuses_read, exchanges, wins}
+use Rattle.bb_memory_bump_machine.proofs.BumpSteps.{loses, refuses_loss, loads, clears, passes, others_stay, written}
+use Rattle.bb_memory_bump_machine.proofs.BumpSteps.{each_call-set, one_there}
 use Rattle.bb_memory_bump_machine.proofs.BumpRuns.{bump_after-append, chunk_at-above}
 use Rattle.bb_memory_bump_machine.proofs.BumpStretches.{IsClear, not_clear, position_in_size, stretch_rises}
 
@@ -86,7 +89,8 @@ own_call_turn : (region : Region) (state : BumpState) (step : BumpStep) (move : 
     CallTurn move.state party call (weight true (is_loss move.outcome))
 own_call_turn region state step move party call (exchanges other old turn at view) not by is below =
     let own = same_Some old call (one_there state other party (Some old) (Some call) by at is) in
-    subst (λ p. CallTurn (moved state p turn).state party call (weight true (is_loss turn.outcome))) (sym (eqb-true other party by))
+    subst (λ p. CallTurn (moved state p turn).state party call (weight true (is_loss turn.outcome)))
+    (sym (eqb-true other party by))
     (exchange_turn region state party call turn is below (subst (λ c. ExchangeView region state.position c turn) own view))
 own_call_turn region state step move party call clears not by is below = absurd (not tt)
 own_call_turn region state step move party call (passes other) not by is below = goes_on call is (omega arith)
@@ -135,7 +139,8 @@ count_own false counted entry log = omega arith
 module _ (region : Region) (party : ℕ) where
   -- how often a step of the party has such an outcome
   counted_from : (BumpOutcome → Bool) → BumpState → List BumpStep → ℕ
-  counted_from counted state steps = count_by (λ entry. counted entry.outcome) (entries_by party (bump_history region state steps))
+  counted_from counted state steps =
+      count_by (λ entry. counted entry.outcome) (entries_by party (bump_history region state steps))
 
   abbrev losses_from : BumpState → List BumpStep → ℕ
   losses_from state steps = counted_from is_loss state steps
@@ -205,7 +210,8 @@ module _ (region : Region) (party : ℕ) where
       elim (idle_turn region state step party (is_by party step) refl parts.0 now)
       as (λ _. losses_from state (step ∷ steps) ≤ (bump_after region next steps).position) [
         | stays later lost ↦
-            let rest = one_call_loses_little next steps parts.1 later (omega (arith, begun, few)) in omega (arith, count, lost, rest)
+            let rest = one_call_loses_little next steps parts.1 later (omega (arith, begun, few)) in
+            omega (arith, count, lost, rest)
         | begins call is lost one ↦
             let view = step_view region state step in
             let below = step_sees region state step move party view parts.0 (idle_sees state party now) in
@@ -235,7 +241,8 @@ loss_raises region state move party position call (exchanges other old turn at v
     raised : (turn : PartyMove) → ExchangeView region state.position old turn → old.seen ≡ call.seen →
         IsLossAt position turn.outcome → call.seen < position
     raised turn (wins same) own lost = absurd lost
-    raised turn (loses apart fit) own lost = omega (arith, lost, less_when_apart state.position old.seen call.seen apart own below)
+    raised turn (loses apart fit) own lost =
+        omega (arith, lost, less_when_apart state.position old.seen call.seen apart own below)
     raised turn (refuses_loss apart fit) own lost =
         omega (arith, lost, less_when_apart state.position old.seen call.seen apart own below)
 loss_raises region state move party position call (passes other) is below lost = absurd lost

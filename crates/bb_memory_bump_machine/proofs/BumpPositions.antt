@@ -1,21 +1,19 @@
 -- What a log says of the position.
-use Rattle.std.proofs.Common.{◌≡◌, ℕ, ◌≤◌, List, [], ◌∷◌, length, refl, sym, ap, ◌∙◌, subst, arith, Bool, true, false}
-use Rattle.std.proofs.Common.{Option, Some, None}
-use Rattle.std.specs.Prelude.{if◌then◌else◌, IfSome}
+use Rattle.std.proofs.Common.{◌≡◌, ℕ, ◌≤◌, List, [], ◌∷◌, subst, arith, Option, Some, None}
+use Rattle.std.specs.Prelude.{IfSome}
 use Rattle.std.specs.List.{All, AllByRecursion}
 use Rattle.std.proofs.lemmas.List.Elements.{All-filter, All-from_recursion, recursion_from_All}
-use Rattle.std.proofs.lemmas.List.{length-replicate}
 use Rattle.bb_memory_traits.specs.Chunk.{Region, Chunk}
 use Rattle.bb_memory_traits.specs.BumpObject.{StandsFor}
 use Rattle.bb_memory_bump_machine.specs.BumpMachine.{BumpState, BumpMove, BumpScene, opening_state}
 use Rattle.bb_memory_bump_machine.specs.BumpMachine.{bump_step, bump_after, left_by, BumpStep}
-use Rattle.bb_memory_bump_machine.specs.BumpLogs.{BumpEntry, BumpLog, entry_at, bump_history, history_of, is_by, entries_by, OpensWith}
-use Rattle.bb_memory_bump_machine.specs.BumpLogs.{live_after, IsAllowed, AllAllowed, HasLog, LogsAgree, Interleaving, CommonInterleaving}
+use Rattle.bb_memory_bump_machine.specs.BumpLogs.{BumpEntry, BumpLog, bump_history, history_of, is_by, OpensWith, live_after}
+use Rattle.bb_memory_bump_machine.specs.BumpLogs.{IsAllowed, AllAllowed, HasLog, LogsAgree, Interleaving, CommonInterleaving}
 use Rattle.bb_memory_bump_machine.specs.BumpLogs.{HasPositionUpTo, position_in, greater_of, greatest_in, seen_in}
 use Rattle.bb_memory_bump_machine.proofs.BumpSteps.{StepView, step_view, reads, sees, exchanges, wins, clears, passes}
 use Rattle.bb_memory_bump_machine.proofs.BumpRuns.{chunk_at-above, calls_stand}
 use Rattle.bb_memory_bump_machine.proofs.BumpStretches.{position_in_size, stretch_rises}
-use Rattle.bb_memory_bump_machine.proofs.BumpAllowed.{first_allowed, rest_allowed, no_clear_when_allowed, parties_stay, owner_of}
+use Rattle.bb_memory_bump_machine.proofs.BumpAllowed.{first_allowed, rest_allowed, no_clear_when_allowed}
 
 -- POSITIONS IN A LOG
 

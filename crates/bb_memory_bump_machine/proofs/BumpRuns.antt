@@ -7,16 +7,15 @@ use Rattle.bb_memory_traits.specs.declared.layout.Layout.{Layout}
 use Rattle.bb_memory_traits.specs.declared.allocator.AllocationError.TheVariants.{OutOfMemory}
 use Rattle.bb_memory_traits.specs.Object.{appended}
 use Rattle.bb_memory_traits.specs.BumpObject.{StandsFor, chunk_at_or_after, next_chunk, used_space}
-use Rattle.bb_memory_bump_machine.specs.BumpMachine.{OngoingCall, BumpState, BumpMove, BumpScene, AllFitting, chunk_at, fits}
-use Rattle.bb_memory_bump_machine.specs.BumpMachine.{position_behind, opening_state, bump_step, bump_after, left_by, BumpStep, Wins}
-use Rattle.bb_memory_bump_machine.specs.BumpMachine.{RefusedAtLoss}
-use Rattle.bb_memory_bump_machine.specs.BumpLogs.{BumpCall, Allocate, ClearAll, IsCallRun, left_by_calls, layout_in, asked_by, decided}
-use Rattle.bb_memory_bump_machine.specs.BumpLogs.{bump_calls, calls_of, calls_after, OpensWith, live_after}
+use Rattle.bb_memory_bump_machine.specs.BumpMachine.{BumpState, BumpMove, BumpScene, AllFitting, chunk_at, fits, position_behind}
+use Rattle.bb_memory_bump_machine.specs.BumpMachine.{opening_state, bump_step, bump_after, left_by, BumpStep, Wins, RefusedAtLoss}
+use Rattle.bb_memory_bump_machine.specs.BumpLogs.{BumpCall, Allocate, ClearAll, IsCallRun, left_by_calls, layout_in, asked_by}
+use Rattle.bb_memory_bump_machine.specs.BumpLogs.{decided, bump_calls, calls_of, calls_after, OpensWith, live_after}
 use Rattle.bb_memory_traits.proofs.LeastPlaces.{least_place-is}
 use Rattle.bb_memory_traits.proofs.LiveLists.{StandsFor-end, StandsFor-push, StandsFor-empty}
 use Rattle.bb_memory_lists.proofs.SliceGets.{slice_get-replicated}
-use Rattle.bb_memory_bump_machine.proofs.BumpSteps.{StepView, step_view, reads, refuses_read, exchanges, wins, refuses_loss, clears}
-use Rattle.bb_memory_bump_machine.proofs.BumpSteps.{all_fitting-step}
+use Rattle.bb_memory_bump_machine.proofs.BumpSteps.{StepView, step_view, reads, refuses_read, exchanges, wins, refuses_loss}
+use Rattle.bb_memory_bump_machine.proofs.BumpSteps.{clears, all_fitting-step}
 
 -- CALLS ONE AFTER ANOTHER
 

@@ -6,10 +6,11 @@ use Rattle.std.proofs.lemmas.Bool.{eqb-true, eqb-false}
 use Rattle.std.proofs.lemmas.Option.{same_Some}
 use Rattle.bb_memory_traits.specs.Chunk.{Region}
 use Rattle.bb_memory_traits.specs.declared.layout.Layout.{Layout}
-use Rattle.bb_memory_bump_machine.specs.BumpMachine.{OngoingCall, BumpState, BumpMove, PartyMove, IsIdle, IsInCall, IsFitting, AllFitting, chunk_at}
-use Rattle.bb_memory_bump_machine.specs.BumpMachine.{fits, position_behind, ending, seeing, read_move, exchange_move, passed, moved, read, exchange, load}
-use Rattle.bb_memory_bump_machine.specs.BumpMachine.{bump_step, BumpStep, Read, Exchange, Load, Clear, Sees, RefusedAtRead, Wins, Loses}
-use Rattle.bb_memory_bump_machine.specs.BumpMachine.{RefusedAtLoss, Loaded, Cleared}
+use Rattle.bb_memory_bump_machine.specs.BumpMachine.{OngoingCall, BumpState, BumpMove, PartyMove, IsIdle, IsInCall, IsFitting}
+use Rattle.bb_memory_bump_machine.specs.BumpMachine.{AllFitting, chunk_at, fits, position_behind, ending, seeing, read_move}
+use Rattle.bb_memory_bump_machine.specs.BumpMachine.{exchange_move, passed, moved, read, exchange, load, bump_step, BumpStep}
+use Rattle.bb_memory_bump_machine.specs.BumpMachine.{Read, Exchange, Load, Clear, Sees, RefusedAtRead, Wins, Loses, RefusedAtLoss}
+use Rattle.bb_memory_bump_machine.specs.BumpMachine.{Loaded, Cleared}
 use Rattle.bb_memory_bump_machine.specs.BumpLogs.{is_by}
 use Rattle.bb_memory_lists.proofs.SliceGets.{slice_get-set, slice_get-set_other, slice_get-set_same}
 

@@ -2,10 +2,11 @@
 use Rattle.std.proofs.Common.{◌≡◌, ◌≤◌, List, [], ◌∷◌, ◌++◌, append_assoc, append-nil, sym, ap, ◌∙◌, subst, arith}
 use Rattle.bb_memory_traits.specs.Chunk.{Region, Chunk, IsSound}
 use Rattle.bb_memory_traits.specs.BumpObject.{end_of_last, StandsFor}
-use Rattle.bb_memory_bump_machine.specs.BumpMachine.{BumpState, BumpMove, BumpScene, AllFitting, chunk_at, opening_state, bump_step}
-use Rattle.bb_memory_bump_machine.specs.BumpMachine.{bump_after, left_by, BumpStep, Read, Exchange, Load, Clear, Wins, RefusedAtLoss}
-use Rattle.bb_memory_bump_machine.specs.BumpLogs.{bump_history, HasNoClear, won_at, chunks_won, asked_by, bump_calls, decided, layout_in}
-use Rattle.bb_memory_bump_machine.specs.BumpLogs.{left_by_calls}
+use Rattle.bb_memory_bump_machine.specs.BumpMachine.{BumpState, BumpMove, BumpScene, AllFitting, chunk_at, opening_state}
+use Rattle.bb_memory_bump_machine.specs.BumpMachine.{bump_step, bump_after, left_by, BumpStep, Read, Exchange, Load, Clear, Wins}
+use Rattle.bb_memory_bump_machine.specs.BumpMachine.{RefusedAtLoss}
+use Rattle.bb_memory_bump_machine.specs.BumpLogs.{bump_history, HasNoClear, won_at, chunks_won, asked_by, bump_calls, decided}
+use Rattle.bb_memory_bump_machine.specs.BumpLogs.{layout_in, left_by_calls}
 use Rattle.bb_memory_traits.proofs.LiveLists.{end_of_last-above, end_of_last-append, in_order-rest, sound_from_order}
 use Rattle.bb_memory_traits.proofs.LiveLists.{stands_for_some, StandsFor-end, StandsFor-within}
 use Rattle.bb_memory_bump_machine.proofs.BumpSteps.{StepView, step_view, reads, sees, exchanges, wins, refuses_loss, clears}

@@ -6,11 +6,11 @@ use Rattle.std.specs.List.{All, AllByRecursion}
 use Rattle.std.proofs.lemmas.List.{length-replicate}
 use Rattle.std.proofs.lemmas.List.Elements.{All-from_recursion}
 use Rattle.bb_memory_traits.specs.Chunk.{Region, Chunk, chunk_end}
-use Rattle.bb_memory_bump_machine.specs.BumpMachine.{BumpState, BumpScene, opening_state, bump_step, bump_after, BumpStep, BumpOutcome}
-use Rattle.bb_memory_bump_machine.specs.BumpMachine.{Wins}
-use Rattle.bb_memory_bump_machine.specs.BumpLogs.{BumpEntry, BumpLog, entry_at, bump_history, is_by, entries_by, won_at, chunks_won}
-use Rattle.bb_memory_bump_machine.specs.BumpLogs.{log_of, AllAllowed, HasLog, LogsAgree, HasPositionUpTo, position_in, greater_of}
-use Rattle.bb_memory_bump_machine.specs.BumpLogs.{greatest_in, seen_in}
+use Rattle.bb_memory_bump_machine.specs.BumpMachine.{BumpState, BumpScene, opening_state, bump_step, bump_after, BumpStep}
+use Rattle.bb_memory_bump_machine.specs.BumpMachine.{BumpOutcome, Wins}
+use Rattle.bb_memory_bump_machine.specs.BumpLogs.{BumpEntry, BumpLog, entry_at, bump_history, is_by, entries_by, won_at}
+use Rattle.bb_memory_bump_machine.specs.BumpLogs.{chunks_won, log_of, AllAllowed, HasLog, LogsAgree, HasPositionUpTo, position_in}
+use Rattle.bb_memory_bump_machine.specs.BumpLogs.{greater_of, greatest_in, seen_in}
 use Rattle.bb_memory_bump_machine.proofs.BumpSteps.{step_view}
 pub use Rattle.bb_memory_bump_machine.proofs.BumpAllowed.{owner_of}
 use Rattle.bb_memory_bump_machine.proofs.BumpAllowed.{first_allowed, rest_allowed, parties_stay}

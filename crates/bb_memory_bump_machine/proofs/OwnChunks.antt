@@ -5,14 +5,13 @@ use Rattle.std.specs.List.{All}
 use Rattle.std.proofs.lemmas.List.Elements.{All-from_recursion}
 use Rattle.bb_memory_traits.specs.Chunk.{Chunk, IsInside, AreApart, IsSound}
 use Rattle.bb_memory_traits.specs.BumpObject.{end_of_last, IsInOrder, StandsFor}
-use Rattle.bb_memory_bump_machine.specs.BumpMachine.{BumpScene, left_by, opening_state, BumpStep}
-use Rattle.bb_memory_bump_machine.specs.BumpLogs.{OpensWith, live_after, BumpEntry, BumpLog, history_of, is_by, entries_by, won_at}
-use Rattle.bb_memory_bump_machine.specs.BumpLogs.{chunks_won, AllAllowed, Interleaving, LogsAgree}
-use Rattle.bb_memory_traits.proofs.LiveLists.{all_above, all_end_by, apart_from_order, end_of_last-above, in_order-append, in_order-front}
-use Rattle.bb_memory_traits.proofs.LiveLists.{in_order-rest, stands_for_some}
+use Rattle.bb_memory_bump_machine.specs.BumpMachine.{BumpScene, opening_state, BumpStep}
+use Rattle.bb_memory_bump_machine.specs.BumpLogs.{OpensWith, live_after, BumpEntry, BumpLog, history_of, is_by, entries_by}
+use Rattle.bb_memory_bump_machine.specs.BumpLogs.{won_at, chunks_won, AllAllowed, Interleaving, LogsAgree}
+use Rattle.bb_memory_traits.proofs.LiveLists.{all_above, all_end_by, apart_from_order, end_of_last-above, in_order-append}
+use Rattle.bb_memory_traits.proofs.LiveLists.{in_order-front, in_order-rest, stands_for_some}
 use Rattle.bb_memory_bump_machine.proofs.BumpMeetings.{all_in_log, all_parts, allowed_stands, apart_behind}
-use Rattle.bb_memory_bump_machine.proofs.BumpRuns.{fitting_at_opening}
-use Rattle.bb_memory_bump_machine.proofs.BumpStretches.{stretch_grows, stretch_stands}
+use Rattle.bb_memory_bump_machine.proofs.BumpStretches.{stretch_grows}
 use Rattle.bb_memory_bump_machine.proofs.BumpAllowed.{no_clear_when_allowed}
 
 in_order_lower : (v w : ℕ) (xs : List Chunk) → v ≤ w → IsInOrder w xs → IsInOrder v xs
@@ -69,10 +68,11 @@ interleaved_older scene position party log live opens own =
     let stands = allowed_stands scene live own.steps own.allowed opens in
     let v = end_of_last scene.region.start live in
     let ordered = in_order-rest scene.region.start live (chunks_won history) stands.in_order in
-    let above = All-from_recursion (λ y. v ≤ y.place) (chunks_won history) (all_above v v (chunks_won history) (omega arith) ordered) in
+    let won = chunks_won history in
+    let above = All-from_recursion (λ y. v ≤ y.place) won (all_above v v won (omega arith) ordered) in
     let below = all_end_by scene.region.start v live opens.in_order (omega arith) in
     apart_behind v live (chunks_won log) below
-    (subst (λ (l : BumpLog). All (λ y. v ≤ y.place) (chunks_won l)) own.logged (all_in_log (λ y. v ≤ y.place) party history above))
+    (subst (λ l. All (λ y. v ≤ y.place) (chunks_won l)) own.logged (all_in_log (λ y. v ≤ y.place) party history above))
 
 -- the object's list is the one before with the chunks won behind it
 pub interleaved_since : (scene : BumpScene) (position party : ℕ) (log : BumpLog) (live : List Chunk)

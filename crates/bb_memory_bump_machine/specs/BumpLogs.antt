@@ -5,9 +5,9 @@ use Rattle.bb_memory_traits.specs.Chunk.{Region, Chunk}
 use Rattle.bb_memory_traits.specs.declared.layout.Layout.{Layout}
 use Rattle.bb_memory_traits.specs.declared.allocator.AllocationError.{AllocationError}
 use Rattle.bb_memory_traits.specs.declared.allocator.AllocationError.TheVariants.{OutOfMemory}
-use Rattle.bb_memory_bump_machine.specs.BumpMachine.{BumpScene, BumpState, opening_state, left_by, bump_step, BumpStep, Read, Exchange}
-use Rattle.bb_memory_bump_machine.specs.BumpMachine.{Load, Clear, BumpOutcome, Sees, Wins, Loses, RefusedAtLoss, OngoingCall}
-use Rattle.bb_memory_bump_machine.specs.BumpMachine.{position_behind, RefusedAtRead, Loaded, Cleared, Passed}
+use Rattle.bb_memory_bump_machine.specs.BumpMachine.{BumpScene, BumpState, opening_state, left_by, bump_step, BumpStep, Read}
+use Rattle.bb_memory_bump_machine.specs.BumpMachine.{Exchange, Load, Clear, BumpOutcome, Sees, Wins, Loses, RefusedAtLoss}
+use Rattle.bb_memory_bump_machine.specs.BumpMachine.{OngoingCall, position_behind, RefusedAtRead, Loaded, Cleared, Passed}
 use Rattle.bb_memory_traits.specs.Object.{Allocates, appended}
 use Rattle.bb_memory_traits.specs.BumpObject.{bump_object, StandsFor}
 

@@ -6,8 +6,8 @@ use Rattle.bb_memory_traits.specs.Chunk.{Region, region_end, Chunk, chunk_end}
 use Rattle.bb_memory_traits.specs.declared.layout.Layout.{Layout}
 use Rattle.bb_memory_traits.specs.BumpObject.{chunk_at_or_after}
 pub use Rattle.bb_memory_bump_machine.specs.declared.steps.bump.BumpOutcome.{BumpOutcome}
-pub use Rattle.bb_memory_bump_machine.specs.declared.steps.bump.BumpOutcome.TheVariants.{Cleared, Loaded, Loses, Passed, RefusedAtLoss}
-pub use Rattle.bb_memory_bump_machine.specs.declared.steps.bump.BumpOutcome.TheVariants.{RefusedAtRead, Sees, Wins}
+pub use Rattle.bb_memory_bump_machine.specs.declared.steps.bump.BumpOutcome.TheVariants.{Cleared, Loaded, Loses, Passed}
+pub use Rattle.bb_memory_bump_machine.specs.declared.steps.bump.BumpOutcome.TheVariants.{RefusedAtLoss, RefusedAtRead, Sees, Wins}
 pub use Rattle.bb_memory_bump_machine.specs.declared.steps.bump.BumpStep.{BumpStep}
 pub use Rattle.bb_memory_bump_machine.specs.declared.steps.bump.BumpStep.TheVariants.{Clear, Exchange, Load, Read}
 

@@ -2,8 +2,8 @@
 use Rattle.std.specs.Prelude.{◌≡◌, ℕ, ◌≤◌, List, Option, Result, IfOk, IfSome, OnErr, OnOk}
 use Rattle.std.specs.declared.vec.Vec.{Vec}
 use Rattle.bb_memory_traits.specs.Chunk.{Region, IsRegion}
-use Rattle.bb_memory_bump_machine.specs.BumpMachine.{OngoingCall, BumpState, BumpScene, PartyMove, AllFitting, IsFitting, opening_state}
-use Rattle.bb_memory_bump_machine.specs.BumpMachine.{bump_step, bump_after, BumpStep, BumpOutcome}
+use Rattle.bb_memory_bump_machine.specs.BumpMachine.{OngoingCall, BumpState, BumpScene, PartyMove, AllFitting, IsFitting}
+use Rattle.bb_memory_bump_machine.specs.BumpMachine.{opening_state, bump_step, bump_after, BumpStep, BumpOutcome}
 use Rattle.bb_memory_bump_machine.specs.BumpLogs as histories
 
 pub record BumpWorld : Type 0 where

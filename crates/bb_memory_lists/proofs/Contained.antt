@@ -1,5 +1,5 @@
 -- What stands in a list: behind others, in what is kept of it, and by a figure of its own.
-use Rattle.std.proofs.Common.{◌≡◌, ℕ, zero, suc, ◌<◌, ◌≤◌, Some, Bool, true, false, List, [], ◌∷◌, refl, sym, ap, ◌∙◌, subst}
+use Rattle.std.proofs.Common.{◌≡◌, ℕ, zero, suc, ◌<◌, ◌≤◌, Some, Bool, true, List, [], ◌∷◌, refl, sym, ap, ◌∙◌, subst}
 use Rattle.std.proofs.Common.{arith, inl, inr}
 use Rattle.std.specs.Prelude.{All, Any, Contains, filter, if◌then◌else◌, map, slice_get}
 use Rattle.std.proofs.lemmas.Bool.{cases_lt, cond_both}

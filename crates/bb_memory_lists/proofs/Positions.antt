@@ -1,7 +1,7 @@
 -- What stands at each position of a list, and after a removal; the first position of an item that passes a test.
 use Rattle.std.proofs.Common.{◌≡◌, ◌≢◌, ℕ, zero, suc, ◌+◌, ◌<◌, Bool, true, false, not, cond, List, [], ◌∷◌, ◌++◌, length, get_or}
 use Rattle.std.proofs.Common.{refl, ap, subst, arith, Some, None, is_some, IsSome}
-use Rattle.std.specs.Prelude.{position, slice_get, remove, All, AllPairs, Contains}
+use Rattle.std.specs.Prelude.{position, slice_get, remove, All, AllPairs}
 use Rattle.std.specs.List.{position_or_len}
 use Rattle.std.proofs.lemmas.Bool.{lt-ltb}
 use Rattle.std.proofs.lemmas.Option.{slice_get_within, slice_get-get_or, get_or_from_slice_get}

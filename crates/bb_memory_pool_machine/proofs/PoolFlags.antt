@@ -1,6 +1,5 @@
 -- A pool's flags, and which of them are taken.
-use Rattle.std.proofs.Common.{◌≡◌, ℕ, zero, suc, ◌<◌, length, List, [], ◌∷◌, map, refl, sym, ap, ◌∙◌, Bool, true, false, Option}
-use Rattle.std.proofs.Common.{Some, None, inl, inr}
+use Rattle.std.proofs.Common.{◌≡◌, ℕ, ◌<◌, length, List, map, refl, sym, ap, ◌∙◌, Bool, true, false, Option, Some, None, inl, inr}
 use Rattle.std.specs.Prelude.{◌⊎◌, option_map, slice_get, slice_set}
 use Rattle.std.proofs.Math.Seq.{map-set_same}
 use Rattle.std.proofs.lemmas.List.{map-set}

@@ -1,13 +1,14 @@
 -- Who holds a bucket stands in the logs.
-use Rattle.std.proofs.Common.{◌≡◌, ℕ, zero, suc, List, [], ◌∷◌, ◌↔◌, replicate, refl, sym, ap, ◌∙◌, subst, Bool, true, false, Option}
+use Rattle.std.proofs.Common.{◌≡◌, ℕ, List, [], ◌∷◌, ◌↔◌, replicate, refl, sym, ap, ◌∙◌, subst, Bool, true, false, Option}
 use Rattle.std.proofs.Common.{Some, None, inl, inr}
 use Rattle.std.specs.Prelude.{slice_get, slice_set, ◌==◌, if◌then◌else◌, fold}
 use Rattle.std.proofs.lemmas.Bool.{cases_eq, eqb-true}
 use Rattle.std.proofs.lemmas.Option.{same_Some}
-use Rattle.bb_memory_pool_machine.specs.PoolMachine.{PoolScene, PoolState, PoolMove, IsFlag, IsHolder, IsDetached, pool_step, pool_after}
-use Rattle.bb_memory_pool_machine.specs.PoolMachine.{opening_state, left_by, PoolOutcome, Flag, Free, HeldBy, Detached, PoolStep}
-use Rattle.bb_memory_pool_machine.specs.PoolLogs.{entry_of, PoolLog, PoolEntry, pool_history, is_by, entries_by, log_of, held_after}
-use Rattle.bb_memory_pool_machine.specs.PoolLogs.{IsHeldAfter}
+use Rattle.bb_memory_pool_machine.specs.PoolMachine.{PoolScene, PoolState, PoolMove, IsFlag, IsHolder, IsDetached, pool_step}
+use Rattle.bb_memory_pool_machine.specs.PoolMachine.{pool_after, opening_state, left_by, PoolOutcome, Flag, Free, HeldBy}
+use Rattle.bb_memory_pool_machine.specs.PoolMachine.{Detached, PoolStep}
+use Rattle.bb_memory_pool_machine.specs.PoolLogs.{entry_of, PoolLog, PoolEntry, pool_history, is_by, entries_by, log_of}
+use Rattle.bb_memory_pool_machine.specs.PoolLogs.{held_after, IsHeldAfter}
 use Rattle.bb_memory_lists.proofs.Logs.{fold-own}
 use Rattle.bb_memory_lists.proofs.SliceGets.{replicated-figure, slice_get-same, slice_get-set_apart, slice_get-set_at}
 use Rattle.bb_memory_pool_machine.proofs.PoolSteps.{StepKind, takes, takes_at, gives, detaches, attaches, kind_of}

@@ -1,13 +1,14 @@
 -- A party's log says where its pass is, and a step of the party adds to it alone.
-use Rattle.std.proofs.Common.{◌≡◌, ◌≢◌, ℕ, zero, suc, ◌+◌, ◌<◌, List, [], ◌∷◌, ◌++◌, replicate, refl, sym, ap, ◌∙◌, subst, arith}
-use Rattle.std.proofs.Common.{Bool, true, false, Option, Some, None, inl, inr}
-use Rattle.std.specs.Prelude.{slice_get, slice_set, ◌==◌, if◌then◌else◌, fold, All}
+use Rattle.std.proofs.Common.{◌≡◌, ℕ, ◌+◌, ◌<◌, List, [], ◌∷◌, ◌++◌, refl, sym, ap, ◌∙◌, subst}
+use Rattle.std.proofs.Common.{Bool, Option, Some, None, inl, inr}
+use Rattle.std.specs.Prelude.{slice_get, slice_set, ◌==◌, if◌then◌else◌, All}
 use Rattle.std.proofs.lemmas.Bool.{cases_eq}
 use Rattle.std.proofs.lemmas.List.Elements.{All-push}
-use Rattle.bb_memory_pool_machine.specs.PoolMachine.{PoolScene, PoolState, PoolMove, pool_step, pool_after, opening_state, left_by}
-use Rattle.bb_memory_pool_machine.specs.PoolMachine.{PoolStep, PoolOutcome}
-use Rattle.bb_memory_pool_machine.specs.PoolLogs.{entry_of, PoolLog, PoolEntry, pool_history, is_by, entries_by, history_of, log_of}
-use Rattle.bb_memory_pool_machine.specs.PoolLogs.{HasLog, pass_after, pass_in, taken_flags, IsAllowed, LogsAgree, with_entry}
+use Rattle.bb_memory_pool_machine.specs.PoolMachine.{PoolScene, PoolState, PoolMove, pool_step, pool_after, opening_state}
+use Rattle.bb_memory_pool_machine.specs.PoolMachine.{left_by, PoolStep, PoolOutcome}
+use Rattle.bb_memory_pool_machine.specs.PoolLogs.{entry_of, PoolLog, PoolEntry, pool_history, is_by, entries_by, history_of}
+use Rattle.bb_memory_pool_machine.specs.PoolLogs.{log_of, HasLog, pass_after, pass_in, taken_flags, IsAllowed, LogsAgree}
+use Rattle.bb_memory_pool_machine.specs.PoolLogs.{with_entry}
 use Rattle.bb_memory_lists.proofs.Logs.{logs-push}
 use Rattle.bb_memory_lists.proofs.SliceGets.{slice_get-replicate, slice_get-set_apart, slice_get-set_at}
 use Rattle.bb_memory_pool_machine.proofs.PoolSteps.{IsNext, StepKind, takes, takes_at, loses, is_refused, kind_of, next_of_idle}

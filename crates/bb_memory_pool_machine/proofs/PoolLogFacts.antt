@@ -1,5 +1,5 @@
 -- What follows where a pool's flags and logs agree.
-use Rattle.std.proofs.Common.{◌≡◌, ◌≢◌, ℕ, zero, suc, ◌+◌, ◌<◌, ◌≤◌, List, [], ◌∷◌, length, replicate, refl, sym, ap, ◌∙◌, subst}
+use Rattle.std.proofs.Common.{◌≡◌, ℕ, zero, suc, ◌<◌, ◌≤◌, List, [], ◌∷◌, length, refl, sym, ap, ◌∙◌, subst}
 use Rattle.std.proofs.Common.{arith, Bool, true, false, Option, Some, None, inl, inr}
 use Rattle.std.specs.Prelude.{◌⊎◌, ◌==◌, slice_get, if◌then◌else◌}
 use Rattle.std.specs.List.{AllByRecursion}
@@ -7,13 +7,12 @@ use Rattle.std.proofs.lemmas.Bool.{cases_lt}
 use Rattle.std.proofs.lemmas.Option.{same_Some, slice_get_within}
 use Rattle.std.proofs.lemmas.List.{length-map, length-replicate}
 use Rattle.std.proofs.lemmas.List.Elements.{recursion_from_All}
-use Rattle.bb_memory_pool_machine.specs.PoolMachine.{PoolScene, PoolState, PoolMove, IsFlag, IsHolder, IsDetached, pool_step, taking}
-use Rattle.bb_memory_pool_machine.specs.PoolMachine.{with_flag, with_pass, opening_state, left_by, Flag, Free, HeldBy, Detached, PoolStep}
-use Rattle.bb_memory_pool_machine.specs.PoolMachine.{Try, TryAt, Takes}
-use Rattle.bb_memory_pool_machine.specs.PoolLogs.{entry_of, PoolLog, PoolEntry, pool_history, is_by, entries_by, history_of, log_of}
-use Rattle.bb_memory_pool_machine.specs.PoolLogs.{AllAllowed, CommonInterleaving, HasLog, IsHeldAfter, Interleaving, IsAllowed, held_after}
-use Rattle.bb_memory_pool_machine.specs.PoolLogs.{IsDetachedAfter, LogsAgree, is_taken}
-use Rattle.bb_memory_pool_machine.proofs.PoolSteps.{IsNext, StepKind, takes, takes_at, loses, is_refused, gives, misses, detaches}
+use Rattle.bb_memory_pool_machine.specs.PoolMachine.{PoolScene, PoolState, PoolMove, IsHolder, IsDetached, pool_step}
+use Rattle.bb_memory_pool_machine.specs.PoolMachine.{opening_state, left_by, Free, HeldBy, PoolStep, Try, TryAt, Takes}
+use Rattle.bb_memory_pool_machine.specs.PoolLogs.{entry_of, PoolLog, PoolEntry, pool_history, is_by, entries_by, history_of}
+use Rattle.bb_memory_pool_machine.specs.PoolLogs.{log_of, AllAllowed, CommonInterleaving, HasLog, IsHeldAfter, Interleaving}
+use Rattle.bb_memory_pool_machine.specs.PoolLogs.{IsAllowed, held_after, IsDetachedAfter, LogsAgree, is_taken}
+use Rattle.bb_memory_pool_machine.proofs.PoolSteps.{StepKind, takes, takes_at, loses, is_refused, gives, misses, detaches}
 use Rattle.bb_memory_pool_machine.proofs.PoolSteps.{attaches, passes, kind_of, calls-step, length-left_by, test_apart}
 use Rattle.bb_memory_pool_machine.proofs.PoolFlags.{free_from_flag, taken_from_flag, flag_from_taken}
 use Rattle.bb_memory_pool_machine.proofs.PoolHolders.{is_holder, step_holds, nobody_holds, holder_in_log, same_holder}
@@ -36,7 +35,8 @@ module _ (state : PoolState) (party : ℕ) (absent : IsAbsent state party) where
   holds : (other bucket : ℕ) → IsHolder state bucket other → (other == party) ≡ false
   holds other bucket held = sym (ap (is_holder party) held) ∙ absent.holds bucket
 
-  another_steps : (step : PoolStep) (move : PoolMove) → StepKind state step move → IsAllowed move.outcome → is_by party step ≡ false
+  another_steps : (step : PoolStep) (move : PoolMove) → StepKind state step move → IsAllowed move.outcome →
+      is_by party step ≡ false
   another_steps step move (takes other bucket next free) allowed = there other next.pass next.there
   another_steps step move (takes_at other bucket idle free) allowed = there other None idle
   another_steps step move (loses other bucket next taken more) allowed = there other next.pass next.there

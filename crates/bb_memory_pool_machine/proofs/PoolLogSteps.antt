@@ -6,11 +6,12 @@ use Rattle.std.proofs.lemmas.Bool.{cases_eq, lt-ltb}
 use Rattle.std.proofs.lemmas.Option.{same_Some, slice_get_within, get_or_from_slice_get}
 use Rattle.std.proofs.lemmas.List.Elements.{All-nil}
 use Rattle.std.proofs.lemmas.List.Sums.{fold_push}
-use Rattle.bb_memory_pool_machine.specs.PoolMachine.{move_of, PoolScene, PoolState, PoolMove, IsFlag, IsHolder, IsTaken, with_pass}
-use Rattle.bb_memory_pool_machine.specs.PoolMachine.{taking, loss, return_of, passed, try_flag, try_next, give_flag, try_at, try_one}
-use Rattle.bb_memory_pool_machine.specs.PoolMachine.{IsDetached, detach_flag, detach, detaching, attach_flag, attach, attaching}
-use Rattle.bb_memory_pool_machine.specs.PoolMachine.{pool_step, left_by, Flag, Free, HeldBy, Detached, PoolStep, Try, GiveBack, TryAt}
-use Rattle.bb_memory_pool_machine.specs.PoolMachine.{Detach, Attach, Takes, Loses, RefusedAtLoss, Gives, Misses, Detaches, Attaches}
+use Rattle.bb_memory_pool_machine.specs.PoolMachine.{move_of, PoolScene, PoolState, IsFlag, with_pass, taking, loss, return_of}
+use Rattle.bb_memory_pool_machine.specs.PoolMachine.{passed, try_flag, try_next, give_flag, try_at, try_one, IsDetached}
+use Rattle.bb_memory_pool_machine.specs.PoolMachine.{detach_flag, detach, detaching, attach_flag, attach, attaching, pool_step}
+use Rattle.bb_memory_pool_machine.specs.PoolMachine.{left_by, Flag, Free, HeldBy, Detached, PoolStep, Try, GiveBack, TryAt}
+use Rattle.bb_memory_pool_machine.specs.PoolMachine.{Detach, Attach, Takes, Loses, RefusedAtLoss, Gives, Misses, Detaches}
+use Rattle.bb_memory_pool_machine.specs.PoolMachine.{Attaches}
 use Rattle.bb_memory_pool_machine.specs.PoolLogs.{entry_of, PoolLog, PoolEntry, HasLog, held_after, pass_in, next_bucket, loss_at}
 use Rattle.bb_memory_pool_machine.specs.PoolLogs.{is_taken, IsAllowed, IsHeldAfter, IsDetachedAfter, LogsAgree, with_entry, is_by}
 use Rattle.bb_memory_lists.proofs.SliceGets.{slice_get-set_apart, slice_get-set_at}
@@ -63,7 +64,8 @@ module _ (scene : PoolScene) (flags : List Bool) (logs : List PoolLog) (party : 
   loss_agrees : (more : Bool) →
       pool_step state (Try party) ≡ (if more then move_of (Loses bucket) (with_pass state party (Some (bucket + 1)))
       else move_of (RefusedAtLoss bucket) (with_pass state party None)) →
-      LogsAgree scene flags (with_entry logs party log (entry_of (Try party) (if more then Loses bucket else RefusedAtLoss bucket)))
+      LogsAgree scene flags
+      (with_entry logs party log (entry_of (Try party) (if more then Loses bucket else RefusedAtLoss bucket)))
   loss_agrees true is =
       agree_on scene flags logs party log agree at (Try party) (λ other. refl)
       (move_of (Loses bucket) (with_pass state party (Some (bucket + 1)))) is tt flags agree.leaves
@@ -91,8 +93,8 @@ module _ (scene : PoolScene) (flags : List Bool) (logs : List PoolLog) (party : 
         | inl held ↦ tries_one idle (Some (HeldBy held.0)) held.1
         | inr detached ↦ tries_one idle (Some Detached) detached
       ] in
-      agree_on scene flags logs party log agree at (TryAt party bucket) (λ other. refl) (move_of (Misses bucket) state) is tt flags
-      agree.leaves
+      agree_on scene flags logs party log agree at (TryAt party bucket) (λ other. refl) (move_of (Misses bucket) state) is tt
+      flags agree.leaves
 
 -- STEPS OF A HOLDER
 

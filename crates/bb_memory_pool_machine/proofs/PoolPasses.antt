@@ -1,18 +1,19 @@
 -- What a refused pass has met, and what a miss has.
-use Rattle.std.proofs.Common.{◌≡◌, ℕ, zero, suc, ◌+◌, ◌<◌, ◌≤◌, ◌⊎◌, List, [], ◌∷◌, length, replicate, refl, sym, ap, ◌∙◌, subst}
+use Rattle.std.proofs.Common.{◌≡◌, ℕ, zero, suc, ◌+◌, ◌<◌, ◌≤◌, ◌⊎◌, List, [], ◌∷◌, length, refl, sym, ap, ◌∙◌, subst}
 use Rattle.std.proofs.Common.{arith, Option, Some, None, inl, inr}
 use Rattle.std.specs.Prelude.{slice_get, slice_set, take, unwrap_or}
 use Rattle.std.proofs.lemmas.Bool.{cases_eq}
 use Rattle.std.proofs.lemmas.Option.{same_Some}
 use Rattle.std.proofs.lemmas.List.{length-replicate}
 use Rattle.bb_memory_traits.specs.PoolObject.{IsPoolGeometry}
-use Rattle.bb_memory_pool_machine.specs.PoolMachine.{PoolScene, PoolState, PoolMove, IsTaken, IsInCall, left_by, pool_step, pool_after}
-use Rattle.bb_memory_pool_machine.specs.PoolMachine.{opening_state, Flag, Free, PoolStep, Try, TryAt, PoolOutcome, Misses, RefusedAtLoss}
+use Rattle.bb_memory_pool_machine.specs.PoolMachine.{PoolScene, PoolState, PoolMove, IsTaken, IsInCall, left_by, pool_step}
+use Rattle.bb_memory_pool_machine.specs.PoolMachine.{pool_after, opening_state, Flag, Free, PoolStep, Try, TryAt, PoolOutcome}
+use Rattle.bb_memory_pool_machine.specs.PoolMachine.{Misses, RefusedAtLoss}
 use Rattle.bb_memory_pool_machine.specs.PoolLogs.{entry_of, PoolEntry, pool_history, history_of, IsLossAt, LosesAt, IsRefusedAt}
 use Rattle.bb_memory_pool_machine.specs.PoolLogs.{FoundHeld, IsHeldInRun, MissesAt}
 use Rattle.bb_memory_lists.proofs.SliceGets.{replicated-figure, slice_get-same, slice_get-set_apart, slice_get-set_at}
-use Rattle.bb_memory_pool_machine.proofs.PoolSteps.{IsNext, StepKind, takes, takes_at, loses, is_refused, misses, kind_of, length-left_by}
-use Rattle.bb_memory_pool_machine.proofs.PoolSteps.{length-step, next_of_idle}
+use Rattle.bb_memory_pool_machine.proofs.PoolSteps.{IsNext, StepKind, takes, takes_at, loses, is_refused, misses, kind_of}
+use Rattle.bb_memory_pool_machine.proofs.PoolSteps.{length-left_by, length-step, next_of_idle}
 use Rattle.bb_memory_pool_machine.proofs.PoolFlags.{taken_within}
 use Rattle.bb_memory_pool_machine.proofs.PoolRuns.{taken_is_held}
 
@@ -97,7 +98,8 @@ taken_at_loss state step move bucket _ lost = absurd lost
 
 -- the party is in a pass after these steps, from so many to so many of them
 abbrev PassLasts : PoolState → List PoolStep → ℕ → ℕ → ℕ → Type 0
-PassLasts state steps party low last = (j : ℕ) → low ≤ j → j ≤ last → (at : ℕ) × IsInCall (pool_after state (take j steps)) party at
+PassLasts state steps party low last =
+    (j : ℕ) → low ≤ j → j ≤ last → (at : ℕ) × IsInCall (pool_after state (take j steps)) party at
 
 -- the pass that is refused at step last lost the bucket at one of the steps, or before them
 data Behind (state : PoolState) (steps : List PoolStep) (party last bucket : ℕ) : Type 0 where
@@ -219,7 +221,8 @@ refused_found_held scene steps party last bucket is refused below =
 -- what is missed is taken
 taken_at_miss : (state : PoolState) (step : PoolStep) (move : PoolMove) (bucket : ℕ) → StepKind state step move →
     move.outcome ≡ Misses bucket → IsTaken state bucket
-taken_at_miss state step move bucket (misses other at idle taken) is = let same : at ≡ bucket = cc in subst (IsTaken state) same taken
+taken_at_miss state step move bucket (misses other at idle taken) is =
+    let same : at ≡ bucket = cc in subst (IsTaken state) same taken
 taken_at_miss state step move bucket _ is = absurd (cc)
 
 -- at a miss the bucket is held in the run

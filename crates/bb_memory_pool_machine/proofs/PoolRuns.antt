@@ -1,5 +1,5 @@
 -- The takings and returns of a pool machine are a run of the pool object.
-use Rattle.std.proofs.Common.{◌≡◌, ◌≢◌, ℕ, zero, suc, ◌<◌, ◌↔◌, List, [], ◌∷◌, ◌++◌, length, replicate, refl, sym, ap, ◌∙◌, subst}
+use Rattle.std.proofs.Common.{◌≡◌, ◌≢◌, ℕ, zero, suc, ◌<◌, ◌↔◌, List, [], ◌∷◌, ◌++◌, length, refl, sym, ap, ◌∙◌, subst}
 use Rattle.std.proofs.Common.{arith, Option, Some, None, inl, inr}
 use Rattle.std.specs.Prelude.{take, drop, slice_get, slice_set, remove, if◌then◌else◌}
 use Rattle.std.specs.List.{AllByRecursion}
@@ -12,10 +12,11 @@ use Rattle.bb_memory_traits.specs.declared.layout.Layout.{Layout}
 use Rattle.bb_memory_traits.specs.Object.{IsRun}
 use Rattle.bb_memory_traits.specs.PoolObject.{PoolGeometry, bucket_place, IsPoolGeometry, IsAt, IsHeld, IsWithin}
 use Rattle.bb_memory_traits.specs.PoolObject.{MayGive, chunk_in}
-use Rattle.bb_memory_pool_machine.specs.PoolMachine.{PoolScene, PoolState, PoolMove, IsFlag, IsHolder, IsTaken, pool_step, pool_after}
-use Rattle.bb_memory_pool_machine.specs.PoolMachine.{opening_state, left_by, Flag, Free, HeldBy, Detached, PoolStep, PoolOutcome}
-use Rattle.bb_memory_pool_machine.specs.PoolLogs.{PoolLog, PoolEntry, history_of, pool_history, outcomes_of, is_taken, IsCallRun, PoolCall, AreAsked}
-use Rattle.bb_memory_pool_machine.specs.PoolLogs.{IsPoolRun}
+use Rattle.bb_memory_pool_machine.specs.PoolMachine.{PoolScene, PoolState, PoolMove, IsFlag, IsHolder, IsTaken, pool_step}
+use Rattle.bb_memory_pool_machine.specs.PoolMachine.{pool_after, opening_state, left_by, Flag, Free, HeldBy, Detached, PoolStep}
+use Rattle.bb_memory_pool_machine.specs.PoolMachine.{PoolOutcome}
+use Rattle.bb_memory_pool_machine.specs.PoolLogs.{PoolLog, PoolEntry, history_of, pool_history, outcomes_of, is_taken, IsCallRun}
+use Rattle.bb_memory_pool_machine.specs.PoolLogs.{PoolCall, AreAsked, IsPoolRun}
 use Rattle.bb_memory_lists.proofs.SliceGets.{replicated-figure, slice_get-same, slice_get-set_apart, slice_get-set_at}
 use Rattle.bb_memory_pool_machine.proofs.PoolFlags.{taken_within}
 use Rattle.bb_memory_traits.proofs.PoolGeometries.{bucket_place-apart}
@@ -265,4 +266,5 @@ run_at_step scene steps layouts live k run =
     let split = run-split (PoolCall scene.geometry) [] live layouts (outcomes_of history) k run in
     let Before : List PoolOutcome → Type 0 = λ outcomes. IsRun (PoolCall scene.geometry) [] (take k layouts) outcomes split.0 in
     let After : List PoolOutcome → Type 0 = λ outcomes. IsRun (PoolCall scene.geometry) split.0 (drop k layouts) outcomes live in
-    (split.0, subst Before (outcomes-take opening steps k) split.1, subst After (drop-map (λ (e : PoolEntry). e.outcome) k history) split.2)
+    let later = drop-map (λ (e : PoolEntry). e.outcome) k history in
+    (split.0, subst Before (outcomes-take opening steps k) split.1, subst After later split.2)

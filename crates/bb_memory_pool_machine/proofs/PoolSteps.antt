@@ -1,14 +1,15 @@
 -- What a step of the pool machine does, by its kinds.
 use Rattle.std.proofs.Common.{◌≡◌, ◌≢◌, ℕ, ◌+◌, ◌<◌, ◌≤◌, List, [], ◌∷◌, length, refl}
-use Rattle.std.proofs.Common.{ap, ◌∙◌, arith, Bool, true, false, Option, Some, None, inl, inr}
+use Rattle.std.proofs.Common.{ap, ◌∙◌, Bool, true, false, Option, Some, None, inl, inr}
 use Rattle.std.specs.Prelude.{slice_get, ◌==◌, nat_lt, if◌then◌else◌, unwrap_or}
 use Rattle.std.proofs.lemmas.Bool.{eqb-true, eq-eqb, ne_eqb, ltb-true, ltb-false}
 use Rattle.std.proofs.lemmas.List.{length-set, length-replicate}
-use Rattle.bb_memory_pool_machine.specs.PoolMachine.{PoolScene, opening_state, left_by, move_of, PoolState, PoolMove, with_pass, IsFlag}
-use Rattle.bb_memory_pool_machine.specs.PoolMachine.{IsHolder, IsDetached, IsTaken, detaching, detach, detach_flag, attaching}
-use Rattle.bb_memory_pool_machine.specs.PoolMachine.{attach_flag, attach, taking, return_of, passed, try_flag, try_next, give_flag}
-use Rattle.bb_memory_pool_machine.specs.PoolMachine.{try_at, try_one, pool_step, pool_after, Flag, Free, HeldBy, Detached, PoolStep, Try}
-use Rattle.bb_memory_pool_machine.specs.PoolMachine.{GiveBack, TryAt, Detach, Attach, Loses, RefusedAtLoss, Misses}
+use Rattle.bb_memory_pool_machine.specs.PoolMachine.{PoolScene, opening_state, left_by, move_of, PoolState, PoolMove, with_pass}
+use Rattle.bb_memory_pool_machine.specs.PoolMachine.{IsFlag, IsHolder, IsDetached, IsTaken, detaching, detach_flag, attaching}
+use Rattle.bb_memory_pool_machine.specs.PoolMachine.{attach_flag, attach, taking, return_of, passed, try_flag, try_next}
+use Rattle.bb_memory_pool_machine.specs.PoolMachine.{give_flag, try_at, try_one, pool_step, pool_after, Flag, Free, HeldBy}
+use Rattle.bb_memory_pool_machine.specs.PoolMachine.{Detached, PoolStep, Try, GiveBack, TryAt, Detach, Attach, Loses}
+use Rattle.bb_memory_pool_machine.specs.PoolMachine.{RefusedAtLoss, Misses}
 
 -- the party's pass is at this bucket, or begins there
 pub record IsNext (state : PoolState) (party bucket : ℕ) : Type 0 where

@@ -1,9 +1,9 @@
 -- The pool machine's histories, its parties' logs, and the calls of the pool object that its steps make.
 use Rattle.std.specs.Prelude.{ℕ, ◌==◌, Bool, List, [], ◌∷◌, filter, map, ◌+◌, ◌≡◌, true, false, nat_lt, if◌then◌else◌, ◌++◌}
 use Rattle.std.specs.Prelude.{Option, Some, None, All, Any, fold, slice_get, slice_set, unwrap_or, ◌<◌, ◌≤◌, Ok, length, take}
-use Rattle.bb_memory_pool_machine.specs.PoolMachine.{PoolScene, PoolState, opening_state, pool_step, PoolStep, Try, GiveBack, TryAt}
-use Rattle.bb_memory_pool_machine.specs.PoolMachine.{Detach, Attach, PoolOutcome, left_by, Flag, Free, Takes, Loses, RefusedAtLoss, Gives}
-use Rattle.bb_memory_pool_machine.specs.PoolMachine.{Passed, Detaches, Attaches, IsInCall, Misses}
+use Rattle.bb_memory_pool_machine.specs.PoolMachine.{PoolScene, PoolState, opening_state, pool_step, PoolStep, Try, GiveBack}
+use Rattle.bb_memory_pool_machine.specs.PoolMachine.{TryAt, Detach, Attach, PoolOutcome, left_by, Flag, Free, Takes, Loses}
+use Rattle.bb_memory_pool_machine.specs.PoolMachine.{RefusedAtLoss, Gives, Passed, Detaches, Attaches, IsInCall, Misses}
 use Rattle.bb_memory_traits.specs.Chunk.{Chunk}
 use Rattle.bb_memory_traits.specs.declared.layout.Layout.{Layout}
 use Rattle.bb_memory_traits.specs.Object.{Allocates, Releases, IsRun}

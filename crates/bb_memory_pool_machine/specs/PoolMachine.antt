@@ -6,8 +6,8 @@ use Rattle.bb_memory_traits.specs.PoolObject.{PoolGeometry}
 pub use Rattle.bb_memory_pool_machine.specs.declared.steps.pool.Flag.{Flag}
 pub use Rattle.bb_memory_pool_machine.specs.declared.steps.pool.Flag.TheVariants.{Detached, Free, HeldBy}
 pub use Rattle.bb_memory_pool_machine.specs.declared.steps.pool.PoolOutcome.{PoolOutcome}
-pub use Rattle.bb_memory_pool_machine.specs.declared.steps.pool.PoolOutcome.TheVariants.{Attaches, Detaches, Gives, Loses, Misses, Passed}
-pub use Rattle.bb_memory_pool_machine.specs.declared.steps.pool.PoolOutcome.TheVariants.{RefusedAtLoss, Takes}
+pub use Rattle.bb_memory_pool_machine.specs.declared.steps.pool.PoolOutcome.TheVariants.{Attaches, Detaches, Gives, Loses, Misses}
+pub use Rattle.bb_memory_pool_machine.specs.declared.steps.pool.PoolOutcome.TheVariants.{Passed, RefusedAtLoss, Takes}
 pub use Rattle.bb_memory_pool_machine.specs.declared.steps.pool.PoolStep.{PoolStep}
 pub use Rattle.bb_memory_pool_machine.specs.declared.steps.pool.PoolStep.TheVariants.{Attach, Detach, GiveBack, Try, TryAt}
 

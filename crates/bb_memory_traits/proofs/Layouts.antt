@@ -1,6 +1,6 @@
 -- Which layouts there are.
-use Rattle.std.proofs.Common.{◌≡◌, ℕ, zero, suc, ◌+◌, ◌-◌, ◌*◌, ◌/◌, ◌%◌, ◌^◌, ◌<◌, ◌≤◌, ◌↔◌, IsTrue, ◌⊎◌, arith, refl, sym, ap, ◌∙◌, inl}
-use Rattle.std.proofs.Common.{inr, div-add-mod', mul-le-mul_right, pow_pos, pow_mono, pow-add, pow-suc}
+use Rattle.std.proofs.Common.{◌≡◌, ℕ, zero, suc, ◌+◌, ◌-◌, ◌*◌, ◌/◌, ◌%◌, ◌^◌, ◌<◌, ◌≤◌, ◌↔◌, IsTrue, ◌⊎◌, arith, refl, sym, ap}
+use Rattle.std.proofs.Common.{◌∙◌, inl, inr, div-add-mod', mul-le-mul_right, pow_pos, pow_mono, pow-add, pow-suc}
 use Rattle.std.proofs.Math.Nat.{mul_assoc}
 use Rattle.std.proofs.lemmas.Bool.{cases_lt}
 use Rattle.std.proofs.lemmas.Nat.{mod-mul-add}
@@ -56,13 +56,16 @@ valid-up_to size align test small =
                   omega (arith, place.above, place.multiple.1, whole.1, more)
               | inr past ↦ absurd (omega (arith, fits, place.multiple.1, whole.1, mul-le-mul_right align past))
             ],
-        λ below. (layout-plain size align).1 (power, elim (cases_lt 0 whole.0) [
-          | inl some ↦
-              let before : whole.0 ≡ (whole.0 - 1) + 1 = omega arith in
-              let parts : whole.0 * align ≡ (whole.0 - 1) * align + align = omega (arith, ap (λ m. m * align) before) in
-              omega (arith, positive, parts, whole.1, place.least (whole.0 - 1) (omega (arith, below, parts, whole.1)))
-          | inr none ↦ let nothing : whole.0 ≡ 0 = omega arith in absurd (omega (arith, whole.1, ap (λ m. m * align) nothing))
-        ]),
+        λ below. (layout-plain size align).1 (
+          power,
+          elim (cases_lt 0 whole.0) [
+            | inl some ↦
+                let before : whole.0 ≡ (whole.0 - 1) + 1 = omega arith in
+                let parts : whole.0 * align ≡ (whole.0 - 1) * align + align = omega (arith, ap (λ m. m * align) before) in
+                omega (arith, positive, parts, whole.1, place.least (whole.0 - 1) (omega (arith, below, parts, whole.1)))
+            | inr none ↦ let nothing : whole.0 ≡ 0 = omega arith in absurd (omega (arith, whole.1, ap (λ m. m * align) nothing))
+          ],
+        ),
       ),
     )
 

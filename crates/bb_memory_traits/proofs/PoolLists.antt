@@ -1,6 +1,6 @@
 -- Live lists of chunks in buckets.
 use Rattle.std.proofs.Common.{◌≡◌, ◌≢◌, ℕ, zero, suc, ◌+◌, ◌<◌, ◌≤◌, List, [], ◌∷◌, ◌++◌, length, get_or, refl, sym, ap, ◌∙◌}
-use Rattle.std.proofs.Common.{arith, inl, inr, true, false, Bool}
+use Rattle.std.proofs.Common.{arith, inl, inr, Bool}
 use Rattle.std.specs.Prelude.{remove, All, AllPairs, ◌==◌, if◌then◌else◌}
 use Rattle.std.specs.List.{AllByRecursion}
 use Rattle.std.proofs.lemmas.Bool.{cases_eq, cases_lt}

@@ -1,7 +1,5 @@
-use Rattle.std.proofs.Common.{◌≡◌, ◌+◌, ◌∷◌, ◌++◌, [], take, ap, sym, ◌∙◌, subst, arith}
+use Rattle.std.proofs.Common.{◌≡◌, ◌+◌, ◌∷◌, ◌++◌, [], take, ap, sym, ◌∙◌, arith}
 use Rattle.std.proofs.lemmas.List.{take_more, take_all, length-take-le}
-use Rattle.bb_memory_traits.specs.Chunk.{Layout, Chunk, Fits, IsSound}
-use Rattle.bb_memory_traits.specs.Object.{object_of, AllocatorStep, Step, note_after_command}
 use Rattle.bb_memory_traits.proofs.Runs.{IsRun-listed, IsRun-push, EachGiven-push, note-push}
 use Rattle.bb_memory_traits.proofs.allocator.run.run_base.Goals as goal
 
