@@ -27,7 +27,6 @@ BumpLog = List BumpEntry
 abbrev pub entry_at : Region → BumpState → BumpStep → BumpEntry
 entry_at region state step = entry_of step (bump_step region state step).outcome
 
--- the entries of a list of steps, in order
 abbrev pub bump_history : Region → BumpState → List BumpStep → BumpLog
 bump_history region state [] = []
 bump_history region state (step ∷ steps) =
@@ -93,7 +92,6 @@ abbrev pub is_beginning : BumpOutcome → Bool
 is_beginning (Sees position) = true
 is_beginning _ = false
 
--- how many exchanges a log has lost, and how many calls that go on it has begun
 abbrev pub losses_in : BumpLog → ℕ
 losses_in log = count_by (λ entry. is_loss entry.outcome) log
 
@@ -149,7 +147,6 @@ abbrev pub greater_of : ℕ → Option ℕ → ℕ
 greater_of seen (Some position) = max seen position
 greater_of seen None = seen
 
--- the greatest of a position and those in a log
 abbrev pub greatest_in : Region → ℕ → BumpLog → ℕ
 greatest_in region seen log = fold (λ most entry. greater_of most (position_in region entry.outcome)) seen log
 

@@ -122,8 +122,11 @@ one_holder scene steps party other bucket mine yours =
     let two = (holder_in_log scene steps other bucket).1 yours in
     same_holder (left_by scene steps) bucket party other one two
 
+not_detached : (party : ℕ) → ¬ (Detached ≡ HeldBy party)
+not_detached party same = absurd (cc)
+
 -- a detached bucket is held after no party's log
 pub detached_unheld : (scene : PoolScene) (steps : List PoolStep) (party bucket : ℕ) →
     IsDetached (left_by scene steps) bucket → ¬ IsHeldAfter (log_of scene steps party) bucket
 detached_unheld scene steps party bucket detached held =
-    let same = same_Some Detached (HeldBy party) (sym detached ∙ (holder_in_log scene steps party bucket).1 held) in absurd (cc)
+    not_detached party (same_Some Detached (HeldBy party) (sym detached ∙ (holder_in_log scene steps party bucket).1 held))

@@ -22,7 +22,6 @@ entry_of step outcome = record { step = step; outcome = outcome }
 abbrev pub PoolLog : Type 0
 PoolLog = List PoolEntry
 
--- the entries of a list of steps, in order
 abbrev pub pool_history : PoolState → List PoolStep → PoolLog
 pool_history state [] = []
 pool_history state (step ∷ steps) = entry_of step (pool_step state step).outcome ∷ pool_history (pool_step state step).state steps
