@@ -6,8 +6,8 @@ use Rattle.atomic_table.specs.Seated.{TableId}
 use Rattle.atomic_table.specs.Table.{Final, Me, Seen}
 use Rattle.bb_memory_bump_machine.specs.BumpMachine.{BumpScene}
 use Rattle.bb_memory_bump_machine.specs.BumpLogs.{BumpLog, HasLog, Interleaving, seen_in}
-use Rattle.bb_memory_bump_machine.proofs.BumpPositions.{alone_exact, interleaved, seen_below}
-use Rattle.bb_memory_bump_machine.proofs.BumpWholes.{ends_by}
+use Rattle.bb_memory_bump_machine.proofs.BumpPositions.{interleaved, seen_below}
+use Rattle.bb_memory_bump_machine.proofs.BumpWholes.{alone_exact, ends_by}
 use Rattle.bb_memory_seats.specs.Seats.{numbered, view_log}
 use Rattle.bb_memory_bump.specs.SharedBump.{BumpParty, HasChunksWithin}
 use Rattle.bb_memory_bump.specs.SharedBumpRule.{IsPartySeat, NumberedLog, SeatView, WordsAndLogsAgree, met_by, party_in}

@@ -1,7 +1,7 @@
 -- The chunks of a party in each list of steps that has its log.
 use Rattle.std.proofs.Common.{List, ℕ, sym, subst}
 use Rattle.std.specs.List.{All, Contains}
-use Rattle.std.proofs.lemmas.List.Elements.{All-contains_itself, All-from_recursion, Contains-append_right, recursion_from_All}
+use Rattle.std.proofs.lemmas.List.Elements.{All-contains_itself, Contains-append_right}
 use Rattle.bb_memory_traits.specs.Chunk.{Chunk}
 use Rattle.bb_memory_bump_machine.specs.BumpMachine.{BumpScene}
 use Rattle.bb_memory_bump_machine.specs.BumpLogs.{BumpLog, chunks_won, history_of, live_after, Interleaving}
@@ -14,9 +14,8 @@ won_in_history : (scene : BumpScene) (position party : ℕ) (log : BumpLog) (his
 won_in_history scene position party log history =
     let entries = history_of scene history.steps in
     let won = chunks_won entries in
-    let each = all_in_log (Contains won) party entries (recursion_from_All (Contains won) won (All-contains_itself won)) in
     subst (λ (l : BumpLog). All (Contains won) (chunks_won l)) history.logged
-    (All-from_recursion (Contains won) _ each)
+    (all_in_log (Contains won) party entries (All-contains_itself won))
 
 -- and is in the list that the history leaves
 pub held_in_list : (scene : BumpScene) (live : List Chunk) (position party : ℕ) (log : BumpLog)

@@ -20,9 +20,9 @@ use Rattle.bb_memory_bump_machine.specs.declared.steps.bump.BumpOutcome.TheVaria
 use Rattle.bb_memory_bump_machine.specs.declared.steps.bump.BumpOutcome.TheVariants.{Loaded}
 use Rattle.bb_memory_lists.proofs.SliceGets.{length-set_at, slice_get-set_same}
 use Rattle.bb_memory_bump_machine.proofs.BumpLogs.{read_agrees, exchange_agrees, load_agrees}
-use Rattle.bb_memory_bump_machine.proofs.BumpPositions.{alone_exact, interleaved, position_within, seen_below}
+use Rattle.bb_memory_bump_machine.proofs.BumpPositions.{interleaved, position_within, seen_below}
 use Rattle.bb_memory_bump_machine.proofs.BumpRuns.{chunk_at-above}
-use Rattle.bb_memory_bump_machine.proofs.BumpWholes.{greater_of-above}
+use Rattle.bb_memory_bump_machine.proofs.BumpWholes.{alone_exact, greater_of-above}
 use Rattle.bb_memory_seats.specs.Seats.{alone}
 use Rattle.bb_memory_bump.specs.SharedBumpRule.{SeatView, WordsAndLogsAgree, sight, Tells, exchanges, loads, reads}
 use Rattle.bb_memory_seats.proofs.Seatings.{seated_step}

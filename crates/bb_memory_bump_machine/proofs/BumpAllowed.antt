@@ -1,17 +1,17 @@
 -- Lists of steps that are all allowed: they have no clear, and no step of a party that isn't there.
 use Rattle.std.proofs.Common.{◌≡◌, ◌≢◌, ℕ, ◌<◌, ◌≤◌, List, [], ◌∷◌, length, refl, sym, ap, ◌∙◌, arith, Bool, true, false, Option}
 use Rattle.std.proofs.Common.{Some, None}
-use Rattle.std.specs.Prelude.{slice_get, if◌then◌else◌, is_some}
-use Rattle.std.proofs.lemmas.List.{length-replicate}
+use Rattle.std.specs.Prelude.{slice_get, if◌then◌else◌}
+use Rattle.std.proofs.lemmas.Bool.{eqb-true, eq-eqb, ne_eqb}
+use Rattle.std.proofs.lemmas.Option.{slice_get_within}
+use Rattle.std.proofs.lemmas.List.{length-replicate, length-set}
 use Rattle.std.proofs.lemmas.List.Elements.{All-head, All-nil, All-tail}
 use Rattle.bb_memory_traits.specs.Chunk.{Region}
-use Rattle.bb_memory_bump_machine.specs.BumpMachine.{OngoingCall, BumpState, BumpMove, BumpScene, opening_state, bump_step, BumpStep}
-use Rattle.bb_memory_bump_machine.specs.BumpMachine.{Read, Exchange, Load, Clear}
-use Rattle.bb_memory_bump_machine.specs.BumpLogs.{BumpEntry, BumpLog, entry_at, bump_history, history_of, is_by, entries_by, log_of}
-use Rattle.bb_memory_bump_machine.specs.BumpLogs.{HasNoClear, IsAllowed, AllAllowed}
-use Rattle.bb_memory_lists.proofs.SliceGets.{length-set_at, slice_get-some}
-use Rattle.bb_memory_bump_machine.proofs.BumpSteps.{same_from_test, test_same, StepView, step_view, sees, refuses_read, wins, loses}
-use Rattle.bb_memory_bump_machine.proofs.BumpSteps.{refuses_loss, loads, clears, passes}
+use Rattle.bb_memory_bump_machine.specs.BumpMachine.{OngoingCall, BumpState, BumpMove, BumpScene, opening_state, bump_step}
+use Rattle.bb_memory_bump_machine.specs.BumpMachine.{BumpStep, Read, Exchange, Load, Clear}
+use Rattle.bb_memory_bump_machine.specs.BumpLogs.{BumpEntry, BumpLog, entry_at, bump_history, history_of, is_by, entries_by}
+use Rattle.bb_memory_bump_machine.specs.BumpLogs.{log_of, HasNoClear, IsAllowed, AllAllowed}
+use Rattle.bb_memory_bump_machine.proofs.BumpSteps.{StepView, step_view, reads, exchanges, loads, clears, passes}
 
 -- no step at all is allowed
 pub none_allowed : AllAllowed []
@@ -59,48 +59,32 @@ pub record HasOwner (state : BumpState) (step : BumpStep) : Type 0 where
 owned : (state : BumpState) (step : BumpStep) (party : ℕ) (now : Option OngoingCall) →
     slice_get state.calls party ≡ Some now → is_by party step ≡ true → HasOwner state step
 owned state step party now at own =
-    record { party = party; there = slice_get-some state.calls party (ap is_some at); own = own }
+    record { party = party; there = slice_get_within state.calls party now at; own = own }
 
 pub owner_of : (region : Region) (state : BumpState) (step : BumpStep) (move : BumpMove) → StepView region state step move →
     IsAllowed move.outcome → HasOwner state step
-owner_of region state step move (sees party layout idle asks fit) allowed =
-    owned state step party None idle (test_same party party refl)
-owner_of region state step move (refuses_read party layout idle asks fit) allowed =
-    owned state step party None idle (test_same party party refl)
-owner_of region state step move (wins party call is same) allowed =
-    owned state step party (Some call) is (test_same party party refl)
-owner_of region state step move (loses party call is apart fit) allowed =
-    owned state step party (Some call) is (test_same party party refl)
-owner_of region state step move (refuses_loss party call is apart fit) allowed =
-    owned state step party (Some call) is (test_same party party refl)
-owner_of region state step move (loads party idle) allowed = owned state step party None idle (test_same party party refl)
+owner_of region state step move (reads party layout turn idle asks view) allowed =
+    owned state step party None idle (eq-eqb party party refl)
+owner_of region state step move (exchanges party call turn is view) allowed =
+    owned state step party (Some call) is (eq-eqb party party refl)
+owner_of region state step move (loads party idle) allowed = owned state step party None idle (eq-eqb party party refl)
 owner_of region state step move clears allowed = absurd allowed
 owner_of region state step move (passes other) allowed = absurd allowed
 
 -- a step is one party's alone
-pub one_party : (party other : ℕ) (step : BumpStep) → party ≢ other → is_by party step ≡ true → is_by other step ≡ true → ⊥
-one_party party other (Read p layout) apart own others = apart (sym (same_from_test p party own) ∙ same_from_test p other others)
-one_party party other (Exchange p) apart own others = apart (sym (same_from_test p party own) ∙ same_from_test p other others)
-one_party party other (Load p) apart own others = apart (sym (same_from_test p party own) ∙ same_from_test p other others)
-one_party party other Clear apart own others = cc
-
-not_by : (party other : ℕ) (step : BumpStep) → party ≢ other → is_by party step ≡ true → is_by other step ≡ false
-not_by party other step apart own = not_true (is_by other step) (one_party party other step apart own)
-  where
-    not_true : (test : Bool) → ¬ (test ≡ true) → test ≡ false
-    not_true false not = refl
-    not_true true not = absurd (not refl)
+pub not_by : (party other : ℕ) (step : BumpStep) → party ≢ other → is_by party step ≡ true → is_by other step ≡ false
+not_by party other (Read p layout) apart own = ne_eqb p other (λ same. apart (sym (eqb-true p party own) ∙ same))
+not_by party other (Exchange p) apart own = ne_eqb p other (λ same. apart (sym (eqb-true p party own) ∙ same))
+not_by party other (Load p) apart own = ne_eqb p other (λ same. apart (sym (eqb-true p party own) ∙ same))
+not_by party other Clear apart own = refl
 
 -- NOBODY ELSE
 
 -- no step changes how many parties there are
 pub parties_stay : (region : Region) (state : BumpState) (step : BumpStep) (move : BumpMove) → StepView region state step move →
     length move.state.calls ≡ length state.calls
-parties_stay region state step move (sees party layout idle asks fit) = length-set_at state.calls party _
-parties_stay region state step move (refuses_read party layout idle asks fit) = length-set_at state.calls party _
-parties_stay region state step move (wins party call is same) = length-set_at state.calls party _
-parties_stay region state step move (loses party call is apart fit) = length-set_at state.calls party _
-parties_stay region state step move (refuses_loss party call is apart fit) = length-set_at state.calls party _
+parties_stay region state step move (reads party layout turn idle asks view) = length-set state.calls party turn.call
+parties_stay region state step move (exchanges party call turn is view) = length-set state.calls party turn.call
 parties_stay region state step move _ = refl
 
 -- an allowed step is that of a party that is there

@@ -2,19 +2,13 @@
 use Rattle.std.proofs.Common.{◌≡◌, ℕ, ◌≤◌, List, [], ◌∷◌, ◌++◌, refl, sym, ap, ◌∙◌, arith, Option}
 use Rattle.std.proofs.lemmas.Bool.{leb-true}
 use Rattle.std.proofs.lemmas.List.{append_assoc}
+use Rattle.std.proofs.lemmas.List.Sums.{fold-append}
 use Rattle.bb_memory_traits.specs.Chunk.{Region, region_end, Chunk, chunk_end}
 use Rattle.bb_memory_bump_machine.specs.BumpMachine.{BumpStep, BumpScene, OngoingCall, IsInCall, chunk_at, left_by}
 use Rattle.bb_memory_bump_machine.specs.BumpLogs.{BumpLog, won_at, chunks_won, call_after, call_through, greatest_in, greater_of}
 use Rattle.bb_memory_bump_machine.specs.BumpLogs.{position_in}
-use Rattle.bb_memory_traits.proofs.LiveLists.{StandsFor-within}
 use Rattle.bb_memory_bump_machine.proofs.BumpRuns.{chunk_at-above}
 use Rattle.bb_memory_bump_machine.proofs.BumpStretches.{healthy_after}
-
-pub position_in_size : (scene : BumpScene) (steps : List BumpStep) → scene.opening ≤ scene.region.size →
-    (left_by scene steps).position ≤ scene.region.size
-position_in_size scene steps within =
-    let healthy = healthy_after scene steps within in
-    StandsFor-within scene.region (left_by scene steps).position healthy.live healthy.stands
 
 pub seen_in_size : (scene : BumpScene) (steps : List BumpStep) (party : ℕ) (call : OngoingCall) →
     scene.opening ≤ scene.region.size → IsInCall (left_by scene steps) party call → call.seen ≤ scene.region.size
@@ -27,13 +21,12 @@ seen_in_size scene steps party call within is =
 
 pub call_grows : (call : Option OngoingCall) (log more : BumpLog) →
     call_through call (log ++ more) ≡ call_through (call_through call log) more
-call_grows call [] more = refl
-call_grows call (entry ∷ log) more = call_grows (call_after call entry) log more
+call_grows call log more = fold-append call_after call log more
 
 pub seen_grows : (region : Region) (seen : ℕ) (log more : BumpLog) →
     greatest_in region seen (log ++ more) ≡ greatest_in region (greatest_in region seen log) more
-seen_grows region seen [] more = refl
-seen_grows region seen (entry ∷ log) more = seen_grows region (greater_of seen (position_in region entry.outcome)) log more
+seen_grows region seen log more =
+    fold-append (λ most entry. greater_of most (position_in region entry.outcome)) seen log more
 
 pub won_grows : (log more : BumpLog) → chunks_won (log ++ more) ≡ chunks_won log ++ chunks_won more
 won_grows [] more = refl

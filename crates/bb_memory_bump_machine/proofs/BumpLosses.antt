@@ -2,19 +2,22 @@
 use Rattle.std.proofs.Common.{◌≡◌, ◌≢◌, ℕ, ◌+◌, ◌<◌, ◌≤◌, List, [], ◌∷◌, ◌++◌, refl, sym, ap, ◌∙◌, subst, arith, Bool, true}
 use Rattle.std.proofs.Common.{false, Some, None}
 use Rattle.std.specs.Prelude.{if◌then◌else◌, count_by}
+use Rattle.std.proofs.lemmas.Bool.{eqb-true, eq-eqb}
 use Rattle.std.proofs.lemmas.List.Sums.{sum_by-cons}
 use Rattle.std.proofs.lemmas.Option.{same_Some}
 use Rattle.bb_memory_traits.specs.Chunk.{Region}
-use Rattle.bb_memory_bump_machine.specs.BumpMachine.{OngoingCall, BumpState, BumpMove, BumpScene, IsIdle, IsInCall, opening_state}
-use Rattle.bb_memory_bump_machine.specs.BumpMachine.{bump_step, bump_after, left_by, BumpStep, Exchange}
-use Rattle.bb_memory_bump_machine.specs.BumpLogs.{BumpEntry, BumpLog, entry_at, bump_history, stretch_after, outcome_after, entries_by}
-use Rattle.bb_memory_bump_machine.specs.BumpLogs.{is_by, HasNoClear, is_loss, is_beginning, IsLossAt, losses_in, calls_begun_in}
-use Rattle.bb_memory_traits.proofs.LiveLists.{StandsFor-within}
-use Rattle.bb_memory_bump_machine.proofs.BumpSteps.{test_same, StepView, step_view, sees, refuses_read, wins, loses, refuses_loss, loads}
-use Rattle.bb_memory_bump_machine.proofs.BumpSteps.{clears, passes, others_stay, written, each_call-set, idle_or_in_call, in_call_or_idle}
-use Rattle.bb_memory_bump_machine.proofs.BumpSteps.{one_call}
+use Rattle.bb_memory_bump_machine.specs.BumpMachine.{OngoingCall, BumpState, BumpMove, PartyMove, BumpScene, IsIdle, IsInCall}
+use Rattle.bb_memory_bump_machine.specs.BumpMachine.{opening_state, bump_step, bump_after, left_by, moved, BumpStep, BumpOutcome}
+use Rattle.bb_memory_bump_machine.specs.BumpMachine.{Exchange}
+use Rattle.bb_memory_bump_machine.specs.BumpLogs.{BumpEntry, BumpLog, entry_at, bump_history, stretch_after, outcome_after}
+use Rattle.bb_memory_bump_machine.specs.BumpLogs.{entries_by, is_by, HasNoClear, is_loss, is_beginning, IsLossAt, losses_in}
+use Rattle.bb_memory_bump_machine.specs.BumpLogs.{calls_begun_in}
+use Rattle.bb_memory_lists.proofs.SliceGets.{slice_get-set_same}
+use Rattle.bb_memory_bump_machine.proofs.BumpSteps.{StepView, ExchangeView, step_view, reads, sees, refuses_read, exchanges, wins}
+use Rattle.bb_memory_bump_machine.proofs.BumpSteps.{loses, refuses_loss, loads, clears, passes, others_stay, written}
+use Rattle.bb_memory_bump_machine.proofs.BumpSteps.{each_call-set, one_there}
 use Rattle.bb_memory_bump_machine.proofs.BumpRuns.{bump_after-append, chunk_at-above}
-use Rattle.bb_memory_bump_machine.proofs.BumpStretches.{IsClear, not_clear, healthy_after, stretch_rises}
+use Rattle.bb_memory_bump_machine.proofs.BumpStretches.{IsClear, not_clear, position_in_size, stretch_rises}
 
 -- WHAT A CALL HAS SEEN
 
@@ -27,18 +30,16 @@ less_when_apart position old seen apart same below = grind (arith, apart)
 
 step_sees : (region : Region) (state : BumpState) (step : BumpStep) (move : BumpMove) (party : ℕ) →
     StepView region state step move → ¬ IsClear step → SeesNoMore state party → SeesNoMore move.state party
-step_sees region state step move party (sees other layout idle asks fit) not below =
-    each_call-set (λ call. call.seen ≤ state.position) state.calls other party
-    (Some (record { layout = layout; seen = state.position })) below (omega arith)
-step_sees region state step move party (refuses_read other layout idle asks fit) not below =
+step_sees region state step move party (reads other layout turn idle asks (sees fit)) not below =
+    each_call-set (λ call. call.seen ≤ state.position) state.calls other party turn.call below (omega arith)
+step_sees region state step move party (reads other layout turn idle asks (refuses_read fit)) not below =
     each_call-set (λ call. call.seen ≤ state.position) state.calls other party None below tt
-step_sees region state step move party (wins other old at same) not below =
-    each_call-set (λ call. call.seen ≤ move.state.position) state.calls other party None
+step_sees region state step move party (exchanges other old turn at (wins same)) not below =
+    each_call-set (λ call. call.seen ≤ turn.position) state.calls other party None
     (λ call is. omega (arith, below call is, chunk_at-above region state.position old.layout)) tt
-step_sees region state step move party (loses other old at apart fit) not below =
-    each_call-set (λ call. call.seen ≤ state.position) state.calls other party
-    (Some (record { layout = old.layout; seen = state.position })) below (omega arith)
-step_sees region state step move party (refuses_loss other old at apart fit) not below =
+step_sees region state step move party (exchanges other old turn at (loses apart fit)) not below =
+    each_call-set (λ call. call.seen ≤ state.position) state.calls other party turn.call below (omega arith)
+step_sees region state step move party (exchanges other old turn at (refuses_loss apart fit)) not below =
     each_call-set (λ call. call.seen ≤ state.position) state.calls other party None below tt
 step_sees region state step move party clears not below = absurd (not tt)
 step_sees region state step move party _ not below = below
@@ -52,9 +53,7 @@ stretch_sees region state (step ∷ steps) party none below =
     (step_sees region state step (bump_step region state step) party (step_view region state step) parts.0 below)
 
 pub idle_sees : (state : BumpState) (party : ℕ) → IsIdle state party → SeesNoMore state party
-idle_sees state party idle = λ call is.
-    let both : Some None ≡ Some (Some call) = sym idle ∙ is in
-    let none : None ≡ Some call = same_Some None (Some call) both in absurd (cc)
+idle_sees state party idle = λ call is. let none = same_Some None (Some call) (sym idle ∙ is) in absurd (cc)
 
 -- ONE STEP
 
@@ -72,29 +71,33 @@ data IdleTurn (next : BumpState) (party : ℕ) (lost begun : ℕ) : Type 0 where
 abbrev weight : Bool → Bool → ℕ
 weight own counted = if own then (if counted then 1 else 0) else 0
 
+exchange_turn : (region : Region) (state : BumpState) (party : ℕ) (call : OngoingCall) (turn : PartyMove) →
+    IsInCall state party call → call.seen ≤ state.position → ExchangeView region state.position call turn →
+    CallTurn (moved state party turn).state party call (weight true (is_loss turn.outcome))
+exchange_turn region state party call turn is below (wins same) =
+    ends (slice_get-set_same state.calls party None (Some call) is)
+    (omega (arith, chunk_at-above region state.position call.layout))
+exchange_turn region state party call turn is below (loses apart fit) =
+    goes_on (record { layout = call.layout; seen = state.position })
+    (slice_get-set_same state.calls party turn.call (Some call) is) (grind (arith, apart))
+exchange_turn region state party call turn is below (refuses_loss apart fit) =
+    ends (slice_get-set_same state.calls party None (Some call) is) (grind (arith, apart))
+
 own_call_turn : (region : Region) (state : BumpState) (step : BumpStep) (move : BumpMove) (party : ℕ) (call : OngoingCall) →
     StepView region state step move →
     ¬ IsClear step → is_by party step ≡ true → IsInCall state party call → call.seen ≤ state.position →
     CallTurn move.state party call (weight true (is_loss move.outcome))
-own_call_turn region state step move party call (wins other old at same) not by is below =
-    ends (written state other party (Some old) None by at) (omega (arith, chunk_at-above region state.position old.layout))
-own_call_turn region state step move party call (loses other old at apart fit) not by is below =
-    let own = ap (λ (c : OngoingCall). c.seen) (one_call state other party old call by at is) in
-    let less : call.seen < state.position = less_when_apart state.position old.seen call.seen apart own below in
-    goes_on (record { layout = old.layout; seen = state.position })
-    (written state other party (Some old) (Some (record { layout = old.layout; seen = state.position })) by at) (omega arith)
-own_call_turn region state step move party call (refuses_loss other old at apart fit) not by is below =
-    let own = ap (λ (c : OngoingCall). c.seen) (one_call state other party old call by at is) in
-    let less : call.seen < state.position = less_when_apart state.position old.seen call.seen apart own below in
-    ends (written state other party (Some old) None by at) (omega arith)
+own_call_turn region state step move party call (exchanges other old turn at view) not by is below =
+    let own = same_Some old call (one_there state other party (Some old) (Some call) by at is) in
+    subst (λ p. CallTurn (moved state p turn).state party call (weight true (is_loss turn.outcome)))
+    (sym (eqb-true other party by))
+    (exchange_turn region state party call turn is below (subst (λ c. ExchangeView region state.position c turn) own view))
 own_call_turn region state step move party call clears not by is below = absurd (not tt)
 own_call_turn region state step move party call (passes other) not by is below = goes_on call is (omega arith)
-own_call_turn region state step move party call (sees other layout idle asks fit) not by is below =
-    absurd (idle_or_in_call state other party call by idle is)
-own_call_turn region state step move party call (refuses_read other layout idle asks fit) not by is below =
-    absurd (idle_or_in_call state other party call by idle is)
+own_call_turn region state step move party call (reads other layout turn idle asks view) not by is below =
+    absurd (let none = one_there state other party None (Some call) by idle is in cc)
 own_call_turn region state step move party call (loads other idle) not by is below =
-    absurd (idle_or_in_call state other party call by idle is)
+    absurd (let none = one_there state other party None (Some call) by idle is in cc)
 
 call_turn : (region : Region) (state : BumpState) (step : BumpStep) (party : ℕ) (call : OngoingCall) (own : Bool) →
     is_by party step ≡ own → ¬ IsClear step → IsInCall state party call → call.seen ≤ state.position →
@@ -108,20 +111,14 @@ call_turn region state step party call false by not is below =
 own_idle_turn : (region : Region) (state : BumpState) (step : BumpStep) (move : BumpMove) (party : ℕ) →
     StepView region state step move → ¬ IsClear step → is_by party step ≡ true → IsIdle state party →
     IdleTurn move.state party (weight true (is_loss move.outcome)) (weight true (is_beginning move.outcome))
-own_idle_turn region state step move party (sees other layout idle asks fit) not by now =
-    let call : OngoingCall = record { layout = layout; seen = state.position } in
-    begins call (written state other party None (Some call) by idle) refl refl
-own_idle_turn region state step move party (refuses_read other layout idle asks fit) not by now =
+own_idle_turn region state step move party (reads other layout turn idle asks (sees fit)) not by now =
+    begins (record { layout = layout; seen = state.position }) (written state other party None turn.call by idle) refl refl
+own_idle_turn region state step move party (reads other layout turn idle asks (refuses_read fit)) not by now =
     stays (written state other party None None by idle) refl
-own_idle_turn region state step move party (wins other call at same) not by now =
-    absurd (in_call_or_idle state other party call by at now)
-own_idle_turn region state step move party (loses other call at apart fit) not by now =
-    absurd (in_call_or_idle state other party call by at now)
-own_idle_turn region state step move party (refuses_loss other call at apart fit) not by now =
-    absurd (in_call_or_idle state other party call by at now)
-own_idle_turn region state step move party (loads other idle) not by now = stays now refl
+own_idle_turn region state step move party (exchanges other call turn at view) not by now =
+    absurd (let none = one_there state other party (Some call) None by at now in cc)
 own_idle_turn region state step move party clears not by now = absurd (not tt)
-own_idle_turn region state step move party (passes other) not by now = stays now refl
+own_idle_turn region state step move party _ not by now = stays now refl
 
 idle_turn : (region : Region) (state : BumpState) (step : BumpStep) (party : ℕ) (own : Bool) → is_by party step ≡ own →
     ¬ IsClear step → IsIdle state party →
@@ -134,99 +131,93 @@ idle_turn region state step party false by not now =
 
 -- OVER A STRETCH
 
-losses_from : Region → BumpState → List BumpStep → ℕ → ℕ
-losses_from region state steps party = losses_in (entries_by party (bump_history region state steps))
-
-begun_from : Region → BumpState → List BumpStep → ℕ → ℕ
-begun_from region state steps party = calls_begun_in (entries_by party (bump_history region state steps))
-
 count_own : (own : Bool) (counted : BumpEntry → Bool) (entry : BumpEntry) (log : BumpLog) →
     count_by counted (if own then entry ∷ log else log) ≡ weight own (counted entry) + count_by counted log
 count_own true counted entry log = sum_by-cons (λ entry. if counted entry then 1 else 0) entry log
 count_own false counted entry log = omega arith
 
-losses_from-cons : (region : Region) (state : BumpState) (step : BumpStep) (steps : List BumpStep) (party : ℕ) →
-    losses_from region state (step ∷ steps) party ≡
-    weight (is_by party step) (is_loss (bump_step region state step).outcome) + losses_from region
-    (bump_step region state step).state steps party
-unfolding losses_from
-losses_from-cons region state step steps party =
-    count_own (is_by party step) (λ entry. is_loss entry.outcome) (entry_at region state step)
-    (entries_by party (bump_history region (bump_step region state step).state steps))
+module _ (region : Region) (party : ℕ) where
+  -- how often a step of the party has such an outcome
+  counted_from : (BumpOutcome → Bool) → BumpState → List BumpStep → ℕ
+  counted_from counted state steps =
+      count_by (λ entry. counted entry.outcome) (entries_by party (bump_history region state steps))
 
-begun_from-cons : (region : Region) (state : BumpState) (step : BumpStep) (steps : List BumpStep) (party : ℕ) →
-    begun_from region state (step ∷ steps) party ≡
-    weight (is_by party step) (is_beginning (bump_step region state step).outcome) + begun_from region
-    (bump_step region state step).state steps party
-unfolding begun_from
-begun_from-cons region state step steps party =
-    count_own (is_by party step) (λ entry. is_beginning entry.outcome) (entry_at region state step)
-    (entries_by party (bump_history region (bump_step region state step).state steps))
+  abbrev losses_from : BumpState → List BumpStep → ℕ
+  losses_from state steps = counted_from is_loss state steps
 
-losses_from-nil : (region : Region) (state : BumpState) (party : ℕ) → losses_from region state [] party ≡ 0
-unfolding losses_from
-losses_from-nil region state party = refl
+  abbrev begun_from : BumpState → List BumpStep → ℕ
+  begun_from state steps = counted_from is_beginning state steps
 
--- an idle party that begins no call loses nothing
-idle_loses_nothing : (region : Region) (state : BumpState) (steps : List BumpStep) (party : ℕ) →
-    HasNoClear steps → IsIdle state party → begun_from region state steps party ≡ 0 → losses_from region state steps party ≡ 0
-idle_loses_nothing region state [] party none now few = losses_from-nil region state party
-idle_loses_nothing region state (step ∷ steps) party none now few =
-    let parts = not_clear step steps none in
-    let next = (bump_step region state step).state in
-    let count = losses_from-cons region state step steps party in
-    let begun = begun_from-cons region state step steps party in
-    elim (idle_turn region state step party (is_by party step) refl parts.0 now) as
-    (λ _. losses_from region state (step ∷ steps) party ≡ 0) [
-      | stays later lost ↦
-          let rest = idle_loses_nothing region next steps party parts.1 later (omega (arith, begun, few)) in
-          omega (arith, count, lost, rest)
-      | begins call is lost one ↦ absurd (omega (arith, begun, few, one))
-    ]
+  counted_from-cons : (counted : BumpOutcome → Bool) (state : BumpState) (step : BumpStep) (steps : List BumpStep) →
+      counted_from counted state (step ∷ steps) ≡ weight (is_by party step) (counted (bump_step region state step).outcome)
+      + counted_from counted (bump_step region state step).state steps
+  unfolding counted_from
+  counted_from-cons counted state step steps =
+      count_own (is_by party step) (λ entry. counted entry.outcome) (entry_at region state step)
+      (entries_by party (bump_history region (bump_step region state step).state steps))
 
--- a call that goes on loses at most what is above the position that it has seen
-call_loses_little : (region : Region) (state : BumpState) (steps : List BumpStep) (party : ℕ) (call : OngoingCall) →
-    HasNoClear steps → SeesNoMore state party → IsInCall state party call → begun_from region state steps party ≡ 0 →
-    losses_from region state steps party + call.seen ≤ (bump_after region state steps).position
-call_loses_little region state [] party call none below is few = omega (arith, losses_from-nil region state party, below call is)
-call_loses_little region state (step ∷ steps) party call none below is few =
-    let parts = not_clear step steps none in
-    let next = (bump_step region state step).state in
-    let count = losses_from-cons region state step steps party in
-    let begun = begun_from-cons region state step steps party in
-    let none_later : begun_from region next steps party ≡ 0 = omega (arith, begun, few) in
-    elim (call_turn region state step party call (is_by party step) refl parts.0 is (below call is))
-    as (λ _. losses_from region state (step ∷ steps) party + call.seen ≤ (bump_after region next steps).position) [
-      | goes_on later at more ↦
-          let rest = call_loses_little region next steps party later parts.1
-          (step_sees region state step (bump_step region state step) party (step_view region state step) parts.0 below)
-          at none_later in
-          omega (arith, count, more, rest)
-      | ends at more ↦
-          let rest = idle_loses_nothing region next steps party parts.1 at none_later in
-          omega (arith, count, more, rest, stretch_rises region next steps parts.1)
-    ]
+  counted_from-nil : (counted : BumpOutcome → Bool) (state : BumpState) → counted_from counted state [] ≡ 0
+  unfolding counted_from
+  counted_from-nil counted state = refl
 
-one_call_loses_little : (region : Region) (state : BumpState) (steps : List BumpStep) (party : ℕ) →
-    HasNoClear steps → IsIdle state party →
-    begun_from region state steps party ≤ 1 → losses_from region state steps party ≤ (bump_after region state steps).position
-one_call_loses_little region state [] party none now few = omega (arith, losses_from-nil region state party)
-one_call_loses_little region state (step ∷ steps) party none now few =
-    let parts = not_clear step steps none in
-    let next = (bump_step region state step).state in
-    let count = losses_from-cons region state step steps party in
-    let begun = begun_from-cons region state step steps party in
-    elim (idle_turn region state step party (is_by party step) refl parts.0 now)
-    as (λ _. losses_from region state (step ∷ steps) party ≤ (bump_after region next steps).position) [
-      | stays later lost ↦
-          let rest = one_call_loses_little region next steps party parts.1 later (omega (arith, begun, few)) in
-          omega (arith, count, lost, rest)
-      | begins call is lost one ↦
-          let below = step_sees region state step (bump_step region state step) party (step_view region state step) parts.0
-          (idle_sees state party now) in
-          let rest = call_loses_little region next steps party call parts.1 below is (omega (arith, begun, few, one)) in
-          omega (arith, count, lost, rest)
-    ]
+  -- an idle party that begins no call loses nothing
+  idle_loses_nothing : (state : BumpState) (steps : List BumpStep) → HasNoClear steps → IsIdle state party →
+      begun_from state steps ≡ 0 → losses_from state steps ≡ 0
+  idle_loses_nothing state [] none now few = counted_from-nil is_loss state
+  idle_loses_nothing state (step ∷ steps) none now few =
+      let parts = not_clear step steps none in
+      let next = (bump_step region state step).state in
+      let count = counted_from-cons is_loss state step steps in
+      let begun = counted_from-cons is_beginning state step steps in
+      elim (idle_turn region state step party (is_by party step) refl parts.0 now) as
+      (λ _. losses_from state (step ∷ steps) ≡ 0) [
+        | stays later lost ↦
+            let rest = idle_loses_nothing next steps parts.1 later (omega (arith, begun, few)) in omega (arith, count, lost, rest)
+        | begins call is lost one ↦ absurd (omega (arith, begun, few, one))
+      ]
+
+  -- a call that goes on loses at most what is above the position that it has seen
+  call_loses_little : (state : BumpState) (steps : List BumpStep) (call : OngoingCall) →
+      HasNoClear steps → SeesNoMore state party → IsInCall state party call → begun_from state steps ≡ 0 →
+      losses_from state steps + call.seen ≤ (bump_after region state steps).position
+  call_loses_little state [] call none below is few = omega (arith, counted_from-nil is_loss state, below call is)
+  call_loses_little state (step ∷ steps) call none below is few =
+      let parts = not_clear step steps none in
+      let move = bump_step region state step in
+      let next = move.state in
+      let count = counted_from-cons is_loss state step steps in
+      let begun = counted_from-cons is_beginning state step steps in
+      let none_later : begun_from next steps ≡ 0 = omega (arith, begun, few) in
+      elim (call_turn region state step party call (is_by party step) refl parts.0 is (below call is))
+      as (λ _. losses_from state (step ∷ steps) + call.seen ≤ (bump_after region next steps).position) [
+        | goes_on later at more ↦
+            let sees_next = step_sees region state step move party (step_view region state step) parts.0 below in
+            let rest = call_loses_little next steps later parts.1 sees_next at none_later in omega (arith, count, more, rest)
+        | ends at more ↦
+            let rest = idle_loses_nothing next steps parts.1 at none_later in
+            omega (arith, count, more, rest, stretch_rises region next steps parts.1)
+      ]
+
+  one_call_loses_little : (state : BumpState) (steps : List BumpStep) → HasNoClear steps → IsIdle state party →
+      begun_from state steps ≤ 1 → losses_from state steps ≤ (bump_after region state steps).position
+  one_call_loses_little state [] none now few = omega (arith, counted_from-nil is_loss state)
+  one_call_loses_little state (step ∷ steps) none now few =
+      let parts = not_clear step steps none in
+      let move = bump_step region state step in
+      let next = move.state in
+      let count = counted_from-cons is_loss state step steps in
+      let begun = counted_from-cons is_beginning state step steps in
+      elim (idle_turn region state step party (is_by party step) refl parts.0 now)
+      as (λ _. losses_from state (step ∷ steps) ≤ (bump_after region next steps).position) [
+        | stays later lost ↦
+            let rest = one_call_loses_little next steps parts.1 later (omega (arith, begun, few)) in
+            omega (arith, count, lost, rest)
+        | begins call is lost one ↦
+            let view = step_view region state step in
+            let below = step_sees region state step move party view parts.0 (idle_sees state party now) in
+            let rest = call_loses_little next steps call parts.1 below is (omega (arith, begun, few, one)) in
+            omega (arith, count, lost, rest)
+      ]
 
 -- FROM THE OPENING
 
@@ -234,25 +225,26 @@ pub losses_few : (scene : BumpScene) (before stretch : List BumpStep) (party : �
     IsIdle (left_by scene before) party → HasNoClear stretch →
     calls_begun_in (entries_by party (stretch_after scene before stretch)) ≤ 1 →
     losses_in (entries_by party (stretch_after scene before stretch)) ≤ scene.region.size
-unfolding losses_from begun_from
+unfolding counted_from
 losses_few scene before stretch party within idle none few =
-    let state = left_by scene before in
-    let little = one_call_loses_little scene.region state stretch party none idle few in
-    let healthy = healthy_after scene (before ++ stretch) within in
+    let little = one_call_loses_little scene.region party (left_by scene before) stretch none idle few in
     let same = ap (λ (state : BumpState). state.position) (bump_after-append scene.region (opening_state scene) before stretch) in
-    let within = StandsFor-within scene.region (left_by scene (before ++ stretch)).position healthy.live healthy.stands in
-    omega (arith, little, same, within)
+    omega (arith, little, same, position_in_size scene (before ++ stretch) within)
 
 loss_raises : (region : Region) (state : BumpState) (move : BumpMove) (party position : ℕ) (call : OngoingCall) →
     StepView region state (Exchange party) move → IsInCall state party call → call.seen ≤ state.position →
     IsLossAt position move.outcome → call.seen < position
-loss_raises region state move party position call (wins other old at same) is below lost = absurd lost
-loss_raises region state move party position call (loses other old at apart fit) is below lost =
-    let own = ap (λ (c : OngoingCall). c.seen) (one_call state other other old call (test_same other other refl) at is) in
-    omega (arith, lost, less_when_apart state.position old.seen call.seen apart own below)
-loss_raises region state move party position call (refuses_loss other old at apart fit) is below lost =
-    let own = ap (λ (c : OngoingCall). c.seen) (one_call state other other old call (test_same other other refl) at is) in
-    omega (arith, lost, less_when_apart state.position old.seen call.seen apart own below)
+loss_raises region state move party position call (exchanges other old turn at view) is below lost =
+    let own = same_Some old call (one_there state other other (Some old) (Some call) (eq-eqb other other refl) at is) in
+    raised turn view (ap (λ (c : OngoingCall). c.seen) own) lost
+  where
+    raised : (turn : PartyMove) → ExchangeView region state.position old turn → old.seen ≡ call.seen →
+        IsLossAt position turn.outcome → call.seen < position
+    raised turn (wins same) own lost = absurd lost
+    raised turn (loses apart fit) own lost =
+        omega (arith, lost, less_when_apart state.position old.seen call.seen apart own below)
+    raised turn (refuses_loss apart fit) own lost =
+        omega (arith, lost, less_when_apart state.position old.seen call.seen apart own below)
 loss_raises region state move party position call (passes other) is below lost = absurd lost
 
 pub losses_raise : (scene : BumpScene) (before stretch : List BumpStep) (party position : ℕ) (call : OngoingCall) →

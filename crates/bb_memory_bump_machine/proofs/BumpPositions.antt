@@ -1,28 +1,27 @@
 -- What a log says of the position.
-use Rattle.std.proofs.Common.{◌≡◌, ℕ, ◌≤◌, List, [], ◌∷◌, length, refl, sym, ap, ◌∙◌, subst, arith, Bool, true, false}
-use Rattle.std.proofs.Common.{Option, Some, None}
-use Rattle.std.specs.Prelude.{if◌then◌else◌, IfSome}
-use Rattle.std.specs.List.{AllByRecursion}
-use Rattle.std.proofs.lemmas.List.{length-replicate}
+use Rattle.std.proofs.Common.{◌≡◌, ℕ, ◌≤◌, List, [], ◌∷◌, subst, arith, Option, Some, None}
+use Rattle.std.specs.Prelude.{IfSome}
+use Rattle.std.specs.List.{All, AllByRecursion}
+use Rattle.std.proofs.lemmas.List.Elements.{All-filter, All-from_recursion, recursion_from_All}
 use Rattle.bb_memory_traits.specs.Chunk.{Region, Chunk}
 use Rattle.bb_memory_traits.specs.BumpObject.{StandsFor}
 use Rattle.bb_memory_bump_machine.specs.BumpMachine.{BumpState, BumpMove, BumpScene, opening_state}
 use Rattle.bb_memory_bump_machine.specs.BumpMachine.{bump_step, bump_after, left_by, BumpStep}
-use Rattle.bb_memory_bump_machine.specs.BumpLogs.{BumpEntry, BumpLog, entry_at, bump_history, history_of, is_by, entries_by, OpensWith}
-use Rattle.bb_memory_bump_machine.specs.BumpLogs.{live_after, IsAllowed, AllAllowed, HasLog, LogsAgree, Interleaving, CommonInterleaving}
+use Rattle.bb_memory_bump_machine.specs.BumpLogs.{BumpEntry, BumpLog, bump_history, history_of, is_by, OpensWith, live_after}
+use Rattle.bb_memory_bump_machine.specs.BumpLogs.{IsAllowed, AllAllowed, HasLog, LogsAgree, Interleaving, CommonInterleaving}
 use Rattle.bb_memory_bump_machine.specs.BumpLogs.{HasPositionUpTo, position_in, greater_of, greatest_in, seen_in}
-use Rattle.bb_memory_traits.proofs.LiveLists.{StandsFor-within}
-use Rattle.bb_memory_bump_machine.proofs.BumpSteps.{StepView, step_view, wins, clears, passes}
+use Rattle.bb_memory_bump_machine.proofs.BumpSteps.{StepView, step_view, reads, sees, exchanges, wins, clears, passes}
 use Rattle.bb_memory_bump_machine.proofs.BumpRuns.{chunk_at-above, calls_stand}
-use Rattle.bb_memory_bump_machine.proofs.BumpStretches.{healthy_after, stretch_rises}
-use Rattle.bb_memory_bump_machine.proofs.BumpAllowed.{first_allowed, rest_allowed, no_clear_when_allowed, parties_stay, owner_of}
+use Rattle.bb_memory_bump_machine.proofs.BumpStretches.{position_in_size, stretch_rises}
+use Rattle.bb_memory_bump_machine.proofs.BumpAllowed.{first_allowed, rest_allowed, no_clear_when_allowed}
 
 -- POSITIONS IN A LOG
 
 -- an allowed step leaves the greater of the position before it and the one in its outcome
 pub step_leaves : (region : Region) (state : BumpState) (step : BumpStep) (move : BumpMove) → StepView region state step move →
     IsAllowed move.outcome → greater_of state.position (position_in region move.outcome) ≡ move.state.position
-step_leaves region state step move (wins party call is same) allowed =
+step_leaves region state step move (reads party layout turn idle asks (sees fit)) allowed = omega arith
+step_leaves region state step move (exchanges party call turn is (wins same)) allowed =
     omega (arith, chunk_at-above region state.position call.layout)
 step_leaves region state step move clears allowed = absurd allowed
 step_leaves region state step move (passes other) allowed = absurd allowed
@@ -54,27 +53,6 @@ history_below region state (step ∷ steps) allowed =
       history_below region move.state steps rest,
     )
 
-all_own : (P : BumpEntry → Type 0) (own : Bool) (entry : BumpEntry) (log : BumpLog) → P entry → AllByRecursion P log →
-    AllByRecursion P (if own then entry ∷ log else log)
-all_own P true entry log here rest = (here, rest)
-all_own P false entry log here rest = rest
-
-all_in_log : (P : BumpEntry → Type 0) (party : ℕ) (history : BumpLog) → AllByRecursion P history →
-    AllByRecursion P (entries_by party history)
-all_in_log P party [] all = tt
-all_in_log P party (entry ∷ history) (here, rest) =
-    all_own P (is_by party entry.step) entry (entries_by party history) here (all_in_log P party history rest)
-
-log_below : (scene : BumpScene) (position : ℕ) (logs : List BumpLog) (party : ℕ) (log : BumpLog) → LogsAgree scene position logs →
-    HasLog logs party log → AllByRecursion (HasPositionUpTo position scene.region) log
-log_below scene position logs party log agree at =
-    let history = history_of scene agree.steps in
-    let left = (left_by scene agree.steps).position in
-    let all = history_below scene.region (opening_state scene) agree.steps agree.allowed in
-    let own = all_in_log (HasPositionUpTo left scene.region) party history all in
-    let mine = subst (AllByRecursion (HasPositionUpTo left scene.region)) (agree.each party log at) own in
-    subst (λ (bound : ℕ). AllByRecursion (HasPositionUpTo bound scene.region) log) agree.leaves mine
-
 pub position_risen : (scene : BumpScene) (position : ℕ) (logs : List BumpLog) → LogsAgree scene position logs →
     scene.opening ≤ position
 position_risen scene position logs agree =
@@ -83,9 +61,7 @@ position_risen scene position logs agree =
 
 pub position_within : (scene : BumpScene) (position : ℕ) (logs : List BumpLog) → scene.opening ≤ scene.region.size →
     LogsAgree scene position logs → position ≤ scene.region.size
-position_within scene position logs within agree =
-    let healthy = healthy_after scene agree.steps within in
-    omega (arith, StandsFor-within scene.region (left_by scene agree.steps).position healthy.live healthy.stands, agree.leaves)
+position_within scene position logs within agree = omega (arith, position_in_size scene agree.steps within, agree.leaves)
 
 -- WHAT A PARTY HAS SEEN
 
@@ -96,52 +72,26 @@ greatest_in-below region seen bound (entry ∷ log) below (here, rest) =
     let found = position_in region entry.outcome in
     greatest_in-below region (greater_of seen found) bound log (greater_below seen bound found below here) rest
 
--- a party has seen no more than the position
-pub seen_below : (scene : BumpScene) (position : ℕ) (logs : List BumpLog) (party : ℕ) (log : BumpLog) →
-    LogsAgree scene position logs → HasLog logs party log → seen_in scene log ≤ position
-seen_below scene position logs party log agree at =
-    greatest_in-below scene.region scene.opening position log (position_risen scene position logs agree)
-    (log_below scene position logs party log agree at)
+module _ (scene : BumpScene) (position : ℕ) (logs : List BumpLog) (party : ℕ) (log : BumpLog)
+    (agree : LogsAgree scene position logs) (at : HasLog logs party log) where
+  log_below : AllByRecursion (HasPositionUpTo position scene.region) log
+  log_below =
+      let history = history_of scene agree.steps in
+      let P : BumpEntry → Type 0 = HasPositionUpTo (left_by scene agree.steps).position scene.region in
+      let all = All-from_recursion P history (history_below scene.region (opening_state scene) agree.steps agree.allowed) in
+      let own = All-filter (λ (e : BumpEntry). is_by party e.step) P history all in
+      subst (λ (bound : ℕ). AllByRecursion (HasPositionUpTo bound scene.region) log) agree.leaves
+      (recursion_from_All P log (subst (All P) (agree.each party log at) own))
 
--- ONE PARTY ALONE
+  -- a party has seen no more than the position
+  pub seen_below : seen_in scene log ≤ position
+  seen_below =
+      greatest_in-below scene.region scene.opening position log (position_risen scene position logs agree) log_below
 
--- where there is one party, each allowed step of a party is its own
-own_alone : (region : Region) (state : BumpState) (step : BumpStep) (move : BumpMove) → StepView region state step move →
-    IsAllowed move.outcome → length state.calls ≡ 1 → is_by 0 step ≡ true
-own_alone region state step move view allowed one =
-    let owner = owner_of region state step move view allowed in
-    let none : owner.party ≡ 0 = omega (arith, owner.there, one) in
-    ap (λ (p : ℕ). is_by p step) (sym none) ∙ owner.own
-
-greatest_alone : (region : Region) (state : BumpState) (steps : List BumpStep) → length state.calls ≡ 1 →
-    AllAllowed (bump_history region state steps) →
-    greatest_in region state.position (entries_by 0 (bump_history region state steps)) ≡ (bump_after region state steps).position
-greatest_alone region state [] one allowed = refl
-greatest_alone region state (step ∷ steps) one allowed =
-    let here = first_allowed region state step steps allowed in
-    let rest = rest_allowed region state step steps allowed in
-    let move = bump_step region state step in
-    let view = step_view region state step in
-    let entry = entry_at region state step in
-    let later = entries_by 0 (bump_history region move.state steps) in
-    ap (λ (own : Bool). greatest_in region state.position (if own then entry ∷ later else later))
-    (own_alone region state step move view here one)
-    ∙ ap (λ (position : ℕ). greatest_in region position later) (step_leaves region state step move view here)
-    ∙ greatest_alone region move.state steps (parties_stay region state step move view ∙ one) rest
-
-pub alone_exact : (scene : BumpScene) (position : ℕ) (logs : List BumpLog) (log : BumpLog) → scene.parties ≡ 1 →
-    LogsAgree scene position logs → HasLog logs 0 log → position ≡ seen_in scene log
-alone_exact scene position logs log one agree at =
-    let exact =
-    greatest_alone scene.region (opening_state scene) agree.steps (length-replicate scene.parties None ∙ one) agree.allowed in
-    sym agree.leaves ∙ sym exact ∙ ap (seen_in scene) (agree.each 0 log at)
+  pub interleaved : Interleaving scene party log position
+  interleaved = record { steps = agree.steps; allowed = agree.allowed; leaves = agree.leaves; logged = agree.each party log at }
 
 -- INTERLEAVINGS
-
-pub interleaved : (scene : BumpScene) (position : ℕ) (logs : List BumpLog) (party : ℕ) (log : BumpLog) →
-    LogsAgree scene position logs → HasLog logs party log → Interleaving scene party log position
-interleaved scene position logs party log agree at =
-    record { steps = agree.steps; allowed = agree.allowed; leaves = agree.leaves; logged = agree.each party log at }
 
 pub both_interleaved : (scene : BumpScene) (position : ℕ) (logs : List BumpLog) (party : ℕ) (log : BumpLog) (other : ℕ)
     (other_log : BumpLog) → LogsAgree scene position logs → HasLog logs party log → HasLog logs other other_log →

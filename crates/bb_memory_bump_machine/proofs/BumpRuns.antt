@@ -7,16 +7,15 @@ use Rattle.bb_memory_traits.specs.declared.layout.Layout.{Layout}
 use Rattle.bb_memory_traits.specs.declared.allocator.AllocationError.TheVariants.{OutOfMemory}
 use Rattle.bb_memory_traits.specs.Object.{appended}
 use Rattle.bb_memory_traits.specs.BumpObject.{StandsFor, chunk_at_or_after, next_chunk, used_space}
-use Rattle.bb_memory_bump_machine.specs.BumpMachine.{OngoingCall, BumpState, BumpMove, BumpScene, AllFitting, chunk_at, fits}
-use Rattle.bb_memory_bump_machine.specs.BumpMachine.{position_behind, opening_state, bump_step, bump_after, left_by, BumpStep, Wins}
-use Rattle.bb_memory_bump_machine.specs.BumpMachine.{RefusedAtLoss}
-use Rattle.bb_memory_bump_machine.specs.BumpLogs.{BumpCall, Allocate, ClearAll, IsCallRun, left_by_calls, layout_in, asked_by, decided}
-use Rattle.bb_memory_bump_machine.specs.BumpLogs.{bump_calls, calls_of, calls_after, OpensWith, live_after}
+use Rattle.bb_memory_bump_machine.specs.BumpMachine.{BumpState, BumpMove, BumpScene, AllFitting, chunk_at, fits, position_behind}
+use Rattle.bb_memory_bump_machine.specs.BumpMachine.{opening_state, bump_step, bump_after, left_by, BumpStep, Wins, RefusedAtLoss}
+use Rattle.bb_memory_bump_machine.specs.BumpLogs.{BumpCall, Allocate, ClearAll, IsCallRun, left_by_calls, layout_in, asked_by}
+use Rattle.bb_memory_bump_machine.specs.BumpLogs.{decided, bump_calls, calls_of, calls_after, OpensWith, live_after}
 use Rattle.bb_memory_traits.proofs.LeastPlaces.{least_place-is}
 use Rattle.bb_memory_traits.proofs.LiveLists.{StandsFor-end, StandsFor-push, StandsFor-empty}
 use Rattle.bb_memory_lists.proofs.SliceGets.{slice_get-replicated}
-use Rattle.bb_memory_bump_machine.proofs.BumpSteps.{StepView, step_view, sees, refuses_read, wins, loses, refuses_loss, loads, clears}
-use Rattle.bb_memory_bump_machine.proofs.BumpSteps.{passes, all_fitting-step}
+use Rattle.bb_memory_bump_machine.proofs.BumpSteps.{StepView, step_view, reads, refuses_read, exchanges, wins, refuses_loss}
+use Rattle.bb_memory_bump_machine.proofs.BumpSteps.{clears, all_fitting-step}
 
 -- CALLS ONE AFTER ANOTHER
 
@@ -62,20 +61,6 @@ pub chunk_at-above : (region : Region) (position : ℕ) (layout : Layout) →
     region.start + position ≤ (chunk_at region position layout).place
 chunk_at-above region position layout = (least_place-is (region.start + position) layout.align layout.valid.positive).above
 
--- one more chunk is won
-pub StandsFor-won : (region : Region) (position : ℕ) (live : List Chunk) (layout : Layout) → StandsFor region position live →
-    fits region position layout ≡ true →
-    StandsFor region (position_behind region (chunk_at region position layout)) (live ++ chunk_at region position layout ∷ [])
-StandsFor-won region position live layout stands fit =
-    let chunk = chunk_at region position layout in
-    StandsFor-push region position live chunk stands
-    (omega (arith, StandsFor-end region position live stands, chunk_at-above region position layout))
-    (leb-true (chunk_end chunk) (region_end region) fit)
-
-call_none : (region : Region) (live : List Chunk) (position : ℕ) → StandsFor region position live →
-    MakesCalls region live [] position
-call_none region live position stands = record { run = refl; stands = stands }
-
 call_refused : (region : Region) (live : List Chunk) (position : ℕ) (layout : Layout) → StandsFor region position live →
     0 < layout.size → fits region position layout ≡ false →
     MakesCalls region live (Allocate layout (Err OutOfMemory) ∷ []) position
@@ -98,46 +83,34 @@ call_won region live position layout stands asks fit =
         record { answers = (asks, within, chunk_at-next region position live layout stands); leaves = refl },
         refl,
       );
-      stands = StandsFor-won region position live layout stands fit;
+      stands = StandsFor-push region position live chunk stands
+          (omega (arith, StandsFor-end region position live stands, chunk_at-above region position layout)) within;
     }
-
--- a call that is under way fits at the position where that is what it has seen
-pub fits_when_seen : (region : Region) (state : BumpState) (call : OngoingCall) → state.position ≡ call.seen →
-    fits region call.seen call.layout ≡ true → fits region state.position call.layout ≡ true
-fits_when_seen region state call same fit = ap (λ position. fits region position call.layout) same ∙ fit
 
 step_makes : (region : Region) (state : BumpState) (live : List Chunk) (step : BumpStep) (move : BumpMove) →
     StepView region state step move → StandsFor region state.position live → AllFitting region state →
     MakesCalls region live (decided move.outcome (asked_by state step)) move.state.position
-step_makes region state live step move (sees party layout idle asks fit) stands fitting =
-    call_none region live state.position stands
-step_makes region state live step move (refuses_read party layout idle asks fit) stands fitting =
+step_makes region state live step move (reads party layout turn idle asks (refuses_read fit)) stands fitting =
     call_refused region live state.position layout stands asks fit
-step_makes region state live step move (wins party call is same) stands fitting =
+step_makes region state live step move (exchanges party call turn is (wins same)) stands fitting =
     let chunk = chunk_at region state.position call.layout in
     let own = fitting party call is in
-    let now : fits region state.position call.layout ≡ true = fits_when_seen region state call same own.fitting in
-    let made = call_won region live state.position call.layout stands own.asks now in
-    let asked = sym (ap layout_in is) in
+    let now : fits region state.position call.layout ≡ true =
+    ap (λ position. fits region position call.layout) same ∙ own.fitting in
     subst (λ (layout : Option Layout). MakesCalls region live (decided (Wins chunk) layout) (position_behind region chunk))
-    asked made
-step_makes region state live step move (loses party call is apart fit) stands fitting =
-    call_none region live state.position stands
-step_makes region state live step move (refuses_loss party call is apart fit) stands fitting =
-    let made = call_refused region live state.position call.layout stands (fitting party call is).asks fit in
-    let asked = sym (ap layout_in is) in
+    (sym (ap layout_in is)) (call_won region live state.position call.layout stands own.asks now)
+step_makes region state live step move (exchanges party call turn is (refuses_loss apart fit)) stands fitting =
     subst (λ (layout : Option Layout). MakesCalls region live (decided (RefusedAtLoss state.position) layout) state.position)
-    asked made
-step_makes region state live step move (loads party idle) stands fitting = call_none region live state.position stands
+    (sym (ap layout_in is)) (call_refused region live state.position call.layout stands (fitting party call is).asks fit)
 step_makes region state live step move clears stands fitting = record { run = ([], refl, refl); stands = StandsFor-empty region }
-step_makes region state live step move (passes other) stands fitting = call_none region live state.position stands
+step_makes region state live step move _ stands fitting = record { run = refl; stands = stands }
 
 -- ANY LIST OF STEPS
 
 pub steps_make : (region : Region) (state : BumpState) (live : List Chunk) (steps : List BumpStep) →
     StandsFor region state.position live →
     AllFitting region state → MakesCalls region live (bump_calls region state steps) (bump_after region state steps).position
-steps_make region state live [] stands fitting = call_none region live state.position stands
+steps_make region state live [] stands fitting = record { run = refl; stands = stands }
 steps_make region state live (step ∷ steps) stands fitting =
     let move = bump_step region state step in
     let view = step_view region state step in

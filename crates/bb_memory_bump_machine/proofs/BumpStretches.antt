@@ -2,13 +2,14 @@
 use Rattle.std.proofs.Common.{◌≡◌, ◌≤◌, List, [], ◌∷◌, ◌++◌, append_assoc, append-nil, sym, ap, ◌∙◌, subst, arith}
 use Rattle.bb_memory_traits.specs.Chunk.{Region, Chunk, IsSound}
 use Rattle.bb_memory_traits.specs.BumpObject.{end_of_last, StandsFor}
-use Rattle.bb_memory_bump_machine.specs.BumpMachine.{BumpState, BumpMove, BumpScene, AllFitting, chunk_at, opening_state, bump_step}
-use Rattle.bb_memory_bump_machine.specs.BumpMachine.{bump_after, left_by, BumpStep, Read, Exchange, Load, Clear, Wins, RefusedAtLoss}
-use Rattle.bb_memory_bump_machine.specs.BumpLogs.{bump_history, HasNoClear, won_at, chunks_won, asked_by, bump_calls, decided, layout_in}
-use Rattle.bb_memory_bump_machine.specs.BumpLogs.{left_by_calls}
+use Rattle.bb_memory_bump_machine.specs.BumpMachine.{BumpState, BumpMove, BumpScene, AllFitting, chunk_at, opening_state}
+use Rattle.bb_memory_bump_machine.specs.BumpMachine.{bump_step, bump_after, left_by, BumpStep, Read, Exchange, Load, Clear, Wins}
+use Rattle.bb_memory_bump_machine.specs.BumpMachine.{RefusedAtLoss}
+use Rattle.bb_memory_bump_machine.specs.BumpLogs.{bump_history, HasNoClear, won_at, chunks_won, asked_by, bump_calls, decided}
+use Rattle.bb_memory_bump_machine.specs.BumpLogs.{layout_in, left_by_calls}
 use Rattle.bb_memory_traits.proofs.LiveLists.{end_of_last-above, end_of_last-append, in_order-rest, sound_from_order}
 use Rattle.bb_memory_traits.proofs.LiveLists.{stands_for_some, StandsFor-end, StandsFor-within}
-use Rattle.bb_memory_bump_machine.proofs.BumpSteps.{StepView, step_view, wins, refuses_loss, clears}
+use Rattle.bb_memory_bump_machine.proofs.BumpSteps.{StepView, step_view, reads, sees, exchanges, wins, refuses_loss, clears}
 use Rattle.bb_memory_bump_machine.proofs.BumpRuns.{chunk_at-above, calls_stand, steps_make, fitting_after, fitting_at_opening}
 use Rattle.bb_memory_bump_machine.proofs.BumpRuns.{left_by_calls-append}
 
@@ -39,24 +40,32 @@ healthy_after scene steps within =
       fitting = fitting_after scene.region (opening_state scene) steps (fitting_at_opening scene);
     }
 
+pub position_in_size : (scene : BumpScene) (steps : List BumpStep) → scene.opening ≤ scene.region.size →
+    (left_by scene steps).position ≤ scene.region.size
+position_in_size scene steps within =
+    let healthy = healthy_after scene steps within in
+    StandsFor-within scene.region (left_by scene steps).position healthy.live healthy.stands
+
 -- ONE STEP
 
 -- the object's list grows by what is won, whatever it is
 step_grows : (region : Region) (state : BumpState) (live : List Chunk) (step : BumpStep) (move : BumpMove) →
     StepView region state step move → ¬ IsClear step →
     left_by_calls live (decided move.outcome (asked_by state step)) ≡ live ++ won_at move.outcome
-step_grows region state live step move (wins party call is same) not =
+step_grows region state live step move (exchanges party call turn is (wins same)) not =
     ap (λ now. left_by_calls live (decided (Wins (chunk_at region state.position call.layout)) (layout_in now))) is
-step_grows region state live step move (refuses_loss party call is apart fit) not =
+step_grows region state live step move (exchanges party call turn is (refuses_loss apart fit)) not =
     ap (λ now. left_by_calls live (decided (RefusedAtLoss state.position) (layout_in now))) is ∙ sym (append-nil live)
+step_grows region state live step move (reads party layout turn idle asks (sees fit)) not = sym (append-nil live)
 step_grows region state live step move clears not = absurd (not tt)
 step_grows region state live step move _ not = sym (append-nil live)
 
 -- the position doesn't fall
 pub position_rises : (region : Region) (state : BumpState) (step : BumpStep) (move : BumpMove) → StepView region state step move →
     ¬ IsClear step → state.position ≤ move.state.position
-position_rises region state step move (wins party call is same) not =
+position_rises region state step move (exchanges party call turn is (wins same)) not =
     omega (arith, chunk_at-above region state.position call.layout)
+position_rises region state step move (reads party layout turn idle asks (sees fit)) not = omega arith
 position_rises region state step move clears not = absurd (not tt)
 position_rises region state step move _ not = omega arith
 

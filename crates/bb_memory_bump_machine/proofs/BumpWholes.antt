@@ -6,15 +6,15 @@ use Rattle.std.specs.List.{All, AllByRecursion}
 use Rattle.std.proofs.lemmas.List.{length-replicate}
 use Rattle.std.proofs.lemmas.List.Elements.{All-from_recursion}
 use Rattle.bb_memory_traits.specs.Chunk.{Region, Chunk, chunk_end}
-use Rattle.bb_memory_bump_machine.specs.BumpMachine.{BumpState, BumpScene, opening_state, bump_step, bump_after, BumpStep, BumpOutcome}
-use Rattle.bb_memory_bump_machine.specs.BumpMachine.{Wins}
-use Rattle.bb_memory_bump_machine.specs.BumpLogs.{BumpEntry, BumpLog, entry_at, bump_history, is_by, entries_by, won_at, chunks_won}
-use Rattle.bb_memory_bump_machine.specs.BumpLogs.{log_of, AllAllowed, HasLog, LogsAgree, HasPositionUpTo, position_in, greater_of}
-use Rattle.bb_memory_bump_machine.specs.BumpLogs.{greatest_in, seen_in}
+use Rattle.bb_memory_bump_machine.specs.BumpMachine.{BumpState, BumpScene, opening_state, bump_step, bump_after, BumpStep}
+use Rattle.bb_memory_bump_machine.specs.BumpMachine.{BumpOutcome, Wins}
+use Rattle.bb_memory_bump_machine.specs.BumpLogs.{BumpEntry, BumpLog, entry_at, bump_history, is_by, entries_by, won_at}
+use Rattle.bb_memory_bump_machine.specs.BumpLogs.{chunks_won, log_of, AllAllowed, HasLog, LogsAgree, HasPositionUpTo, position_in}
+use Rattle.bb_memory_bump_machine.specs.BumpLogs.{greater_of, greatest_in, seen_in}
 use Rattle.bb_memory_bump_machine.proofs.BumpSteps.{step_view}
 pub use Rattle.bb_memory_bump_machine.proofs.BumpAllowed.{owner_of}
 use Rattle.bb_memory_bump_machine.proofs.BumpAllowed.{first_allowed, rest_allowed, parties_stay}
-use Rattle.bb_memory_bump_machine.proofs.BumpPositions.{step_leaves, below_greater, greater_below}
+use Rattle.bb_memory_bump_machine.proofs.BumpPositions.{step_leaves, below_greater, greater_below, seen_below}
 
 -- WHAT A LOG HAS SEEN
 
@@ -111,3 +111,12 @@ whole_bounds scene position bound logs agree opened each =
     subst (AllByRecursion (HasPositionUpTo bound scene.region)) (sym own)
     (up_to_greatest scene.region scene.opening bound log.0 log.2)) in
     omega (arith, most, agree.leaves)
+
+-- where there is one party, its log has seen just the position
+pub alone_exact : (scene : BumpScene) (position : ℕ) (logs : List BumpLog) (log : BumpLog) → scene.parties ≡ 1 →
+    LogsAgree scene position logs → HasLog logs 0 log → position ≡ seen_in scene log
+alone_exact scene position logs log one agree at =
+    let most = whole_bounds scene position (seen_in scene log) logs agree (opened_below scene log) (λ party there.
+    let first : 0 ≡ party = omega (arith, one, there) in
+    (log, subst (λ (p : ℕ). HasLog logs p log) first at, omega arith)) in
+    omega (arith, most, seen_below scene position logs 0 log agree at)

@@ -1,18 +1,17 @@
 -- What a party's log says of its own chunks.
 use Rattle.std.proofs.Common.{◌≡◌, ℕ, ◌≤◌, List, [], ◌∷◌, ◌++◌, subst, arith, Bool, true, false}
 use Rattle.std.specs.Prelude.{if◌then◌else◌}
-use Rattle.std.specs.List.{All, AllByRecursion}
-use Rattle.std.proofs.lemmas.List.Elements.{All-from_recursion, recursion_from_All}
+use Rattle.std.specs.List.{All}
+use Rattle.std.proofs.lemmas.List.Elements.{All-from_recursion}
 use Rattle.bb_memory_traits.specs.Chunk.{Chunk, IsInside, AreApart, IsSound}
 use Rattle.bb_memory_traits.specs.BumpObject.{end_of_last, IsInOrder, StandsFor}
-use Rattle.bb_memory_bump_machine.specs.BumpMachine.{BumpScene, left_by, opening_state, BumpStep}
-use Rattle.bb_memory_bump_machine.specs.BumpLogs.{OpensWith, live_after, BumpEntry, BumpLog, history_of, is_by, entries_by, won_at}
-use Rattle.bb_memory_bump_machine.specs.BumpLogs.{chunks_won, AllAllowed, Interleaving, LogsAgree}
-use Rattle.bb_memory_traits.proofs.LiveLists.{all_above, apart_from_order, end_of_last-above, in_order-append, in_order-front}
-use Rattle.bb_memory_traits.proofs.LiveLists.{in_order-rest, stands_for_some}
-use Rattle.bb_memory_bump_machine.proofs.BumpMeetings.{all_in_log, all_map, all_rest, apart_behind, in_order-below}
-use Rattle.bb_memory_bump_machine.proofs.BumpRuns.{fitting_at_opening}
-use Rattle.bb_memory_bump_machine.proofs.BumpStretches.{stretch_grows, stretch_stands}
+use Rattle.bb_memory_bump_machine.specs.BumpMachine.{BumpScene, opening_state, BumpStep}
+use Rattle.bb_memory_bump_machine.specs.BumpLogs.{OpensWith, live_after, BumpEntry, BumpLog, history_of, is_by, entries_by}
+use Rattle.bb_memory_bump_machine.specs.BumpLogs.{won_at, chunks_won, AllAllowed, Interleaving, LogsAgree}
+use Rattle.bb_memory_traits.proofs.LiveLists.{all_above, all_end_by, apart_from_order, end_of_last-above, in_order-append}
+use Rattle.bb_memory_traits.proofs.LiveLists.{in_order-front, in_order-rest, stands_for_some}
+use Rattle.bb_memory_bump_machine.proofs.BumpMeetings.{all_in_log, all_parts, allowed_stands, apart_behind}
+use Rattle.bb_memory_bump_machine.proofs.BumpStretches.{stretch_grows}
 use Rattle.bb_memory_bump_machine.proofs.BumpAllowed.{no_clear_when_allowed}
 
 in_order_lower : (v w : ℕ) (xs : List Chunk) → v ≤ w → IsInOrder w xs → IsInOrder v xs
@@ -36,14 +35,7 @@ in_order_own v party (entry ∷ history) ordered =
     own_entry v (is_by party entry.step) entry (entries_by party history) (end_of_last-above v won front) front
     (in_order_own (end_of_last v won) party history rest)
 
--- allowed steps leave a position that stands for the chunks of before and those won since
-allowed_stands : (scene : BumpScene) (live : List Chunk) (steps : List BumpStep) → AllAllowed (history_of scene steps) →
-    OpensWith scene live → StandsFor scene.region (left_by scene steps).position (live ++ chunks_won (history_of scene steps))
-allowed_stands scene live steps allowed opens =
-    let none = no_clear_when_allowed scene.region (opening_state scene) steps allowed in
-    stretch_stands scene.region (opening_state scene) live steps none opens (fitting_at_opening scene)
-
--- and the object's list is just these
+-- after allowed steps the object's list is the one of before with the chunks won since
 allowed_grow : (scene : BumpScene) (live : List Chunk) (steps : List BumpStep) → AllAllowed (history_of scene steps) →
     live_after scene live steps ≡ live ++ chunks_won (history_of scene steps)
 allowed_grow scene live steps allowed =
@@ -62,11 +54,9 @@ interleaved_own scene position party log within own =
     let v = end_of_last scene.region.start some.0 in
     let ordered = in_order-rest scene.region.start some.0 (chunks_won history) stands.in_order in
     let mine = in_order_own v party history ordered in
-    let every = recursion_from_All (IsInside scene.region) (some.0 ++ chunks_won history) stands.sound.inside in
-    let inside =
-    all_in_log (IsInside scene.region) party history (all_rest (IsInside scene.region) some.0 (chunks_won history) every) in
+    let inside = (all_parts (IsInside scene.region) some.0 (chunks_won history) stands.sound.inside).1 in
     subst (λ (l : BumpLog). IsSound scene.region (chunks_won l)) own.logged record {
-      inside = All-from_recursion (IsInside scene.region) (chunks_won (entries_by party history)) inside;
+      inside = all_in_log (IsInside scene.region) party history inside;
       apart = apart_from_order v (chunks_won (entries_by party history)) mine;
     }
 
@@ -78,14 +68,11 @@ interleaved_older scene position party log live opens own =
     let stands = allowed_stands scene live own.steps own.allowed opens in
     let v = end_of_last scene.region.start live in
     let ordered = in_order-rest scene.region.start live (chunks_won history) stands.in_order in
-    let above = all_above v v (chunks_won history) (omega arith) ordered in
-    let below = in_order-below scene.region.start live opens.in_order in
-    let mine = subst (λ (l : BumpLog). AllByRecursion (λ y. v ≤ y.place) (chunks_won l)) own.logged
-    (all_in_log (λ y. v ≤ y.place) party history above) in
-    let won = chunks_won log in
-    All-from_recursion (λ older. All (AreApart older) won) live
-    (all_map (λ older. AllByRecursion (AreApart older) won) (λ older. All (AreApart older) won) live
-    (λ older. All-from_recursion (AreApart older) won) (apart_behind v live won below mine))
+    let won = chunks_won history in
+    let above = All-from_recursion (λ y. v ≤ y.place) won (all_above v v won (omega arith) ordered) in
+    let below = all_end_by scene.region.start v live opens.in_order (omega arith) in
+    apart_behind v live (chunks_won log) below
+    (subst (λ l. All (λ y. v ≤ y.place) (chunks_won l)) own.logged (all_in_log (λ y. v ≤ y.place) party history above))
 
 -- the object's list is the one before with the chunks won behind it
 pub interleaved_since : (scene : BumpScene) (position party : ℕ) (log : BumpLog) (live : List Chunk)

@@ -5,9 +5,9 @@ use Rattle.bb_memory_traits.specs.Chunk.{Region, Chunk}
 use Rattle.bb_memory_traits.specs.declared.layout.Layout.{Layout}
 use Rattle.bb_memory_traits.specs.declared.allocator.AllocationError.{AllocationError}
 use Rattle.bb_memory_traits.specs.declared.allocator.AllocationError.TheVariants.{OutOfMemory}
-use Rattle.bb_memory_bump_machine.specs.BumpMachine.{BumpScene, BumpState, opening_state, left_by, bump_step, BumpStep, Read, Exchange}
-use Rattle.bb_memory_bump_machine.specs.BumpMachine.{Load, Clear, BumpOutcome, Sees, Wins, Loses, RefusedAtLoss, OngoingCall}
-use Rattle.bb_memory_bump_machine.specs.BumpMachine.{position_behind, RefusedAtRead, Loaded, Cleared, Passed}
+use Rattle.bb_memory_bump_machine.specs.BumpMachine.{BumpScene, BumpState, opening_state, left_by, bump_step, BumpStep, Read}
+use Rattle.bb_memory_bump_machine.specs.BumpMachine.{Exchange, Load, Clear, BumpOutcome, Sees, Wins, Loses, RefusedAtLoss}
+use Rattle.bb_memory_bump_machine.specs.BumpMachine.{OngoingCall, position_behind, RefusedAtRead, Loaded, Cleared, Passed}
 use Rattle.bb_memory_traits.specs.Object.{Allocates, appended}
 use Rattle.bb_memory_traits.specs.BumpObject.{bump_object, StandsFor}
 
@@ -21,21 +21,17 @@ pub record BumpEntry : Type 0 where
 abbrev pub entry_of : BumpStep → BumpOutcome → BumpEntry
 entry_of step outcome = record { step = step; outcome = outcome }
 
--- a log: entries in order
 abbrev pub BumpLog : Type 0
 BumpLog = List BumpEntry
 
--- the entry of a step that is taken in this state
 abbrev pub entry_at : Region → BumpState → BumpStep → BumpEntry
 entry_at region state step = entry_of step (bump_step region state step).outcome
 
--- the entries of a list of steps, in order
 abbrev pub bump_history : Region → BumpState → List BumpStep → BumpLog
 bump_history region state [] = []
 bump_history region state (step ∷ steps) =
     entry_at region state step ∷ bump_history region (bump_step region state step).state steps
 
--- the history of a list of steps from the opening
 abbrev pub history_of : BumpScene → List BumpStep → BumpLog
 history_of scene steps = bump_history scene.region (opening_state scene) steps
 
@@ -46,13 +42,11 @@ stretch_after scene before stretch = bump_history scene.region (left_by scene be
 abbrev pub outcomes_of : BumpLog → List BumpOutcome
 outcomes_of history = map (λ entry. entry.outcome) history
 
--- the answer to a step that comes after these
 abbrev pub outcome_after : BumpScene → List BumpStep → BumpStep → BumpOutcome
 outcome_after scene steps step = (bump_step scene.region (left_by scene steps) step).outcome
 
 -- PARTIES
 
--- the step is this party's
 abbrev pub is_by : ℕ → BumpStep → Bool
 is_by party (Read other layout) = other == party
 is_by party (Exchange other) = other == party
@@ -63,7 +57,6 @@ is_by party Clear = false
 abbrev pub entries_by : ℕ → BumpLog → BumpLog
 entries_by party history = filter (λ entry. is_by party entry.step) history
 
--- a party's log in a list of steps from the opening
 abbrev pub log_of : BumpScene → List BumpStep → ℕ → BumpLog
 log_of scene steps party = entries_by party (history_of scene steps)
 
@@ -83,7 +76,6 @@ abbrev pub chunks_won : BumpLog → List Chunk
 chunks_won [] = []
 chunks_won (entry ∷ history) = won_at entry.outcome ++ chunks_won history
 
--- an exchange that is lost
 abbrev pub is_loss : BumpOutcome → Bool
 is_loss (Loses position) = true
 is_loss (RefusedAtLoss position) = true
@@ -100,7 +92,6 @@ abbrev pub is_beginning : BumpOutcome → Bool
 is_beginning (Sees position) = true
 is_beginning _ = false
 
--- how many exchanges a log has lost, and how many calls that go on it has begun
 abbrev pub losses_in : BumpLog → ℕ
 losses_in log = count_by (λ entry. is_loss entry.outcome) log
 
@@ -156,7 +147,6 @@ abbrev pub greater_of : ℕ → Option ℕ → ℕ
 greater_of seen (Some position) = max seen position
 greater_of seen None = seen
 
--- the greatest of a position and those in a log
 abbrev pub greatest_in : Region → ℕ → BumpLog → ℕ
 greatest_in region seen log = fold (λ most entry. greater_of most (position_in region entry.outcome)) seen log
 
@@ -175,24 +165,20 @@ IsAllowed _ = Unit {0}
 abbrev pub AllAllowed : BumpLog → Type 0
 AllAllowed history = All (λ entry. IsAllowed entry.outcome) history
 
--- the party's log stands in the list of logs, at the party's number
 abbrev pub HasLog : List BumpLog → ℕ → BumpLog → Type 0
 HasLog logs party log = slice_get logs party ≡ Some log
 
--- some list of steps, each a party's and allowed, leaves this position, and has as the steps of each party in the list
--- of logs exactly its log, in order
+-- some list of steps, each a party's and allowed, leaves this position, and has as each party's own steps its log, in order
 pub record LogsAgree (scene : BumpScene) (position : ℕ) (logs : List BumpLog) : Type 0 where
   pub steps : List BumpStep
   pub allowed : AllAllowed (history_of scene steps)
   pub leaves : (left_by scene steps).position ≡ position
   pub each : (party : ℕ) (log : BumpLog) → HasLog logs party log → log_of scene steps party ≡ log
 
--- the logs after one more entry of a party, whose log was this
 abbrev pub with_entry : List BumpLog → ℕ → BumpLog → BumpEntry → List BumpLog
 with_entry logs party log entry = slice_set logs party (log ++ entry ∷ [])
 
--- an interleaving of this party's log with some logs of the others, which leaves this position: a list of steps, each
--- allowed, that has as the party's steps exactly its log, in order
+-- an interleaving of this party's log with some logs of the others: allowed steps with just this log, which leave this position
 pub record Interleaving (scene : BumpScene) (party : ℕ) (log : BumpLog) (position : ℕ) : Type 0 where
   pub steps : List BumpStep
   pub allowed : AllAllowed (history_of scene steps)
@@ -258,7 +244,6 @@ bump_calls region state (step ∷ steps) =
     decided (bump_step region state step).outcome (asked_by state step)
     ++ bump_calls region (bump_step region state step).state steps
 
--- the calls that steps from the opening decide
 abbrev pub calls_of : BumpScene → List BumpStep → List BumpCall
 calls_of scene steps = bump_calls scene.region (opening_state scene) steps
 

@@ -6,8 +6,8 @@ use Rattle.bb_memory_traits.specs.Chunk.{Region, region_end, Chunk, chunk_end}
 use Rattle.bb_memory_traits.specs.declared.layout.Layout.{Layout}
 use Rattle.bb_memory_traits.specs.BumpObject.{chunk_at_or_after}
 pub use Rattle.bb_memory_bump_machine.specs.declared.steps.bump.BumpOutcome.{BumpOutcome}
-pub use Rattle.bb_memory_bump_machine.specs.declared.steps.bump.BumpOutcome.TheVariants.{Cleared, Loaded, Loses, Passed, RefusedAtLoss}
-pub use Rattle.bb_memory_bump_machine.specs.declared.steps.bump.BumpOutcome.TheVariants.{RefusedAtRead, Sees, Wins}
+pub use Rattle.bb_memory_bump_machine.specs.declared.steps.bump.BumpOutcome.TheVariants.{Cleared, Loaded, Loses, Passed}
+pub use Rattle.bb_memory_bump_machine.specs.declared.steps.bump.BumpOutcome.TheVariants.{RefusedAtLoss, RefusedAtRead, Sees, Wins}
 pub use Rattle.bb_memory_bump_machine.specs.declared.steps.bump.BumpStep.{BumpStep}
 pub use Rattle.bb_memory_bump_machine.specs.declared.steps.bump.BumpStep.TheVariants.{Clear, Exchange, Load, Read}
 
@@ -69,22 +69,18 @@ pub record PartyMove : Type 0 where
   pub position : ℕ
   pub call : Option OngoingCall
 
--- the party is idle afterwards
 abbrev pub ending : BumpOutcome → ℕ → PartyMove
 ending outcome position = record { outcome = outcome; position = position; call = None }
 
--- the party is in a call afterwards, and has seen this position
 abbrev pub seeing : BumpOutcome → ℕ → Layout → PartyMove
 seeing outcome position layout =
     let call : OngoingCall = record { layout = layout; seen = position } in
     record { outcome = outcome; position = position; call = Some call }
 
--- a read that finds this position
 abbrev pub read_move : Region → ℕ → Layout → PartyMove
 read_move region position layout =
     if fits region position layout then seeing (Sees position) position layout else ending (RefusedAtRead position) position
 
--- an exchange that is lost at this position
 abbrev pub loss_move : Region → ℕ → Layout → PartyMove
 loss_move region position layout =
     if fits region position layout then seeing (Loses position) position layout else ending (RefusedAtLoss position) position
@@ -95,7 +91,6 @@ exchange_move region position call =
     let chunk = chunk_at region position call.layout in
     if position == call.seen then ending (Wins chunk) (position_behind region chunk) else loss_move region position call.layout
 
--- the answer to a step, and the state after it
 pub record BumpMove : Type 0 where
   pub outcome : BumpOutcome
   pub state : BumpState
@@ -104,7 +99,6 @@ pub record BumpMove : Type 0 where
 abbrev pub passed : BumpState → BumpMove
 passed state = record { outcome = Passed; state = state }
 
--- the party moves so
 abbrev pub moved : BumpState → ℕ → PartyMove → BumpMove
 moved state party turn = record {
   outcome = turn.outcome;
@@ -125,18 +119,15 @@ abbrev pub load : BumpState → Option (Option OngoingCall) → BumpMove
 load state (Some None) = record { outcome = Loaded state.position; state = state }
 load state _ = passed state
 
--- an atomic step
 abbrev pub bump_step : Region → BumpState → BumpStep → BumpMove
 bump_step region state (Read party layout) = read region state party layout (slice_get state.calls party)
 bump_step region state (Exchange party) = exchange region state party (slice_get state.calls party)
 bump_step region state (Load party) = load state (slice_get state.calls party)
 bump_step region state Clear = record { outcome = Cleared; state = record { position = 0; calls = state.calls } }
 
--- the state that a list of steps leaves
 abbrev pub bump_after : Region → BumpState → List BumpStep → BumpState
 bump_after region state [] = state
 bump_after region state (step ∷ steps) = bump_after region (bump_step region state step).state steps
 
--- the state that a list of steps from the opening leaves
 abbrev pub left_by : BumpScene → List BumpStep → BumpState
 left_by scene steps = bump_after scene.region (opening_state scene) steps

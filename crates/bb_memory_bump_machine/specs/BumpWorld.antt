@@ -2,11 +2,10 @@
 use Rattle.std.specs.Prelude.{◌≡◌, ℕ, ◌≤◌, List, Option, Result, IfOk, IfSome, OnErr, OnOk}
 use Rattle.std.specs.declared.vec.Vec.{Vec}
 use Rattle.bb_memory_traits.specs.Chunk.{Region, IsRegion}
-use Rattle.bb_memory_bump_machine.specs.BumpMachine.{OngoingCall, BumpState, BumpScene, PartyMove, AllFitting, IsFitting, opening_state}
-use Rattle.bb_memory_bump_machine.specs.BumpMachine.{bump_step, bump_after, BumpStep, BumpOutcome}
+use Rattle.bb_memory_bump_machine.specs.BumpMachine.{OngoingCall, BumpState, BumpScene, PartyMove, AllFitting, IsFitting}
+use Rattle.bb_memory_bump_machine.specs.BumpMachine.{opening_state, bump_step, bump_after, BumpStep, BumpOutcome}
 use Rattle.bb_memory_bump_machine.specs.BumpLogs as histories
 
--- the region, and the machine's state
 pub record BumpWorld : Type 0 where
   pub region : Region
   pub state : BumpState
@@ -17,13 +16,11 @@ world_of start size position calls = record {
   state = record { position = position; calls = calls };
 }
 
--- the world's position is inside the region, and each call fits at what it has seen
 pub record IsBumpWorld (world : BumpWorld) : Type 0 where
   pub region : IsRegion world.region
   pub within : world.state.position ≤ world.region.size
   pub fitting : AllFitting world.region world.state
 
--- a position in a region
 pub record IsPositionIn (region : Region) (position : ℕ) : Type 0 where
   pub region_is : IsRegion region
   pub within : position ≤ region.size
@@ -40,23 +37,14 @@ opened region parties =
     let scene : BumpScene = record { region = region; opening = 0; parties = parties } in
     record { region = region; state = opening_state scene }
 
--- the world in another state
 abbrev pub in_state : BumpWorld → BumpState → BumpWorld
 in_state world state = record { region = world.region; state = state }
 
--- the machine's answer to a step, and the world after it
-abbrev pub outcome_of : BumpWorld → BumpStep → BumpOutcome
-outcome_of world step = (bump_step world.region world.state step).outcome
-
-abbrev pub after_step : BumpWorld → BumpStep → BumpWorld
-after_step world step = in_state world (bump_step world.region world.state step).state
-
 -- the answer of a call that takes a step, and the world after it
 pub record Steps (old : BumpWorld) (step : BumpStep) (answer : BumpOutcome) (new : BumpWorld) : Type 0 where
-  pub outcome : answer ≡ outcome_of old step
-  pub state : new ≡ after_step old step
+  pub outcome : answer ≡ (bump_step old.region old.state step).outcome
+  pub state : new ≡ in_state old (bump_step old.region old.state step).state
 
--- the answers to a list of steps
 abbrev pub outcomes_of : BumpWorld → List BumpStep → List BumpOutcome
 outcomes_of world steps = histories.outcomes_of (histories.bump_history world.region world.state steps)
 

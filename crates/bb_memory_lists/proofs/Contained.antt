@@ -1,9 +1,8 @@
 -- What stands in a list: behind others, in what is kept of it, and by a figure of its own.
-use Rattle.std.proofs.Common.{◌≡◌, ℕ, zero, suc, ◌<◌, ◌≤◌, Some, Bool, true, false, List, [], ◌∷◌}
-use Rattle.std.proofs.Common.{refl, sym, ap, ◌∙◌, subst, arith}
-use Rattle.std.proofs.Common.{inl, inr}
+use Rattle.std.proofs.Common.{◌≡◌, ℕ, zero, suc, ◌<◌, ◌≤◌, Some, Bool, true, List, [], ◌∷◌, refl, sym, ap, ◌∙◌, subst}
+use Rattle.std.proofs.Common.{arith, inl, inr}
 use Rattle.std.specs.Prelude.{All, Any, Contains, filter, if◌then◌else◌, map, slice_get}
-use Rattle.std.proofs.lemmas.Bool.{cases_lt}
+use Rattle.std.proofs.lemmas.Bool.{cases_lt, cond_both}
 use Rattle.std.proofs.lemmas.Option.{same_Some}
 use Rattle.std.proofs.lemmas.List.Elements.{All-contains}
 
@@ -28,21 +27,16 @@ module _ {X : Type 0} where
   any_contained P xs x has holds = (has.0, x, has.1, has.2, holds)
 
 module _ {X : Type 0} (test : X → Bool) where
-  kept-first : (passes : Bool) (x y : X) (kept : List X) → passes ≡ true → x ≡ y → Contains (if passes then x ∷ kept else kept) y
-  kept-first true x y kept is same = contains-first x y kept same
-  kept-first false x y kept is same = absurd (cc)
-
-  kept-behind : (passes : Bool) (x y : X) (kept : List X) → Contains kept y → Contains (if passes then x ∷ kept else kept) y
-  kept-behind true x y kept has = contains-behind x y kept has
-  kept-behind false x y kept has = has
-
   -- what passes the test is kept
   pub contains-filter : (xs : List X) (y : X) → Contains xs y → test y ≡ true → Contains (filter test xs) y
   contains-filter [] y has passes = absurd (contains-none y has)
   contains-filter (x ∷ xs) y (zero, below, same) passes =
-      kept-first (test x) x y (filter test xs) (ap test same ∙ passes) same
+      subst (λ (passed : Bool). Contains (if passed then x ∷ filter test xs else filter test xs) y) (sym (ap test same ∙ passes))
+      (contains-first x y (filter test xs) same)
   contains-filter (x ∷ xs) y (suc k, below, same) passes =
-      kept-behind (test x) x y (filter test xs) (contains-filter xs y (k, omega (arith, below), same) passes)
+      let kept = contains-filter xs y (k, omega (arith, below), same) passes in
+      cond_both (test x) (x ∷ filter test xs) (filter test xs) (λ l. Contains l y)
+      (λ is. contains-behind x y (filter test xs) kept) (λ is. kept)
 
 module _ {X : Type 0} (figure : X → ℕ) where
   -- one that stands in the list has this figure

@@ -3,4 +3,3 @@ mod GroupSums
 pub mod Logs
 pub mod Positions
 pub mod SliceGets
-pub mod SliceSets

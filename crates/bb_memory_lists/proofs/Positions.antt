@@ -1,7 +1,7 @@
 -- What stands at each position of a list, and after a removal; the first position of an item that passes a test.
 use Rattle.std.proofs.Common.{◌≡◌, ◌≢◌, ℕ, zero, suc, ◌+◌, ◌<◌, Bool, true, false, not, cond, List, [], ◌∷◌, ◌++◌, length, get_or}
 use Rattle.std.proofs.Common.{refl, ap, subst, arith, Some, None, is_some, IsSome}
-use Rattle.std.specs.Prelude.{position, slice_get, remove, All, AllPairs, Contains}
+use Rattle.std.specs.Prelude.{position, slice_get, remove, All, AllPairs}
 use Rattle.std.specs.List.{position_or_len}
 use Rattle.std.proofs.lemmas.Bool.{lt-ltb}
 use Rattle.std.proofs.lemmas.Option.{slice_get_within, slice_get-get_or, get_or_from_slice_get}
@@ -52,14 +52,6 @@ slice_get-unremoved (y ∷ ys) (suc n) zero x apart at = (zero, at)
 slice_get-unremoved (y ∷ ys) (suc n) (suc j) x apart at =
     let still = slice_get-unremoved ys n j x (λ same. apart (ap suc same)) at in
     (suc still.0, still.1)
-
--- AN ELEMENT IN FRONT
-
-pub contains-behind : (x y : ℕ) (xs : List ℕ) → Contains xs y → Contains (x ∷ xs) y
-contains-behind x y xs has = (suc has.0, omega (arith, has.1), has.2)
-
-pub contains-first : (x y : ℕ) (xs : List ℕ) → x ≡ y → Contains (x ∷ xs) y
-contains-first x y xs same = (zero, omega arith, same)
 
 -- THE FIRST POSITION THAT PASSES A TEST
 

@@ -1,6 +1,6 @@
 -- Reads of a list at a position, after a write or a push and in a list of one value.
 use Rattle.std.proofs.Common.{◌≡◌, ◌≢◌, ℕ, zero, suc, ◌<◌, List, [], ◌∷◌, ◌++◌, length}
-use Rattle.std.proofs.Common.{replicate, refl, ap, arith, Some, IsSome, ◌⊎◌, inl, inr}
+use Rattle.std.proofs.Common.{replicate, refl, sym, ap, ◌∙◌, arith, Option, Some, None, IsSome, ◌⊎◌, inl, inr}
 use Rattle.std.specs.Prelude.{slice_get, slice_set}
 
 -- after a write, an element is the one that was written, or was there
@@ -26,6 +26,19 @@ slice_get-set_same [] i v x is = absurd (cc)
 slice_get-set_same (y ∷ ys) zero v x is = refl
 slice_get-set_same (y ∷ ys) (suc i) v x is = slice_get-set_same ys i v x is
 
+-- the same two facts, of indices that are equal or not as an equation says; and what is read at one index is read at the same
+pub slice_get-set_apart : {X : Type 0} (xs : List X) (i j : ℕ) (v : X) → i ≢ j → slice_get (slice_set xs i v) j ≡ slice_get xs j
+slice_get-set_apart xs i j v apart = slice_get-set_other xs i j v (λ e. apart (sym e))
+
+pub slice_get-same : {X : Type 0} (xs : List X) (i j : ℕ) (found : Option X) → i ≡ j →
+    slice_get xs i ≡ found → slice_get xs j ≡ found
+slice_get-same xs i j found same there = ap (slice_get xs) (sym same) ∙ there
+
+pub slice_get-set_at : {X : Type 0} (xs : List X) (i j : ℕ) (v old : X) → i ≡ j → slice_get xs i ≡ Some old →
+    slice_get (slice_set xs i v) j ≡ Some v
+slice_get-set_at xs i j v old same there =
+    slice_get-same (slice_set xs i v) i j (Some v) same (slice_get-set_same xs i v old there)
+
 pub slice_get-replicate : {X : Type 0} (n i : ℕ) (x : X) → i < n → slice_get (replicate n x) i ≡ Some x
 slice_get-replicate zero i x within = absurd (omega arith)
 slice_get-replicate (suc n) zero x within = refl
@@ -36,6 +49,13 @@ pub slice_get-replicated : {X : Type 0} (n i : ℕ) (x y : X) → slice_get (rep
 slice_get-replicated zero i x y is = absurd (cc)
 slice_get-replicated (suc n) zero x y is = cc
 slice_get-replicated (suc n) (suc i) x y is = slice_get-replicated n i x y is
+
+-- a figure is that of nothing at each place of such a list where it is that at its value
+pub replicated-figure : {X Y : Type 0} (figure : Option X → Y) (n i : ℕ) (x : X) → figure (Some x) ≡ figure None →
+    figure (slice_get (replicate n x) i) ≡ figure None
+replicated-figure figure zero i x same = refl
+replicated-figure figure (suc n) zero x same = same
+replicated-figure figure (suc n) (suc i) x same = replicated-figure figure n i x same
 
 pub length-set_at : {X : Type 0} (xs : List X) (i : ℕ) (x : X) → length (slice_set xs i x) ≡ length xs
 length-set_at [] i x = refl

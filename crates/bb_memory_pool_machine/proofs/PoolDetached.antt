@@ -1,29 +1,25 @@
 -- Which steps of the pool machine leave a detached bucket.
-use Rattle.std.proofs.Common.{◌≡◌, ℕ, zero, suc, ◌<◌, ◌≤◌, List, [], ◌∷◌, length, replicate, refl, sym, ap, ◌∙◌, arith, Option}
+use Rattle.std.proofs.Common.{◌≡◌, ℕ, zero, suc, ◌<◌, ◌≤◌, List, [], ◌∷◌, length, refl, sym, ap, ◌∙◌, arith, Option}
 use Rattle.std.proofs.Common.{Some, None, inl, inr}
 use Rattle.std.specs.Prelude.{◌⊎◌, Any, slice_get, slice_set}
 use Rattle.std.proofs.lemmas.Bool.{cases_eq}
 use Rattle.std.proofs.lemmas.Option.{same_Some}
 use Rattle.std.proofs.lemmas.List.{length-replicate}
-use Rattle.bb_memory_pool_machine.specs.PoolMachine.{PoolScene, PoolState, PoolMove, IsFlag, IsHolder, IsDetached, IsTaken, pool_step}
-use Rattle.bb_memory_pool_machine.specs.PoolMachine.{pool_after, opening_state, left_by, Flag, Free, HeldBy, Detached, PoolStep, Detaches}
+use Rattle.bb_memory_pool_machine.specs.PoolMachine.{PoolScene, PoolState, PoolMove, IsFlag, IsHolder, IsDetached, IsTaken}
+use Rattle.bb_memory_pool_machine.specs.PoolMachine.{pool_step, pool_after, opening_state, left_by, Flag, Free, HeldBy, Detached}
+use Rattle.bb_memory_pool_machine.specs.PoolMachine.{PoolStep, Detaches}
 use Rattle.bb_memory_pool_machine.specs.PoolLogs.{PoolEntry, PoolLog, entry_of, history_of, pool_history, WasDetached}
-use Rattle.bb_memory_lists.proofs.SliceSets.{slice_get-set_other, slice_get-set_same}
+use Rattle.bb_memory_lists.proofs.SliceGets.{slice_get-replicated, slice_get-set_apart, slice_get-set_at}
 use Rattle.bb_memory_pool_machine.proofs.PoolSteps.{StepKind, takes, takes_at, gives, detaches, attaches, calls-step, kind_of}
 
 -- at the opening no flag is taken
-free_at_opening : (n bucket : ℕ) (flag : Flag) → slice_get (replicate n Free) bucket ≡ Some flag → flag ≡ Free
-free_at_opening zero bucket flag there = absurd (cc)
-free_at_opening (suc n) zero flag there = sym (same_Some Free flag there)
-free_at_opening (suc n) (suc bucket) flag there = free_at_opening n bucket flag there
-
 pub none_held_at_opening : (scene : PoolScene) (bucket party : ℕ) → ¬ IsHolder (opening_state scene) bucket party
 none_held_at_opening scene bucket party held =
-    let free = free_at_opening scene.geometry.buckets bucket (HeldBy party) held in absurd (cc)
+    let free = slice_get-replicated scene.geometry.buckets bucket Free (HeldBy party) held in absurd (cc)
 
 pub none_detached_at_opening : (scene : PoolScene) (bucket : ℕ) → ¬ IsDetached (opening_state scene) bucket
 none_detached_at_opening scene bucket detached =
-    let free = free_at_opening scene.geometry.buckets bucket Detached detached in absurd (cc)
+    let free = slice_get-replicated scene.geometry.buckets bucket Free Detached detached in absurd (cc)
 
 pub none_taken_at_opening : (scene : PoolScene) (bucket : ℕ) → ¬ IsTaken (opening_state scene) bucket
 none_taken_at_opening scene bucket taken = elim taken [
@@ -39,15 +35,9 @@ detached_set : (state : PoolState) (at bucket : ℕ) (before after : Flag) → I
 detached_set state at bucket before after there another now = elim (cases_eq at bucket) [
   | inl same ↦
       absurd (another (same_Some after Detached
-      (sym (slice_get-set_same state.flags at bucket after before same there) ∙ now)))
-  | inr apart ↦ sym (slice_get-set_other state.flags at bucket after apart) ∙ now
+      (sym (slice_get-set_at state.flags at bucket after before same there) ∙ now)))
+  | inr apart ↦ sym (slice_get-set_apart state.flags at bucket after apart) ∙ now
 ]
-
-somebody : (party : ℕ) → ¬ (HeldBy party ≡ Detached)
-somebody party same = absurd (cc)
-
-nobody : ¬ (Free ≡ Detached)
-nobody same = absurd (cc)
 
 -- the step detaches this bucket, where there are two parties at least
 record DetachesThis (state : PoolState) (move : PoolMove) (bucket : ℕ) : Type 0 where
@@ -57,17 +47,17 @@ record DetachesThis (state : PoolState) (move : PoolMove) (bucket : ℕ) : Type 
 detached_step : (state : PoolState) (step : PoolStep) (move : PoolMove) (bucket : ℕ) → StepKind state step move →
     IsDetached move.state bucket → IsDetached state bucket ⊎ DetachesThis state move bucket
 detached_step state step move bucket (takes other at next free) now =
-    inl (detached_set state at bucket Free (HeldBy other) free (somebody other) now)
+    inl (detached_set state at bucket Free (HeldBy other) free (λ same. absurd (cc)) now)
 detached_step state step move bucket (takes_at other at idle free) now =
-    inl (detached_set state at bucket Free (HeldBy other) free (somebody other) now)
+    inl (detached_set state at bucket Free (HeldBy other) free (λ same. absurd (cc)) now)
 detached_step state step move bucket (gives other at taken) now =
-    inl (detached_set state at bucket (HeldBy other) Free taken nobody now)
+    inl (detached_set state at bucket (HeldBy other) Free taken (λ same. absurd (cc)) now)
 detached_step state step move bucket (detaches other at taken others) now = elim (cases_eq at bucket) [
   | inl same ↦ inr record { outcome = ap Detaches same; others = others }
-  | inr apart ↦ inl (sym (slice_get-set_other state.flags at bucket Detached apart) ∙ now)
+  | inr apart ↦ inl (sym (slice_get-set_apart state.flags at bucket Detached apart) ∙ now)
 ]
 detached_step state step move bucket (attaches other at idle detached) now =
-    inl (detached_set state at bucket Detached (HeldBy other) detached (somebody other) now)
+    inl (detached_set state at bucket Detached (HeldBy other) detached (λ same. absurd (cc)) now)
 detached_step state step move bucket _ now = inl now
 
 -- WHERE THERE IS NO OTHER PARTY

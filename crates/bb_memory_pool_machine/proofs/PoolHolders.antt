@@ -1,18 +1,20 @@
 -- Who holds a bucket stands in the logs.
-use Rattle.std.proofs.Common.{◌≡◌, ℕ, zero, suc, List, [], ◌∷◌, ◌↔◌, replicate, refl, sym, ap, ◌∙◌, Bool, true, false, Option}
+use Rattle.std.proofs.Common.{◌≡◌, ℕ, List, [], ◌∷◌, ◌↔◌, replicate, refl, sym, ap, ◌∙◌, subst, Bool, true, false, Option}
 use Rattle.std.proofs.Common.{Some, None, inl, inr}
 use Rattle.std.specs.Prelude.{slice_get, slice_set, ◌==◌, if◌then◌else◌, fold}
-use Rattle.std.proofs.lemmas.Bool.{cases_eq}
+use Rattle.std.proofs.lemmas.Bool.{cases_eq, eqb-true}
 use Rattle.std.proofs.lemmas.Option.{same_Some}
-use Rattle.bb_memory_pool_machine.specs.PoolMachine.{PoolScene, PoolState, PoolMove, IsFlag, IsHolder, IsDetached, pool_step, pool_after}
-use Rattle.bb_memory_pool_machine.specs.PoolMachine.{opening_state, left_by, PoolOutcome, Flag, Free, HeldBy, Detached, PoolStep}
-use Rattle.bb_memory_pool_machine.specs.PoolLogs.{entry_of, PoolLog, PoolEntry, pool_history, is_by, entries_by, log_of, held_after}
-use Rattle.bb_memory_pool_machine.specs.PoolLogs.{IsHeldAfter}
-use Rattle.bb_memory_lists.proofs.SliceSets.{slice_get-same, slice_get-set_other, slice_get-set_same}
-use Rattle.bb_memory_pool_machine.proofs.PoolSteps.{StepKind, takes, takes_at, gives, detaches, attaches, kind_of, same_from_test}
+use Rattle.bb_memory_pool_machine.specs.PoolMachine.{PoolScene, PoolState, PoolMove, IsFlag, IsHolder, IsDetached, pool_step}
+use Rattle.bb_memory_pool_machine.specs.PoolMachine.{pool_after, opening_state, left_by, PoolOutcome, Flag, Free, HeldBy}
+use Rattle.bb_memory_pool_machine.specs.PoolMachine.{Detached, PoolStep}
+use Rattle.bb_memory_pool_machine.specs.PoolLogs.{entry_of, PoolLog, PoolEntry, pool_history, is_by, entries_by, log_of}
+use Rattle.bb_memory_pool_machine.specs.PoolLogs.{held_after, IsHeldAfter}
+use Rattle.bb_memory_lists.proofs.Logs.{fold-own}
+use Rattle.bb_memory_lists.proofs.SliceGets.{replicated-figure, slice_get-same, slice_get-set_apart, slice_get-set_at}
+use Rattle.bb_memory_pool_machine.proofs.PoolSteps.{StepKind, takes, takes_at, gives, detaches, attaches, kind_of}
 use Rattle.bb_memory_pool_machine.proofs.PoolSteps.{test_same, test_apart}
 
-abbrev is_holder : ℕ → Option Flag → Bool
+abbrev pub is_holder : ℕ → Option Flag → Bool
 is_holder party (Some (HeldBy holder)) = holder == party
 is_holder party _ = false
 
@@ -20,9 +22,9 @@ is_holder party _ = false
 abbrev pub held_through : ℕ → Bool → PoolLog → Bool
 held_through bucket held log = fold (λ held entry. held_after bucket held entry.outcome) held log
 
-either_way : (mine held : Bool) → (if mine then held else held) ≡ held
-either_way true held = refl
-either_way false held = refl
+pub either_way : {X : Type 0} (mine : Bool) (x : X) → (if mine then x else x) ≡ x
+either_way true x = refl
+either_way false x = refl
 
 -- where a flag is set, and at its own bucket the same holds, whether a party holds a bucket changes as the flags do
 held_set : (state : PoolState) (at bucket party other : ℕ) (held now : Bool) (before after : Flag) → IsFlag state at before →
@@ -34,11 +36,11 @@ held_set state at bucket party other held now before after there here was = elim
   | inl same ↦
       ap (λ (b : Bool). if other == party then (if b then now else held) else held) (test_same at bucket same)
       ∙ here (was ∙ ap (is_holder party) (slice_get-same state.flags at bucket (Some before) same there))
-      ∙ sym (ap (is_holder party) (slice_get-set_same state.flags at bucket after before same there))
+      ∙ sym (ap (is_holder party) (slice_get-set_at state.flags at bucket after before same there))
   | inr apart ↦
       ap (λ (b : Bool). if other == party then (if b then now else held) else held) (test_apart at bucket apart)
       ∙ either_way (other == party) held ∙ was
-      ∙ sym (ap (is_holder party) (slice_get-set_other state.flags at bucket after apart))
+      ∙ sym (ap (is_holder party) (slice_get-set_apart state.flags at bucket after apart))
 ]
 
 when_taken : (mine held : Bool) → held ≡ false → (if mine then true else held) ≡ mine
@@ -54,7 +56,7 @@ abbrev held_by : ℕ → ℕ → Bool → PoolStep → PoolOutcome → Bool
 held_by party bucket held step outcome = if is_by party step then held_after bucket held outcome else held
 
 -- that changes as the flag does
-step_holds : (state : PoolState) (step : PoolStep) (move : PoolMove) (party bucket : ℕ) (held : Bool) →
+pub step_holds : (state : PoolState) (step : PoolStep) (move : PoolMove) (party bucket : ℕ) (held : Bool) →
     StepKind state step move → held ≡ is_holder party (slice_get state.flags bucket) →
     held_by party bucket held step move.outcome ≡ is_holder party (slice_get move.state.flags bucket)
 step_holds state step move party bucket held (takes other at next free) =
@@ -69,34 +71,28 @@ step_holds state step move party bucket held (attaches other at idle detached) =
     held_set state at bucket party other held true Detached (HeldBy other) detached (when_taken (other == party) held)
 step_holds state step move party bucket held _ = λ before. either_way (is_by party step) held ∙ before
 
-held_through-log : (party bucket : ℕ) (held mine : Bool) (entry : PoolEntry) (log : PoolLog) →
-    held_through bucket held (if mine then entry ∷ log else log) ≡
-    held_through bucket (if mine then held_after bucket held entry.outcome else held) log
-held_through-log party bucket held true entry log = refl
-held_through-log party bucket held false entry log = refl
-
-steps_hold : (state : PoolState) (steps : List PoolStep) (party bucket : ℕ) (held : Bool) →
-    held ≡ is_holder party (slice_get state.flags bucket) →
-    held_through bucket held (entries_by party (pool_history state steps)) ≡
-    is_holder party (slice_get (pool_after state steps).flags bucket)
-steps_hold state [] party bucket held before = before
-steps_hold state (step ∷ steps) party bucket held before =
+-- what each step changes by the entry of its own party alone is, after steps, what that party's log makes of it
+pub steps_fold : {F : Type 0} (Is : PoolState → F → Type 0) (after : F → PoolEntry → F) (party : ℕ) →
+    ((state : PoolState) (step : PoolStep) (now : F) → Is state now → let move = pool_step state step in
+    Is move.state (if is_by party step then after now (entry_of step move.outcome) else now)) →
+    (state : PoolState) (steps : List PoolStep) (now : F) → Is state now →
+    Is (pool_after state steps) (fold after now (entries_by party (pool_history state steps)))
+steps_fold Is after party each state [] now is = is
+steps_fold Is after party each state (step ∷ steps) now is =
     let move : PoolMove = pool_step state step in
-    let log : PoolLog = entries_by party (pool_history move.state steps) in
-    let now = step_holds state step move party bucket held (kind_of state step) before in
-    held_through-log party bucket held (is_by party step) (entry_of step move.outcome) log
-    ∙ steps_hold move.state steps party bucket (held_by party bucket held step move.outcome) now
+    let mine : Bool = is_by party step in
+    let entry : PoolEntry = entry_of step move.outcome in
+    subst (Is (pool_after move.state steps)) (fold-own after mine now entry (entries_by party (pool_history move.state steps)))
+    (steps_fold Is after party each move.state steps (if mine then after now entry else now) (each state step now is))
 
-nobody_holds : (n party bucket : ℕ) → false ≡ is_holder party (slice_get (replicate n Free) bucket)
-nobody_holds zero party bucket = refl
-nobody_holds (suc n) party zero = refl
-nobody_holds (suc n) party (suc bucket) = nobody_holds n party bucket
+pub nobody_holds : (n party bucket : ℕ) → is_holder party (slice_get (replicate n Free) bucket) ≡ false
+nobody_holds n party bucket = replicated-figure (is_holder party) n bucket Free refl
 
 holder_from_test : (party : ℕ) (found : Option Flag) → is_holder party found ≡ true → found ≡ Some (HeldBy party)
 holder_from_test party None e = absurd (cc)
 holder_from_test party (Some Free) e = absurd (cc)
 holder_from_test party (Some Detached) e = absurd (cc)
-holder_from_test party (Some (HeldBy holder)) e = ap (λ (h : ℕ). Some (HeldBy h)) (same_from_test holder party e)
+holder_from_test party (Some (HeldBy holder)) e = ap (λ (h : ℕ). Some (HeldBy h)) (eqb-true holder party e)
 
 test_from_holder : (party : ℕ) (found : Option Flag) → found ≡ Some (HeldBy party) → is_holder party found ≡ true
 test_from_holder party found e = ap (is_holder party) e ∙ test_same party party refl
@@ -105,29 +101,18 @@ test_from_holder party found e = ap (is_holder party) e ∙ test_same party part
 pub holder_in_log : (scene : PoolScene) (steps : List PoolStep) (party bucket : ℕ) →
     IsHolder (left_by scene steps) bucket party ↔ IsHeldAfter (log_of scene steps party) bucket
 holder_in_log scene steps party bucket =
-    let same = steps_hold (opening_state scene) steps party bucket false (nobody_holds scene.geometry.buckets party bucket) in
+    let same = steps_fold (λ state held. held ≡ is_holder party (slice_get state.flags bucket))
+    (λ held entry. held_after bucket held entry.outcome) party
+    (λ state step held is. step_holds state step (pool_step state step) party bucket held (kind_of state step) is)
+    (opening_state scene) steps false (sym (nobody_holds scene.geometry.buckets party bucket)) in
     let found = slice_get (left_by scene steps).flags bucket in
     ((λ holder. same ∙ test_from_holder party found holder), (λ holds. holder_from_test party found (sym same ∙ holds)))
 
--- a flag is one thing
-same_flag : (state : PoolState) (bucket : ℕ) (one other : Flag) → IsFlag state bucket one → IsFlag state bucket other →
-    one ≡ other
-same_flag state bucket one other is also = same_Some one other (sym is ∙ also)
-
--- so it has one holder
+-- a flag has one holder
 pub same_holder : (state : PoolState) (bucket party other : ℕ) → IsHolder state bucket party → IsHolder state bucket other →
     party ≡ other
 same_holder state bucket party other one two =
-    let same = same_flag state bucket (HeldBy party) (HeldBy other) one two in cc
-
--- and where it is free or the bucket is detached, none
-pub free_not_holder : (state : PoolState) (bucket party : ℕ) → IsFlag state bucket Free → ¬ IsHolder state bucket party
-free_not_holder state bucket party free held =
-    let same = same_flag state bucket Free (HeldBy party) free held in absurd (cc)
-
-pub detached_not_holder : (state : PoolState) (bucket party : ℕ) → IsDetached state bucket → ¬ IsHolder state bucket party
-detached_not_holder state bucket party detached held =
-    let same = same_flag state bucket Detached (HeldBy party) detached held in absurd (cc)
+    let same = same_Some (HeldBy party) (HeldBy other) (sym one ∙ two) in cc
 
 -- no two parties hold one bucket
 pub one_holder : (scene : PoolScene) (steps : List PoolStep) (party other bucket : ℕ) →
@@ -137,8 +122,11 @@ one_holder scene steps party other bucket mine yours =
     let two = (holder_in_log scene steps other bucket).1 yours in
     same_holder (left_by scene steps) bucket party other one two
 
+not_detached : (party : ℕ) → ¬ (Detached ≡ HeldBy party)
+not_detached party same = absurd (cc)
+
 -- a detached bucket is held after no party's log
 pub detached_unheld : (scene : PoolScene) (steps : List PoolStep) (party bucket : ℕ) →
     IsDetached (left_by scene steps) bucket → ¬ IsHeldAfter (log_of scene steps party) bucket
 detached_unheld scene steps party bucket detached held =
-    detached_not_holder (left_by scene steps) bucket party detached ((holder_in_log scene steps party bucket).1 held)
+    not_detached party (same_Some Detached (HeldBy party) (sym detached ∙ (holder_in_log scene steps party bucket).1 held))

@@ -1,17 +1,19 @@
 -- A party's log says where its pass is, and a step of the party adds to it alone.
-use Rattle.std.proofs.Common.{◌≡◌, ◌≢◌, ℕ, zero, suc, ◌+◌, ◌<◌, List, [], ◌∷◌, ◌++◌, replicate, refl, sym, ap, ◌∙◌, subst, arith}
-use Rattle.std.proofs.Common.{Bool, true, false, Option, Some, None, inl, inr}
-use Rattle.std.specs.Prelude.{slice_get, slice_set, ◌==◌, if◌then◌else◌, fold, All}
+use Rattle.std.proofs.Common.{◌≡◌, ℕ, ◌+◌, ◌<◌, List, [], ◌∷◌, ◌++◌, refl, sym, ap, ◌∙◌, subst}
+use Rattle.std.proofs.Common.{Bool, Option, Some, None, inl, inr}
+use Rattle.std.specs.Prelude.{slice_get, slice_set, ◌==◌, if◌then◌else◌, All}
 use Rattle.std.proofs.lemmas.Bool.{cases_eq}
 use Rattle.std.proofs.lemmas.List.Elements.{All-push}
-use Rattle.bb_memory_pool_machine.specs.PoolMachine.{PoolScene, PoolState, PoolMove, pool_step, pool_after, opening_state, left_by}
-use Rattle.bb_memory_pool_machine.specs.PoolMachine.{PoolStep, PoolOutcome}
-use Rattle.bb_memory_pool_machine.specs.PoolLogs.{entry_of, PoolLog, PoolEntry, pool_history, is_by, entries_by, history_of, log_of}
-use Rattle.bb_memory_pool_machine.specs.PoolLogs.{HasLog, pass_after, pass_in, taken_flags, IsAllowed, LogsAgree, with_entry}
+use Rattle.bb_memory_pool_machine.specs.PoolMachine.{PoolScene, PoolState, PoolMove, pool_step, pool_after, opening_state}
+use Rattle.bb_memory_pool_machine.specs.PoolMachine.{left_by, PoolStep, PoolOutcome}
+use Rattle.bb_memory_pool_machine.specs.PoolLogs.{entry_of, PoolLog, PoolEntry, pool_history, is_by, entries_by, history_of}
+use Rattle.bb_memory_pool_machine.specs.PoolLogs.{log_of, HasLog, pass_after, pass_in, taken_flags, IsAllowed, LogsAgree}
+use Rattle.bb_memory_pool_machine.specs.PoolLogs.{with_entry}
 use Rattle.bb_memory_lists.proofs.Logs.{logs-push}
-use Rattle.bb_memory_lists.proofs.SliceSets.{slice_get-set_other, slice_get-set_same}
+use Rattle.bb_memory_lists.proofs.SliceGets.{slice_get-replicate, slice_get-set_apart, slice_get-set_at}
 use Rattle.bb_memory_pool_machine.proofs.PoolSteps.{IsNext, StepKind, takes, takes_at, loses, is_refused, kind_of, next_of_idle}
 use Rattle.bb_memory_pool_machine.proofs.PoolSteps.{test_same, test_apart}
+use Rattle.bb_memory_pool_machine.proofs.PoolHolders.{either_way, steps_fold}
 
 -- WHERE A PASS IS
 
@@ -20,16 +22,12 @@ pass-set : (state : PoolState) (other party bucket : ℕ) (before after : Option
     slice_get (slice_set state.calls other after) party ≡ Some (if other == party then after else before)
 pass-set state other party bucket before after next there = elim (cases_eq other party) [
   | inl same ↦
-      slice_get-set_same state.calls other party after next.pass same next.there
+      slice_get-set_at state.calls other party after next.pass same next.there
       ∙ ap (λ (b : Bool). Some (if b then after else before)) (sym (test_same other party same))
   | inr apart ↦
-      slice_get-set_other state.calls other party after apart ∙ there
+      slice_get-set_apart state.calls other party after apart ∙ there
       ∙ ap (λ (b : Bool). Some (if b then after else before)) (sym (test_apart other party apart))
 ]
-
-kept_pass : (mine : Bool) (pass : Option ℕ) → (if mine then pass else pass) ≡ pass
-kept_pass true pass = refl
-kept_pass false pass = refl
 
 -- where a party's pass is after any step
 abbrev pass_by : ℕ → Option ℕ → PoolStep → PoolOutcome → Option ℕ
@@ -46,36 +44,15 @@ step_pass state step move party pass (is_refused other bucket next taken last) t
     pass-set state other party bucket pass None next there
 step_pass state step move party pass (takes_at other bucket idle free) there =
     pass-set state other party 0 pass None (next_of_idle state other idle) there
-step_pass state step move party pass _ there = there ∙ ap Some (sym (kept_pass (is_by party step) pass))
-
-abbrev pass_through : Option ℕ → PoolLog → Option ℕ
-pass_through pass log = fold (λ pass entry. pass_after pass entry.outcome) pass log
-
-pass_through-log : (pass : Option ℕ) (mine : Bool) (entry : PoolEntry) (log : PoolLog) →
-    pass_through (if mine then pass_after pass entry.outcome else pass) log ≡
-    pass_through pass (if mine then entry ∷ log else log)
-pass_through-log pass true entry log = refl
-pass_through-log pass false entry log = refl
-
-steps_pass : (state : PoolState) (steps : List PoolStep) (party : ℕ) (pass : Option ℕ) → slice_get state.calls party ≡ Some pass →
-    slice_get (pool_after state steps).calls party ≡ Some (pass_through pass (entries_by party (pool_history state steps)))
-steps_pass state [] party pass there = there
-steps_pass state (step ∷ steps) party pass there =
-    let move : PoolMove = pool_step state step in
-    let log : PoolLog = entries_by party (pool_history move.state steps) in
-    let now = step_pass state step move party pass (kind_of state step) there in
-    steps_pass move.state steps party (pass_by party pass step move.outcome) now
-    ∙ ap Some (pass_through-log pass (is_by party step) (entry_of step move.outcome) log)
-
-idle_at_opening : (n party : ℕ) → party < n → ◌≡◌ {A = Option (Option ℕ)} (slice_get (replicate n None) party) (Some None)
-idle_at_opening zero party made = absurd (omega arith)
-idle_at_opening (suc n) zero made = refl
-idle_at_opening (suc n) (suc party) made = idle_at_opening n party (omega arith)
+step_pass state step move party pass _ there = there ∙ ap Some (sym (either_way (is_by party step) pass))
 
 -- the pass of a party that was made stands in its log
 pub log_pass : (scene : PoolScene) (steps : List PoolStep) (party : ℕ) → party < scene.parties →
     slice_get (left_by scene steps).calls party ≡ Some (pass_in (log_of scene steps party))
-log_pass scene steps party made = steps_pass (opening_state scene) steps party None (idle_at_opening scene.parties party made)
+log_pass scene steps party made =
+    steps_fold (λ state pass. slice_get state.calls party ≡ Some pass) (λ pass entry. pass_after pass entry.outcome) party
+    (λ state step pass is. step_pass state step (pool_step state step) party pass (kind_of state step) is)
+    (opening_state scene) steps None (slice_get-replicate scene.parties party None made)
 
 -- ONE MORE STEP
 
@@ -92,13 +69,13 @@ after-push state [] step = refl
 after-push state (first ∷ steps) step = after-push (pool_step state first).state steps step
 
 -- the step of a party that makes this move leaves flags and logs that agree again
-pub agree_on : (scene : PoolScene) (flags : List Bool) (logs : List PoolLog) (party : ℕ) (log : PoolLog) (step : PoolStep)
-    (agree : LogsAgree scene flags logs) → HasLog logs party log →
-    is_by party step ≡ true → ((other : ℕ) → party ≢ other → is_by other step ≡ false) →
+pub agree_on : (scene : PoolScene) (flags : List Bool) (logs : List PoolLog) (party : ℕ) (log : PoolLog)
+    (agree : LogsAgree scene flags logs) → HasLog logs party log → (step : PoolStep) →
+    ((other : ℕ) → is_by other step ≡ (party == other)) →
     (move : PoolMove) → pool_step (left_by scene agree.steps) step ≡ move → IsAllowed move.outcome →
     (new : List Bool) → taken_flags move.state ≡ new →
     LogsAgree scene new (with_entry logs party log (entry_of step move.outcome))
-agree_on scene flags logs party log step agree at mine others move is allowed new leaves =
+agree_on scene flags logs party log agree at step by move is allowed new leaves =
     let opening : PoolState = opening_state scene in
     let history : PoolLog = history_of scene agree.steps in
     let entry : PoolEntry = entry_of step move.outcome in
@@ -110,5 +87,6 @@ agree_on scene flags logs party log step agree at mine others move is allowed ne
       allowed = subst (All Allowed) (sym longer) (All-push Allowed history entry agree.allowed allowed);
       leaves = ap taken_flags (after-push opening agree.steps step) ∙ ap (λ (m : PoolMove). taken_flags m.state) is ∙ leaves;
       each = λ other found there. ap (entries_by other) longer
-          ∙ logs-push (λ p e. is_by p e.step) logs party log history entry at mine others agree.each other found there;
+          ∙ logs-push (λ p e. is_by p e.step) logs party log history entry at (by party ∙ test_same party party refl)
+          (λ o apart. by o ∙ test_apart party o apart) agree.each other found there;
     }

@@ -1,18 +1,19 @@
 -- What a refused pass has met, and what a miss has.
-use Rattle.std.proofs.Common.{◌≡◌, ℕ, zero, suc, ◌+◌, ◌<◌, ◌≤◌, ◌⊎◌, List, [], ◌∷◌, length, replicate, refl, sym, ap, ◌∙◌, subst}
+use Rattle.std.proofs.Common.{◌≡◌, ℕ, zero, suc, ◌+◌, ◌<◌, ◌≤◌, ◌⊎◌, List, [], ◌∷◌, length, refl, sym, ap, ◌∙◌, subst}
 use Rattle.std.proofs.Common.{arith, Option, Some, None, inl, inr}
 use Rattle.std.specs.Prelude.{slice_get, slice_set, take, unwrap_or}
 use Rattle.std.proofs.lemmas.Bool.{cases_eq}
 use Rattle.std.proofs.lemmas.Option.{same_Some}
 use Rattle.std.proofs.lemmas.List.{length-replicate}
 use Rattle.bb_memory_traits.specs.PoolObject.{IsPoolGeometry}
-use Rattle.bb_memory_pool_machine.specs.PoolMachine.{PoolScene, PoolState, PoolMove, IsTaken, IsInCall, left_by, pool_step, pool_after}
-use Rattle.bb_memory_pool_machine.specs.PoolMachine.{opening_state, Flag, Free, PoolStep, Try, TryAt, PoolOutcome, Misses, RefusedAtLoss}
+use Rattle.bb_memory_pool_machine.specs.PoolMachine.{PoolScene, PoolState, PoolMove, IsTaken, IsInCall, left_by, pool_step}
+use Rattle.bb_memory_pool_machine.specs.PoolMachine.{pool_after, opening_state, Flag, Free, PoolStep, Try, TryAt, PoolOutcome}
+use Rattle.bb_memory_pool_machine.specs.PoolMachine.{Misses, RefusedAtLoss}
 use Rattle.bb_memory_pool_machine.specs.PoolLogs.{entry_of, PoolEntry, pool_history, history_of, IsLossAt, LosesAt, IsRefusedAt}
 use Rattle.bb_memory_pool_machine.specs.PoolLogs.{FoundHeld, IsHeldInRun, MissesAt}
-use Rattle.bb_memory_lists.proofs.SliceSets.{slice_get-same, slice_get-set_other, slice_get-set_same}
-use Rattle.bb_memory_pool_machine.proofs.PoolSteps.{IsNext, StepKind, takes, takes_at, loses, is_refused, misses, kind_of, length-left_by}
-use Rattle.bb_memory_pool_machine.proofs.PoolSteps.{length-step, next_of_idle}
+use Rattle.bb_memory_lists.proofs.SliceGets.{replicated-figure, slice_get-same, slice_get-set_apart, slice_get-set_at}
+use Rattle.bb_memory_pool_machine.proofs.PoolSteps.{IsNext, StepKind, takes, takes_at, loses, is_refused, misses, kind_of}
+use Rattle.bb_memory_pool_machine.proofs.PoolSteps.{length-left_by, length-step, next_of_idle}
 use Rattle.bb_memory_pool_machine.proofs.PoolFlags.{taken_within}
 use Rattle.bb_memory_pool_machine.proofs.PoolRuns.{taken_is_held}
 
@@ -37,15 +38,13 @@ in_pass_from_progress state party bucket (Some (Some next)) there less = (next, 
 below_or_at : (m n : ℕ) → m < n + 1 → (m < n) ⊎ (n ≡ m)
 below_or_at m n less = grind arith
 
-same_party : (party other : ℕ) → Try party ≡ Try other → party ≡ other
-same_party party other same = cc
-
 -- each bucket is lost before a refusal, or at it
 at_refusal : (state : PoolState) (step : PoolStep) (move : PoolMove) (party last bucket : ℕ) →
     StepKind state step move → step ≡ Try party → move.outcome ≡ RefusedAtLoss last → bucket < length state.flags →
     (bucket < progress_of (slice_get state.calls party)) ⊎ IsLossAt bucket move.outcome
 at_refusal state step move party last bucket (is_refused other lost next taken none) by refusal below =
-    let at = progress_next state other party lost (same_party other party by) next in
+    let same : other ≡ party = cc in
+    let at = progress_next state other party lost same next in
     elim (below_or_at bucket lost (omega arith)) [
       | inl before ↦ inl (omega arith)
       | inr same ↦ inr same
@@ -57,9 +56,9 @@ over : (state : PoolState) (other party bucket next : ℕ) → IsNext state othe
     bucket < progress_of (slice_get (slice_set state.calls other None) party) → bucket < progress_of (slice_get state.calls party)
 over state other party bucket at next less = elim (cases_eq other party) [
   | inl same ↦
-      let none = ap progress_of (slice_get-set_same state.calls other party None next.pass same next.there) in
+      let none = ap progress_of (slice_get-set_at state.calls other party None next.pass same next.there) in
       absurd (omega (arith, none, less))
-  | inr apart ↦ omega (arith, ap progress_of (slice_get-set_other state.calls other party None apart), less)
+  | inr apart ↦ omega (arith, ap progress_of (slice_get-set_apart state.calls other party None apart), less)
 ]
 
 -- what a pass has lost after a step was lost before the step, or is lost at it
@@ -74,7 +73,7 @@ at_progress state step move party bucket (takes_at other taken idle free) less =
     inl (over state other party bucket 0 (next_of_idle state other idle) less)
 at_progress state step move party bucket (loses other lost next taken more) less = elim (cases_eq other party) [
   | inl same ↦
-      let after = slice_get-set_same state.calls other party (Some (lost + 1)) next.pass same next.there in
+      let after = slice_get-set_at state.calls other party (Some (lost + 1)) next.pass same next.there in
       let now : progress_of (slice_get (slice_set state.calls other (Some (lost + 1))) party) ≡ lost + 1 =
       ap progress_of after in
       let before = progress_next state other party lost same next in
@@ -84,7 +83,7 @@ at_progress state step move party bucket (loses other lost next taken more) less
         | inr at ↦ inr (ap Try same, at)
       ]
   | inr apart ↦
-      inl (omega (arith, ap progress_of (slice_get-set_other state.calls other party (Some (lost + 1)) apart), less))
+      inl (omega (arith, ap progress_of (slice_get-set_apart state.calls other party (Some (lost + 1)) apart), less))
 ]
 at_progress state step move party bucket _ less = inl less
 
@@ -97,33 +96,27 @@ taken_at_loss state step move bucket _ lost = absurd lost
 
 -- ONE PASS
 
--- the party is in a pass from after step k to step last
+-- the party is in a pass after these steps, from so many to so many of them
 abbrev PassLasts : PoolState → List PoolStep → ℕ → ℕ → ℕ → Type 0
-PassLasts state steps party k last = (j : ℕ) → k < j → j ≤ last → (at : ℕ) × IsInCall (pool_after state (take j steps)) party at
+PassLasts state steps party low last =
+    (j : ℕ) → low ≤ j → j ≤ last → (at : ℕ) × IsInCall (pool_after state (take j steps)) party at
 
 -- the pass that is refused at step last lost the bucket at one of the steps, or before them
 data Behind (state : PoolState) (steps : List PoolStep) (party last bucket : ℕ) : Type 0 where
   lost_at : (k : ℕ) → k ≤ last → LosesAt (pool_history state steps) party bucket k →
-      PassLasts state steps party k last → Behind state steps party last bucket
-  earlier : bucket < progress_of (slice_get state.calls party) →
-      ((j : ℕ) → j ≤ last → (at : ℕ) × IsInCall (pool_after state (take j steps)) party at) → Behind state steps party last bucket
+      PassLasts state steps party (suc k) last → Behind state steps party last bucket
+  earlier : bucket < progress_of (slice_get state.calls party) → PassLasts state steps party 0 last →
+      Behind state steps party last bucket
+
+from_next : (state : PoolState) (step : PoolStep) (steps : List PoolStep) (party low last : ℕ) →
+    PassLasts (pool_step state step).state steps party low last → PassLasts state (step ∷ steps) party (suc low) (suc last)
+from_next state step steps party low last rest zero after within = absurd (omega arith)
+from_next state step steps party low last rest (suc j) after within = rest j (omega arith) (omega arith)
 
 from_start : (state : PoolState) (step : PoolStep) (steps : List PoolStep) (party last : ℕ) → (at : ℕ) × IsInCall state party at →
-    ((j : ℕ) → j ≤ last → (at : ℕ) × IsInCall (pool_after (pool_step state step).state (take j steps)) party at) → (j : ℕ) →
-    j ≤ suc last → (at : ℕ) × IsInCall (pool_after state (take j (step ∷ steps))) party at
-from_start state step steps party last start rest zero within = start
-from_start state step steps party last start rest (suc j) within = rest j (omega arith)
-
-from_next : (state : PoolState) (step : PoolStep) (steps : List PoolStep) (party last k : ℕ) →
-    PassLasts (pool_step state step).state steps party k last → PassLasts state (step ∷ steps) party (suc k) (suc last)
-from_next state step steps party last k rest zero after within = absurd (omega arith)
-from_next state step steps party last k rest (suc j) after within = rest j (omega arith) (omega arith)
-
-after_first : (state : PoolState) (step : PoolStep) (steps : List PoolStep) (party last : ℕ) →
-    ((j : ℕ) → j ≤ last → (at : ℕ) × IsInCall (pool_after (pool_step state step).state (take j steps)) party at) →
-    PassLasts state (step ∷ steps) party 0 (suc last)
-after_first state step steps party last rest zero after within = absurd (omega arith)
-after_first state step steps party last rest (suc j) after within = rest j (omega arith)
+    PassLasts (pool_step state step).state steps party 0 last → PassLasts state (step ∷ steps) party 0 (suc last)
+from_start state step steps party last start rest zero after within = start
+from_start state step steps party last start rest (suc j) after within = rest j (omega arith) (omega arith)
 
 entry_parts : (step other : PoolStep) (outcome found : PoolOutcome) → Some (entry_of step outcome) ≡ Some (entry_of other found) →
     (step ≡ other) × (outcome ≡ found)
@@ -157,10 +150,9 @@ all_behind state (step ∷ steps) party zero bucket refused below =
           (λ j after within. absurd (omega arith))
     ]
   where
-    only_now : bucket < progress_of (slice_get state.calls party) → (j : ℕ) → j ≤ zero →
-        (at : ℕ) × IsInCall (pool_after state (take j (step ∷ steps))) party at
-    only_now before zero within = in_pass_from_progress state party bucket (slice_get state.calls party) refl before
-    only_now before (suc j) within = absurd (omega arith)
+    only_now : bucket < progress_of (slice_get state.calls party) → PassLasts state (step ∷ steps) party 0 zero
+    only_now before zero after within = in_pass_from_progress state party bucket (slice_get state.calls party) refl before
+    only_now before (suc j) after within = absurd (omega arith)
 all_behind state (step ∷ steps) party (suc last) bucket refused below =
     let move : PoolMove = pool_step state step in
     let refused_later : IsRefusedAt (pool_history move.state steps) party last =
@@ -171,33 +163,35 @@ all_behind state (step ∷ steps) party (suc last) bucket refused below =
     elim rest as (λ _. Behind state (step ∷ steps) party (suc last) bucket) [
       | lost_at k within lost pass ↦
           lost_at (suc k) (omega arith) (loses_later state step steps party bucket k lost)
-          (from_next state step steps party last k pass)
+          (from_next state step steps party (suc k) last pass)
       | earlier less pass ↦ elim (at_progress state step move party bucket (kind_of state step) less) [
         | inl before ↦
             let start = in_pass_from_progress state party bucket (slice_get state.calls party) refl before in
             earlier before (from_start state step steps party last start pass)
         | inr lost ↦
             let first = loses_first state step steps party bucket lost.0 lost.1 in
-            lost_at zero (omega arith) first (after_first state step steps party last pass)
+            lost_at zero (omega arith) first (from_next state step steps party 0 last pass)
       ]
     ]
 
 -- the step of an entry finds the state after the steps before it
+entry_step : (state : PoolState) (steps : List PoolStep) (k : ℕ) (step : PoolStep) (outcome : PoolOutcome) →
+    slice_get (pool_history state steps) k ≡ Some (entry_of step outcome) →
+    (pool_step (pool_after state (take k steps)) step).outcome ≡ outcome
+entry_step state [] k step outcome there = absurd (cc)
+entry_step state (first ∷ steps) zero step outcome there =
+    let entry = entry_parts first step (pool_step state first).outcome outcome there in
+    ap (λ (s : PoolStep). (pool_step state s).outcome) (sym entry.0) ∙ entry.1
+entry_step state (first ∷ steps) (suc k) step outcome there =
+    entry_step (pool_step state first).state steps k step outcome there
+
 taken_at_entry : (state : PoolState) (steps : List PoolStep) (party bucket k : ℕ) →
     LosesAt (pool_history state steps) party bucket k → IsTaken (pool_after state (take k steps)) bucket
-taken_at_entry state [] party bucket k lost = absurd (let there = lost.there in cc)
-taken_at_entry state (step ∷ steps) party bucket zero lost =
-    let entry = entry_parts step (Try party) (pool_step state step).outcome lost.outcome lost.there in
-    taken_at_loss state step (pool_step state step) bucket (kind_of state step) (subst (IsLossAt bucket) (sym entry.1) lost.loss)
-taken_at_entry state (step ∷ steps) party bucket (suc k) lost =
-    let later : LosesAt (pool_history (pool_step state step).state steps) party bucket k =
-    record { outcome = lost.outcome; there = lost.there; loss = lost.loss } in
-    taken_at_entry (pool_step state step).state steps party bucket k later
-
-none_lost_yet : (n party : ℕ) → progress_of (slice_get (replicate n None) party) ≡ 0
-none_lost_yet zero party = refl
-none_lost_yet (suc n) zero = refl
-none_lost_yet (suc n) (suc party) = none_lost_yet n party
+taken_at_entry state steps party bucket k lost =
+    let there : PoolState = pool_after state (take k steps) in
+    let same = entry_step state steps k (Try party) lost.outcome lost.there in
+    taken_at_loss there (Try party) (pool_step there (Try party)) bucket (kind_of there (Try party))
+    (subst (IsLossAt bucket) (sym same) lost.loss)
 
 -- a refused pass has lost each bucket at a step of its own, at which the bucket was held in the run
 pub refused_found_held : (scene : PoolScene) (steps : List PoolStep)
@@ -214,41 +208,32 @@ refused_found_held scene steps party last bucket is refused below =
         step = k;
         before = within;
         loses = lost;
-        one_pass = pass;
+        one_pass = λ j after. pass j (omega arith);
         held = λ layouts live run.
             let taken = taken_at_entry state steps party bucket k lost in
             (taken_is_held scene (take k steps) layouts live bucket is run below).0 taken;
       }
-      | earlier less pass ↦ absurd (omega (arith, none_lost_yet scene.parties party, less))
+      | earlier less pass ↦ absurd (omega (arith, replicated-figure progress_of scene.parties party None refl, less))
     ]
 
 -- MISSES
 
-same_missed : (bucket other : ℕ) → Misses bucket ≡ Misses other → bucket ≡ other
-same_missed bucket other same = cc
-
 -- what is missed is taken
 taken_at_miss : (state : PoolState) (step : PoolStep) (move : PoolMove) (bucket : ℕ) → StepKind state step move →
     move.outcome ≡ Misses bucket → IsTaken state bucket
-taken_at_miss state step move bucket (misses other at idle taken) is = subst (IsTaken state) (same_missed at bucket is) taken
+taken_at_miss state step move bucket (misses other at idle taken) is =
+    let same : at ≡ bucket = cc in subst (IsTaken state) same taken
 taken_at_miss state step move bucket _ is = absurd (cc)
-
-taken_where_missed : (state : PoolState) (steps : List PoolStep) (party bucket k : ℕ) →
-    MissesAt (pool_history state steps) party bucket k → IsTaken (pool_after state (take k steps)) bucket
-taken_where_missed state [] party bucket k missed = absurd (cc)
-taken_where_missed state (step ∷ steps) party bucket zero missed =
-    let move : PoolMove = pool_step state step in
-    let entry = entry_parts step (TryAt party bucket) move.outcome (Misses bucket) missed in
-    taken_at_miss state step move bucket (kind_of state step) entry.1
-taken_where_missed state (step ∷ steps) party bucket (suc k) missed =
-    taken_where_missed (pool_step state step).state steps party bucket k missed
 
 -- at a miss the bucket is held in the run
 pub missed_is_held : (scene : PoolScene) (steps : List PoolStep) (party bucket k : ℕ) → IsPoolGeometry scene.geometry →
     MissesAt (history_of scene steps) party bucket k →
     (bucket < scene.geometry.buckets) × IsTaken (left_by scene (take k steps)) bucket × IsHeldInRun scene (take k steps) bucket
 missed_is_held scene steps party bucket k is missed =
-    let taken = taken_where_missed (opening_state scene) steps party bucket k missed in
-    let within = taken_within (left_by scene (take k steps)) bucket taken in
+    let there : PoolState = left_by scene (take k steps) in
+    let step : PoolStep = TryAt party bucket in
+    let taken = taken_at_miss there step (pool_step there step) bucket (kind_of there step)
+    (entry_step (opening_state scene) steps k step (Misses bucket) missed) in
+    let within = taken_within there bucket taken in
     let below : bucket < scene.geometry.buckets = omega (arith, within, length-left_by scene (take k steps)) in
     (below, taken, λ layouts live run. (taken_is_held scene (take k steps) layouts live bucket is run below).0 taken)

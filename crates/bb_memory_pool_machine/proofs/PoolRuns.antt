@@ -1,22 +1,23 @@
 -- The takings and returns of a pool machine are a run of the pool object.
-use Rattle.std.proofs.Common.{◌≡◌, ◌≢◌, ℕ, zero, suc, ◌<◌, ◌↔◌, List, [], ◌∷◌, ◌++◌, length, replicate, refl, sym, ap, ◌∙◌, subst}
+use Rattle.std.proofs.Common.{◌≡◌, ◌≢◌, ℕ, zero, suc, ◌<◌, ◌↔◌, List, [], ◌∷◌, ◌++◌, length, refl, sym, ap, ◌∙◌, subst}
 use Rattle.std.proofs.Common.{arith, Option, Some, None, inl, inr}
 use Rattle.std.specs.Prelude.{take, drop, slice_get, slice_set, remove, if◌then◌else◌}
 use Rattle.std.specs.List.{AllByRecursion}
 use Rattle.std.proofs.lemmas.Bool.{cases_eq}
 use Rattle.std.proofs.lemmas.Option.{slice_get_within}
-use Rattle.std.proofs.lemmas.List.{length-set, length-replicate}
+use Rattle.std.proofs.lemmas.List.{drop-map, length-set, length-replicate}
 use Rattle.std.proofs.lemmas.List.Elements.{recursion_from_All}
 use Rattle.bb_memory_traits.specs.Chunk.{Chunk, IsSound}
 use Rattle.bb_memory_traits.specs.declared.layout.Layout.{Layout}
 use Rattle.bb_memory_traits.specs.Object.{IsRun}
 use Rattle.bb_memory_traits.specs.PoolObject.{PoolGeometry, bucket_place, IsPoolGeometry, IsAt, IsHeld, IsWithin}
 use Rattle.bb_memory_traits.specs.PoolObject.{MayGive, chunk_in}
-use Rattle.bb_memory_pool_machine.specs.PoolMachine.{PoolScene, PoolState, PoolMove, IsFlag, IsHolder, IsTaken, pool_step, pool_after}
-use Rattle.bb_memory_pool_machine.specs.PoolMachine.{opening_state, left_by, Flag, Free, HeldBy, Detached, PoolStep, PoolOutcome}
-use Rattle.bb_memory_pool_machine.specs.PoolLogs.{PoolLog, history_of, pool_history, outcomes_of, is_taken, IsCallRun, PoolCall, AreAsked}
-use Rattle.bb_memory_pool_machine.specs.PoolLogs.{IsPoolRun}
-use Rattle.bb_memory_lists.proofs.SliceSets.{slice_get-same, slice_get-set_other, slice_get-set_same}
+use Rattle.bb_memory_pool_machine.specs.PoolMachine.{PoolScene, PoolState, PoolMove, IsFlag, IsHolder, IsTaken, pool_step}
+use Rattle.bb_memory_pool_machine.specs.PoolMachine.{pool_after, opening_state, left_by, Flag, Free, HeldBy, Detached, PoolStep}
+use Rattle.bb_memory_pool_machine.specs.PoolMachine.{PoolOutcome}
+use Rattle.bb_memory_pool_machine.specs.PoolLogs.{PoolLog, PoolEntry, history_of, pool_history, outcomes_of, is_taken, IsCallRun}
+use Rattle.bb_memory_pool_machine.specs.PoolLogs.{PoolCall, AreAsked, IsPoolRun}
+use Rattle.bb_memory_lists.proofs.SliceGets.{replicated-figure, slice_get-same, slice_get-set_apart, slice_get-set_at}
 use Rattle.bb_memory_pool_machine.proofs.PoolFlags.{taken_within}
 use Rattle.bb_memory_traits.proofs.PoolGeometries.{bucket_place-apart}
 use Rattle.bb_memory_traits.proofs.PoolLists.{AreInBuckets, AreInBuckets-empty, AreInBuckets-push, AreInBuckets-remove}
@@ -82,9 +83,9 @@ module _ (geometry : PoolGeometry) (is : IsPoolGeometry geometry) where
           let was = matches.each b below ∙ ap taken_weight (slice_get-same flags bucket b (Some before) same there) in
           let now = here (subst (λ i. In i before live) (sym same) was) in
           subst (λ i. In i after new) same now
-          ∙ sym (ap taken_weight (slice_get-set_same flags bucket b after before same there))
+          ∙ sym (ap taken_weight (slice_get-set_at flags bucket b after before same there))
       | inr apart ↦
-          others b apart ∙ matches.each b below ∙ sym (ap taken_weight (slice_get-set_other flags bucket b after apart))
+          others b apart ∙ matches.each b below ∙ sym (ap taken_weight (slice_get-set_apart flags bucket b after apart))
     ];
     size = length-set flags bucket after ∙ matches.size;
     buckets = buckets;
@@ -184,14 +185,9 @@ module _ (geometry : PoolGeometry) (is : IsPoolGeometry geometry) where
 
 -- FROM THE OPENING
 
-free_at_opening : (n bucket : ℕ) → taken_weight (slice_get (replicate n Free) bucket) ≡ 0
-free_at_opening zero bucket = refl
-free_at_opening (suc n) zero = refl
-free_at_opening (suc n) (suc bucket) = free_at_opening n bucket
-
 opening_matches : (scene : PoolScene) → Matches scene.geometry (opening_state scene).flags []
 opening_matches scene = record {
-  each = λ bucket below. sym (free_at_opening scene.geometry.buckets bucket);
+  each = λ bucket below. sym (replicated-figure taken_weight scene.geometry.buckets bucket Free refl);
   size = length-replicate scene.geometry.buckets Free;
   buckets = AreInBuckets-empty scene.geometry;
 }
@@ -260,11 +256,6 @@ outcomes-take old (step ∷ steps) (suc k) =
     ap (λ (outcomes : List PoolOutcome). (pool_step old step).outcome ∷ outcomes)
     (outcomes-take (pool_step old step).state steps k)
 
-outcomes-drop : (history : PoolLog) (k : ℕ) → drop k (outcomes_of history) ≡ outcomes_of (drop k history)
-outcomes-drop history zero = refl
-outcomes-drop [] (suc k) = refl
-outcomes-drop (entry ∷ history) (suc k) = outcomes-drop history k
-
 pub run_at_step : (scene : PoolScene) (steps : List PoolStep) (layouts : List Layout) (live : List Chunk)
     (k : ℕ) → IsPoolRun scene steps layouts live →
     (there : List Chunk) × IsPoolRun scene (take k steps) (take k layouts) there
@@ -275,4 +266,5 @@ run_at_step scene steps layouts live k run =
     let split = run-split (PoolCall scene.geometry) [] live layouts (outcomes_of history) k run in
     let Before : List PoolOutcome → Type 0 = λ outcomes. IsRun (PoolCall scene.geometry) [] (take k layouts) outcomes split.0 in
     let After : List PoolOutcome → Type 0 = λ outcomes. IsRun (PoolCall scene.geometry) split.0 (drop k layouts) outcomes live in
-    (split.0, subst Before (outcomes-take opening steps k) split.1, subst After (outcomes-drop history k) split.2)
+    let later = drop-map (λ (e : PoolEntry). e.outcome) k history in
+    (split.0, subst Before (outcomes-take opening steps k) split.1, subst After later split.2)

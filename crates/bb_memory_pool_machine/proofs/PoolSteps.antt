@@ -1,14 +1,15 @@
 -- What a step of the pool machine does, by its kinds.
 use Rattle.std.proofs.Common.{◌≡◌, ◌≢◌, ℕ, ◌+◌, ◌<◌, ◌≤◌, List, [], ◌∷◌, length, refl}
-use Rattle.std.proofs.Common.{ap, ◌∙◌, arith, Bool, true, false, Option, Some, None, inl, inr}
+use Rattle.std.proofs.Common.{ap, ◌∙◌, Bool, true, false, Option, Some, None, inl, inr}
 use Rattle.std.specs.Prelude.{slice_get, ◌==◌, nat_lt, if◌then◌else◌, unwrap_or}
-use Rattle.std.proofs.lemmas.Bool.Decides.{nat_tests}
+use Rattle.std.proofs.lemmas.Bool.{eqb-true, eq-eqb, ne_eqb, ltb-true, ltb-false}
 use Rattle.std.proofs.lemmas.List.{length-set, length-replicate}
-use Rattle.bb_memory_pool_machine.specs.PoolMachine.{PoolScene, opening_state, left_by, move_of, PoolState, PoolMove, with_pass, IsFlag}
-use Rattle.bb_memory_pool_machine.specs.PoolMachine.{IsHolder, IsDetached, IsTaken, detaching, detach, detach_flag, attaching}
-use Rattle.bb_memory_pool_machine.specs.PoolMachine.{attach_flag, attach, taking, return_of, passed, try_flag, try_next, give_flag}
-use Rattle.bb_memory_pool_machine.specs.PoolMachine.{try_at, try_one, pool_step, pool_after, Flag, Free, HeldBy, Detached, PoolStep, Try}
-use Rattle.bb_memory_pool_machine.specs.PoolMachine.{GiveBack, TryAt, Detach, Attach, Loses, RefusedAtLoss, Misses}
+use Rattle.bb_memory_pool_machine.specs.PoolMachine.{PoolScene, opening_state, left_by, move_of, PoolState, PoolMove, with_pass}
+use Rattle.bb_memory_pool_machine.specs.PoolMachine.{IsFlag, IsHolder, IsDetached, IsTaken, detaching, detach_flag, attaching}
+use Rattle.bb_memory_pool_machine.specs.PoolMachine.{attach_flag, attach, taking, return_of, passed, try_flag, try_next}
+use Rattle.bb_memory_pool_machine.specs.PoolMachine.{give_flag, try_at, try_one, pool_step, pool_after, Flag, Free, HeldBy}
+use Rattle.bb_memory_pool_machine.specs.PoolMachine.{Detached, PoolStep, Try, GiveBack, TryAt, Detach, Attach, Loses}
+use Rattle.bb_memory_pool_machine.specs.PoolMachine.{RefusedAtLoss, Misses}
 
 -- the party's pass is at this bucket, or begins there
 pub record IsNext (state : PoolState) (party bucket : ℕ) : Type 0 where
@@ -45,44 +46,78 @@ pub data StepKind (state : PoolState) : PoolStep → PoolMove → Type 0 where
 
 -- TESTS
 
-pub same_from_test : (m n : ℕ) → (m == n) ≡ true → m ≡ n
-same_from_test m n e = grind (arith, nat_tests)
-
 pub test_same : (m n : ℕ) → m ≡ n → (m == n) ≡ true
-test_same m n e = grind (arith, nat_tests)
+test_same m n e = eq-eqb m n e
 
 pub test_apart : (m n : ℕ) → m ≢ n → (m == n) ≡ false
-test_apart m n e = grind (arith, nat_tests)
-
-pub test_below : (m n : ℕ) → m < n → nat_lt m n ≡ true
-test_below m n below = grind (arith, nat_tests)
-
-less_from_test : (m n : ℕ) → nat_lt m n ≡ true → m < n
-less_from_test m n e = grind (arith, nat_tests)
-
-not_less_from_test : (m n : ℕ) → nat_lt m n ≡ false → n ≤ m
-not_less_from_test m n e = grind (arith, nat_tests)
+test_apart m n e = ne_eqb m n e
 
 -- KINDS
 
-kind_of_loss : (state : PoolState) (party bucket : ℕ) (more : Bool) →
-    nat_lt (bucket + 1) (length state.flags) ≡ more → IsNext state party bucket → IsTaken state bucket →
-    StepKind state (Try party) (if more
-    then move_of (Loses bucket) (with_pass state party (Some (bucket + 1)))
-    else move_of (RefusedAtLoss bucket) (with_pass state party None))
-kind_of_loss state party bucket true test next taken =
-    loses party bucket next taken (less_from_test (bucket + 1) (length state.flags) test)
-kind_of_loss state party bucket false test next taken =
-    is_refused party bucket next taken (not_less_from_test (bucket + 1) (length state.flags) test)
+module _ (state : PoolState) (party bucket : ℕ) where
+  kind_of_loss : (more : Bool) → nat_lt (bucket + 1) (length state.flags) ≡ more → IsNext state party bucket →
+      IsTaken state bucket → StepKind state (Try party) (if more
+      then move_of (Loses bucket) (with_pass state party (Some (bucket + 1)))
+      else move_of (RefusedAtLoss bucket) (with_pass state party None))
+  kind_of_loss true test next taken = loses party bucket next taken (ltb-true (bucket + 1) (length state.flags) test)
+  kind_of_loss false test next taken = is_refused party bucket next taken (ltb-false (bucket + 1) (length state.flags) test)
 
-kind_of_exchange : (state : PoolState) (party bucket : ℕ) (found : Option Flag) → IsNext state party bucket →
-    slice_get state.flags bucket ≡ found → StepKind state (Try party) (try_flag state party bucket found)
-kind_of_exchange state party bucket None next is = passes (Try party)
-kind_of_exchange state party bucket (Some Free) next is = takes party bucket next is
-kind_of_exchange state party bucket (Some (HeldBy holder)) next is =
-    kind_of_loss state party bucket (nat_lt (bucket + 1) (length state.flags)) refl next (inl (holder, is))
-kind_of_exchange state party bucket (Some Detached) next is =
-    kind_of_loss state party bucket (nat_lt (bucket + 1) (length state.flags)) refl next (inr is)
+  kind_of_exchange : (found : Option Flag) → IsNext state party bucket → slice_get state.flags bucket ≡ found →
+      StepKind state (Try party) (try_flag state party bucket found)
+  kind_of_exchange None next is = passes (Try party)
+  kind_of_exchange (Some Free) next is = takes party bucket next is
+  kind_of_exchange (Some (HeldBy holder)) next is =
+      kind_of_loss (nat_lt (bucket + 1) (length state.flags)) refl next (inl (holder, is))
+  kind_of_exchange (Some Detached) next is = kind_of_loss (nat_lt (bucket + 1) (length state.flags)) refl next (inr is)
+
+  own_flag : (holder : ℕ) → (holder == party) ≡ true → IsHolder state bucket holder → IsHolder state bucket party
+  own_flag holder test held = held ∙ ap (λ (h : ℕ). Some (HeldBy h)) (eqb-true holder party test)
+
+  kind_of_return : (holder : ℕ) (same : Bool) → (holder == party) ≡ same → IsHolder state bucket holder →
+      StepKind state (GiveBack party bucket) (if same then return_of state bucket else passed state)
+  kind_of_return holder true test held = gives party bucket (own_flag holder test held)
+  kind_of_return holder false test held = passes (GiveBack party bucket)
+
+  kind_of_give : (found : Option Flag) → slice_get state.flags bucket ≡ found →
+      StepKind state (GiveBack party bucket) (give_flag state party bucket found)
+  kind_of_give (Some (HeldBy holder)) is = kind_of_return holder (holder == party) refl is
+  kind_of_give _ is = passes (GiveBack party bucket)
+
+  kind_of_one : (found : Option Flag) → IsIdle state party → slice_get state.flags bucket ≡ found →
+      StepKind state (TryAt party bucket) (try_one state party bucket found)
+  kind_of_one None idle is = passes (TryAt party bucket)
+  kind_of_one (Some Free) idle is = takes_at party bucket idle is
+  kind_of_one (Some (HeldBy holder)) idle is = misses party bucket idle (inl (holder, is))
+  kind_of_one (Some Detached) idle is = misses party bucket idle (inr is)
+
+  kind_of_try_at : (found : Option (Option ℕ)) → slice_get state.calls party ≡ found →
+      StepKind state (TryAt party bucket) (try_at state party bucket found)
+  kind_of_try_at (Some None) is = kind_of_one (slice_get state.flags bucket) is refl
+  kind_of_try_at _ is = passes (TryAt party bucket)
+
+  kind_of_detach_of : (holder : ℕ) (same others : Bool) → (holder == party) ≡ same → nat_lt 1 (length state.calls) ≡ others →
+      IsHolder state bucket holder → StepKind state (Detach party bucket)
+      (if same then (if others then detaching state bucket else passed state) else passed state)
+  kind_of_detach_of holder true true test more held =
+      detaches party bucket (own_flag holder test held) (ltb-true 1 (length state.calls) more)
+  kind_of_detach_of holder true false test more held = passes (Detach party bucket)
+  kind_of_detach_of holder false others test more held = passes (Detach party bucket)
+
+  kind_of_detach : (found : Option Flag) → slice_get state.flags bucket ≡ found →
+      StepKind state (Detach party bucket) (detach_flag state party bucket found)
+  kind_of_detach (Some (HeldBy holder)) is =
+      kind_of_detach_of holder (holder == party) (nat_lt 1 (length state.calls)) refl refl is
+  kind_of_detach _ is = passes (Detach party bucket)
+
+  kind_of_attach_flag : (found : Option Flag) → IsIdle state party → slice_get state.flags bucket ≡ found →
+      StepKind state (Attach party bucket) (attach_flag state party bucket found)
+  kind_of_attach_flag (Some Detached) idle is = attaches party bucket idle is
+  kind_of_attach_flag _ idle is = passes (Attach party bucket)
+
+  kind_of_attach : (found : Option (Option ℕ)) → slice_get state.calls party ≡ found →
+      StepKind state (Attach party bucket) (attach state party bucket found)
+  kind_of_attach (Some None) is = kind_of_attach_flag (slice_get state.flags bucket) is refl
+  kind_of_attach _ is = passes (Attach party bucket)
 
 kind_of_try : (state : PoolState) (party : ℕ) (found : Option (Option ℕ)) → slice_get state.calls party ≡ found →
     StepKind state (Try party) (try_next state party found)
@@ -90,58 +125,6 @@ kind_of_try state party None is = passes (Try party)
 kind_of_try state party (Some pass) is =
     let bucket : ℕ = unwrap_or pass 0 in
     kind_of_exchange state party bucket (slice_get state.flags bucket) (record { pass = pass; there = is; at = refl }) refl
-
-kind_of_return : (state : PoolState) (party bucket holder : ℕ) (same : Bool) → (holder == party) ≡ same →
-    IsHolder state bucket holder → StepKind state (GiveBack party bucket) (if same then return_of state bucket else passed state)
-kind_of_return state party bucket holder true test held =
-    gives party bucket (held ∙ ap (λ (h : ℕ). Some (HeldBy h)) (same_from_test holder party test))
-kind_of_return state party bucket holder false test held = passes (GiveBack party bucket)
-
-kind_of_give : (state : PoolState) (party bucket : ℕ) (found : Option Flag) → slice_get state.flags bucket ≡ found →
-    StepKind state (GiveBack party bucket) (give_flag state party bucket found)
-kind_of_give state party bucket (Some (HeldBy holder)) is =
-    kind_of_return state party bucket holder (holder == party) refl is
-kind_of_give state party bucket _ is = passes (GiveBack party bucket)
-
-kind_of_one : (state : PoolState) (party bucket : ℕ) (found : Option Flag) → IsIdle state party →
-    slice_get state.flags bucket ≡ found → StepKind state (TryAt party bucket) (try_one state party bucket found)
-kind_of_one state party bucket None idle is = passes (TryAt party bucket)
-kind_of_one state party bucket (Some Free) idle is = takes_at party bucket idle is
-kind_of_one state party bucket (Some (HeldBy holder)) idle is = misses party bucket idle (inl (holder, is))
-kind_of_one state party bucket (Some Detached) idle is = misses party bucket idle (inr is)
-
-kind_of_try_at : (state : PoolState) (party bucket : ℕ) (found : Option (Option ℕ)) → slice_get state.calls party ≡ found →
-    StepKind state (TryAt party bucket) (try_at state party bucket found)
-kind_of_try_at state party bucket (Some None) is = kind_of_one state party bucket (slice_get state.flags bucket) is refl
-kind_of_try_at state party bucket _ is = passes (TryAt party bucket)
-
-kind_of_others : (state : PoolState) (party bucket : ℕ) (others : Bool) → nat_lt 1 (length state.calls) ≡ others →
-    IsHolder state bucket party → StepKind state (Detach party bucket) (if others then detaching state bucket else passed state)
-kind_of_others state party bucket true test held = detaches party bucket held (less_from_test 1 (length state.calls) test)
-kind_of_others state party bucket false test held = passes (Detach party bucket)
-
-kind_of_detach_of : (state : PoolState) (party bucket holder : ℕ) (same : Bool) → (holder == party) ≡ same →
-    IsHolder state bucket holder → StepKind state (Detach party bucket) (if same then detach state bucket else passed state)
-kind_of_detach_of state party bucket holder true test held =
-    kind_of_others state party bucket (nat_lt 1 (length state.calls)) refl
-    (held ∙ ap (λ (h : ℕ). Some (HeldBy h)) (same_from_test holder party test))
-kind_of_detach_of state party bucket holder false test held = passes (Detach party bucket)
-
-kind_of_detach : (state : PoolState) (party bucket : ℕ) (found : Option Flag) → slice_get state.flags bucket ≡ found →
-    StepKind state (Detach party bucket) (detach_flag state party bucket found)
-kind_of_detach state party bucket (Some (HeldBy holder)) is =
-    kind_of_detach_of state party bucket holder (holder == party) refl is
-kind_of_detach state party bucket _ is = passes (Detach party bucket)
-
-kind_of_attach_flag : (state : PoolState) (party bucket : ℕ) (found : Option Flag) → IsIdle state party →
-    slice_get state.flags bucket ≡ found → StepKind state (Attach party bucket) (attach_flag state party bucket found)
-kind_of_attach_flag state party bucket (Some Detached) idle is = attaches party bucket idle is
-kind_of_attach_flag state party bucket _ idle is = passes (Attach party bucket)
-
-kind_of_attach : (state : PoolState) (party bucket : ℕ) (found : Option (Option ℕ)) → slice_get state.calls party ≡ found →
-    StepKind state (Attach party bucket) (attach state party bucket found)
-kind_of_attach state party bucket (Some None) is = kind_of_attach_flag state party bucket (slice_get state.flags bucket) is refl
-kind_of_attach state party bucket _ is = passes (Attach party bucket)
 
 -- each step is of some kind
 pub kind_of : (state : PoolState) (step : PoolStep) → StepKind state step (pool_step state step)

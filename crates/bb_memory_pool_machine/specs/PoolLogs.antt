@@ -1,9 +1,9 @@
 -- The pool machine's histories, its parties' logs, and the calls of the pool object that its steps make.
 use Rattle.std.specs.Prelude.{ℕ, ◌==◌, Bool, List, [], ◌∷◌, filter, map, ◌+◌, ◌≡◌, true, false, nat_lt, if◌then◌else◌, ◌++◌}
 use Rattle.std.specs.Prelude.{Option, Some, None, All, Any, fold, slice_get, slice_set, unwrap_or, ◌<◌, ◌≤◌, Ok, length, take}
-use Rattle.bb_memory_pool_machine.specs.PoolMachine.{PoolScene, PoolState, opening_state, pool_step, PoolStep, Try, GiveBack, TryAt}
-use Rattle.bb_memory_pool_machine.specs.PoolMachine.{Detach, Attach, PoolOutcome, left_by, Flag, Free, Takes, Loses, RefusedAtLoss, Gives}
-use Rattle.bb_memory_pool_machine.specs.PoolMachine.{Passed, Detaches, Attaches, IsInCall, Misses}
+use Rattle.bb_memory_pool_machine.specs.PoolMachine.{PoolScene, PoolState, opening_state, pool_step, PoolStep, Try, GiveBack}
+use Rattle.bb_memory_pool_machine.specs.PoolMachine.{TryAt, Detach, Attach, PoolOutcome, left_by, Flag, Free, Takes, Loses}
+use Rattle.bb_memory_pool_machine.specs.PoolMachine.{RefusedAtLoss, Gives, Passed, Detaches, Attaches, IsInCall, Misses}
 use Rattle.bb_memory_traits.specs.Chunk.{Chunk}
 use Rattle.bb_memory_traits.specs.declared.layout.Layout.{Layout}
 use Rattle.bb_memory_traits.specs.Object.{Allocates, Releases, IsRun}
@@ -19,16 +19,13 @@ pub record PoolEntry : Type 0 where
 abbrev pub entry_of : PoolStep → PoolOutcome → PoolEntry
 entry_of step outcome = record { step = step; outcome = outcome }
 
--- a log: entries in order
 abbrev pub PoolLog : Type 0
 PoolLog = List PoolEntry
 
--- the entries of a list of steps, in order
 abbrev pub pool_history : PoolState → List PoolStep → PoolLog
 pool_history state [] = []
 pool_history state (step ∷ steps) = entry_of step (pool_step state step).outcome ∷ pool_history (pool_step state step).state steps
 
--- the history of a list of steps from the opening
 abbrev pub history_of : PoolScene → List PoolStep → PoolLog
 history_of scene steps = pool_history (opening_state scene) steps
 
@@ -37,7 +34,6 @@ outcomes_of history = map (λ entry. entry.outcome) history
 
 -- PARTIES
 
--- the step is this party's
 abbrev pub is_by : ℕ → PoolStep → Bool
 is_by party (Try other) = other == party
 is_by party (GiveBack other bucket) = other == party
@@ -49,7 +45,6 @@ is_by party (Attach other bucket) = other == party
 abbrev pub entries_by : ℕ → PoolLog → PoolLog
 entries_by party history = filter (λ entry. is_by party entry.step) history
 
--- a party's log in a list of steps from the opening
 abbrev pub log_of : PoolScene → List PoolStep → ℕ → PoolLog
 log_of scene steps party = entries_by party (history_of scene steps)
 
@@ -67,7 +62,6 @@ held_after bucket held _ = held
 abbrev pub IsHeldAfter : PoolLog → ℕ → Type 0
 IsHeldAfter log bucket = fold (λ held entry. held_after bucket held entry.outcome) false log ≡ true
 
--- some step of the log detached the bucket
 abbrev pub WasDetached : PoolLog → ℕ → Type 0
 WasDetached log bucket = Any (λ entry. entry.outcome ≡ Detaches bucket) log
 
@@ -82,7 +76,6 @@ pass_after pass _ = pass
 abbrev pub pass_in : PoolLog → Option ℕ
 pass_in log = fold (λ pass entry. pass_after pass entry.outcome) None log
 
--- the bucket that a party with this log tries next
 abbrev pub next_bucket : PoolLog → ℕ
 next_bucket log = unwrap_or (pass_in log) 0
 
@@ -92,7 +85,6 @@ loss_at buckets bucket = if nat_lt (bucket + 1) buckets then Loses bucket else R
 
 -- FLAGS AND LOGS
 
--- a flag is taken where a party holds the bucket, or the bucket is detached
 abbrev pub is_taken : Flag → Bool
 is_taken Free = false
 is_taken _ = true
@@ -107,12 +99,10 @@ IsAllowed _ = Unit {0}
 abbrev pub AllAllowed : PoolLog → Type 0
 AllAllowed history = All (λ entry. IsAllowed entry.outcome) history
 
--- the party's log stands in the list of logs, at the party's number
 abbrev pub HasLog : List PoolLog → ℕ → PoolLog → Type 0
 HasLog logs party log = slice_get logs party ≡ Some log
 
--- some list of steps, each allowed, leaves these flags, and has as the steps of each party in the list of logs exactly its log,
--- in order
+-- some list of steps, each allowed, leaves these flags, and has as each party's own steps exactly its log, in order
 pub record LogsAgree (scene : PoolScene) (flags : List Bool) (logs : List PoolLog) : Type 0 where
   pub steps : List PoolStep
   pub allowed : AllAllowed (history_of scene steps)
@@ -124,12 +114,10 @@ pub record IsDetachedAfter (flags : List Bool) (logs : List PoolLog) (bucket : �
   pub taken : slice_get flags bucket ≡ Some true
   pub no_holder : (party : ℕ) (log : PoolLog) → HasLog logs party log → ¬ IsHeldAfter log bucket
 
--- the logs, where a party's has one more entry
 abbrev pub with_entry : List PoolLog → ℕ → PoolLog → PoolEntry → List PoolLog
 with_entry logs party log entry = slice_set logs party (log ++ entry ∷ [])
 
--- an interleaving of this party's log with some logs of the others: a list of steps, each allowed, that has as the party's steps
--- exactly its log, in order
+-- an interleaving of this party's log with some logs of the others: a list of steps, each allowed, with just this log
 pub record Interleaving (scene : PoolScene) (party : ℕ) (log : PoolLog) : Type 0 where
   pub steps : List PoolStep
   pub allowed : AllAllowed (history_of scene steps)
@@ -160,7 +148,6 @@ pub record AreAsked (geometry : PoolGeometry) (steps : List PoolStep) (layouts :
   pub one_a_step : length layouts ≡ length steps
   pub within : All (IsWithin geometry.bucket) layouts
 
--- The calls of a history are a run of the pool object, from `old` to `new`.
 abbrev pub IsCallRun : PoolGeometry → List Chunk → List Layout → PoolLog → List Chunk → Type 0
 IsCallRun geometry old layouts history new = IsRun (PoolCall geometry) old layouts (outcomes_of history) new
 
@@ -168,14 +155,13 @@ IsCallRun geometry old layouts history new = IsRun (PoolCall geometry) old layou
 abbrev pub IsPoolRun : PoolScene → List PoolStep → List Layout → List Chunk → Type 0
 IsPoolRun scene steps layouts live = IsCallRun scene.geometry [] layouts (history_of scene steps) live
 
--- REFUSED PASSES
+-- REFUSED PASSES, AND MISSES
 
 -- entry k of the history is the party's, and its pass is refused there
 pub record IsRefusedAt (history : PoolLog) (party k : ℕ) : Type 0 where
   pub bucket : ℕ
   pub there : slice_get history k ≡ Some (entry_of (Try party) (RefusedAtLoss bucket))
 
--- a loss of this bucket
 abbrev pub IsLossAt : ℕ → PoolOutcome → Type 0
 IsLossAt bucket (Loses other) = other ≡ bucket
 IsLossAt bucket (RefusedAtLoss other) = other ≡ bucket
@@ -205,8 +191,6 @@ pub record FoundHeld (scene : PoolScene) (steps : List PoolStep) (party last buc
   pub one_pass : IsOnePass scene steps party step last
   pub loses : LosesAt (history_of scene steps) party bucket step
   pub held : IsHeldInRun scene (take step steps) bucket
-
--- MISSES
 
 -- entry k of the history is the party's, and a miss of this bucket
 abbrev pub MissesAt : PoolLog → ℕ → ℕ → ℕ → Type 0

@@ -6,8 +6,8 @@ use Rattle.bb_memory_traits.specs.PoolObject.{PoolGeometry}
 pub use Rattle.bb_memory_pool_machine.specs.declared.steps.pool.Flag.{Flag}
 pub use Rattle.bb_memory_pool_machine.specs.declared.steps.pool.Flag.TheVariants.{Detached, Free, HeldBy}
 pub use Rattle.bb_memory_pool_machine.specs.declared.steps.pool.PoolOutcome.{PoolOutcome}
-pub use Rattle.bb_memory_pool_machine.specs.declared.steps.pool.PoolOutcome.TheVariants.{Attaches, Detaches, Gives, Loses, Misses, Passed}
-pub use Rattle.bb_memory_pool_machine.specs.declared.steps.pool.PoolOutcome.TheVariants.{RefusedAtLoss, Takes}
+pub use Rattle.bb_memory_pool_machine.specs.declared.steps.pool.PoolOutcome.TheVariants.{Attaches, Detaches, Gives, Loses, Misses}
+pub use Rattle.bb_memory_pool_machine.specs.declared.steps.pool.PoolOutcome.TheVariants.{Passed, RefusedAtLoss, Takes}
 pub use Rattle.bb_memory_pool_machine.specs.declared.steps.pool.PoolStep.{PoolStep}
 pub use Rattle.bb_memory_pool_machine.specs.declared.steps.pool.PoolStep.TheVariants.{Attach, Detach, GiveBack, Try, TryAt}
 
@@ -27,7 +27,6 @@ pub record PoolScene : Type 0 where
 abbrev pub all_free : ℕ → ℕ → PoolState
 all_free buckets parties = record { flags = replicate buckets Free; calls = replicate parties None }
 
--- at the opening all flags are free, and every party is idle
 abbrev pub opening_state : PoolScene → PoolState
 opening_state scene = all_free scene.geometry.buckets scene.parties
 
@@ -60,7 +59,6 @@ IsInCall state party bucket = slice_get state.calls party ≡ Some (Some bucket)
 
 -- STEPS
 
--- the answer to a step, and the state after it
 pub record PoolMove : Type 0 where
   pub outcome : PoolOutcome
   pub state : PoolState
@@ -68,11 +66,9 @@ pub record PoolMove : Type 0 where
 abbrev pub move_of : PoolOutcome → PoolState → PoolMove
 move_of outcome state = record { outcome = outcome; state = state }
 
--- the bucket's flag is now this
 abbrev pub with_flag : PoolState → ℕ → Flag → PoolState
 with_flag state bucket flag = record { flags = slice_set state.flags bucket flag; calls = state.calls }
 
--- the party's pass is now this
 abbrev pub with_pass : PoolState → ℕ → Option ℕ → PoolState
 with_pass state party pass = record { flags = state.flags; calls = slice_set state.calls party pass }
 
@@ -86,7 +82,6 @@ loss state party bucket =
     if nat_lt (bucket + 1) (length state.flags) then move_of (Loses bucket) (with_pass state party (Some (bucket + 1)))
     else move_of (RefusedAtLoss bucket) (with_pass state party None)
 
--- the holder gives the bucket back, and its flag is free
 abbrev pub return_of : PoolState → ℕ → PoolMove
 return_of state bucket = move_of (Gives bucket) (with_flag state bucket Free)
 
@@ -150,7 +145,6 @@ abbrev pub attach : PoolState → ℕ → ℕ → Option (Option ℕ) → PoolMo
 attach state party bucket (Some None) = attach_flag state party bucket (slice_get state.flags bucket)
 attach state party bucket _ = passed state
 
--- an atomic step
 abbrev pub pool_step : PoolState → PoolStep → PoolMove
 pool_step state (Try party) = try_next state party (slice_get state.calls party)
 pool_step state (GiveBack party bucket) = give_flag state party bucket (slice_get state.flags bucket)
@@ -158,11 +152,9 @@ pool_step state (TryAt party bucket) = try_at state party bucket (slice_get stat
 pool_step state (Detach party bucket) = detach_flag state party bucket (slice_get state.flags bucket)
 pool_step state (Attach party bucket) = attach state party bucket (slice_get state.calls party)
 
--- the state that a list of steps leaves
 abbrev pub pool_after : PoolState → List PoolStep → PoolState
 pool_after state [] = state
 pool_after state (step ∷ steps) = pool_after (pool_step state step).state steps
 
--- the state that a list of steps from the opening leaves
 abbrev pub left_by : PoolScene → List PoolStep → PoolState
 left_by scene steps = pool_after (opening_state scene) steps

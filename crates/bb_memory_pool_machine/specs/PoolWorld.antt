@@ -4,7 +4,6 @@ use Rattle.std.specs.declared.vec.Vec.{Vec}
 use Rattle.bb_memory_pool_machine.specs.PoolMachine.{PoolState, all_free, pool_step, pool_after, Flag, PoolStep, PoolOutcome}
 use Rattle.bb_memory_pool_machine.specs.PoolLogs as histories
 
--- the machine's state
 abbrev pub PoolWorld : Type 0
 PoolWorld = PoolState
 
@@ -31,7 +30,6 @@ pub record Steps (old : PoolWorld) (step : PoolStep) (answer : PoolOutcome) (new
   pub outcome : answer ≡ outcome_of old step
   pub state : new ≡ after_step old step
 
--- the answers to a list of steps
 abbrev pub outcomes_of : PoolWorld → List PoolStep → List PoolOutcome
 outcomes_of world steps = histories.outcomes_of (histories.pool_history world steps)
 

@@ -101,124 +101,119 @@ times_in-parts number (party ∷ parties) = omega arith
 
 -- ONE STEP
 
--- the log of the one party of a seat becomes another, whatever is detached there, before and after
-pub seated_with : {S E : Type 0} (made : ℕ) (logs : List (List E)) (views : List (Seat S E)) (seat : ℕ) (scene : S)
-    (number : ℕ) (log new : List E) (before after : List ℕ) →
-    AreSeated made logs views → get_elem? views seat ≡ some (seat_of scene (numbered number log ∷ []) before) →
-    AreSeated made (slice_set logs number new) (set views seat (seat_of scene (numbered number new ∷ []) after))
-seated_with {S = S} {E = E} made logs views seat scene number log new before after seated at =
-    let old : Seat S E = seat_of scene (numbered number log ∷ []) before in
-    let then : Seat S E = seat_of scene (numbered number new ∷ []) after in
-    let mine = seated.known seat old at in record {
-      known = λ other found there. elim (at_set views seat other then found there) [
-        | inl here ↦
-            subst (λ (v : Seat S E). HaveLogs made (slice_set logs number new) v.parties) here.1
-            (mine.0, slice_get-set_same logs number new log mine.1, tt)
-        | inr elsewhere ↦
-            let two = total-two (standing number) views other seat found old elsewhere.0 elsewhere.1 at in
-            let one = times_in-own number log in
-            let most = seated.once number mine.0 in
-            others_keep made logs new number found.parties (omega arith) (seated.known other found elsewhere.1)
-      ];
-      once = λ party below.
-          let placed = total-set (standing party) views seat old then at in
-          let one = seated.once party below in omega arith;
-    }
+-- some seat of a table whose parties are seated
+module _ {S E : Type 0} (made : ℕ) (logs : List (List E)) (views : List (Seat S E)) (seat : ℕ) where
+  abbrev Known : Seat S E → Type 0
+  Known view = HaveLogs made logs view.parties
 
--- the same of a party that stands alone in its seat
-pub seated_step : {S E : Type 0} (made : ℕ) (logs : List (List E)) (views : List (Seat S E)) (seat : ℕ) (scene : S)
-    (number : ℕ) (log new : List E) →
-    AreSeated made logs views → get_elem? views seat ≡ some (alone scene number log) →
-    AreSeated made (slice_set logs number new) (set views seat (alone scene number new))
-seated_step made logs views seat scene number log new = seated_with made logs views seat scene number log new [] []
+  -- the log of the one party of a seat becomes another, whatever is detached there, before and after
+  pub seated_with : (scene : S) (number : ℕ) (log new : List E) (before after : List ℕ) →
+      AreSeated made logs views → get_elem? views seat ≡ some (seat_of scene (numbered number log ∷ []) before) →
+      AreSeated made (slice_set logs number new) (set views seat (seat_of scene (numbered number new ∷ []) after))
+  seated_with scene number log new before after seated at =
+      let old : Seat S E = seat_of scene (numbered number log ∷ []) before in
+      let then : Seat S E = seat_of scene (numbered number new ∷ []) after in
+      let mine = seated.known seat old at in record {
+        known = λ other found there. elim (at_set views seat other then found there) [
+          | inl here ↦
+              subst (λ (v : Seat S E). HaveLogs made (slice_set logs number new) v.parties) here.1
+              (mine.0, slice_get-set_same logs number new log mine.1, tt)
+          | inr elsewhere ↦
+              let two = total-two (standing number) views other seat found old elsewhere.0 elsewhere.1 at in
+              let one = times_in-own number log in
+              let most = seated.once number mine.0 in
+              others_keep made logs new number found.parties (omega arith) (seated.known other found elsewhere.1)
+        ];
+        once = λ party below.
+            let placed = total-set (standing party) views seat old then at in
+            let one = seated.once party below in omega arith;
+      }
 
--- SPLITS AND JOINS
+  -- the same of a party that stands alone in its seat
+  pub seated_step : (scene : S) (number : ℕ) (log new : List E) →
+      AreSeated made logs views → get_elem? views seat ≡ some (alone scene number log) →
+      AreSeated made (slice_set logs number new) (set views seat (alone scene number new))
+  seated_step scene number log new = seated_with scene number log new [] []
 
--- a view is split in two where each party goes to one of the two
-pub seated_split : {S E : Type 0} (made : ℕ) (logs : List (List E)) (views : List (Seat S E)) (seat : ℕ)
-    (view left right : Seat S E) →
-    ((number : ℕ) → times_in number left.parties + times_in number right.parties ≡ times_in number view.parties) →
-    (HaveLogs made logs view.parties → HaveLogs made logs left.parties × HaveLogs made logs right.parties) →
-    AreSeated made logs views → get_elem? views seat ≡ some view →
-    AreSeated made logs (set views seat left ++ right ∷ [])
-seated_split {S = S} {E = E} made logs views seat view left right count parts seated at =
-    let own = parts (seated.known seat view at) in
-    let Known : Seat S E → Type 0 = λ v. HaveLogs made logs v.parties in
-    let first : List (Seat S E) = set views seat left in record {
-      known = λ other found there. elim (at_snoc first right found other there) [
-        | inl before ↦ elim (at_set views seat other left found before) [
-          | inl here ↦ subst Known here.1 own.0
-          | inr elsewhere ↦ seated.known other found elsewhere.1
-        ]
-        | inr last ↦ subst Known last own.1
-      ];
-      once = λ number below.
-          let pushed = total-push (standing number) first right in
-          let placed = total-set (standing number) views seat view left at in
-          let same = count number in
-          let one = seated.once number below in omega arith;
-    }
+  -- SPLITS AND JOINS
 
-pub seated_others : {S E : Type 0} (made : ℕ) (logs : List (List E)) (views : List (Seat S E)) (seat : ℕ) (view : Seat S E) →
-    AreSeated made logs views → get_elem? views seat ≡ some view →
-    AreSeated made logs (set views seat (others_of view) ++ first_of view ∷ [])
-seated_others made logs views seat view = seated_split made logs views seat view (others_of view) (first_of view)
-    (λ number. let parts = times_in-parts number view.parties in omega arith)
-    (λ have. let parts = have-parts made logs view.parties have in (parts.1, parts.0))
+  -- where a view is set whose parties have their logs, those of each have theirs
+  set_known : (new : Seat S E) → AreSeated made logs views → Known new → (other : ℕ) (found : Seat S E) →
+      get_elem? (set views seat new) other ≡ some found → Known found
+  set_known new seated is other found there = elim (at_set views seat other new found there) [
+    | inl here ↦ subst Known here.1 is
+    | inr elsewhere ↦ seated.known other found elsewhere.1
+  ]
 
--- two views are joined: one has the parties of both, and the other none
-pub seated_joined : {S E : Type 0} (made : ℕ) (logs : List (List E)) (views : List (Seat S E)) (seat : ℕ) (view : Seat S E)
-    (other : ℕ) (guest : Seat S E) (scene none : S) (items : List ℕ) →
-    let both = seat_of scene (guest.parties ++ view.parties) items in
-    AreSeated made logs views → get_elem? views seat ≡ some view → other ≢ seat →
-    get_elem? (set views seat both) other ≡ some guest →
-    AreSeated made logs (set (set views seat both) other (standing_for none []))
-seated_joined {S = S} {E = E} made logs views seat view other guest scene none items seated at apart there =
-    let Known : Seat S E → Type 0 = λ v. HaveLogs made logs v.parties in
-    let both : Seat S E = seat_of scene (guest.parties ++ view.parties) items in
-    let spent : Seat S E = standing_for none [] in
-    let first : List (Seat S E) = set views seat both in
-    let was : get_elem? views other ≡ some guest = elim (at_set views seat other both guest there) [
-      | inl here ↦ absurd (apart here.0)
-      | inr elsewhere ↦ elsewhere.1
-    ] in record {
-      known = λ third found is. elim (at_set first other third spent found is) [
-        | inl here ↦ subst Known here.1 tt
-        | inr rest ↦ elim (at_set views seat third both found rest.1) [
-          | inl joined ↦ subst Known joined.1
-              (have-append made logs guest.parties view.parties (seated.known other guest was) (seated.known seat view at))
-          | inr elsewhere ↦ seated.known third found elsewhere.1
-        ]
-      ];
-      once = λ number below.
-          let placed = total-set (standing number) views seat view both at in
-          let emptied = total-set (standing number) first other guest spent there in
-          let same = times_in-append number guest.parties view.parties in
-          let one = seated.once number below in omega arith;
-    }
+  -- a view is split in two where each party goes to one of the two
+  pub seated_split : (view left right : Seat S E) →
+      ((number : ℕ) → times_in number left.parties + times_in number right.parties ≡ times_in number view.parties) →
+      (Known view → Known left × Known right) → AreSeated made logs views → get_elem? views seat ≡ some view →
+      AreSeated made logs (set views seat left ++ right ∷ [])
+  seated_split view left right count parts seated at =
+      let own = parts (seated.known seat view at) in
+      let first : List (Seat S E) = set views seat left in record {
+        known = λ other found there. elim (at_snoc first right found other there) [
+          | inl before ↦ set_known left seated own.0 other found before
+          | inr last ↦ subst Known last own.1
+        ];
+        once = λ number below.
+            let pushed = total-push (standing number) first right in
+            let placed = total-set (standing number) views seat view left at in
+            let same = count number in
+            let one = seated.once number below in omega arith;
+      }
 
--- a view becomes another with the same parties
-pub seated_again : {S E : Type 0} (made : ℕ) (logs : List (List E)) (views : List (Seat S E)) (seat : ℕ) (view : Seat S E)
-    (scene : S) → AreSeated made logs views → get_elem? views seat ≡ some view →
-    AreSeated made logs (set views seat (standing_for scene view.parties))
-seated_again {S = S} {E = E} made logs views seat view scene seated at =
-    let new : Seat S E = standing_for scene view.parties in record {
-      known = λ other found there. elim (at_set views seat other new found there) [
-        | inl here ↦ subst (λ (v : Seat S E). HaveLogs made logs v.parties) here.1 (seated.known seat view at)
-        | inr elsewhere ↦ seated.known other found elsewhere.1
-      ];
-      once = λ number below.
-          let placed = total-set (standing number) views seat view new at in
-          let one = seated.once number below in omega arith;
-    }
+  pub seated_others : (view : Seat S E) → AreSeated made logs views → get_elem? views seat ≡ some view →
+      AreSeated made logs (set views seat (others_of view) ++ first_of view ∷ [])
+  seated_others view = seated_split view (others_of view) (first_of view)
+      (λ number. let parts = times_in-parts number view.parties in omega arith)
+      (λ have. let parts = have-parts made logs view.parties have in (parts.1, parts.0))
 
--- no party stands twice in one view
-pub once_in : {S E : Type 0} (made : ℕ) (logs : List (List E)) (views : List (Seat S E)) (seat : ℕ) (view : Seat S E) →
-    AreSeated made logs views → get_elem? views seat ≡ some view → (number : ℕ) → number < made →
-    times_in number view.parties ≤ 1
-once_in made logs views seat view seated at number below =
-    let within = total-at (standing number) views seat view at in
-    let one = seated.once number below in omega arith
+  -- two views are joined: one has the parties of both, and the other none
+  pub seated_joined : (view : Seat S E) (other : ℕ) (guest : Seat S E) (scene none : S) (items : List ℕ) →
+      let both = seat_of scene (guest.parties ++ view.parties) items in
+      AreSeated made logs views → get_elem? views seat ≡ some view → other ≢ seat →
+      get_elem? (set views seat both) other ≡ some guest →
+      AreSeated made logs (set (set views seat both) other (standing_for none []))
+  seated_joined view other guest scene none items seated at apart there =
+      let both : Seat S E = seat_of scene (guest.parties ++ view.parties) items in
+      let spent : Seat S E = standing_for none [] in
+      let first : List (Seat S E) = set views seat both in
+      let was : get_elem? views other ≡ some guest = elim (at_set views seat other both guest there) [
+        | inl here ↦ absurd (apart here.0)
+        | inr elsewhere ↦ elsewhere.1
+      ] in
+      let all = have-append made logs guest.parties view.parties (seated.known other guest was) (seated.known seat view at) in
+      record {
+        known = λ third found is. elim (at_set first other third spent found is) [
+          | inl here ↦ subst Known here.1 tt
+          | inr rest ↦ set_known both seated all third found rest.1
+        ];
+        once = λ number below.
+            let placed = total-set (standing number) views seat view both at in
+            let emptied = total-set (standing number) first other guest spent there in
+            let same = times_in-append number guest.parties view.parties in
+            let one = seated.once number below in omega arith;
+      }
+
+  -- a view becomes another with the same parties
+  pub seated_again : (view : Seat S E) (scene : S) → AreSeated made logs views → get_elem? views seat ≡ some view →
+      AreSeated made logs (set views seat (standing_for scene view.parties))
+  seated_again view scene seated at =
+      let new : Seat S E = standing_for scene view.parties in record {
+        known = set_known new seated (seated.known seat view at);
+        once = λ number below.
+            let placed = total-set (standing number) views seat view new at in
+            let one = seated.once number below in omega arith;
+      }
+
+  -- no party stands twice in one view
+  pub once_in : (view : Seat S E) → AreSeated made logs views → get_elem? views seat ≡ some view → (number : ℕ) →
+      number < made → times_in number view.parties ≤ 1
+  once_in view seated at number below =
+      let within = total-at (standing number) views seat view at in
+      let one = seated.once number below in omega arith
 
 -- THE OPENING
 

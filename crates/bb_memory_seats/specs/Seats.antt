@@ -67,7 +67,6 @@ abbrev pub one_if : Bool → ℕ
 one_if true = 1
 one_if false = 0
 
--- a figure of each element, summed up
 abbrev pub total : {V : Type 0} → (V → ℕ) → List V → ℕ
 total figure [] = 0
 total figure (x ∷ xs) = figure x + total figure xs
@@ -131,7 +130,6 @@ both_detached view other = seat_of view.scene (other.parties ++ view.parties) (o
 
 -- SEATS AT A TABLE
 
--- a seat is at this table, and stands for this
 pub record IsAt (whose here : TableId) (stands : Type 0) : Type 0 where
   pub table : here ≡ whose
   pub seat : stands
@@ -154,7 +152,6 @@ pub record MayGather {V : Type 0} (whose here there : TableId) (other : Me ℕ V
   pub tables : (here ≡ whose) × (there ≡ whose)
   pub guest : other.1 ≡ []
 
--- a vector is empty, and has room for so many elements
 pub record HasRoomFor {T Z : Type 0} (count : ℕ) (all : Vec T Z) : Type 0 where
   pub empty : all.items ≡ []
   pub room : (vec_len all ≡ 0) × (count ≤ vec_capacity all)

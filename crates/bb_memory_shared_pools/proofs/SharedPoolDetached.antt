@@ -11,7 +11,7 @@ use Rattle.bb_memory_pool_machine.specs.PoolLogs.{with_entry}
 use Rattle.bb_memory_pool_machine.specs.declared.steps.pool.PoolOutcome.TheVariants.{Loses, RefusedAtLoss}
 use Rattle.bb_memory_pool_machine.proofs.PoolHolders.{held_through}
 use Rattle.bb_memory_pool_machine.proofs.PoolSteps.{test_apart}
-use Rattle.bb_memory_lists.proofs.SliceSets.{slice_get-set_other, slice_get-set_same}
+use Rattle.bb_memory_lists.proofs.SliceGets.{slice_get-set_apart, slice_get-set_at}
 use Rattle.bb_memory_seats.specs.Seats.{head_of, tail_of, times_detached, times_of}
 use Rattle.bb_memory_shared_pools.specs.SharedPoolRule.{AreDetached, SeatView}
 use Rattle.bb_memory_seats.proofs.Seatings.{one_apart, one_same, total-at, total-push, total-set}
@@ -190,12 +190,12 @@ still_detached flags new_flags logs party log entry bucket at none same_flag mov
   taken = same_flag ∙ moving.taken;
   no_holder = λ other found there held. elim (cases_eq party other) [
     | inl same ↦
-        let now = slice_get-set_same logs party other (log ++ entry ∷ []) log same at in
+        let now = slice_get-set_at logs party other (log ++ entry ∷ []) log same at in
         let is = same_Some (log ++ entry ∷ []) found (sym now ∙ there) in
         not_held_push bucket log entry (moving.no_holder party log at) none
         (subst (λ (l : PoolLog). IsHeldAfter l bucket) (sym is) held)
     | inr apart ↦
-        let kept = slice_get-set_other logs party other (log ++ entry ∷ []) apart in
+        let kept = slice_get-set_apart logs party other (log ++ entry ∷ []) apart in
         moving.no_holder other found (sym kept ∙ there) held
   ];
 }
@@ -225,7 +225,7 @@ no_hold_other other bucket apart = ap (λ (b : Bool). if b then true else false)
 
 pub flag_elsewhere : (flags : List Bool) (at bucket : ℕ) (flag : Bool) → at ≢ bucket →
     slice_get (slice_set flags at flag) bucket ≡ slice_get flags bucket
-flag_elsewhere flags at bucket flag apart = slice_get-set_other flags at bucket flag apart
+flag_elsewhere flags at bucket flag apart = slice_get-set_apart flags at bucket flag apart
 
 -- a detached bucket isn't the one whose flag is free, nor one that is held after a log
 pub detached_not_free : (flags : List Bool) (logs : List PoolLog) (at bucket : ℕ) → slice_get flags at ≡ Some false →

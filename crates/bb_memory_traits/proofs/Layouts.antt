@@ -1,16 +1,15 @@
 -- Which layouts there are.
-use Rattle.std.proofs.Common.{◌≡◌, ℕ, suc, ◌+◌, ◌-◌, ◌*◌, ◌/◌, ◌%◌, ◌^◌, ◌<◌, ◌≤◌, ◌↔◌, ⊎_elim, arith, refl, sym, ap, ◌∙◌, inl}
-use Rattle.std.proofs.Common.{inr, div-add-mod', mul-le-mul_right, pow_pos, pow_mono, pow-add, pow-suc}
+use Rattle.std.proofs.Common.{◌≡◌, ℕ, zero, suc, ◌+◌, ◌-◌, ◌*◌, ◌/◌, ◌%◌, ◌^◌, ◌<◌, ◌≤◌, ◌↔◌, IsTrue, ◌⊎◌, arith, refl, sym, ap}
+use Rattle.std.proofs.Common.{◌∙◌, inl, inr, div-add-mod', mul-le-mul_right, pow_pos, pow_mono, pow-add, pow-suc}
 use Rattle.std.proofs.Math.Nat.{mul_assoc}
 use Rattle.std.proofs.lemmas.Bool.{cases_lt}
 use Rattle.std.proofs.lemmas.Nat.{mod-mul-add}
 use Rattle.std.proofs.Props.{props}
 use Rattle.std.specs.Align.{IsLayout}
-use Rattle.std.specs.Int.{IsPowerOfTwo}
+use Rattle.std.specs.Int.{IsPowerOfTwo, is_power_of_two}
 use mathlib.Core.HLevel.{is_prop→PathP}
-use Rattle.bb_memory_traits.specs.LeastPlace.{least_place}
+use Rattle.bb_memory_traits.specs.LeastPlace.{least_place, IsUsual}
 use Rattle.bb_memory_traits.specs.Chunk.{Layout}
-use Rattle.bb_memory_traits.specs.LeastPlace.{IsUsual}
 use Rattle.bb_memory_traits.proofs.LeastPlaces.{least_place-is}
 use Rattle.bb_memory_traits.proofs.PowersOfTwo.{power_of_two-from_test, power_of_two-test, power_of_two-positive}
 
@@ -35,10 +34,11 @@ power-divides low high p q le = elim (cases_lt q.0 p.0) [
       (2 ^ (q.0 - p.0), q.1 ∙ ap (λ j. 2 ^ j) parts ∙ pow-add 2 (q.0 - p.0) p.0 ∙ ap (λ m. 2 ^ (q.0 - p.0) * m) (sym p.1))
 ]
 
--- A size fits once it is rounded up exactly where it is at most what an alignment leaves of 2 ^ 63.
-pub fits-up_to : (size align : ℕ) → IsPowerOfTwo align → align < 2 ^ 64 →
-    (align ≤ 2 ^ 63) × ((least_place size align < 2 ^ 63) ↔ (size ≤ 2 ^ 63 - align))
-fits-up_to size align power small =
+-- a size and a power of two are a layout exactly where the size is at most what the alignment leaves of 2 ^ 63
+pub valid-up_to : (size align : ℕ) → IsTrue (is_power_of_two align) → align < 2 ^ 64 →
+    (align ≤ 2 ^ 63) × (IsLayout size align ↔ (size ≤ 2 ^ 63 - align))
+valid-up_to size align test small =
+    let power = power_of_two-from_test align test in
     let low : align ≤ 2 ^ 63 = elim (cases_lt power.0 64) [
       | inl below ↦ omega (arith, power.1, pow_mono {i = power.0} {j = 63} (omega arith))
       | inr above ↦ absurd (omega (arith, power.1, pow_mono {i = 64} {j = power.0} above))
@@ -49,18 +49,23 @@ fits-up_to size align power small =
     let k = place.multiple.0 in (
       low,
       (
-        λ fits. elim (cases_lt k whole.0) [
-          | inl less ↦ let more = mul-le-mul_right {m = k + 1} {n = whole.0} align (omega arith) in
-              omega (arith, place.above, place.multiple.1, whole.1, more)
-          | inr past ↦ absurd (omega (arith, fits, place.multiple.1, whole.1, mul-le-mul_right align past))
-        ],
-        λ below. elim (cases_lt 0 whole.0) [
-          | inl some ↦
-              let before : whole.0 ≡ (whole.0 - 1) + 1 = omega arith in
-              let parts : whole.0 * align ≡ (whole.0 - 1) * align + align = omega (arith, ap (λ m. m * align) before) in
-              omega (arith, positive, parts, whole.1, place.least (whole.0 - 1) (omega (arith, below, parts, whole.1)))
-          | inr none ↦ let nothing : whole.0 ≡ 0 = omega arith in absurd (omega (arith, whole.1, ap (λ m. m * align) nothing))
-        ],
+        λ layout.
+            let fits = ((layout-plain size align).0 layout).1 in
+            elim (cases_lt k whole.0) [
+              | inl less ↦ let more = mul-le-mul_right {m = k + 1} {n = whole.0} align (omega arith) in
+                  omega (arith, place.above, place.multiple.1, whole.1, more)
+              | inr past ↦ absurd (omega (arith, fits, place.multiple.1, whole.1, mul-le-mul_right align past))
+            ],
+        λ below. (layout-plain size align).1 (
+          power,
+          elim (cases_lt 0 whole.0) [
+            | inl some ↦
+                let before : whole.0 ≡ (whole.0 - 1) + 1 = omega arith in
+                let parts : whole.0 * align ≡ (whole.0 - 1) * align + align = omega (arith, ap (λ m. m * align) before) in
+                omega (arith, positive, parts, whole.1, place.least (whole.0 - 1) (omega (arith, below, parts, whole.1)))
+            | inr none ↦ let nothing : whole.0 ≡ 0 = omega arith in absurd (omega (arith, whole.1, ap (λ m. m * align) nothing))
+          ],
+        ),
       ),
     )
 
@@ -113,27 +118,23 @@ same_layout a b size align = λ i. record {
 
 -- USUAL LAYOUTS
 
-usual-at : (size align k : ℕ) → size ≤ 2 ^ 62 → 0 < align → align ≤ 4096 → align ≡ 2 ^ k → IsLayout size align
-usual-at size align k small positive low power = record {
-  power_of_two = power_of_two-test align (k, power);
-  positive = positive;
-  fits = omega arith;
-}
+-- one of so many powers of two, from this one on
+abbrev IsAmong : ℕ → ℕ → ℕ → Type 0
+IsAmong align k zero = align ≡ 2 ^ k
+IsAmong align k (suc more) = (align ≡ 2 ^ k) ⊎ IsAmong align (k + 1) more
+
+low_power : (align k more : ℕ) → k + more ≤ 12 → IsAmong align k more → (j : ℕ) × (align ≡ 2 ^ j) × (j ≤ 12)
+low_power align k zero low is = (k, is, omega arith)
+low_power align k (suc more) low (inl is) = (k, is, omega arith)
+low_power align k (suc more) low (inr is) = low_power align (k + 1) more (omega arith) is
 
 -- usual layouts are accepted
 pub usual-accepted : (size align : ℕ) → IsUsual size align → IsLayout size align
 usual-accepted size align usual =
-    let small = usual.small in
-    ⊎_elim (λ e. usual-at size align 0 small (omega (arith, e)) (omega (arith, e)) e)
-    (⊎_elim (λ e. usual-at size align 1 small (omega (arith, e)) (omega (arith, e)) e)
-    (⊎_elim (λ e. usual-at size align 2 small (omega (arith, e)) (omega (arith, e)) e)
-    (⊎_elim (λ e. usual-at size align 3 small (omega (arith, e)) (omega (arith, e)) e)
-    (⊎_elim (λ e. usual-at size align 4 small (omega (arith, e)) (omega (arith, e)) e)
-    (⊎_elim (λ e. usual-at size align 5 small (omega (arith, e)) (omega (arith, e)) e)
-    (⊎_elim (λ e. usual-at size align 6 small (omega (arith, e)) (omega (arith, e)) e)
-    (⊎_elim (λ e. usual-at size align 7 small (omega (arith, e)) (omega (arith, e)) e)
-    (⊎_elim (λ e. usual-at size align 8 small (omega (arith, e)) (omega (arith, e)) e)
-    (⊎_elim (λ e. usual-at size align 9 small (omega (arith, e)) (omega (arith, e)) e)
-    (⊎_elim (λ e. usual-at size align 10 small (omega (arith, e)) (omega (arith, e)) e)
-    (⊎_elim (λ e. usual-at size align 11 small (omega (arith, e)) (omega (arith, e)) e)
-    (λ e. usual-at size align 12 small (omega (arith, e)) (omega (arith, e)) e)))))))))))) usual.power
+    let power = low_power align 0 12 (omega arith) usual.power in
+    let low : align ≤ 4096 = omega (arith, power.1, pow_mono {i = power.0} {j = 12} power.2) in
+    let small = usual.small in record {
+      power_of_two = power_of_two-test align (power.0, power.1);
+      positive = power_of_two-positive align (power.0, power.1);
+      fits = omega arith;
+    }

@@ -1,10 +1,11 @@
 -- The bytes of the chunks of a sound list, while one of them is written over.
 use Rattle.std.proofs.Common.{arith, ◌≡◌, ◌≢◌, ℕ, ◌+◌, zero, suc, ◌<◌, Some, List, [], ◌∷◌, ◌++◌, length, get_or, ap, ◌∙◌, subst}
-use Rattle.std.proofs.Common.{refl, ⊎_elim}
+use Rattle.std.proofs.Common.{refl, sym, ⊎_elim}
 use Rattle.std.specs.Prelude.{All, map, slice_get, slice_set}
+use Rattle.std.proofs.Math.Seq.{set-append_seam}
 use Rattle.std.proofs.lemmas.Bool.{cases_lt}
-use Rattle.std.proofs.lemmas.List.{map-append, get_or_append_left, get_or_push, length_push}
-use Rattle.std.proofs.lemmas.Option.{slice_get_within, get_or_from_slice_get}
+use Rattle.std.proofs.lemmas.List.{map-append, length-map, get_or_append_left, get_or_push, length_push}
+use Rattle.std.proofs.lemmas.Option.{slice_get_within, slice_get-get_or, slice_get_read, get_or_from_slice_get}
 use Rattle.bb_memory_traits.specs.Chunk.{Region, Chunk, IsInside, AreApart, IsSound}
 use Rattle.bb_memory_traits.specs.HeldBytes.{HeldBytes, held_region, bytes_in, ChangesOnly}
 use Rattle.bb_memory_traits.proofs.ApartBytes.{apart-kept}
@@ -67,47 +68,34 @@ contents_set old new live i chunk bytes sound at changes =
     set_here (bytes_in new) (bytes_in old) live i chunk bytes at changes.inside
     (λ k other differ there. others_kept old new live i k chunk other bytes sound at changes differ there)
 
--- a chunk that was given last is apart from each one before it
+-- the chunk that was given last
+last_at : (live : List Chunk) (chunk : Chunk) → slice_get (live ++ chunk ∷ []) (length live) ≡ Some chunk
+last_at live chunk = slice_get_read (live ++ chunk ∷ []) (length live + 1) (length live) chunk (sym (length_push live chunk))
+    (omega arith) (sym (get_or_push live chunk chunk (length live) refl))
+
+-- is apart from each one before it
 pub given_apart : (region : Region) (live : List Chunk) (chunk : Chunk) →
     IsSound region (live ++ chunk ∷ []) → All (AreApart chunk) live
-given_apart region live chunk sound = λ k d within. λ shared.
-    let left = get_or_append_left live (chunk ∷ []) d k within in
-    let last = get_or_push live chunk d (length live) refl in
-    let apart : AreApart (get_or (live ++ chunk ∷ []) k d) (get_or (live ++ chunk ∷ []) (length live) d) =
-    sound.apart k (length live) d within (omega (arith, length_push live chunk)) in
-    let flipped : AreApart (get_or live k d) chunk =
-    subst (λ (c : Chunk). AreApart c chunk) left
-    (subst (λ (c : Chunk). AreApart (get_or (live ++ chunk ∷ []) k d) c) last apart) in
-    flipped (shared.0, shared.2, shared.1)
+given_apart region live chunk sound = λ k d within.
+    let there = slice_get-get_or (live ++ chunk ∷ []) k d (omega (arith, length_push live chunk))
+    ∙ ap Some (get_or_append_left live (chunk ∷ []) d k within) in
+    apart_at region (live ++ chunk ∷ []) (length live) k chunk (get_or live k d) sound (last_at live chunk) there
+    (λ same. omega arith)
 
 -- the last two are apart
 pub last_two_apart : (region : Region) (live : List Chunk) (one other : Chunk) →
     IsSound region ((live ++ one ∷ []) ++ other ∷ []) → AreApart one other
 last_two_apart region live one other sound = λ shared.
-    let all = given_apart region (live ++ one ∷ []) other sound in
-    let at = get_or_push live one one (length live) refl in
-    let apart : AreApart other one = subst (λ (c : Chunk). AreApart other c) at
-    (all (length live) one (omega (arith, length_push live one))) in
-    apart (shared.0, shared.2, shared.1)
+    let each = given_apart region (live ++ one ∷ []) other sound (length live) one (omega (arith, length_push live one)) in
+    subst (AreApart other) (get_or_push live one one (length live) refl) each (shared.0, shared.2, shared.1)
 
 -- so what is written in it goes behind the contents of the others
 pub contents_given : (old new : HeldBytes) (live : List Chunk) (chunk : Chunk) (bytes : List ℕ) →
     IsSound (held_region old) (live ++ chunk ∷ []) → ChangesOnly old new chunk bytes →
     map (bytes_in new) (live ++ chunk ∷ []) ≡ map (bytes_in old) live ++ bytes ∷ []
 contents_given old new live chunk bytes sound changes =
-    let region : Region = held_region old in
-    let all : List Chunk = live ++ chunk ∷ [] in
-    let long : length all ≡ length live + 1 = length_push live chunk in
-    let itself : IsInside region chunk =
-    subst (IsInside region) (get_or_push live chunk chunk (length live) refl)
-    (sound.inside (length live) chunk (omega (arith, long))) in
-    let same : map (bytes_in new) live ≡ map (bytes_in old) live =
-    map_same (bytes_in new) (bytes_in old) live (λ k c at.
-    let within = slice_get_within live k c at in
-    let is : get_or live k c ≡ c = get_or_from_slice_get live k c c at in
-    let apart : AreApart chunk c = subst (λ (o : Chunk). AreApart chunk o) is (given_apart region live chunk sound k c within) in
-    let there : get_or all k c ≡ c = get_or_append_left live (chunk ∷ []) c k within ∙ is in
-    let inside : IsInside region c = subst (IsInside region) there (sound.inside k c (omega (arith, within, long))) in
-    apart-kept old new chunk c bytes changes itself inside apart) in
-    map-append (bytes_in new) live (chunk ∷ [])
-    ∙ (ap (λ l. l ++ bytes_in new chunk ∷ []) same ∙ ap (λ b. map (bytes_in old) live ++ b ∷ []) changes.inside)
+    let others : List (List ℕ) = map (bytes_in old) live in
+    contents_set old new (live ++ chunk ∷ []) (length live) chunk bytes sound (last_at live chunk) changes
+    ∙ ap (λ l. slice_set l (length live) bytes) (map-append (bytes_in old) live (chunk ∷ []))
+    ∙ ap (λ n. slice_set (others ++ bytes_in old chunk ∷ []) n bytes) (sym (length-map live (bytes_in old)))
+    ∙ set-append_seam others (bytes_in old chunk) [] bytes

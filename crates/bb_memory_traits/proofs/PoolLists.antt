@@ -1,9 +1,9 @@
 -- Live lists of chunks in buckets.
 use Rattle.std.proofs.Common.{◌≡◌, ◌≢◌, ℕ, zero, suc, ◌+◌, ◌<◌, ◌≤◌, List, [], ◌∷◌, ◌++◌, length, get_or, refl, sym, ap, ◌∙◌}
-use Rattle.std.proofs.Common.{arith, inl, inr, true, false, Bool}
+use Rattle.std.proofs.Common.{arith, inl, inr, Bool}
 use Rattle.std.specs.Prelude.{remove, All, AllPairs, ◌==◌, if◌then◌else◌}
 use Rattle.std.specs.List.{AllByRecursion}
-use Rattle.std.proofs.lemmas.Bool.{cases_lt}
+use Rattle.std.proofs.lemmas.Bool.{cases_eq, cases_lt}
 use Rattle.std.proofs.lemmas.Bool.Decides.{nat_tests}
 use Rattle.std.proofs.lemmas.Option.{same_Some, slice_get-get_or}
 use Rattle.std.proofs.lemmas.List.Elements.{All-push, All-from_recursion, recursion_from_All}
@@ -12,9 +12,6 @@ use Rattle.bb_memory_traits.specs.Chunk.{Chunk, IsInside, AreApart, Layout, IsSo
 use Rattle.bb_memory_traits.specs.Object.{PlacesDiffer}
 use Rattle.bb_memory_traits.specs.PoolObject.{PoolGeometry, bucket_place, IsPoolGeometry, IsAt, MayGive, chunk_in}
 use Rattle.bb_memory_traits.proofs.PoolGeometries.{stride-above, first_place-above, bucket_place-after}
-
-same_from_test : (m n : ℕ) → (m == n) ≡ true → m ≡ n
-same_from_test m n test = grind (arith, nat_tests)
 
 -- CHUNKS IN BUCKETS
 
@@ -171,21 +168,15 @@ pub count_at-remove_other : (place q position : ℕ) (live : List Chunk) → IsA
 count_at-remove_other place q position live at apart =
     omega (arith, count_at-without place q position live at, one_if-apart q place apart)
 
-later : (c : Chunk) (live : List Chunk) (place : ℕ) → (position : ℕ) × IsAt live position place →
-    (position : ℕ) × IsAt (c ∷ live) position place
-later c live place (position, at) = (suc position, record { chunk = at.chunk; there = at.there; placed = at.placed })
-
-here_or_later : (c : Chunk) (live : List Chunk) (place : ℕ) (b : Bool) → (c.place == place) ≡ b →
-    (0 < count_at place live → (position : ℕ) × IsAt live position place) → 0 < one_if b + count_at place live →
-    (position : ℕ) × IsAt (c ∷ live) position place
-here_or_later c live place true test rest some =
-    (zero, record { chunk = c; there = refl; placed = same_from_test c.place place test })
-here_or_later c live place false test rest some = later c live place (rest (omega arith))
-
 -- a chunk has the place just where their number isn't 0
 pub at_from_count : (place : ℕ) (live : List Chunk) → 0 < count_at place live → (position : ℕ) × IsAt live position place
 at_from_count place [] some = absurd (omega arith)
-at_from_count place (c ∷ live) some = here_or_later c live place (c.place == place) refl (at_from_count place live) some
+at_from_count place (c ∷ live) some = elim (cases_eq c.place place) [
+  | inl same ↦ (zero, record { chunk = c; there = refl; placed = same })
+  | inr apart ↦
+      let later = at_from_count place live (omega (arith, one_if-apart c.place place apart, some)) in
+      (suc later.0, record { chunk = later.1.chunk; there = later.1.there; placed = later.1.placed })
+]
 
 pub count_from_at : (place position : ℕ) (live : List Chunk) → IsAt live position place → 0 < count_at place live
 count_from_at place position live at = omega (arith, count_at-remove_same place position live at)

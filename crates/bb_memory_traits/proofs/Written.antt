@@ -10,35 +10,32 @@ use Rattle.bb_memory_traits.specs.Lending.{written}
 abbrev pub over : List ℕ → ℕ → List ℕ → List ℕ
 over xs i ws = take i xs ++ (ws ++ drop (i + length ws) xs)
 
-length-over : (xs : List ℕ) (i : ℕ) (ws : List ℕ) → i + length ws ≤ length xs → length (over xs i ws) ≡ length xs
-length-over xs i ws fits =
-    let front : length (take i xs) ≡ i = length-take-le i xs (omega arith) in
-    let rest : List ℕ = drop (i + length ws) xs in
-    omega (arith, length-append (take i xs) (ws ++ rest), length-append ws rest, length-drop (i + length ws) xs, front, fits)
+module _ (xs : List ℕ) (i : ℕ) (ws : List ℕ) (fits : i + length ws ≤ length xs) where
+  front : length (take i xs) ≡ i
+  front = length-take-le i xs (omega arith)
 
--- so nothing is cut off
-uncut : (xs : List ℕ) (i : ℕ) (ws : List ℕ) → i + length ws ≤ length xs → take (length xs) (over xs i ws) ≡ over xs i ws
-uncut xs i ws fits = ap (λ n. take n (over xs i ws)) (sym (length-over xs i ws fits)) ∙ take-length (over xs i ws)
+  length-over : length (over xs i ws) ≡ length xs
+  length-over =
+      let rest : List ℕ = drop (i + length ws) xs in
+      omega (arith, length-append (take i xs) (ws ++ rest), length-append ws rest, length-drop (i + length ws) xs, front, fits)
 
-take-over : (xs : List ℕ) (i : ℕ) (ws : List ℕ) → i + length ws ≤ length xs → take i (over xs i ws) ≡ take i xs
-take-over xs i ws fits =
-    let front : length (take i xs) ≡ i = length-take-le i xs (omega arith) in
-    ap (λ n. take n (over xs i ws)) (sym front) ∙ take-append_seam (take i xs) (ws ++ drop (i + length ws) xs)
+  -- so nothing is cut off
+  uncut : take (length xs) (over xs i ws) ≡ over xs i ws
+  uncut = ap (λ n. take n (over xs i ws)) (sym length-over) ∙ take-length (over xs i ws)
 
-part-over : (xs : List ℕ) (i : ℕ) (ws : List ℕ) → i + length ws ≤ length xs → take (length ws) (drop i (over xs i ws)) ≡ ws
-part-over xs i ws fits =
-    let front : length (take i xs) ≡ i = length-take-le i xs (omega arith) in
-    let rest : List ℕ = ws ++ drop (i + length ws) xs in
-    ap (λ l. take (length ws) l) (ap (λ n. drop n (over xs i ws)) (sym front) ∙ drop-append_seam (take i xs) rest)
-    ∙ take-append_seam ws (drop (i + length ws) xs)
+  take-over : take i (over xs i ws) ≡ take i xs
+  take-over = ap (λ n. take n (over xs i ws)) (sym front) ∙ take-append_seam (take i xs) (ws ++ drop (i + length ws) xs)
 
-drop-over : (xs : List ℕ) (i : ℕ) (ws : List ℕ) → i + length ws ≤ length xs →
-    drop (i + length ws) (over xs i ws) ≡ drop (i + length ws) xs
-drop-over xs i ws fits =
-    let front : length (take i xs) ≡ i = length-take-le i xs (omega arith) in
-    let rest : List ℕ = ws ++ drop (i + length ws) xs in
-    ap (λ n. drop (n + length ws) (over xs i ws)) (sym front)
-    ∙ (drop-append-add (take i xs) rest (length ws) ∙ drop-append_seam ws (drop (i + length ws) xs))
+  part-over : take (length ws) (drop i (over xs i ws)) ≡ ws
+  part-over =
+      let rest : List ℕ = ws ++ drop (i + length ws) xs in
+      ap (λ l. take (length ws) l) (ap (λ n. drop n (over xs i ws)) (sym front) ∙ drop-append_seam (take i xs) rest)
+      ∙ take-append_seam ws (drop (i + length ws) xs)
+
+  drop-over : drop (i + length ws) (over xs i ws) ≡ drop (i + length ws) xs
+  drop-over =
+      ap (λ n. drop (n + length ws) (over xs i ws)) (sym front)
+      ∙ (drop-append-add (take i xs) (ws ++ drop (i + length ws) xs) (length ws) ∙ drop-append_seam ws (drop (i + length ws) xs))
 
 -- a chunk inside that is written over whole is all that changes
 pub written-changes : (held : HeldBytes) (chunk : Chunk) (bytes : List ℕ) →

@@ -53,7 +53,6 @@ Overlap one other = (n : ℕ) × Covers one n × Covers other n
 abbrev pub AreApart : Chunk → Chunk → Type 0
 AreApart one other = ¬ Overlap one other
 
--- the chunk lies inside the region
 pub record IsInside (region : Region) (chunk : Chunk) : Type 0 where
   pub above : region.start ≤ chunk.place
   pub below : chunk_end chunk ≤ region_end region
@@ -65,15 +64,12 @@ pub record IsSound (region : Region) (live : List Chunk) : Type 0 where
   pub inside : All (IsInside region) live
   pub apart : AllPairs AreApart live
 
--- The fit of a chunk that is given to a request.
-
 -- the chunk is inside the region, at a multiple of the asked alignment, and at least as long as asked
 pub record Fits (region : Region) (layout : Layout) (chunk : Chunk) : Type 0 where
   pub inside : IsInside region chunk
   pub aligned : chunk.place % layout.align ≡ 0
   pub long_enough : layout.size ≤ chunk.len
 
--- The place of a layout's first chunk in a region.
-
+-- the place of a layout's first chunk in a region
 abbrev pub first_place : Region → Layout → ℕ
 first_place region layout = least_place region.start layout.align

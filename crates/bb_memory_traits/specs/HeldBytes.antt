@@ -7,7 +7,6 @@ pub record HeldBytes : Type 0 where
   pub start : ℕ
   pub bytes : List ℕ
 
--- the region that holds them
 abbrev pub held_region : HeldBytes → Region
 held_region held = record { start = held.start; size = length held.bytes }
 

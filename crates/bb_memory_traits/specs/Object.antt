@@ -70,8 +70,7 @@ Step object old (Shrink position from to) reply.Passed new = new ≡ old
 -- no other reply is given
 Step object old command other new = ⊥
 
--- Replies to commands, one step after another. A step goes on from a live list here, and from a book of
--- samples in a crate above.
+-- replies to commands, one step after another
 abbrev pub IsRun : {S C R : Type 0} → (S → C → R → S → Type 0) → S → List C → List R → S → Type 0
 IsRun step old [] [] new = new ≡ old
 IsRun {S = S} step old (command ∷ commands) (reply ∷ replies) new =
@@ -90,7 +89,6 @@ abbrev pub note_after_command : {Note : Type 0} → (Layout → Note → Note) �
 note_after_command after note (Allocate layout) = after layout note
 note_after_command after note other = note
 
--- the note after these commands, one after the other
 abbrev pub note_after_run : {Note : Type 0} → (Layout → Note → Note) → Note → List Command → Note
 note_after_run after note commands = fold (note_after_command after) note commands
 
@@ -104,8 +102,7 @@ ValueStep takes frees live (Release position) reply.Released old new =
     (chunk : Chunk) × (layout : Layout) × (slice_get live position ≡ Some chunk) × frees old chunk.place layout new
 ValueStep takes frees live command other old new = new ≡ old
 
--- a step of an allocator with the chunks that it has out: the live list goes on by a step of an object, and the allocator by the
--- value
+-- a step of an allocator with the chunks that it has out: the live list goes on by an object's, and the allocator by the value
 abbrev pub AllocatorStep : {Allocator : Type 0} → (List Chunk → Command → Reply → List Chunk → Type 0) →
     (Allocator → Layout → Result Chunk AllocationError → Allocator → Type 0) →
     (Allocator → ℕ → Layout → Allocator → Type 0) →
@@ -113,9 +110,7 @@ abbrev pub AllocatorStep : {Allocator : Type 0} → (List Chunk → Command → 
 AllocatorStep Steps takes frees old command answer new =
     Steps old.1 command answer new.1 × ValueStep takes frees old.1 command answer old.0 new.0
 
--- The reply to an applied command, and what the command leaves, by the words of `BaseAllocator`: the reply, the allocator and the
--- live list are a step of these, a chunk that was replied to a request fits, the allocator stands for the list, has the geometry
--- that it had, and keeps the command's note. The list is at most one longer, and has lost no room.
+-- The reply to an applied command, and what the command leaves, by the words of `BaseAllocator`.
 pub record Applies {Allocator Geometry Note Alloc : Type 0} (stands_for : Allocator → List Chunk → Type 0)
     (geometry_of : Allocator → Geometry) (region_of : Geometry → Region) (note_of : Allocator → Note)
     (note_after : Geometry → Layout → Note → Note)
@@ -130,9 +125,7 @@ pub record Applies {Allocator Geometry Note Alloc : Type 0} (stands_for : Alloca
   pub len : vec_len left ≤ vec_len live + 1
   pub capacity : vec_capacity live ≤ vec_capacity left
 
--- The replies of an allocator to a list of commands, and what it leaves. The replies and the live list are a run by these steps;
--- so are the replies, the allocator's value and the list. The allocator stands for the list that is left, which is sound, and has
--- the geometry that it had; each chunk that was replied to a request fits. Where memory was refused, nothing was applied.
+-- The replies of an allocator to a list of commands, and what they leave. Where memory was refused, nothing was applied.
 pub record AnswersRun {Allocator Geometry Alloc Error : Type 0} (stands_for : Allocator → List Chunk → Type 0)
     (geometry_of : Allocator → Geometry) (region_of : Geometry → Region)
     (Steps : List Chunk → Command → Reply → List Chunk → Type 0)

@@ -1,5 +1,4 @@
--- Promises of calls that ask for a chunk or for a longer one: all that `allocate` and `grow` say, for calls that do as these do
--- and more.
+-- Promises of calls that ask for a chunk or for a longer one: all that `allocate` and `grow` say.
 use Rattle.std.specs.Prelude.{◌≡◌, ℕ, ◌%◌, ◌<◌, ◌≤◌, List, [], ◌∷◌, ◌++◌, Some, Result, IfOk, OnErr, slice_get, slice_set}
 use Rattle.bb_memory_traits.specs.Chunk.{Region, Chunk, IsInside, Layout, AllocationError, Fits}
 use Rattle.bb_memory_traits.specs.declared.allocator.AllocationGrowError.{AllocationGrowError}
@@ -18,7 +17,6 @@ pub record Requested {Allocator Geometry Note : Type 0} (stands_for : Allocator 
   -- the chunk may be given back, and fits
   pub given : IfOk result (λ chunk. may_release new chunk.place)
   pub fits : IfOk result (Fits (region_of (geometry_of old)) layout)
-  -- the allocator
   pub geometry : geometry_of new ≡ geometry_of old
   pub note : note_of new ≡ note_after (geometry_of old) layout (note_of old)
   pub value : takes old layout result new
@@ -34,13 +32,11 @@ pub record Grown {Allocator : Type 0} (stands_for : Allocator → List Chunk →
       → slice_get live position ≡ Some chunk → chunk.place ≡ place → may_grow live place from to result
   pub resized : IfOk result (λ grown. (live : List Chunk) (position : ℕ) (chunk : Chunk) → stands_for old live
       → slice_get live position ≡ Some chunk → chunk.place ≡ place → stands_for new (slice_set live position grown))
-  -- the chunk
   pub same_place : IfOk result (λ grown. grown.place ≡ place)
   pub aligned : IfOk result (λ grown. grown.place % to.align ≡ 0)
   pub longer : IfOk result (λ grown. from.size < grown.len)
   pub long_enough : IfOk result (λ grown. to.size ≤ grown.len)
   pub within : IfOk result (λ grown. grown.len ≤ reserved)
   pub inside : IfOk result (IsInside region)
-  -- the allocator
   pub unchanged : new ≡ old
   pub value : grows old place from to result new

@@ -1,51 +1,28 @@
-use Rattle.std.proofs.Common.{◌≡◌, ◌+◌, ◌∷◌, ◌++◌, [], take, ap, sym, ◌∙◌, subst, arith}
+use Rattle.std.proofs.Common.{◌≡◌, ◌+◌, ◌∷◌, ◌++◌, [], take, ap, sym, ◌∙◌, arith}
 use Rattle.std.proofs.lemmas.List.{take_more, take_all, length-take-le}
-use Rattle.bb_memory_traits.specs.Chunk.{Layout, Chunk, Fits, IsSound}
-use Rattle.bb_memory_traits.specs.Object.{AllocatorStep, note_after_command, ResizableStep, resizable_object_of}
 use Rattle.bb_memory_traits.proofs.Runs.{IsRun-listed, IsRun-push, EachGiven-push, note-push}
 use Rattle.bb_memory_traits.proofs.allocator.run.run_full.Goals as goal
-
--- two equations as one of pairs
-pair : {X Y : Type 0} {a b : X} {c d : Y} → a ≡ b → c ≡ d → ◌≡◌ {A = X × Y} (a, c) (b, d)
-pair e f = cc
 
 pub loop-command-preserved : goal.loop-command-preserved
 loop-command-preserved g c =
     let A = g.A.BaseAllocator in
-    let B = g.A.Allocator in
-    let step_at = λ (x : A.Geometry × B.Figures). AllocatorStep (ResizableStep
-    (resizable_object_of (A.may_allocate x.0) (B.reserved_at x.1) (B.may_grow x.1) (B.may_shrink x.1))) A.takes A.frees in
-    let same = c.loop-command.invariant.geometry in
+    let old = c.loop-command.invariant in
+    let same = old.geometry in
     let figures = g.met.A.Allocator.fixed c.loop-command.allocator c.args.allocator.now same in
-    let commands = c.args.commands.now in
     let i = c.loop-command.command-index in
-    let command = c.command-item.result in
-    let done : take (i + 1) commands ≡ take i commands ++ command ∷ [] =
-    take_more commands i command (omega arith) ∙ ap (λ x. take i commands ++ x ∷ []) (sym c.command-item.is) in
-    let before = c.loop-command.live.items in
-    let reply = c.apply_full-reply.result in
-    let after = c.apply_full-reply.new.live.items in
-    let step = subst (λ (x : A.Geometry × B.Figures). step_at x (c.loop-command.allocator, before) command reply
-    (c.apply_full-reply.new.allocator, after))
-    (pair same figures) c.apply_full-reply.ensures.step in
-    let Here : Layout → Chunk → Type 0 = Fits (A.region_of (A.geometry c.args.allocator.now)) in
+    let done : take (i + 1) c.args.commands.now ≡ take i c.args.commands.now ++ c.command-item.result ∷ [] =
+    take_more c.args.commands.now i c.command-item.result (omega arith)
+    ∙ ap (λ x. take i c.args.commands.now ++ x ∷ []) (sym c.command-item.is) in
     record {
       run = rw (done, c.push_reserved.ensures.items)
-          (IsRun-push (step_at (A.geometry c.args.allocator.now, B.figures c.args.allocator.now))
-          (c.args.allocator.now, c.args.live.now.items) (c.loop-command.allocator, before)
-          (c.apply_full-reply.new.allocator, after) (take i commands) c.loop-command.replies.items command reply
-          c.loop-command.invariant.run step);
-      fits = rw (done, c.push_reserved.ensures.items) (EachGiven-push Here (take i commands) c.loop-command.replies.items command
-          c.apply_full-reply.result (omega (arith, length-take-le i commands (omega arith))) c.loop-command.invariant.fits
-          (λ layout chunk asked given. subst (λ (geometry : A.Geometry). Fits (A.region_of geometry) layout chunk)
-          c.loop-command.invariant.geometry (c.apply_full-reply.ensures.fits layout chunk asked given)));
+          (IsRun-push _ _ _ _ _ _ _ _ old.run (rw (same, figures) at c.apply_full-reply.ensures.step));
+      fits = rw (done, c.push_reserved.ensures.items)
+          (EachGiven-push _ _ _ _ _ (omega (arith, length-take-le i c.args.commands.now (omega arith))) old.fits
+          (λ layout chunk asked given. rw same at (c.apply_full-reply.ensures.fits layout chunk asked given)));
       stands = c.apply_full-reply.ensures.stands;
       geometry = c.apply_full-reply.ensures.geometry ∙ same;
-      note = rw done (note-push (A.note_after (A.geometry c.args.allocator.now)) (A.note c.args.allocator.now) (take i commands)
-          (A.note c.loop-command.allocator) (A.note c.apply_full-reply.new.allocator) command c.loop-command.invariant.note
-          (subst (λ (geometry : A.Geometry). A.note c.apply_full-reply.new.allocator ≡
-          note_after_command (A.note_after geometry) (A.note c.loop-command.allocator) command)
-          same c.apply_full-reply.ensures.note));
+      note = rw done (note-push (A.note_after (A.geometry c.args.allocator.now)) (A.note c.args.allocator.now)
+          (take i c.args.commands.now) _ _ c.command-item.result old.note (rw same at c.apply_full-reply.ensures.note));
       room = omega (arith, c.apply_full-reply.ensures.len, c.apply_full-reply.ensures.capacity);
       told = omega arith;
       space = omega arith;
@@ -54,20 +31,15 @@ loop-command-preserved g c =
 pub returns-clause-run : goal.returns-clause-run
 returns-clause-run g c =
     let A = g.A.BaseAllocator in
-    let B = g.A.Allocator in
     let invariant = c.loop-command.invariant in
     let sound = g.met.A.BaseAllocator.sound c.loop-command.allocator c.loop-command.live.items invariant.stands in
     let all = take_all c.loop-command.command-index c.args.commands.now (omega arith) in
     record {
-      run = IsRun-listed (ResizableStep (resizable_object_of (A.may_allocate (A.geometry c.args.allocator.now))
-          (B.reserved_at (B.figures c.args.allocator.now)) (B.may_grow (B.figures c.args.allocator.now))
-          (B.may_shrink (B.figures c.args.allocator.now)))) A.takes A.frees
-          (c.args.allocator.now, c.args.live.now.items) (c.loop-command.allocator, c.loop-command.live.items)
-          c.args.commands.now c.loop-command.replies.items (rw all at invariant.run);
+      run = IsRun-listed _ A.takes A.frees (c.args.allocator.now, c.args.live.now.items)
+          (c.loop-command.allocator, c.loop-command.live.items) _ _ (rw all at invariant.run);
       values = rw all at invariant.run;
       stands = invariant.stands;
-      sound = subst (λ (geometry : A.Geometry). IsSound (A.region_of geometry) c.loop-command.live.items)
-          invariant.geometry sound;
+      sound = rw invariant.geometry at sound;
       fits = rw all at invariant.fits;
       geometry = invariant.geometry;
       unchanged = tt;

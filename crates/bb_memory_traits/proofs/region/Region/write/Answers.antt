@@ -1,5 +1,4 @@
 use Rattle.std.proofs.Common.{rules, ◌≡◌}
-use Rattle.bb_memory_traits.specs.Lending.{written}
 use Rattle.bb_memory_traits.proofs.Written.{written-changes}
 use Rattle.bb_memory_traits.proofs.ApartBytes.{apart-kept, extended-bytes}
 use Rattle.bb_memory_traits.proofs.LiveBytes.{others_kept, contents_set, contents_given}
@@ -12,35 +11,20 @@ returns-clause-changes c =
 
 pub returns-clause-apart : goal.returns-clause-apart
 returns-clause-apart c = λ other within apart.
-    let copied : c.copy_from_slice.new.self ≡ c.args.bytes.now = search rules in
-    let changes = written-changes c.args.self.now c.args.c c.args.bytes.now c.requires.inside c.requires.len in
-    rw copied (apart-kept c.args.self.now (written c.args.self.now c.args.c c.args.bytes.now) c.args.c other
-    c.args.bytes.now changes c.requires.inside within apart)
+    apart-kept c.args.self.now _ c.args.c other c.args.bytes.now (returns-clause-changes c) c.requires.inside within apart
 
 pub returns-clause-others : goal.returns-clause-others
-returns-clause-others c = λ live i k other sound at differ there.
-    let copied : c.copy_from_slice.new.self ≡ c.args.bytes.now = search rules in
-    let changes = written-changes c.args.self.now c.args.c c.args.bytes.now c.requires.inside c.requires.len in
-    rw copied (others_kept c.args.self.now (written c.args.self.now c.args.c c.args.bytes.now) live i k c.args.c other
-    c.args.bytes.now sound at changes differ there)
+returns-clause-others c = λ live i k other sound at.
+    others_kept c.args.self.now _ live i k c.args.c other c.args.bytes.now sound at (returns-clause-changes c)
 
 pub returns-clause-contents : goal.returns-clause-contents
 returns-clause-contents c = λ live i sound at.
-    let copied : c.copy_from_slice.new.self ≡ c.args.bytes.now = search rules in
-    let changes = written-changes c.args.self.now c.args.c c.args.bytes.now c.requires.inside c.requires.len in
-    rw copied (contents_set c.args.self.now (written c.args.self.now c.args.c c.args.bytes.now) live i c.args.c c.args.bytes.now
-    sound at changes)
+    contents_set c.args.self.now _ live i c.args.c c.args.bytes.now sound at (returns-clause-changes c)
 
 pub returns-clause-given : goal.returns-clause-given
 returns-clause-given c = λ live sound.
-    let copied : c.copy_from_slice.new.self ≡ c.args.bytes.now = search rules in
-    let changes = written-changes c.args.self.now c.args.c c.args.bytes.now c.requires.inside c.requires.len in
-    rw copied (contents_given c.args.self.now (written c.args.self.now c.args.c c.args.bytes.now) live c.args.c c.args.bytes.now
-    sound changes)
+    contents_given c.args.self.now _ live c.args.c c.args.bytes.now sound (returns-clause-changes c)
 
 pub returns-clause-extended : goal.returns-clause-extended
-returns-clause-extended c = λ place n above behind.
-    let copied : c.copy_from_slice.new.self ≡ c.args.bytes.now = search rules in
-    let changes = written-changes c.args.self.now c.args.c c.args.bytes.now c.requires.inside c.requires.len in
-    rw copied (extended-bytes c.args.self.now (written c.args.self.now c.args.c c.args.bytes.now) place n c.args.c
-    c.args.bytes.now c.requires.inside changes above behind)
+returns-clause-extended c = λ place n.
+    extended-bytes c.args.self.now _ place n c.args.c c.args.bytes.now c.requires.inside (returns-clause-changes c)

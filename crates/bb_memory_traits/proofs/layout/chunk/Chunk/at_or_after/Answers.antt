@@ -1,48 +1,41 @@
-use Rattle.std.proofs.Common.{◌≡◌, ◌+◌, ◌-◌, ◌%◌, bit_or, ap, arith, ◌∙◌}
+use Rattle.std.proofs.Common.{◌≡◌, ℕ, ◌+◌, ◌-◌, ◌%◌, ◌<◌, bit_or, ap, arith, ◌∙◌}
 use Rattle.bb_memory_traits.specs.BumpObject.{chunk_at_or_after}
-use Rattle.bb_memory_traits.specs.Chunk.{Chunk}
-use Rattle.bb_memory_traits.proofs.Layouts.{layout-plain}
+use Rattle.bb_memory_traits.specs.Chunk.{Chunk, Layout}
+use Rattle.bb_memory_traits.specs.LeastPlace.{least_place}
 use Rattle.bb_memory_traits.proofs.LeastPlaces.{least_place-behind, least_place-is, least_place-multiple}
-use Rattle.bb_memory_traits.proofs.PowersOfTwo.{power_of_two-positive}
+use Rattle.bb_memory_traits.proofs.PowersOfTwo.{power_of_two-from_test}
 use Rattle.bb_memory_traits.proofs.layout.chunk.Chunk.at_or_after.Goals as goal
+
+-- the mask makes the place of a layout
+place-behind : (v : ℕ) (layout : Layout) → 0 < v → bit_or (v - 1) (layout.align - 1) + 1 ≡ least_place v layout.align
+place-behind v layout = least_place-behind v layout.align (power_of_two-from_test layout.align layout.valid.power_of_two)
 
 pub returns-in_err-checked_add-clause-value : goal.returns-in_err-checked_add-clause-value
 returns-in_err-checked_add-clause-value c =
-    let layout = c.args.layout in
     let before = ap (λ n. bit_or (c.args.v - 1) (n - 1)) c.align.ensures.value in
-    let power = ((layout-plain layout.size layout.align).0 layout.valid).0 in
-    let behind = least_place-behind c.args.v layout.align power c.requires in
+    let behind = place-behind c.args.v c.args.layout c.requires in
     rw c.from_residual.ensures (λ fits. omega (arith, fits, before, behind, c.in_err-checked_add.ensures, c.size.ensures))
 
 pub returns-then-branch-end-clause-value : goal.returns-then-branch-end-clause-value
 returns-then-branch-end-clause-value c = λ fits.
-    let layout = c.args.layout in
     let before = ap (λ n. bit_or (c.args.v - 1) (n - 1)) c.align.ensures.value in
-    let power = ((layout-plain layout.size layout.align).0 layout.valid).0 in
-    let behind = least_place-behind c.args.v layout.align power c.requires in
-    let sum = c.in_ok-checked_add.ensures in
-    omega (arith, fits, before, behind, sum.1, c.size.ensures, c.if-branch-end.true)
+    let behind = place-behind c.args.v c.args.layout c.requires in
+    omega (arith, fits, before, behind, c.in_ok-checked_add.ensures.1, c.size.ensures, c.if-branch-end.true)
 
 pub returns-clause-value : goal.returns-clause-value
 returns-clause-value c =
-    let layout = c.args.layout in
-    let power = ((layout-plain layout.size layout.align).0 layout.valid).0 in
     let behind = ap (λ n. bit_or (c.args.v - 1) (n - 1) + 1) c.align.ensures.value
-    ∙ least_place-behind c.args.v layout.align power c.requires in
-    let chunk : c.new_unchecked.result ≡ chunk_at_or_after c.args.v layout =
+    ∙ place-behind c.args.v c.args.layout c.requires in
+    let chunk : c.new_unchecked.result ≡ chunk_at_or_after c.args.v c.args.layout =
     c.new_unchecked.ensures ∙ (λ i. record { place = behind i; len = c.size-2.ensures i }) in
     (omega (arith, behind, c.in_ok-checked_add.ensures.1, c.size.ensures, c.if-branch-end.false), chunk)
 
 pub returns-clause-above : goal.returns-clause-above
 returns-clause-above c =
-    let layout = c.args.layout in
-    let power = ((layout-plain layout.size layout.align).0 layout.valid).0 in
     let place = ap (λ (k : Chunk). k.place) (returns-clause-value c).1 in
-    omega (arith, place, (least_place-is c.args.v layout.align (power_of_two-positive layout.align power)).above)
+    omega (arith, place, (least_place-is c.args.v c.args.layout.align c.args.layout.valid.positive).above)
 
 pub returns-clause-aligned : goal.returns-clause-aligned
 returns-clause-aligned c =
-    let layout = c.args.layout in
-    let power = ((layout-plain layout.size layout.align).0 layout.valid).0 in
-    ap (λ (k : Chunk). k.place % layout.align) (returns-clause-value c).1
-    ∙ least_place-multiple c.args.v layout.align (power_of_two-positive layout.align power)
+    ap (λ (k : Chunk). k.place % c.args.layout.align) (returns-clause-value c).1
+    ∙ least_place-multiple c.args.v c.args.layout.align c.args.layout.valid.positive
