@@ -20,9 +20,7 @@ use bb_memory_index_set::index_set::words::Words;
 pub use crate::layout::Layout;
 use crate::layout::round_up;
 use bucket_pool::BucketPool;
-pub use bucket_pool::{
-    run_base_pool, run_base_pool as run_base_fixed_pool, run_pool, run_pool as run_fixed_pool,
-};
+pub use bucket_pool::{run_pool, run_pool as run_fixed_pool};
 pub use fixed_size::FixedSizePoolAllocator;
 pub use bb_memory_geometry::geometry;
 use bb_memory_geometry::geometry::{Geometry, stride};
