@@ -79,12 +79,7 @@ one_answer region live layout (Ok c) (Ok d) first second = ap Ok (first.2 ∙ sy
 one_answer region live layout (Err OutOfMemory) (Err OutOfMemory) first second = refl
 one_answer region live layout (Ok c) (Err OutOfMemory) first second = absurd (gives_or_refuses region live layout c first second)
 one_answer region live layout (Err OutOfMemory) (Ok c) first second = absurd (gives_or_refuses region live layout c second first)
-one_answer region live layout (Err SizeIsZero) other first second = absurd first
-one_answer region live layout (Err SizeTooLarge) other first second = absurd first
-one_answer region live layout (Err AlignmentFailure) other first second = absurd first
-one_answer region live layout one (Err SizeIsZero) first second = absurd second
-one_answer region live layout one (Err SizeTooLarge) first second = absurd second
-one_answer region live layout one (Err AlignmentFailure) first second = absurd second
+one_answer region live layout one other first second = absurd (grind (arith, first, second))
 
 -- there is an answer to each request to grow
 pub some_grow : (region : Region) (place : ℕ) (old new : Layout) →
@@ -108,10 +103,7 @@ one_grow region place old new (Ok c) (Ok d) first second = ap Ok (first.3 ∙ sy
 one_grow region place old new (Err grow.GrowWouldShrink) (Err grow.GrowWouldShrink) first second = refl
 one_grow region place old new (Err grow.AlignmentFailure) (Err grow.AlignmentFailure) first second = refl
 one_grow region place old new (Err grow.OutOfMemory) (Err grow.OutOfMemory) first second = refl
-one_grow region place old new (Ok c) (Err grow.GrowWouldShrink) first second = absurd (omega arith)
-one_grow region place old new (Ok c) (Err grow.AlignmentFailure) first second = absurd (omega arith)
-one_grow region place old new (Ok c) (Err grow.OutOfMemory) first second = absurd (omega arith)
-one_grow region place old new one other first second = absurd (omega arith)
+one_grow region place old new one other first second = absurd (grind (arith, first, second))
 
 -- there is an answer to each request to shrink
 pub some_shrink : (place : ℕ) (old new : Layout) → (answer : Result Chunk AllocationShrinkError) × MayShrink place old new answer
@@ -130,9 +122,7 @@ pub one_shrink : (place : ℕ) (old new : Layout) (one other : Result Chunk Allo
 one_shrink place old new (Ok c) (Ok d) first second = ap Ok (first.2 ∙ sym second.2)
 one_shrink place old new (Err shrink.ShrinkWouldGrow) (Err shrink.ShrinkWouldGrow) first second = refl
 one_shrink place old new (Err shrink.AlignmentFailure) (Err shrink.AlignmentFailure) first second = refl
-one_shrink place old new one (Err shrink.SizeIsZero) first second = absurd second
-one_shrink place old new (Err shrink.SizeIsZero) other first second = absurd first
-one_shrink place old new one other first second = absurd (omega arith)
+one_shrink place old new one other first second = absurd (grind (arith, first, second))
 
 -- a chunk that is given begins at a multiple of the alignment
 pub answer-aligned : (region : Region) (live : List Chunk) (layout : Layout) (chunk : Chunk) →

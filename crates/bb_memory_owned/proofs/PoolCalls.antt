@@ -77,21 +77,6 @@ Takes-given pool layout (Ok chunk) new (i, within, lacks, given, after) =
     (ap (λ (c : Chunk). c.place) given))
 Takes-given pool layout (Err error) new takes = tt
 
--- each that was held before still is
-pub Takes-others_kept : (pool : Pool) (layout : Layout) (answer : Result Chunk AllocationError) (new : Pool) →
-    Takes pool layout answer new → (place : ℕ) → HoldsPlace pool place → HoldsPlace new place
-Takes-others_kept pool layout (Ok chunk) new (i, within, lacks, given, after) place there =
-    let holds = bucket_held_at pool place there in
-    subst (λ (p : Pool). HoldsPlace p place) (sym after)
-    (held_at_bucket (with_flag pool i true) place holds.0 (Has-set_true pool.held i holds.0 lacks holds.1) holds.2)
-Takes-others_kept pool layout (Err SizeTooLarge) new takes place holds =
-    subst (λ (p : Pool). HoldsPlace p place) (sym takes.1) holds
-Takes-others_kept pool layout (Err AlignmentFailure) new takes place holds =
-    subst (λ (p : Pool). HoldsPlace p place) (sym takes.2) holds
-Takes-others_kept pool layout (Err OutOfMemory) new takes place holds =
-    subst (λ (p : Pool). HoldsPlace p place) (sym takes.2) holds
-Takes-others_kept pool layout (Err SizeIsZero) new takes place holds = absurd takes
-
 -- a refusal changes nothing, and comes only where the layout is too much for a bucket, or each is held
 refused : (pool : Pool) (layout : Layout) (error : AllocationError) (new : Pool) → IsPool pool →
     Takes pool layout (Err error) new →
@@ -148,7 +133,9 @@ TakesBucket-is old layout (Ok chunk) new words is most at_least (i, within, lack
             let more : i < holds.0 = omega (arith, above, differ place there) in
             inr (omega (arith, bucket_place-after pool.geometry i holds.0 more, at, holds.2))
       ];
-      others_kept = Takes-others_kept pool layout (Ok chunk) new.pool (i, within, lacks, given, after);
+      others_kept = λ place there.
+          let (j, has, at) = bucket_held_at pool place there in
+          rw after (held_at_bucket (with_flag pool i true) place j (Has-set_true pool.held i j lacks has) at);
       bucket_aligned = ap (λ (c : Chunk). c.place % pool.geometry.bucket.align) given ∙ bucket_place-aligned pool.geometry i;
       one_more = ap held_count after ∙ member_count-taken pool.held i lacks;
       greatest = greatest;
@@ -242,20 +229,28 @@ module _ (pool : Pool) (place i : ℕ) (is : IsPool pool) (has : Has pool.held i
 
 -- RESIZES
 
-pub MayGrow-resized : (pool : Pool) (place : ℕ) (old new : Layout) (answer : Result Chunk AllocationGrowError) → IsPool pool →
-    MayGrow pool.geometry.bucket place old new answer →
-    IfOk answer (λ grown. (live : List Chunk) (position : ℕ) (chunk : Chunk) → StandsFor pool live →
-    slice_get live position ≡ Some chunk → chunk.place ≡ place → StandsFor pool (slice_set live position grown))
-MayGrow-resized pool place old new (Ok grown) is (longer, within, given) = λ live position chunk stands at there.
-    stands-resized pool live position chunk grown is stands at (ap (λ (c : Chunk). c.place) given ∙ sym there)
-    (let small = within.size in omega (arith, ap (λ (c : Chunk). c.len) given))
-MayGrow-resized pool place old new (Err error) is may = tt
+-- a chunk that a resize gives is at the place, has at least the asked size, and no more than a bucket
+abbrev pub FitsBucket : {E : Type 0} → Layout → ℕ → ℕ → Result Chunk E → Type 0
+FitsBucket bucket place size answer = IfOk answer (λ resized. resized.place ≡ place)
+    × IfOk answer (λ resized. size ≤ resized.len) × IfOk answer (λ resized. resized.len ≤ bucket.size)
 
-pub MayShrink-resized : (pool : Pool) (place : ℕ) (old new : Layout) (answer : Result Chunk AllocationShrinkError) →
-    IsPool pool → old.size ≤ pool.geometry.bucket.size → MayShrink pool.geometry.bucket place old new answer →
-    IfOk answer (λ shrunk. (live : List Chunk) (position : ℕ) (chunk : Chunk) → StandsFor pool live →
-    slice_get live position ≡ Some chunk → chunk.place ≡ place → StandsFor pool (slice_set live position shrunk))
-MayShrink-resized pool place old new (Ok shrunk) is within (shorter, aligned, given) = λ live position chunk stands at there.
-    stands-resized pool live position chunk shrunk is stands at (ap (λ (c : Chunk). c.place) given ∙ sym there)
-    (omega (arith, ap (λ (c : Chunk). c.len) given))
-MayShrink-resized pool place old new (Err error) is within may = tt
+pub MayGrow-fits : (bucket : Layout) (place : ℕ) (old new : Layout) (answer : Result Chunk AllocationGrowError) →
+    MayGrow bucket place old new answer → FitsBucket bucket place new.size answer
+MayGrow-fits bucket place old new (Ok grown) (longer, within, given) =
+    let small = within.size in
+    let len = ap (λ (c : Chunk). c.len) given in (ap (λ (c : Chunk). c.place) given, omega arith, omega arith)
+MayGrow-fits bucket place old new (Err error) may = (tt, tt, tt)
+
+pub MayShrink-fits : (bucket : Layout) (place : ℕ) (old new : Layout) (answer : Result Chunk AllocationShrinkError) →
+    old.size ≤ bucket.size → MayShrink bucket place old new answer → FitsBucket bucket place new.size answer
+MayShrink-fits bucket place old new (Ok shrunk) reserved (shorter, aligned, given) =
+    let len = ap (λ (c : Chunk). c.len) given in (ap (λ (c : Chunk). c.place) given, omega arith, omega arith)
+MayShrink-fits bucket place old new (Err error) reserved may = (tt, tt, tt)
+
+pub resized-stands : {E : Type 0} (pool : Pool) (place size : ℕ) (answer : Result Chunk E) → IsPool pool →
+    FitsBucket pool.geometry.bucket place size answer →
+    IfOk answer (λ resized. (live : List Chunk) (position : ℕ) (chunk : Chunk) → StandsFor pool live →
+    slice_get live position ≡ Some chunk → chunk.place ≡ place → StandsFor pool (slice_set live position resized))
+resized-stands pool place size (Ok resized) is fits = λ live position chunk stands at there.
+    stands-resized pool live position chunk resized is stands at (fits.0 ∙ sym there) fits.2
+resized-stands pool place size (Err error) is fits = tt
