@@ -1,7 +1,6 @@
 -- A set of numbers below a bound, as a flag for each number.
-use Rattle.std.specs.Prelude.{◌≡◌, ℕ, ◌<◌, Bool, true, false, List, Some, length, slice_get, slice_set}
-use Rattle.std.specs.Prelude.{◌+◌, ◌-◌, ◌/◌, ◌≢◌, ◌*◌, ◌%◌, ◌^◌, ◌≤◌, ◌==◌, if◌then◌else◌, map, take, drop}
-use Rattle.std.specs.Prelude.{slice_index, count_by, replicate}
+use Rattle.std.specs.Prelude.{◌≡◌, ℕ, ◌<◌, Bool, true, false, List, Some, length, slice_get, slice_set, ◌+◌, ◌-◌, ◌/◌, ◌≢◌, ◌*◌}
+use Rattle.std.specs.Prelude.{◌%◌, ◌^◌, ◌≤◌, ◌==◌, if◌then◌else◌, map, take, drop, slice_index, count_by, replicate}
 use Rattle.std.specs.List.{range_with_len}
 use Rattle.std.specs.Int.{bit_at}
 

@@ -76,10 +76,9 @@ gives_or_refuses region live layout chunk given (inr (inr far)) = let ends = giv
 pub one_answer : (region : Region) (live : List Chunk) (layout : Layout) (one other : Result Chunk AllocationError) →
     MayAllocate region live layout one → MayAllocate region live layout other → one ≡ other
 one_answer region live layout (Ok c) (Ok d) first second = ap Ok (first.2 ∙ sym second.2)
-one_answer region live layout (Err OutOfMemory) (Err OutOfMemory) first second = refl
 one_answer region live layout (Ok c) (Err OutOfMemory) first second = absurd (gives_or_refuses region live layout c first second)
 one_answer region live layout (Err OutOfMemory) (Ok c) first second = absurd (gives_or_refuses region live layout c second first)
-one_answer region live layout one other first second = absurd (grind (arith, first, second))
+one_answer region live layout one other first second = grind (arith, first, second)
 
 -- there is an answer to each request to grow
 pub some_grow : (region : Region) (place : ℕ) (old new : Layout) →
@@ -100,10 +99,7 @@ some_grow region place old new =
 pub one_grow : (region : Region) (place : ℕ) (old new : Layout) (one other : Result Chunk AllocationGrowError) →
     MayGrow region place old new one → MayGrow region place old new other → one ≡ other
 one_grow region place old new (Ok c) (Ok d) first second = ap Ok (first.3 ∙ sym second.3)
-one_grow region place old new (Err grow.GrowWouldShrink) (Err grow.GrowWouldShrink) first second = refl
-one_grow region place old new (Err grow.AlignmentFailure) (Err grow.AlignmentFailure) first second = refl
-one_grow region place old new (Err grow.OutOfMemory) (Err grow.OutOfMemory) first second = refl
-one_grow region place old new one other first second = absurd (grind (arith, first, second))
+one_grow region place old new one other first second = grind (arith, first, second)
 
 -- there is an answer to each request to shrink
 pub some_shrink : (place : ℕ) (old new : Layout) → (answer : Result Chunk AllocationShrinkError) × MayShrink place old new answer
@@ -120,9 +116,7 @@ some_shrink place old new =
 pub one_shrink : (place : ℕ) (old new : Layout) (one other : Result Chunk AllocationShrinkError) →
     MayShrink place old new one → MayShrink place old new other → one ≡ other
 one_shrink place old new (Ok c) (Ok d) first second = ap Ok (first.2 ∙ sym second.2)
-one_shrink place old new (Err shrink.ShrinkWouldGrow) (Err shrink.ShrinkWouldGrow) first second = refl
-one_shrink place old new (Err shrink.AlignmentFailure) (Err shrink.AlignmentFailure) first second = refl
-one_shrink place old new one other first second = absurd (grind (arith, first, second))
+one_shrink place old new one other first second = grind (arith, first, second)
 
 -- a chunk that is given begins at a multiple of the alignment
 pub answer-aligned : (region : Region) (live : List Chunk) (layout : Layout) (chunk : Chunk) →

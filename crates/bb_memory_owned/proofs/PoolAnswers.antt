@@ -77,9 +77,7 @@ some_answer geometry live layout =
 pub one_cause : (geometry : PoolGeometry) (live : List Chunk) (layout : Layout) (one other : AllocationError) →
     MayAllocate geometry live layout (Err one) → MayAllocate geometry live layout (Err other) → one ≡ other
 one_cause geometry live layout SizeTooLarge SizeTooLarge first second = refl
-one_cause geometry live layout AlignmentFailure AlignmentFailure first second = refl
-one_cause geometry live layout OutOfMemory OutOfMemory first second = refl
-one_cause geometry live layout one other first second = absurd (grind (arith, first, second))
+one_cause geometry live layout one other first second = grind (arith, first, second)
 
 -- where a chunk may be given, there is no refusal
 pub given_or_refused : (geometry : PoolGeometry) (live : List Chunk) (layout : Layout) (chunk : Chunk)
@@ -148,10 +146,7 @@ some_grow bucket place old new =
 pub one_grow : (bucket : Layout) (place : ℕ) (old new : Layout) (one other : Result Chunk AllocationGrowError) →
     MayGrow bucket place old new one → MayGrow bucket place old new other → one ≡ other
 one_grow bucket place old new (Ok c) (Ok d) first second = ap Ok (first.2 ∙ sym second.2)
-one_grow bucket place old new (Err grow.GrowWouldShrink) (Err grow.GrowWouldShrink) first second = refl
-one_grow bucket place old new (Err grow.AlignmentFailure) (Err grow.AlignmentFailure) first second = refl
-one_grow bucket place old new (Err grow.OutOfMemory) (Err grow.OutOfMemory) first second = refl
-one_grow bucket place old new one other first second = absurd (grind (arith, first, second))
+one_grow bucket place old new one other first second = grind (arith, first, second)
 
 -- there is an answer to each request to shrink
 pub some_shrink : (bucket : Layout) (place : ℕ) (old new : Layout) →
@@ -169,6 +164,4 @@ some_shrink bucket place old new =
 pub one_shrink : (bucket : Layout) (place : ℕ) (old new : Layout) (one other : Result Chunk AllocationShrinkError) →
     MayShrink bucket place old new one → MayShrink bucket place old new other → one ≡ other
 one_shrink bucket place old new (Ok c) (Ok d) first second = ap Ok (first.2 ∙ sym second.2)
-one_shrink bucket place old new (Err shrink.ShrinkWouldGrow) (Err shrink.ShrinkWouldGrow) first second = refl
-one_shrink bucket place old new (Err shrink.AlignmentFailure) (Err shrink.AlignmentFailure) first second = refl
-one_shrink bucket place old new one other first second = absurd (grind (arith, first, second))
+one_shrink bucket place old new one other first second = grind (arith, first, second)

@@ -39,11 +39,8 @@ module _ (book : Book) (is : IsBook book) (id readers : ℕ) where
   one-cause : (one other : Result (Unit {0}) LoanError) → PublishCause book id readers one →
       PublishCause book id readers other → one ≡ other
   one-cause (Ok done) (Ok done_too) first second = refl
-  one-cause (Err UnknownSample) (Err UnknownSample) first second = refl
-  one-cause (Err AlreadyPublished) (Err AlreadyPublished) first second = refl
-  one-cause (Err NoReaders) (Err NoReaders) first second = refl
   one-cause one other first second =
-      absurd (grind (arith, first, second, published_out, unpublished_out, unpublished-nowhere book id is))
+      grind (arith, first, second, published_out, unpublished_out, unpublished-nowhere book id is)
 
   same-set : (i j returns : ℕ) (sample found : Sample) → IsAt book id i sample → IsAt book id j found →
       with_returns book i sample returns ≡ with_returns book j found returns
@@ -76,11 +73,7 @@ module _ (book : Book) (is : IsBook book) (id readers : ℕ) where
     same ∙ ap (λ n. with_returns book i sample (n - 1)) (to_come i j sample found at there)
         ∙ same-set i j (returns_to_come found.returns - 1) sample found at there ∙ sym same_too,
   )
-  give-one (Err UnknownSample) (Err UnknownSample) new next (gone, same) (gone_too, same_too) = (refl, same ∙ sym same_too)
-  give-one (Ok true) (Err UnknownSample) new next (i, sample, at, last, same) (gone, same_too) = absurd (gone (i, sample, at))
-  give-one (Ok false) (Err UnknownSample) new next (i, sample, at, more, same) (gone, same_too) = absurd (gone (i, sample, at))
-  give-one (Err UnknownSample) (Ok left) new next (gone, same) second = absurd (grind (arith, gone, second))
-  give-one one other new next first second = absurd (grind (arith, first, second))
+  give-one one other new next first second = grind (arith, first, second)
 
 -- each refusal comes exactly where its cause holds
 pub publish-refusal : (book : Book) (is : IsBook book) (id readers : ℕ) (answer : Result (Unit {0}) LoanError) (new : Book) →

@@ -70,13 +70,8 @@ pub fn words(line: &[u8]) -> Option<(&[u8], Numbers)>
     let mut rest = behind;
     while !rest.is_empty() {
         let (field, after) = split_before(&rest[1..], b' ');
-        let Some(last) = number(field) else {
-            return None;
-        };
-        let Some(more) = numbers.and(last) else {
-            return None;
-        };
-        numbers = more;
+        let last = number(field)?;
+        numbers = numbers.and(last)?;
         rest = after;
     }
     Some((name, numbers))

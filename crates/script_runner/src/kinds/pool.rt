@@ -28,9 +28,7 @@ pub fn pool_plan(kind: &[u8], name: &[u8], numbers: Numbers) -> Option<PoolPlan>
 {
     match numbers {
         Numbers::Four(start, size, bucket, align) if is(name, kind) => {
-            let Some(bucket) = layout(bucket, align) else {
-                return None;
-            };
+            let bucket = layout(bucket, align)?;
             if PoolAllocator::can_make(bucket, start, size) {
                 Some(PoolPlan {
                     start,
