@@ -17,7 +17,7 @@ use Rattle.bb_memory_lists.proofs.SliceGets.{length-set_at, slice_get-last, slic
 use Rattle.bb_memory_index_set.specs.IndexSets.{Has, Lacks}
 use Rattle.bb_memory_index_set.proofs.AsideNumbers.{given}
 use Rattle.bb_memory_index_set.proofs.Tallies.{member_count-released, some_member}
-use Rattle.bb_memory_owned.specs.Pool.{Pool, IsPool, Fills, StandsFor, HoldsPlace, fresh_pool, with_flag, bucket_held_at}
+use Rattle.bb_memory_owned.specs.Pool.{Pool, IsPool, Fills, StandsFor, filled-at, HoldsPlace, fresh_pool, with_flag, bucket_held_at}
 use Rattle.bb_memory_owned.specs.Pool.{held_count, pool_of}
 use Rattle.bb_memory_lists.proofs.Positions.{All-at, All-from_positions, AllPairs-at, AllPairs-from_positions, slice_get-removed}
 use Rattle.bb_memory_lists.proofs.Positions.{slice_get-unremoved}
@@ -78,11 +78,6 @@ stands_from pool is live filled differ held =
       differ = differ;
       held = held;
     }
-
--- what stands at a position is in a held bucket
-pub filled-at : (pool : Pool) (live : List Chunk) → StandsFor pool live → (position : ℕ) (chunk : Chunk) →
-    slice_get live position ≡ Some chunk → (i : ℕ) × Fills pool chunk i
-filled-at pool live stands position chunk at = All-at (λ c. (i : ℕ) × Fills pool c i) live stands.filled position chunk at
 
 -- chunks at two positions have two places
 places-apart : (live : List Chunk) → PlacesDiffer live → (i j : ℕ) (one other : Chunk) → i ≢ j →

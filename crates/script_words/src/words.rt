@@ -244,9 +244,5 @@ pub fn party_of(number: usize) -> Option<u32>
 pub fn small(number: usize) -> Option<u32>
     ensures { SomeIff result (number < 2 ^ 32) number }
 {
-    if number <= u32::MAX as usize {
-        Some(number as u32)
-    } else {
-        None
-    }
+    u32::try_from(number).ok()
 }
