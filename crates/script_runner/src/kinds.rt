@@ -12,12 +12,12 @@ use crate::engine::driving::{Driven, Outcome, drive};
 use crate::kinds::allocators::Live;
 use crate::kinds::loan_pool::LoanPool;
 use crate::kinds::pool::Fixed;
-use script_words::words::Numbers;
-use bb_memory_bump_machine::steps::BumpWorld;
-use bb_memory_pool_machine::steps::PoolWorld;
 use bb_memory_bump::bump_allocator::BumpAllocator;
+use bb_memory_bump_machine::steps::BumpWorld;
 use bb_memory_owned::one_chunk_allocator::OneChunkAllocator;
 use bb_memory_owned::pool_allocator::PoolAllocator;
+use bb_memory_pool_machine::steps::PoolWorld;
+use script_words::words::Numbers;
 use std::alloc::Global;
 
 /// The kinds of scripts, in the order in which a header is tried: each, and those behind it.
@@ -25,7 +25,10 @@ pub type AllKinds = (
     Live<BumpAllocator>,
     (
         Live<OneChunkAllocator>,
-        (Live<PoolAllocator<Global>>, (Live<Fixed>, (BumpWorld, (PoolWorld, (LoanPool, ()))))),
+        (
+            Live<PoolAllocator<Global>>,
+            (Live<Fixed>, (BumpWorld, (PoolWorld, (LoanPool, ())))),
+        ),
     ),
 );
 

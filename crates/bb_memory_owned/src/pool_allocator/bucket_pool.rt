@@ -14,8 +14,8 @@ use crate::allocator::{
     AllocationError, AllocationGrowError, AllocationShrinkError, Allocator, BaseAllocator, Command,
     Reply, run_full,
 };
-use bb_memory_index_set::index_set::{Counter, IndexSet};
 use crate::layout::{Chunk, Layout};
+use bb_memory_index_set::index_set::{Counter, IndexSet};
 use std::alloc::AllocError;
 use std::marker::Model;
 

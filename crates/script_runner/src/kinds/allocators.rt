@@ -3,11 +3,11 @@ ghost use Rattle.std.specs.Prelude.{◌≡◌};
 ghost use Rattle.script_runner.specs.Allocators.{refusal_name};
 
 use crate::engine::driving::Driven;
-use script_words::words::{Numbers, Text, is, layout};
 use bb_memory_traits::allocator::{
     AllocationError, AllocationGrowError, AllocationShrinkError, Command, Reply,
 };
 use bb_memory_traits::layout::Chunk;
+use script_words::words::{Numbers, Text, is, layout};
 use std::alloc::{AllocError, Global};
 use std::marker::Model;
 

@@ -1,10 +1,10 @@
 //! A bump that a script drives.
 
 use crate::kinds::allocators::Scripted;
-use script_words::words::{Bounds, Figure, Numbers, region, write_figures};
 use bb_memory_bump::bump_allocator::{BumpAllocator, run_bump};
 use bb_memory_traits::allocator::{Command, Reply};
 use bb_memory_traits::layout::Chunk;
+use script_words::words::{Bounds, Figure, Numbers, region, write_figures};
 use std::alloc::{AllocError, Global};
 use std::io::Write;
 
@@ -26,12 +26,8 @@ impl Scripted for BumpAllocator {
         Ok(BumpAllocator::new(header.start, header.size))
     }
 
-    fn run(
-        &mut self,
-        live: &mut Vec<Chunk>,
-        commands: &[Command],
-    ) -> Result<Vec<Reply>, AllocError> {
-        run_bump(self, live, commands)
+    fn run(&mut self, live: &mut Vec<Chunk>, calls: &[Command]) -> Result<Vec<Reply>, AllocError> {
+        run_bump(self, live, calls)
     }
 
     fn write_state(&self, _live: usize, line: &mut Vec<u8>) -> Result<(), AllocError> {

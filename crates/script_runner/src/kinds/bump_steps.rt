@@ -1,8 +1,10 @@
 //! A bump world that a script drives by its steps.
 
 use crate::engine::driving::Driven;
-use script_words::words::{Bounds, Numbers, PARTIES, Text, is, layout, party_of, region, write_words};
 use bb_memory_bump_machine::steps::{BumpOutcome, BumpStep, BumpWorld};
+use script_words::words::{
+    Bounds, Numbers, PARTIES, Text, is, layout, party_of, region, write_words,
+};
 use std::alloc::{AllocError, Global};
 
 impl Driven for BumpWorld {

@@ -5,9 +5,9 @@ ghost use Rattle.script_runner.specs.LoanPool.{loan_refusal_name};
 use crate::engine::driving::Driven;
 use crate::kinds::allocators::{Scripted, refusal};
 use crate::kinds::pool::{PoolPlan, pool_plan};
-use script_words::words::{Numbers, Text, is, small};
 use bb_memory_owned::pool_allocator::PoolAllocator;
 use loan_book::{LoanBook, LoanCall, LoanError, LoanReply, run_loans};
+use script_words::words::{Numbers, Text, is, small};
 use std::alloc::{AllocError, Global};
 
 /// A loan book over a pool.

@@ -1,10 +1,10 @@
 //! A one chunk that a script drives.
 
 use crate::kinds::allocators::Scripted;
-use script_words::words::{Bounds, Figure, Numbers, region, write_figures};
 use bb_memory_owned::one_chunk_allocator::{OneChunkAllocator, run_one_chunk};
 use bb_memory_traits::allocator::{Command, Reply};
 use bb_memory_traits::layout::Chunk;
+use script_words::words::{Bounds, Figure, Numbers, region, write_figures};
 use std::alloc::{AllocError, Global};
 
 impl Scripted for OneChunkAllocator {
@@ -25,12 +25,8 @@ impl Scripted for OneChunkAllocator {
         Ok(OneChunkAllocator::new(header.start, header.size))
     }
 
-    fn run(
-        &mut self,
-        live: &mut Vec<Chunk>,
-        commands: &[Command],
-    ) -> Result<Vec<Reply>, AllocError> {
-        run_one_chunk(self, live, commands)
+    fn run(&mut self, live: &mut Vec<Chunk>, calls: &[Command]) -> Result<Vec<Reply>, AllocError> {
+        run_one_chunk(self, live, calls)
     }
 
     fn write_state(&self, _live: usize, line: &mut Vec<u8>) -> Result<(), AllocError> {

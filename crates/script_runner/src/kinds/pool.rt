@@ -3,12 +3,12 @@ ghost use Rattle.std.specs.Prelude.{◌≡◌, IfSome, Some};
 ghost use Rattle.script_runner.specs.Allocators.{IsPoolPlan, pool_numbers};
 
 use crate::kinds::allocators::Scripted;
-use script_words::words::{Figure, Numbers, is, layout, write_figures};
 use bb_memory_owned::pool_allocator::{
     FixedSizePoolAllocator, PoolAllocator, run_fixed_pool, run_pool,
 };
 use bb_memory_traits::allocator::{Command, Reply};
 use bb_memory_traits::layout::{Chunk, Layout};
+use script_words::words::{Figure, Numbers, is, layout, write_figures};
 use std::alloc::{AllocError, Global};
 
 /// The region that a pool cuts, and the layout of each of its buckets.
@@ -65,12 +65,8 @@ impl Scripted for PoolAllocator<Global> {
         }
     }
 
-    fn run(
-        &mut self,
-        live: &mut Vec<Chunk>,
-        commands: &[Command],
-    ) -> Result<Vec<Reply>, AllocError> {
-        run_pool(self, live, commands)
+    fn run(&mut self, live: &mut Vec<Chunk>, calls: &[Command]) -> Result<Vec<Reply>, AllocError> {
+        run_pool(self, live, calls)
     }
 
     fn write_state(&self, live: usize, line: &mut Vec<u8>) -> Result<(), AllocError> {
@@ -108,12 +104,8 @@ impl Scripted for Fixed {
         Ok(Fixed::new(header.bucket, header.start, header.size))
     }
 
-    fn run(
-        &mut self,
-        live: &mut Vec<Chunk>,
-        commands: &[Command],
-    ) -> Result<Vec<Reply>, AllocError> {
-        run_fixed_pool(self, live, commands)
+    fn run(&mut self, live: &mut Vec<Chunk>, calls: &[Command]) -> Result<Vec<Reply>, AllocError> {
+        run_fixed_pool(self, live, calls)
     }
 
     fn write_state(&self, live: usize, line: &mut Vec<u8>) -> Result<(), AllocError> {

@@ -1,8 +1,8 @@
 //! A pool world that a script drives by its steps.
 
 use crate::engine::driving::Driven;
-use script_words::words::{Numbers, PARTIES, Text, is, party_of, small, write_words};
 use bb_memory_pool_machine::steps::{PoolOutcome, PoolStep, PoolWorld};
+use script_words::words::{Numbers, PARTIES, Text, is, party_of, small, write_words};
 use std::alloc::{AllocError, Global};
 
 /// The most buckets that a script may ask for.
@@ -43,10 +43,15 @@ impl Driven for PoolWorld {
     fn read(name: &[u8], numbers: Numbers) -> Option<PoolStep> {
         match numbers {
             Numbers::One(party) if is(name, b"try") => {
-                Some(PoolStep::Try { party: party_of(party)? })
+                Some(PoolStep::Try {
+                    party: party_of(party)?,
+                })
             }
             Numbers::Two(party, bucket) if is(name, b"give") => {
-                Some(PoolStep::GiveBack { party: party_of(party)?, bucket: small(bucket)? })
+                Some(PoolStep::GiveBack {
+                    party: party_of(party)?,
+                    bucket: small(bucket)?,
+                })
             }
             _ => None,
         }
