@@ -7,7 +7,6 @@ use Rattle.bb_memory_traits.specs.Chunk.{Region, region_end, Chunk, chunk_end, I
 use Rattle.bb_memory_traits.specs.Object.{IsRun, Step, ResizableStep}
 use Rattle.bb_memory_traits.specs.declared.layout.Layout.{Layout}
 use Rattle.bb_memory_traits.specs.declared.allocator.AllocationError.{AllocationError}
-use Rattle.bb_memory_traits.specs.declared.allocator.AllocationError.TheVariants.{SizeIsZero, SizeTooLarge, AlignmentFailure}
 use Rattle.bb_memory_traits.specs.declared.allocator.AllocationError.TheVariants.{OutOfMemory}
 use Rattle.bb_memory_traits.specs.declared.allocator.AllocationGrowError.{AllocationGrowError}
 use Rattle.bb_memory_traits.specs.declared.allocator.AllocationGrowError.TheVariants as grow

@@ -1,22 +1,16 @@
 -- What a pool's requests and releases make of each live list that it stands for.
-use Rattle.std.proofs.Common.{◌≡◌, ◌≢◌, ℕ, suc, ◌+◌, ◌-◌, ◌*◌, ◌/◌, ◌%◌, ◌^◌, ◌<◌, ◌≤◌, Bool, true, false, List, [], ◌∷◌, ◌++◌}
-use Rattle.std.proofs.Common.{Result, Ok, Err, refl, sym, ap, subst, ◌∙◌, arith, Some, inl, inr, div-add-mod', pow_pos, pow_mono}
-use Rattle.std.proofs.Common.{pow-add, pow-suc, cond, leb, max, min, ◌&&◌}
+use Rattle.std.proofs.Common.{◌≡◌, ◌≢◌, ℕ, ◌-◌, ◌/◌, ◌%◌, ◌<◌, ◌≤◌, Bool, true, false, List, [], ◌∷◌, ◌++◌, Result, Ok, Err, refl}
+use Rattle.std.proofs.Common.{sym, ap, subst, ◌∙◌, arith, Some, inl, inr, cond, leb, max, min, ◌&&◌}
 use Rattle.std.proofs.lemmas.Bool.{le-leb, cases_lt}
 use Rattle.std.specs.Prelude.{slice_get, slice_set, remove, IfOk}
-use Rattle.std.specs.Int.{IsPowerOfTwo}
-use Rattle.std.proofs.Math.Nat.{mul_assoc}
-use Rattle.std.proofs.lemmas.Nat.{mod-mul-add}
 use Rattle.bb_memory_traits.specs.Chunk.{Chunk, IsInside, first_place}
-use Rattle.bb_memory_traits.specs.PoolObject.{PoolGeometry, bucket_place, stride, IsWithin, chunk_in, MayAllocate, MayGrow}
-use Rattle.bb_memory_traits.specs.PoolObject.{MayShrink}
+use Rattle.bb_memory_traits.specs.PoolObject.{bucket_place, stride, IsWithin, chunk_in, MayAllocate, MayGrow, MayShrink}
 use Rattle.bb_memory_traits.specs.declared.layout.Layout.{Layout}
 use Rattle.bb_memory_traits.specs.declared.allocator.AllocationError.{AllocationError}
 use Rattle.bb_memory_traits.specs.declared.allocator.AllocationError.TheVariants.{SizeIsZero, SizeTooLarge, AlignmentFailure}
 use Rattle.bb_memory_traits.specs.declared.allocator.AllocationError.TheVariants.{OutOfMemory}
 use Rattle.bb_memory_traits.specs.declared.allocator.AllocationGrowError.{AllocationGrowError}
 use Rattle.bb_memory_traits.specs.declared.allocator.AllocationShrinkError.{AllocationShrinkError}
-use Rattle.bb_memory_traits.proofs.Layouts.{layout-plain}
 use Rattle.bb_memory_traits.proofs.PoolGeometries.{bucket_place-aligned, bucket_place-after}
 use Rattle.bb_memory_lists.proofs.SliceGets.{slice_get-set_other, slice_get-set_same}
 use Rattle.bb_memory_index_set.specs.IndexSets.{Has, Lacks}

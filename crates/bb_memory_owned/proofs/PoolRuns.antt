@@ -1,12 +1,12 @@
 -- The live lists that a pool stands for: where their chunks are, and what releases and runs of the pool object lead to.
-use Rattle.std.proofs.Common.{◌≡◌, ◌≢◌, ℕ, zero, suc, ◌%◌, ◌<◌, ◌≤◌, Bool, true, false, List, [], ◌∷◌, ◌++◌, Result, Ok, Err}
-use Rattle.std.proofs.Common.{Some, length, get_or, refl, sym, ◌∙◌, ap, subst, ◌⊎◌, inl, inr, arith}
+use Rattle.std.proofs.Common.{◌≡◌, ◌≢◌, ℕ, ◌%◌, ◌<◌, ◌≤◌, Bool, true, false, List, Result, Ok, Err}
+use Rattle.std.proofs.Common.{Some, length, get_or, refl, sym, ◌∙◌, ap, inl, inr, arith}
 use Rattle.std.specs.Prelude.{slice_get, slice_set, remove, All, AllPairs, IsOk}
 use Rattle.std.proofs.lemmas.Bool.{cases_lt}
 use Rattle.std.proofs.lemmas.Option.{slice_get-get_or}
 use Rattle.bb_memory_traits.specs.Chunk.{Chunk}
 use Rattle.bb_memory_traits.specs.Object.{IsRun, Step, ResizableStep}
-use Rattle.bb_memory_traits.specs.PoolObject.{PoolGeometry, bucket_place, IsWithin, MayGive, MayAllocate, chunk_in, pool_object}
+use Rattle.bb_memory_traits.specs.PoolObject.{PoolGeometry, bucket_place, IsWithin, MayAllocate, pool_object}
 use Rattle.bb_memory_traits.specs.declared.layout.Layout.{Layout}
 use Rattle.bb_memory_traits.specs.declared.allocator.AllocationError.{AllocationError}
 use Rattle.bb_memory_traits.specs.declared.allocator.AllocationError.TheVariants.{SizeIsZero, SizeTooLarge, AlignmentFailure}
@@ -20,8 +20,7 @@ use Rattle.bb_memory_lists.proofs.SliceGets.{slice_get-set_same}
 use Rattle.bb_memory_index_set.specs.IndexSets.{Lacks}
 use Rattle.bb_memory_owned.specs.Pool.{Pool, IsPool, StandsFor, filled-at, pool_of, with_flag}
 use Rattle.bb_memory_geometry.specs.Geometry.{AreAStrideApart}
-use Rattle.bb_memory_owned.proofs.Pools.{IsPool-with_flag, bucket-below, lacked-free, stands-given, stands-freed}
-use Rattle.bb_memory_owned.proofs.Pools.{stands-resized}
+use Rattle.bb_memory_owned.proofs.Pools.{IsPool-with_flag, bucket-below, lacked-free, stands-given, stands-freed, stands-resized}
 use Rattle.bb_memory_lists.proofs.Positions.{All-from_positions, AllPairs-at, AllPairs-from_positions}
 
 -- PLACES

@@ -19,7 +19,7 @@ use Rattle.bb_memory_index_set.proofs.AsideNumbers.{given}
 use Rattle.bb_memory_index_set.proofs.Tallies.{member_count-released, some_member}
 use Rattle.bb_memory_owned.specs.Pool.{Pool, IsPool, Fills, StandsFor, filled-at, HoldsPlace, fresh_pool, with_flag, bucket_held_at}
 use Rattle.bb_memory_owned.specs.Pool.{held_count, pool_of}
-use Rattle.bb_memory_lists.proofs.Positions.{All-at, All-from_positions, AllPairs-at, AllPairs-from_positions, slice_get-removed}
+use Rattle.bb_memory_lists.proofs.Positions.{All-from_positions, AllPairs-at, AllPairs-from_positions, slice_get-removed}
 use Rattle.bb_memory_lists.proofs.Positions.{slice_get-unremoved}
 
 -- BUCKETS

@@ -8,7 +8,7 @@ use Rattle.bb_memory_traits.specs.Object.{PlacesDiffer}
 use Rattle.bb_memory_traits.specs.declared.layout.Layout.{Layout}
 use Rattle.bb_memory_traits.specs.declared.allocator.AllocationError.{AllocationError}
 use Rattle.bb_memory_traits.specs.declared.allocator.AllocationError.TheVariants.{OutOfMemory}
-use Rattle.std.proofs.Common.{arith, ap, refl, subst, ◌∙◌}
+use Rattle.std.proofs.Common.{arith, ap, refl, ◌∙◌}
 use Rattle.bb_memory_lists.proofs.Positions.{All-at}
 
 -- the allocator's region, and the place of the chunk that is out

@@ -1,12 +1,11 @@
 -- A pool, as its contracts see it.
-use Rattle.std.specs.Prelude.{◌≡◌, ◌≢◌, ℕ, ◌-◌, ◌+◌, ◌%◌, ◌≤◌, ◌<◌, ◌^◌, ◌⊎◌, ◌↔◌, Bool, true, false, ◌&&◌, if◌then◌else◌}
+use Rattle.std.specs.Prelude.{◌≡◌, ◌≢◌, ℕ, ◌+◌, ◌%◌, ◌≤◌, ◌<◌, ◌↔◌, Bool, true, false, ◌&&◌, if◌then◌else◌}
 use Rattle.std.specs.Prelude.{get_or, nat_eq, nat_le, List, All, length, max, min, replicate, slice_set, Result, Ok, Err, IsOk}
-use Rattle.std.specs.Prelude.{IfOk, OnErr, Some, slice_get, Option, IfSome, IfNone}
+use Rattle.std.specs.Prelude.{IfOk, OnErr, Some, slice_get}
 use Rattle.std.specs.List.{list_any, range_with_len}
-use Rattle.bb_memory_traits.specs.Chunk.{Region, IsRegion, Chunk, IsSound, first_place}
+use Rattle.bb_memory_traits.specs.Chunk.{IsRegion, Chunk, IsSound}
 use Rattle.bb_memory_traits.specs.Object.{PlacesDiffer, note_after_run}
-use Rattle.bb_memory_traits.specs.PoolObject.{PoolGeometry, stride, bucket_place, IsCut, IsPoolGeometry, IsHeld, IsWithin}
-use Rattle.bb_memory_traits.specs.PoolObject.{chunk_in}
+use Rattle.bb_memory_traits.specs.PoolObject.{PoolGeometry, bucket_place, IsCut, IsPoolGeometry, IsHeld, IsWithin, chunk_in}
 use Rattle.bb_memory_traits.specs.declared.layout.Layout.{Layout}
 use Rattle.bb_memory_traits.specs.declared.allocator.Command.{Command}
 use Rattle.bb_memory_traits.specs.declared.allocator.AllocationError.{AllocationError}
@@ -15,7 +14,7 @@ use Rattle.bb_memory_traits.specs.declared.allocator.AllocationError.TheVariants
 use Rattle.bb_memory_geometry.specs.Geometry.{AreAStrideApart, MayBeCut}
 use Rattle.bb_memory_index_set.specs.IndexSets.{Has, Lacks, IsFull, member_count}
 use Rattle.std.specs.Cmp.Derive.{both_true}
-use Rattle.std.proofs.Common.{refl, sym, ◌∙◌, ap, arith, subst}
+use Rattle.std.proofs.Common.{sym, ◌∙◌, ap, arith}
 use Rattle.std.proofs.lemmas.Bool.{and_parts, eq-eqb, eqb-true}
 use Rattle.std.proofs.lemmas.List.Folds.{Any-from_list_any, list_any_at}
 use Rattle.std.proofs.lemmas.List.FromFn.{get_or-range_with_len, length-range_with_len}

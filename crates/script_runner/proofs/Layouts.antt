@@ -1,16 +1,12 @@
 -- What lines with layouts say.
-use Rattle.std.proofs.Common.{◌≡◌, ℕ, List, codes, Option, None, Some, Result, Ok, Err, IsOk, IfOk, ◌↔◌, ap, ◌∙◌}
-use Rattle.std.proofs.lemmas.Bool.{false≢true}
+use Rattle.std.proofs.Common.{◌≡◌, ℕ, List, codes, Option, None, Some, ap, ◌∙◌}
 use Rattle.std.proofs.lemmas.Option.{none-some, same_Some}
-use Rattle.std.specs.Align.{IsLayout}
 use Rattle.std.specs.Option.{option_map}
-use Rattle.std.specs.Result.{result_ok}
 use Rattle.bb_memory_traits.specs.declared.allocator.Command.{Command}
-use Rattle.bb_memory_traits.specs.declared.allocator.Command.TheVariants.{Allocate, Release, Grow, Shrink}
+use Rattle.bb_memory_traits.specs.declared.allocator.Command.TheVariants.{Allocate, Grow, Shrink}
 use Rattle.bb_memory_bump_machine.specs.declared.steps.bump.BumpStep.{BumpStep}
-use Rattle.bb_memory_bump_machine.specs.declared.steps.bump.BumpStep.TheVariants.{Read, Exchange, Load, Clear}
+use Rattle.bb_memory_bump_machine.specs.declared.steps.bump.BumpStep.TheVariants.{Read}
 use Rattle.bb_memory_traits.specs.declared.layout.Layout.{Layout}
-use Rattle.bb_memory_traits.proofs.Layouts.{same_layout}
 use Rattle.script_words.specs.declared.words.Numbers.TheVariants.{Two, Three, Five}
 use Rattle.script_runner.specs.Allocators.{command_words}
 use Rattle.script_runner.specs.Steps.{bump_step_words}

@@ -1,11 +1,11 @@
 -- Known bytes that grow, and bytes that are sent, all or a beginning.
-use Rattle.std.proofs.Common.{arith, tests, ◌==◌, ◌≡◌, ◌≢◌, ◌∷◌, IfSome, ℕ, ◌-◌, List, [], ◌++◌, take}
-use Rattle.std.proofs.Common.{drop, length, Option, Some, None, true, inl, inr, ◌⊎◌, refl, sym, ap, ◌∙◌}
+use Rattle.std.proofs.Common.{arith, tests, ◌==◌, ◌≡◌, ◌∷◌, IfSome, ℕ, ◌-◌, List, [], ◌++◌, take}
+use Rattle.std.proofs.Common.{drop, length, Option, Some, None, true, inl, inr, refl, sym, ap, ◌∙◌}
 use Rattle.std.specs.Io.KnownBytes.{Appends, Keeps}
 use Rattle.std.proofs.lemmas.List.{append_assoc, append-nil, take-append-drop, take_rest}
-use Rattle.script_runner.specs.Inputs.{Ends, IsAnswered, IsOutput, IsUnreadable, IsLeft, BeginsOutput}
+use Rattle.script_runner.specs.Inputs.{Ends, IsAnswered, IsOutput, IsUnreadable, IsLeft}
 use Rattle.script_runner.specs.declared.status.Status.{Status}
-use Rattle.script_runner.specs.declared.status.Status.TheVariants.{Done, Unreadable, InputFailed, OutputFailed, OutOfMemory}
+use Rattle.script_runner.specs.declared.status.Status.TheVariants.{Done, Unreadable, OutputFailed, OutOfMemory}
 use Rattle.script_runner.specs.Scripts.{AppendsPart, Sends}
 use Rattle.script_words.specs.Words.{unreadable_text}
 

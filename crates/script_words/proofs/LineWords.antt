@@ -1,5 +1,5 @@
 -- The words of a line: there is one way only to read them.
-use Rattle.std.proofs.Common.{arith, false, ◌==◌, ◌≡◌, ◌≢◌, ℕ, ◌<◌, ◌^◌, suc, List, [], ◌∷◌, ◌++◌, All, refl, sym, ap, ap₂, ◌∙◌}
+use Rattle.std.proofs.Common.{arith, false, ◌==◌, ◌≡◌, ◌≢◌, ℕ, ◌<◌, ◌^◌, List, [], ◌∷◌, ◌++◌, All, refl, sym, ap, ap₂, ◌∙◌}
 use Rattle.std.proofs.Common.{length, take, take_all, drop, ◌-◌}
 use Rattle.std.specs.Fmt.{decimal}
 use Rattle.std.proofs.lemmas.Fmt.{digits_decimal, decimal_injective}
