@@ -4,7 +4,6 @@ use Rattle.std.specs.Prelude.{◌%◌, ◌^◌, ◌≤◌, ◌==◌, if◌then�
 use Rattle.std.specs.List.{range_with_len}
 use Rattle.std.specs.Int.{bit_at}
 
--- the number is in the set
 abbrev pub Has : List Bool → ℕ → Type 0
 Has set number = slice_get set number ≡ Some true
 
@@ -16,7 +15,6 @@ Lacks set number = slice_get set number ≡ Some false
 abbrev pub IsFull : List Bool → Type 0
 IsFull set = (number : ℕ) → number < length set → Has set number
 
--- how many numbers are in the set
 abbrev pub member_count : List Bool → ℕ
 member_count set = count_by (λ held. held) set
 
@@ -64,7 +62,6 @@ pub record SetsBit (words : List ℕ) (number : ℕ) (flag : Bool) (new : List �
 unfoldable pub numbers_of : ℕ → List ℕ → List Bool
 numbers_of bound words = map (has_bit words) (range_with_len 0 bound)
 
--- the numbers without the one that is aside
 abbrev pub less_aside : List Bool → ℕ → List Bool
 less_aside numbers aside = slice_set numbers aside false
 

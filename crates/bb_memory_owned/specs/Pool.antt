@@ -29,7 +29,6 @@ pub record Pool : Type 0 where
 abbrev pub pool_of : PoolGeometry → List Bool → Pool
 pool_of geometry held = record { geometry = geometry; held = held }
 
--- a pool with no bucket held
 abbrev pub fresh_pool : PoolGeometry → Pool
 fresh_pool geometry = pool_of geometry (replicate geometry.buckets false)
 
@@ -68,7 +67,6 @@ begins_held pool place i = get_or pool.held i false && nat_eq place (bucket_plac
 unfoldable pub holds_place : Pool → ℕ → Bool
 holds_place pool place = list_any (begins_held pool place) (range_with_len 0 (length pool.held))
 
--- the place is that of a held bucket
 abbrev pub HoldsPlace : Pool → ℕ → Type 0
 HoldsPlace pool place = holds_place pool place ≡ true
 
@@ -95,7 +93,6 @@ abbrev pub Frees : Pool → ℕ → Pool → Type 0
 Frees pool place new =
     (i : ℕ) → Has pool.held i → place ≡ bucket_place pool.geometry i → new ≡ with_flag pool i false
 
--- how many of the pool's buckets are held
 abbrev pub held_count : Pool → ℕ
 held_count pool = member_count pool.held
 
