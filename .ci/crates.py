@@ -1,5 +1,6 @@
 """The crates of crates.txt, and lanes. A lane is a copy of one crate over the libraries that were built below it: `rt` locks the
 folders that it works in, so crates are proved side by side, each in a lane of its own."""
+import fcntl
 import functools
 import hashlib
 import os
@@ -13,6 +14,13 @@ CORES = len(os.sched_getaffinity(0))
 TALK = {"stdout": subprocess.PIPE, "stderr": subprocess.STDOUT, "text": True, "errors": "replace"}
 kit = functools.cache(lambda: subprocess.run(["rt", "version"], check=True, **TALK).stdout.strip())
 LINES = {re.match(r"\w+", it)[0]: it for it in (TOP / "crates.txt").read_text().splitlines() if re.match(r"\w", it)}
+
+
+def alone():
+    """Waits until no other run works in this checkout's lanes. The lock lasts as long as the file that is returned."""
+    lock = open(TOP / "crates.txt")
+    fcntl.flock(lock, fcntl.LOCK_EX)
+    return lock
 
 
 def below(name):

@@ -8,12 +8,12 @@
 
 enum { ROUNDS = 31, CALLS = 40000, WRITTEN_CALLS = 10 * CALLS, MOST_BUCKETS = 65536 };
 enum { MOST_CALLS = 2 * MOST_BUCKETS + WRITTEN_CALLS };
-enum { PATTERNS = 6, SIZES = 5, FILLS = 3, ROWS = SIZES * FILLS };
+enum { PATTERNS = 4, SIZES = 5, FILLS = 3, ROWS = SIZES * FILLS };
 enum { GROUP = 64 };
 
-typedef enum { ONE, TWO, LAST, OLDEST, RANDOM, REFUSED } pattern;
+typedef enum { ONE, OLDEST, RANDOM, REFUSED } pattern;
 
-static const char *const pattern_names[PATTERNS] = {"one", "two", "last", "oldest", "random", "refused"};
+static const char *const pattern_names[PATTERNS] = {"one", "oldest", "random", "refused"};
 
 // A loop over an allocator, and whether this machine has that one.
 typedef struct {
@@ -23,8 +23,8 @@ typedef struct {
 } loop;
 
 #define LOOP_ENTRY(name, loop) {name, loop, 0},
-static loop pools[] = {POOL_ROWS(LOOP_ENTRY)}, written[] = {WRITTEN_ROWS(LOOP_ENTRY)}, border[] = {BORDER_ROWS(LOOP_ENTRY)};
-enum { POOLS = sizeof pools / sizeof *pools, WRITTEN = sizeof written / sizeof *written, WAYS = sizeof border / sizeof *border };
+static loop pools[] = {POOL_ROWS(LOOP_ENTRY)}, written[] = {WRITTEN_ROWS(LOOP_ENTRY)};
+enum { POOLS = sizeof pools / sizeof *pools, WRITTEN = sizeof written / sizeof *written };
 static const uint32_t sizes[SIZES] = {8, 64, 512, 4096, MOST_BUCKETS};
 static const uint32_t fills[FILLS] = {50, 99, 100};
 
@@ -77,7 +77,6 @@ static void fill(uint32_t buckets, uint32_t held) {
 }
 
 static void some_calls(pattern p, uint32_t buckets) {
-    uint32_t group = p == TWO ? 2 : p == LAST ? (count < 32 ? count : 32) : 1;
     switch (p) {
     case REFUSED:
         script[calls++] = TAKE;
@@ -88,16 +87,13 @@ static void some_calls(pattern p, uint32_t buckets) {
         else
             take();
         return;
+    case OLDEST:
+        give_oldest();
+        take();
+        return;
     default:
-        for (uint32_t i = 0; i < group; i++)
-            if (p == LAST)
-                give(count - 1);
-            else if (p == OLDEST)
-                give_oldest();
-            else
-                give(below(count));
-        for (uint32_t i = 0; i < group; i++)
-            take();
+        give(below(count));
+        take();
     }
 }
 
@@ -186,18 +182,6 @@ static void time_pools(void) {
                 print_each("pools", pattern_names[p], sizes[row / FILLS], fills[row % FILLS], pools, POOLS, spent[p][row]);
 }
 
-// Half of the buckets are held, and one is given back and one taken: by the calls themselves and by those through C.
-static void time_border(void) {
-    enum { BORDER_SIZES = 2 };
-    static const uint32_t of[BORDER_SIZES] = {64, 512};
-    static double border_spent[BORDER_SIZES][WAYS][ROUNDS];
-    for (int round = 0; round < ROUNDS; round++)
-        for (int i = 0; i < BORDER_SIZES; i++)
-            time_each(border, WAYS, ONE, task_of(of[i], 128), 50, CALLS, round, border_spent[i]);
-    for (int i = 0; i < BORDER_SIZES; i++)
-        print_each("border", "pool", of[i], 50, border, WAYS, border_spent[i]);
-}
-
 // What is taken is written, and read before it goes back, in buckets of a cache line: in 256 KiB, and in 4 MiB.
 static void time_written(void) {
     enum { WRITTEN_SIZES = 2, WRITTEN_PATTERNS = 3 };
@@ -213,36 +197,14 @@ static void time_written(void) {
             print_each("written", pattern_names[by[p]], of[i], 50, written, WRITTEN, written_spent[p][i]);
 }
 
-static void count_reads(void) {
-    for (int p = 0; p < PATTERNS; p++)
-        for (size_t row = 0; row < ROWS; row++) {
-            task t = task_of(sizes[row / FILLS], 128);
-            uint32_t held = part(t.buckets, fills[row % FILLS]);
-            if (!has_row(p, row))
-                continue;
-            fill(t.buckets, held);
-            size_t before = calls;
-            while (calls < before + CALLS)
-                some_calls(p, t.buckets);
-            uint64_t takings = 0;
-            for (size_t i = 0; i < calls; i++)
-                takings += script[i] == TAKE;
-            reads found = {0, 0};
-            bench_reads(&t, script, calls, &found);
-            printf("reads,%s,%u,%u,%u,%.2f,%u\n", pattern_names[p], t.buckets, fills[row % FILLS], (t.buckets + 63) / 64,
-                   (double)found.sum / (double)takings, found.greatest);
-        }
-}
-
-// What is asked of an allocator, the loops of each kind, and whether the sizes are mixed.
-enum { KINDS = 4 };
-static const char *const kinds[KINDS] = {"ours", "in C", "through C", "std::pmr"};
+// What is asked of an allocator, and the loops of each kind.
+enum { KINDS = 3 };
+static const char *const kinds[KINDS] = {"ours", "in C", "through C"};
 static const struct {
     const char *name;
     rounds_of *run[KINDS];
-    int mixed;
 } lines[] = {
-#define OTHER_ENTRY(name, loop, peer, through, pmr, mixed) {name, {loop, peer, through, pmr}, mixed},
+#define OTHER_ENTRY(name, loop, peer, through) {name, {loop, peer, through}},
     OTHER_ROWS(OTHER_ENTRY)};
 enum { LINES = sizeof lines / sizeof *lines };
 
@@ -250,16 +212,16 @@ static double line_spent[LINES][KINDS][ROUNDS];
 
 // The others: for each request its nanoseconds, together with those of giving back what it took.
 static void time_lines(void) {
-    uint32_t same[GROUP], mixed[GROUP], rounds = CALLS / GROUP;
+    uint32_t sizes[GROUP], rounds = CALLS / GROUP;
     for (size_t i = 0; i < GROUP; i++)
-        same[i] = 48, mixed[i] = 1 + below(256);
+        sizes[i] = 48;
     for (int round = 0; round < ROUNDS; round++)
         for (size_t at = 0; at < LINES * KINDS; at++) {
             size_t i = at / KINDS, kind = at % KINDS;
             if (!lines[i].run[kind])
                 continue;
             double start = seconds();
-            lines[i].run[kind](lines[i].mixed ? mixed : same, GROUP, 8, rounds);
+            lines[i].run[kind](sizes, GROUP, 8, rounds);
             line_spent[i][kind][round] = (seconds() - start) * 1e9 / (rounds * GROUP);
         }
     for (size_t at = 0; at < LINES * KINDS; at++) {
@@ -286,10 +248,7 @@ int main(void) {
     open_heaps();
     look_for(pools, POOLS);
     look_for(written, WRITTEN);
-    look_for(border, WAYS);
-    count_reads();
     time_lines();
-    time_border();
     time_written();
     time_pools();
 }

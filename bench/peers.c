@@ -2,7 +2,6 @@
 // of a place by a division of 32 bits.
 #include "heaps.h"
 #include "loop.h"
-#include <stdatomic.h>
 
 #define NONE UINT32_MAX
 #define SIZE ((size_t)1 << 40)
@@ -46,54 +45,6 @@ static void plain_list_drop(plain *p) { free(p->next); }
 
 POOL_LOOPS(plain_list, plain)
 
-// The same list for several threads: its head is exchanged together with a count of the exchanges. Here one thread uses it.
-typedef struct {
-    _Atomic uint32_t *next;
-    _Atomic uint64_t head;
-    uint32_t stride;
-    size_t bucket_size;
-    size_t align;
-} shared;
-
-static int lock_free_list_make(shared *p, const task *t) {
-    p->next = malloc((t->buckets + 1) * sizeof *p->next);
-    atomic_init(&p->head, t->buckets ? 0 : NONE);
-    p->stride = (uint32_t)t->bucket_size;
-    p->bucket_size = t->bucket_size;
-    p->align = t->align;
-    if (p->next)
-        for (uint32_t i = 0; i < t->buckets; i++)
-            atomic_init(&p->next[i], i + 1 < t->buckets ? i + 1 : NONE);
-    return p->next != NULL;
-}
-
-static uint64_t headed(uint64_t old, uint32_t i) { return ((old >> 32) + 1) << 32 | i; }
-
-static size_t lock_free_list_take(shared *p, size_t size, size_t align) {
-    if (size > p->bucket_size || align > p->align)
-        return 0;
-    uint64_t old = atomic_load(&p->head);
-    while ((uint32_t)old != NONE) {
-        uint32_t i = (uint32_t)old;
-        uint32_t next = atomic_load_explicit(&p->next[i], memory_order_relaxed);
-        if (atomic_compare_exchange_weak(&p->head, &old, headed(old, next)))
-            return START + (size_t)i * p->stride;
-    }
-    return 0;
-}
-
-static void lock_free_list_give(shared *p, size_t place) {
-    uint32_t i = (uint32_t)(place - START) / p->stride;
-    uint64_t old = atomic_load(&p->head);
-    do
-        atomic_store_explicit(&p->next[i], (uint32_t)old, memory_order_relaxed);
-    while (!atomic_compare_exchange_weak(&p->head, &old, headed(old, i)));
-}
-
-static void lock_free_list_drop(shared *p) { free((void *)p->next); }
-
-LOOP(lock_free_list, shared)
-
 // An allocator of the whole process, which knows no last bucket: it is told how many there are.
 typedef struct {
     uint32_t left;
@@ -123,7 +74,6 @@ static heap_calls c_calls = {malloc, free};
 
 HEAP(malloc_free, c_calls)
 HEAP(mimalloc, mimalloc_calls)
-HEAP(jemalloc, jemalloc_calls)
 
 static int dpdk_make(heap *p, const task *t) {
     p->left = t->buckets;
@@ -217,18 +167,6 @@ uint64_t calloc_free(const uint32_t *sizes, size_t count, size_t align, uint32_t
             if (block)
                 sum += sizes[i];
             free(block);
-        }
-    return sum;
-}
-
-// What the loop itself takes.
-uint64_t no_allocator(const uint32_t *sizes, size_t count, size_t align, uint32_t rounds) {
-    uint64_t sum = 0;
-    (void)align;
-    for (uint32_t round = 0; round < rounds; round++)
-        for (size_t i = 0; i < count; i++) {
-            sum += sizes[i];
-            __asm__ volatile("" : "+r"(sum));
         }
     return sum;
 }

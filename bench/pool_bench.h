@@ -10,11 +10,6 @@ typedef struct {
     size_t request_size;
 } task;
 
-typedef struct {
-    uint64_t sum;
-    uint32_t greatest;
-} reads;
-
 // The call of a script that asks for a bucket. Any other number gives back the bucket whose place stands at that index of those
 // that are kept: the last place moves there.
 #define TAKE UINT32_MAX
@@ -30,11 +25,10 @@ typedef uint64_t follow(const task *, const uint32_t *script, size_t calls);
 #define POOL_ROWS(ROW) \
     ROW("pool on words", bench_words) \
     ROW("fixed pool", bench_fixed) \
+    ROW("through C", c_pool) \
     ROW("plain list", plain_list) \
-    ROW("lock-free list", lock_free_list) \
     ROW("malloc and free", malloc_free) \
     ROW("mimalloc", mimalloc) \
-    ROW("jemalloc", jemalloc) \
     ROW("DPDK", dpdk) \
     ROW("loop alone", no_pool)
 
@@ -44,35 +38,19 @@ typedef uint64_t follow(const task *, const uint32_t *script, size_t calls);
     ROW("plain list", plain_list_written) \
     ROW("malloc and free", malloc_free_written) \
     ROW("mimalloc", mimalloc_written) \
-    ROW("jemalloc", jemalloc_written) \
     ROW("DPDK", dpdk_written)
-
-// The pool that C has, too: the loop of the calls themselves, and that of the calls through C.
-#define BORDER_ROWS(ROW) \
-    ROW("directly", bench_words) \
-    ROW("through C", c_pool)
 
 #define DECLARE_POOL(name, loop) extern follow loop;
 POOL_ROWS(DECLARE_POOL)
 WRITTEN_ROWS(DECLARE_POOL)
-extern follow c_pool;
-
-void bench_reads(const task *, const uint32_t *script, size_t calls, reads *);
 
 // In each round makes a request for each size, and gives back what it took.
 typedef uint64_t rounds_of(const uint32_t *sizes, size_t count, size_t align, uint32_t rounds);
 
-// The other allocators that are timed, likewise: what is asked, the loops here, in C, through C, and of the C++ library, and
-// whether the requests are of mixed sizes.
+// The other allocators that are timed, likewise: what is asked, and the loops here, in C, and through C.
 #define OTHER_ROWS(ROW) \
-    ROW("bump, 48 bytes", bench_bump, plain_bump, c_bump, pmr_bump, 0) \
-    ROW("bump, mixed sizes", bench_bump, plain_bump, c_bump, pmr_bump, 1) \
-    ROW("one chunk", bench_one_chunk, plain_chunk, c_one_chunk, NO_PEER, 0) \
-    ROW("heap, 48 bytes", bench_heap, calloc_free, NO_PEER, NO_PEER, 0) \
-    ROW("heap, mixed sizes", bench_heap, calloc_free, NO_PEER, NO_PEER, 1) \
-    ROW("loop alone", no_allocator, NO_PEER, NO_PEER, NO_PEER, 0)
+    ROW("bump, 48 bytes", bench_bump, plain_bump, c_bump) \
+    ROW("one chunk", bench_one_chunk, plain_chunk, c_one_chunk) \
+    ROW("heap, 48 bytes", bench_heap, calloc_free, (rounds_of *)0)
 
-#define NO_PEER ((rounds_of *)0)
-
-extern rounds_of bench_bump, bench_one_chunk, bench_heap, no_allocator, plain_bump, plain_chunk, calloc_free, c_bump, c_one_chunk;
-extern rounds_of pmr_bump;
+extern rounds_of bench_bump, bench_one_chunk, bench_heap, plain_bump, plain_chunk, calloc_free, c_bump, c_one_chunk;

@@ -25,7 +25,6 @@ static _Alignas(128) atomic_uint came;
 static _Alignas(128) unsigned threads;
 static _Alignas(128) unsigned calls;
 static unsigned buckets = FEW;
-static int held;
 
 // A request for 48 bytes at 8: the place is rounded up, and the position exchanged.
 static size_t bump_pair(void) {
@@ -82,25 +81,10 @@ static _Thread_local bb_pool_party *party;
 static inline size_t party_take(void) { return bb_pool_party_allocate(party, 48, 8).place; }
 static inline void party_give(size_t taken) { (void)bb_pool_party_deallocate(party, taken); }
 
-// A party more takes all buckets, and gives each fourth back.
-static void hold_most(bb_shared_pool *pool) {
-    bb_pool_party holder = BB_EMPTY;
-    if (bb_shared_pool_join(pool, &holder) != BB_OK)
-        abort();
-    for (size_t i = 0; i < buckets; i++)
-        if (bb_pool_party_allocate(&holder, 48, 8).code != BB_OK)
-            abort();
-    for (size_t i = 0; i < buckets; i += 4)
-        (void)bb_pool_party_deallocate(&holder, START + i * 128);
-    bb_pool_party_destroy(&holder);
-}
-
 static void join_all(unsigned cached) {
     bb_shared_pool pool = BB_EMPTY;
-    if (bb_shared_pool_init(&pool, 128, 8, START, buckets * 128, threads + (held ? 1 : 0)) != BB_OK)
+    if (bb_shared_pool_init(&pool, 128, 8, START, buckets * 128, threads) != BB_OK)
         abort();
-    if (held)
-        hold_most(&pool);
     for (unsigned i = 0; i < threads; i++)
         if (bb_shared_pool_join(&pool, &parties[i]) != BB_OK || bb_pool_party_cache(&parties[i], cached) != BB_OK)
             abort();
@@ -239,17 +223,16 @@ static const kind kinds[] = {
     {"ring alone", {NULL, NULL, NULL, NULL}, none_send, none_receive, NULL, 0},
 };
 
-// What is timed of a kind, by so many threads, in a pool of so many buckets, of which three of four are held or none.
+// What is timed of a kind, by so many threads, in a pool of so many buckets.
 static const struct {
     const char *name;
     what_of what;
     unsigned threads, buckets;
-    int held;
 } figures[] = {
-    {"pool", PAIR_CALL, 1, FEW, 0},        {"pool", PAIR_CALL, 2, FEW, 0},       {"pool", PAIR_CALL, 4, FEW, 0},
-    {"burst", BURST_CALL, 1, FEW, 0},      {"burst", BURST_CALL, 2, FEW, 0},     {"burst", BURST_CALL, 4, FEW, 0},
-    {"held burst", BURST_CALL, 1, FEW, 1}, {"wide burst", BURST_CALL, 4, MANY, 0}, {"wide tail", BURST_TAIL, 4, MANY, 0},
-    {"pair tail", PAIR_TAIL, 4, FEW, 0},   {"burst tail", BURST_TAIL, 4, FEW, 0}, {"queue", ENDS, 2, FEW, 0},
+    {"pool", PAIR_CALL, 1, FEW},   {"pool", PAIR_CALL, 2, FEW},         {"pool", PAIR_CALL, 4, FEW},
+    {"burst", BURST_CALL, 1, FEW}, {"burst", BURST_CALL, 2, FEW},       {"burst", BURST_CALL, 4, FEW},
+    {"queue", ENDS, 2, FEW},       {"wide burst", BURST_CALL, 4, MANY}, {"pair tail", PAIR_TAIL, 4, FEW},
+    {"burst tail", BURST_TAIL, 4, FEW},
 };
 enum { KINDS = sizeof kinds / sizeof *kinds, FIGURES = sizeof figures / sizeof *figures, BUMP = 0 };
 
@@ -385,10 +368,7 @@ static int by_size(const void *one, const void *other) {
     return (x > y) - (x < y);
 }
 
-// Only a pool's parties have a pool of which others hold buckets.
 static int has(int kind, int figure) {
-    if (figures[figure].held)
-        return kinds[kind].call[BURST_CALL] == party_burst;
     return figures[figure].what == ENDS ? kinds[kind].send != NULL : kinds[kind].call[figures[figure].what] != NULL;
 }
 
@@ -411,7 +391,6 @@ int main(int argc, char **argv) {
                 continue;
             threads = figures[figure].threads;
             buckets = figures[figure].buckets;
-            held = figures[figure].held;
             found[(unsigned)at * rounds + round] = figures[figure].what == ENDS
                                                        ? queue_timed(&kinds[kind], is_dpdk)
                                                        : timed(&kinds[kind], figures[figure].what, is_dpdk, &refused[at]);

@@ -43,11 +43,11 @@
 //     an atomic, or a thread's start or join orders the calls.
 //  5. `place_at`, `number_at` and `bb_shared_pool_info` may run beside other calls with their handle but those that empty it.
 //  6. A call that takes two handles gets two. Where a party or a detached bucket of a shared pool or bump is left, no other one
-//     begins at its place: by that place another's party or bucket is refused (BB_OTHER_POOL).
+//     begins at its place, not even in a chunk of it: by that place another's party or bucket is refused (BB_OTHER_POOL).
 //  7. Call nothing in a signal handler, nor in a child that a process of several threads forked. After any other fork either
 //     parent or child goes on with a region that both map.
-//  8. A region serves one allocator at a time, and is yours while chunks in it are used. It may be a chunk of another one.
-//  9. `malloc`, `realloc` and `free` come from one allocator, which aligns as C says.
+//  8. A region serves one allocator at a time, and is yours while chunks in it are used. It may be another's chunk (but see 6).
+//  9. `malloc`, `realloc` and `free` come from one allocator, which aligns as C says. The archive needs `memset`, too.
 // 10. Return each chunk once. A wild place is refused by a code, and so is a second return before the place is given anew. A
 //     later one takes the chunk from its new holder.
 //
@@ -66,6 +66,8 @@
 
 #ifdef __cplusplus
 extern "C" {
+#pragma GCC diagnostic push
+#pragma GCC diagnostic ignored "-Wshadow"  // a struct of figures and its function have one name
 #endif
 
 // The version of this library, as text and by its numbers. The last of them grows with each version, for `#if`.
@@ -102,20 +104,20 @@ enum {
     BB_UNINITIALIZED = 8,         // the handle is empty
     BB_NOT_HELD = 9,              // no chunk that is out begins at the place; of a party, none that it holds and doesn't cache
     BB_ALREADY_INITIALIZED = 10,  // the handle isn't empty
-    BB_INVALID_ARGUMENT = 11,     // the region, the buckets or the parties can't be; each `init` says when
+    BB_INVALID_ARGUMENT = 11,     // the region, the buckets or the parties can't be, as each `init` says; of a share: no reader
     BB_NO_PARTY = 12,             // each party has joined, or was destroyed
     BB_LAYOUT_MISMATCH = 13,      // the place isn't a multiple of the old alignment, or more bytes are to be shrunk than reserved
     BB_MALLOC_REFUSED = 14,       // of `init`, `join`, `cache` and `reset` alone
     BB_MORE_THAN_RESERVED = 15,   // of a grow alone: the new size is greater than what is reserved for the chunk
-    BB_NO_BUCKET = 16,            // of a pool's `init` alone: the region has no room for one bucket
+    BB_NO_BUCKET = 16,            // of a pool's `init` alone: the region has no room for one bucket, or for at least so many
     BB_PARTIES_JOINED = 18,       // of `bb_shared_bump_reset` alone: not each party has left
     BB_ONE_PARTY = 19,            // of a detach alone: the pool has no other party
     BB_DETACHED_FULL = 20,        // of a detach alone: a detached bucket is there already
-    BB_DETACHED_EMPTY = 21,       // of an attach alone: no detached bucket is there
+    BB_DETACHED_EMPTY = 21,       // of an attach, a share and a length alone: no detached bucket is there
     BB_NOT_A_BUCKET = 22,         // of place_at and number_at alone: no bucket has the number, or begins at the place
     BB_OTHER_POOL = 23,           // of a leave and an attach alone: the party, or the detached bucket, is of another pool or bump
     BB_READERS_LEFT = 24,         // of a share and an attach alone: a reader hasn't released the detached bucket
-    BB_NO_READER = 25,            // of a release alone: the detached bucket waits for no reader
+    BB_NO_READER = 25,            // of a release alone: the detached bucket waits for no reader, or none is there
     BB_LAST_CODE = BB_NO_READER
 };
 
@@ -128,12 +130,12 @@ static inline const char *bb_text(uint32_t code) {
     case BB_GROW_WOULD_SHRINK: return "the new size is not greater than the old one";
     case BB_SHRINK_WOULD_GROW: return "the new size is not smaller than the old one";
     case BB_INVALID_LAYOUT: return "size and alignment make no layout"; case BB_UNINITIALIZED: return "the handle is empty";
-    case BB_INVALID_ARGUMENT: return "the region, the buckets or the parties cannot be";
+    case BB_INVALID_ARGUMENT: return "the region, the buckets, the parties or the readers cannot be";
     case BB_ALREADY_INITIALIZED: return "the handle is not empty"; case BB_OTHER_POOL: return "it is of another pool or bump";
     case BB_NO_PARTY: return "no party is left to join"; case BB_MALLOC_REFUSED: return "malloc refused";
     case BB_LAYOUT_MISMATCH: return "the chunk cannot have the old layout"; case BB_NO_READER: return "it waits for no reader";
     case BB_MORE_THAN_RESERVED: return "the new size is greater than what is reserved";
-    case BB_NO_BUCKET: return "the region has no room for one bucket"; case BB_PARTIES_JOINED: return "not each party has left";
+    case BB_NO_BUCKET: return "the region has no room for the buckets"; case BB_PARTIES_JOINED: return "not each party has left";
     case BB_ONE_PARTY: return "the pool has no other party"; case BB_DETACHED_EMPTY: return "no detached bucket is there";
     case BB_READERS_LEFT: return "a reader has not released it"; case BB_DETACHED_FULL: return "a bucket is in it already";
     case BB_NOT_A_BUCKET: return "no bucket has the number, or begins at the place";
@@ -141,19 +143,17 @@ static inline const char *bb_text(uint32_t code) {
     }
 }
 
-#ifdef __GNUC__
 #define BB_MUST_USE __attribute__((warn_unused_result))
-#else
-#define BB_MUST_USE
-#endif
 
 // BB_EMPTY is a handle before its first use. BB_OF is a type's size and alignment: `bb_pool_allocate(&pool, BB_OF(message))`.
 #ifdef __cplusplus
 #define BB_EMPTY {nullptr, false}
 #define BB_OF(type) sizeof(type), alignof(type)
+#define BB_SIZE(number) static_cast<size_t>(number)
 #else
 #define BB_EMPTY {NULL, false}
 #define BB_OF(type) sizeof(type), __alignof__(type)
+#define BB_SIZE(number) ((size_t)(number))
 #endif
 
 // Handles, a type for each kind. `at` and `made` are not for the host.
@@ -219,12 +219,12 @@ uint32_t bb_one_chunk_info(bb_one_chunk *, struct bb_one_chunk_info *);
 // POOL: the region is cut into buckets of one layout, and each request gets a bucket. Each bucket is a stride behind the one
 // before it: the size of a bucket rounded up to its alignment. The stride, and how many bytes so many buckets need where the
 // region starts at a multiple of the alignment; anywhere else add the alignment less 1. Both are constants, and test nothing.
-#define BB_STRIDE(size, align) (((size_t)(size) + ((size_t)(align) - 1)) / (size_t)(align) * (size_t)(align))
-#define BB_BYTES_FOR(size, align, buckets) (BB_STRIDE(size, align) * (size_t)(buckets))
+#define BB_STRIDE(size, align) ((BB_SIZE(size) + (BB_SIZE(align) - 1)) / BB_SIZE(align) * BB_SIZE(align))
+#define BB_BYTES_FOR(size, align, buckets) (BB_STRIDE(size, align) * BB_SIZE(buckets))
 
 // The same of numbers that are known at run time alone: 0 where they make no bucket, and where it is more than PTRDIFF_MAX.
 static inline size_t bb_bytes_for(size_t size, size_t align, uint32_t buckets) {
-    const size_t most = (size_t)PTRDIFF_MAX;
+    const size_t most = BB_SIZE(PTRDIFF_MAX);
     if (size == 0 || align == 0 || (align & (align - 1)) != 0 || size > most - (align - 1)) return 0;
     return buckets > most / BB_STRIDE(size, align) ? 0 : BB_BYTES_FOR(size, align, buckets);
 }
@@ -255,8 +255,7 @@ BB_MUST_USE static inline uint32_t bb_pool_init_at_least(bb_pool *pool, size_t b
                                                          size_t size, uint32_t buckets) {
     struct bb_pool_info info;
     uint32_t code = bb_pool_init(pool, bucket_size, bucket_align, start, size);
-    if (code != BB_OK) return code;
-    if (bb_pool_info(pool, &info) == BB_OK && info.number_of_buckets >= buckets) return BB_OK;
+    if (code != BB_OK || (bb_pool_info(pool, &info) == BB_OK && info.number_of_buckets >= buckets)) return code;
     bb_pool_destroy(pool);
     return BB_NO_BUCKET;
 }
@@ -284,8 +283,7 @@ uint32_t bb_bump_party_info(bb_bump_party *, struct bb_bump_info *);
 
 // A bucket is given back through the party that holds it: the one that took it, or one that attached it (below). A return comes
 // before the next taking of that bucket (the steps are sequentially consistent), so its bytes need no further lock. To tell
-// ThreadSanitizer call `__tsan_release` before a return and `__tsan_acquire` after a taking (examples/c/threads.c).
-//
+// ThreadSanitizer call `__tsan_release` before a return and `__tsan_acquire` after a taking (examples/c/thread_sanitizer.h).
 // BB_INVALID_ARGUMENT and BB_NO_BUCKET as of `bb_pool_init`; the first also where there is no party.
 BB_MUST_USE uint32_t bb_shared_pool_init(bb_shared_pool *, size_t bucket_size, size_t bucket_align, bb_place start, size_t size,
                                          uint32_t parties);
@@ -295,6 +293,7 @@ uint32_t bb_shared_pool_destroy(bb_shared_pool *);
 struct bb_shared_pool_info { struct bb_pool_info pool; size_t refused; };
 uint32_t bb_shared_pool_info(const bb_shared_pool *, struct bb_shared_pool_info *);
 // As of the shared bump. `leave` also gives back what the party holds or caches, so the host uses no chunk in it any more.
+// `join`, `leave` and each `info` of a shared pool or its party take time in proportion to the number of buckets.
 BB_MUST_USE uint32_t bb_shared_pool_join(bb_shared_pool *, bb_pool_party *);
 uint32_t bb_shared_pool_leave(bb_shared_pool *, bb_pool_party *);
 uint32_t bb_pool_party_destroy(bb_pool_party *);
@@ -319,8 +318,7 @@ BB_MUST_USE static inline uint32_t bb_shared_pool_init_at_least(bb_shared_pool *
                                                                 bb_place start, size_t size, uint32_t parties, uint32_t buckets) {
     struct bb_shared_pool_info info;
     uint32_t code = bb_shared_pool_init(pool, bucket_size, bucket_align, start, size, parties);
-    if (code != BB_OK) return code;
-    if (bb_shared_pool_info(pool, &info) == BB_OK && info.pool.number_of_buckets >= buckets) return BB_OK;
+    if (code != BB_OK || (bb_shared_pool_info(pool, &info) == BB_OK && info.pool.number_of_buckets >= buckets)) return code;
     bb_shared_pool_destroy(pool);
     return BB_NO_BUCKET;
 }
@@ -346,6 +344,7 @@ BB_MUST_USE uint32_t bb_pool_party_detach(bb_pool_party *, bb_address place, siz
 BB_MUST_USE bb_answer bb_pool_party_attach(bb_pool_party *, bb_detached *);
 
 #ifdef __cplusplus
+#pragma GCC diagnostic pop
 }
 #endif
 #endif

@@ -1,6 +1,6 @@
 // C++17 over bb_memory.h, whose rules and codes hold here too: owners that destroy what they initialized, parties that leave when
 // they end, `std::unique_ptr` that gives its bucket back, and `std::pmr::memory_resource` over a bump, a pool and a party.
-// Refusals are values of an enum. Only a memory resource throws, `std::bad_alloc`, as containers ask of it.
+// Refusals are values: of an enum, or empty. Only a memory resource throws, `std::bad_alloc`, as containers ask of it.
 //
 //     alignas(64) static unsigned char region[BB_BYTES_FOR(64, 64, 16)];
 //
@@ -11,7 +11,8 @@
 //     auto number = bb::make<int>(party.get(), 7);                   // empty where the pool refuses
 //     bb::pool_resource nodes(party.get());
 //     std::pmr::list<int> numbers({1, 2, 3}, &nodes);
-// `get()` is the handle for each function of bb_memory.h.
+//     if (party.info()->held_buckets != 4) return;                   // no figures where there is no party
+// `get()` is the handle for each function of bb_memory.h. ThreadSanitizer is told of takings and returns that are made here.
 #ifndef BB_MEMORY_HPP
 #define BB_MEMORY_HPP
 
@@ -21,10 +22,22 @@
 #include <memory_resource>
 #include <mutex>
 #include <new>
+#include <optional>
 #include <type_traits>
 #include <utility>
 
 #include "bb_memory.h"
+
+#if defined(__SANITIZE_THREAD__)
+#define BB_HAS_THREAD_SANITIZER
+#elif defined(__has_feature)
+#if __has_feature(thread_sanitizer)
+#define BB_HAS_THREAD_SANITIZER
+#endif
+#endif
+#ifdef BB_HAS_THREAD_SANITIZER
+#include <sanitizer/tsan_interface.h>
+#endif
 
 namespace bb {
 
@@ -44,9 +57,24 @@ enum class [[nodiscard]] error : std::uint32_t {
 
 inline const char *text(error code) noexcept { return bb_text(static_cast<std::uint32_t>(code)); }
 
+// The figures of what is behind the handle, none where it is empty.
+template <class Figures, class Handle>
+std::optional<Figures> figures(std::uint32_t (*info)(Handle *, Figures *), std::remove_const_t<Handle> *of) noexcept {
+    Figures told{};
+    return info(of, &told) == BB_OK ? std::optional<Figures>(told) : std::nullopt;
+}
+inline auto info(bb_bump *of) noexcept { return figures(bb_bump_info, of); }
+inline auto info(bb_bump_party *of) noexcept { return figures(bb_bump_party_info, of); }
+inline auto info(bb_one_chunk *of) noexcept { return figures(bb_one_chunk_info, of); }
+inline auto info(bb_pool *of) noexcept { return figures(bb_pool_info, of); }
+inline auto info(bb_pool_party *of) noexcept { return figures(bb_pool_party_info, of); }
+inline auto info(bb_shared_pool *of) noexcept { return figures(bb_shared_pool_info, of); }
+
 // Owns a handle, which is empty until `init` and when it was moved from.
 template <class Handle, auto Init, auto Destroy>
-class owner {
+class owner;
+template <class Handle, class... Arguments, std::uint32_t (*Init)(Handle *, Arguments...), auto Destroy>
+class owner<Handle, Init, Destroy> {
   public:
     owner() noexcept = default;
     owner(owner &&other) noexcept : handle_(std::exchange(other.handle_, Handle BB_EMPTY)) {}
@@ -57,8 +85,8 @@ class owner {
     }
     ~owner() { Destroy(&handle_); }
     // Takes the arguments of the kind's `init` in bb_memory.h, behind the handle.
-    template <class... Arguments>
     error init(Arguments... arguments) noexcept { return static_cast<error>(Init(&handle_, arguments...)); }
+    auto info() noexcept { return bb::info(&handle_); }
     Handle *get() noexcept { return &handle_; }
     const Handle *get() const noexcept { return &handle_; }
 
@@ -70,6 +98,25 @@ using bump = owner<bb_bump, bb_bump_init, bb_bump_destroy>;
 using one_chunk = owner<bb_one_chunk, bb_one_chunk_init, bb_one_chunk_destroy>;
 using pool = owner<bb_pool, bb_pool_init, bb_pool_destroy>;
 using detached = owner<bb_detached, bb_detached_init, bb_detached_destroy>;
+
+// ThreadSanitizer doesn't see the library's steps, by which a bucket's return comes before its next taking, so it is told.
+#ifdef BB_HAS_THREAD_SANITIZER
+inline void tell_taking(void *place) noexcept { __tsan_acquire(place); }
+inline void tell_return(const void *place) noexcept { __tsan_release(const_cast<void *>(place)); }
+// A party that leaves gives back each bucket that it holds.
+inline void tell_leaving(bb_pool_party *party) noexcept {
+    bb_figure at = bb_pool_party_place_at(party, 0);
+    for (std::uint32_t number = 1; at.code == BB_OK; at = bb_pool_party_place_at(party, number++)) {
+        const void *place = reinterpret_cast<const void *>(at.number);
+        if (bb_pool_party_holds(party, place).number == 1) tell_return(place);
+    }
+}
+#else
+inline void tell_taking(void *) noexcept {}
+inline void tell_return(const void *) noexcept {}
+inline void tell_leaving(bb_pool_party *) noexcept {}
+#endif
+inline void tell_leaving(bb_bump_party *) noexcept {}
 
 // Owns what threads share, outlives its parties, and doesn't move. Parties join and leave under its lock, in any thread.
 template <class Handle, auto Init, auto Destroy, class PartyHandle, auto Join, auto Leave>
@@ -91,9 +138,11 @@ class shared : public owner<Handle, Init, Destroy> {
         void leave() noexcept {
             if (shared *of = std::exchange(of_, nullptr)) {
                 std::lock_guard<std::mutex> lock(of->lock_);
+                tell_leaving(&handle_);
                 Leave(of->get(), &handle_);
             }
         }
+        auto info() noexcept { return bb::info(&handle_); }
         PartyHandle *get() noexcept { return &handle_; }
         const PartyHandle *get() const noexcept { return &handle_; }
 
@@ -110,6 +159,11 @@ class shared : public owner<Handle, Init, Destroy> {
         error code = static_cast<error>(Join(this->get(), &into.handle_));
         if (code == error::ok) into.of_ = this;
         return code;
+    }
+    // Of a bump alone, whose parties have all left: nothing is used then.
+    error reset() noexcept {
+        std::lock_guard<std::mutex> lock(lock_);
+        return static_cast<error>(bb_shared_bump_reset(this->get()));
     }
 
   private:
@@ -130,10 +184,15 @@ inline bb_answer allocate(bb_bump_party *of, std::size_t size, std::size_t align
 }
 inline bb_answer allocate(bb_pool *of, std::size_t size, std::size_t align) { return bb_pool_allocate(of, size, align); }
 inline bb_answer allocate(bb_pool_party *of, std::size_t size, std::size_t align) {
-    return bb_pool_party_allocate(of, size, align);
+    bb_answer given = bb_pool_party_allocate(of, size, align);
+    if (given.code == BB_OK) tell_taking(given.place);
+    return given;
 }
-inline error deallocate(bb_pool *to, void *place) { return static_cast<error>(bb_pool_deallocate(to, place)); }
-inline error deallocate(bb_pool_party *to, void *place) { return static_cast<error>(bb_pool_party_deallocate(to, place)); }
+inline error deallocate(bb_pool *to, const void *place) { return static_cast<error>(bb_pool_deallocate(to, place)); }
+inline error deallocate(bb_pool_party *to, const void *place) {
+    tell_return(place);
+    return static_cast<error>(bb_pool_party_deallocate(to, place));
+}
 
 // Destroys a T, and gives its bucket back. With `void` it gives back alone.
 template <class T, class Handle>
@@ -175,6 +234,7 @@ class bump_resource final : public std::pmr::memory_resource {
 };
 
 // A resource over a pool or a party of one, which outlives it. Upstream serves what the pool refuses, and throws where it can't.
+// A place in the pool's buckets is never upstream's, also where the pool refuses the return or the party has left.
 template <class Handle>
 class pool_resource final : public std::pmr::memory_resource {
   public:
@@ -184,14 +244,23 @@ class pool_resource final : public std::pmr::memory_resource {
   private:
     void *do_allocate(std::size_t size, std::size_t align) override {
         bb_answer given = bb::allocate(from_, size, align);
-        return given.code == BB_OK ? given.place : upstream_->allocate(size, align);
+        if (given.code != BB_OK) return upstream_->allocate(size, align);
+        if (!has(given.place)) find_buckets();
+        return given.place;
     }
     void do_deallocate(void *place, std::size_t size, std::size_t align) override {
-        if (bb::deallocate(from_, place) != error::ok) upstream_->deallocate(place, size, align);
+        if (bb::deallocate(from_, place) != error::ok && !has(place)) upstream_->deallocate(place, size, align);
+    }
+    bool has(const void *place) const noexcept { return reinterpret_cast<std::uintptr_t>(place) - first_ < length_; }
+    void find_buckets() noexcept {
+        auto of = bb::info(from_);
+        first_ = of->start_address;
+        length_ = BB_STRIDE(of->bucket_size, of->max_alignment) * of->number_of_buckets;
     }
     bool do_is_equal(const std::pmr::memory_resource &other) const noexcept override { return this == &other; }
     Handle *from_;
     std::pmr::memory_resource *upstream_;
+    std::uintptr_t first_ = 0, length_ = 0;
 };
 
 }  // namespace bb

@@ -596,7 +596,8 @@ static void run_others(void) {
     EXPECT(refused(bb_pool_party_attach(&party, &detached), BB_READERS_LEFT) && is(bb_detached_release(&detached), 0));
     EXPECT(has_none(bb_detached_release(&detached), BB_NO_READER) && is(bb_detached_len(&detached), 40));
     EXPECT(given(bb_pool_party_attach(&party, &detached), sent.place));
-    EXPECT(bb_detached_share(&detached, 1) == BB_DETACHED_EMPTY && bb_detached_destroy(&detached) == BB_OK);
+    EXPECT(bb_detached_share(&detached, 1) == BB_DETACHED_EMPTY && has_none(bb_detached_release(&detached), BB_NO_READER));
+    EXPECT(bb_detached_destroy(&detached) == BB_OK);
     EXPECT(bb_detached_share(&detached, 1) == BB_UNINITIALIZED && has_none(bb_detached_release(&detached), BB_UNINITIALIZED));
     EXPECT(bb_shared_pool_leave(&pool, &party) == BB_OK && bb_shared_pool_leave(&far, &stranger) == BB_OK);
     EXPECT(bb_shared_pool_destroy(&pool) == BB_OK && bb_shared_pool_destroy(&far) == BB_OK);
@@ -607,6 +608,26 @@ static void run_others(void) {
     EXPECT(bb_shared_bump_join(&bump, &taker) == BB_OK && bb_shared_bump_leave(&other, &taker) == BB_OTHER_POOL);
     EXPECT(bb_shared_bump_leave(&bump, &taker) == BB_OK && bb_shared_bump_destroy(&bump) == BB_OK);
     EXPECT(bb_shared_bump_destroy(&other) == BB_OK);
+}
+
+// A shared pool may lie in a bucket of another one but bucket 0, where both would begin at one place. Each pool refuses what is
+// the other's.
+static void run_nested(void) {
+    bb_shared_pool outer = BB_EMPTY, inner = BB_EMPTY;
+    bb_pool_party of_outer = BB_EMPTY, of_inner = BB_EMPTY;
+    bb_detached detached = BB_EMPTY;
+    EXPECT(bb_shared_pool_init(&outer, 1024, 8, 4096, 2048, 2) == BB_OK && bb_shared_pool_join(&outer, &of_outer) == BB_OK);
+    bb_answer first = bb_pool_party_allocate(&of_outer, 1024, 8), second = bb_pool_party_allocate(&of_outer, 1024, 8);
+    EXPECT(first.code == BB_OK && second.code == BB_OK && first.place + second.place == 4096 + 5120);
+    EXPECT(bb_shared_pool_init(&inner, 64, 8, 5120, 1024, 2) == BB_OK && bb_shared_pool_join(&inner, &of_inner) == BB_OK);
+    bb_answer nested = bb_pool_party_allocate(&of_inner, 8, 8);
+    EXPECT(nested.code == BB_OK && nested.place >= 5120 && nested.place < 6144 && bb_detached_init(&detached) == BB_OK);
+    EXPECT(bb_pool_party_detach(&of_inner, nested.place, 8, &detached) == BB_OK);
+    EXPECT(refused(bb_pool_party_attach(&of_outer, &detached), BB_OTHER_POOL));
+    EXPECT(bb_shared_pool_leave(&outer, &of_inner) == BB_OTHER_POOL && bb_shared_pool_leave(&inner, &of_outer) == BB_OTHER_POOL);
+    EXPECT(given(bb_pool_party_attach(&of_inner, &detached), nested.place) && bb_detached_destroy(&detached) == BB_OK);
+    EXPECT(bb_shared_pool_leave(&inner, &of_inner) == BB_OK && bb_shared_pool_destroy(&inner) == BB_OK);
+    EXPECT(bb_shared_pool_leave(&outer, &of_outer) == BB_OK && bb_shared_pool_destroy(&outer) == BB_OK);
 }
 
 // A bucket goes from one party to another, and each refusal comes by its first cause.
@@ -713,6 +734,7 @@ int main(void) {
     run_parties_come_and_go();
     run_caching();
     run_others();
+    run_nested();
     run_detached();
     run_one_party();
     puts("calls: each is answered as it has to be");

@@ -1,5 +1,6 @@
 // Containers of the standard library that live in a bump, in a pool and in a pool that threads share, by std::pmr; values that
 // give their buckets back when they end; and parties that leave when their threads end.
+#include <atomic>
 #include <cstdio>
 #include <cstdlib>
 #include <list>
@@ -35,18 +36,6 @@ bool throws_bad_alloc(Call call) {
     return false;
 }
 
-std::size_t held(bb_pool *pool) {
-    struct bb_pool_info info;
-    expect(bb_pool_info(pool, &info) == BB_OK, "a pool has figures");
-    return info.held_buckets;
-}
-
-std::size_t held(bb_pool_party *party) {
-    struct bb_pool_info info;
-    expect(bb_pool_party_info(party, &info) == BB_OK, "a party has figures");
-    return info.held_buckets;
-}
-
 // Strings of any length lie one behind another in a bump.
 void strings_in_a_bump() {
     bb::bump bump;
@@ -59,8 +48,7 @@ void strings_in_a_bump() {
     expect(lines[7].back() == '7' && lines[7].get_allocator().resource() == &lines_of, "each line is there");
     expect(throws_bad_alloc([&] { std::pmr::vector<char> all(sizeof region, &lines_of); }), "a full bump throws");
     lines_of.deallocate(lines_of.allocate(0, 1), 0, 1);
-    struct bb_bump_info info;
-    expect(bb_bump_info(bump.get(), &info) == BB_OK && info.used_space > 20 * 56, "the bump has them");
+    expect(bump.info()->used_space > 20 * 56, "the bump has them");
 }
 
 // Nodes of one size are buckets of a pool. What it can't serve comes from upstream.
@@ -73,21 +61,21 @@ void nodes_in_a_pool() {
     std::pmr::map<int, int> squares(&nodes);
     for (int number = 0; number < 100; number++)
         squares[number] = number * number;
-    expect(squares[99] == 9801 && held(pool.get()) == 100, "each node has a bucket");
+    expect(squares[99] == 9801 && pool.info()->held_buckets == 100, "each node has a bucket");
     expect(throws_bad_alloc([&] {
                for (int number = 100; number < 200; number++)
                    squares[number] = 0;
            }), "a full pool throws");
     squares.clear();
-    expect(held(pool.get()) == 0, "each bucket is back");
+    expect(pool.info()->held_buckets == 0, "each bucket is back");
 
     bb::pool_resource with_heap(pool.get(), std::pmr::new_delete_resource());
     std::pmr::vector<int> grows(&with_heap);
     for (int number = 0; number < 1000; number++)
         grows.push_back(number);
-    expect(grows[999] == 999 && held(pool.get()) == 0, "a vector that outgrew its bucket gave it back");
+    expect(grows[999] == 999 && pool.info()->held_buckets == 0, "a vector that outgrew its bucket gave it back");
     bb::pool moved(std::move(pool));
-    expect(pool.get()->made == false && held(moved.get()) == 0, "an owner moves");
+    expect(!pool.info() && moved.info()->held_buckets == 0, "an owner moves");
 }
 
 struct message {
@@ -110,14 +98,17 @@ void values_in_a_pool() {
         auto second = bb::make<message>(pool.get(), 8);
         expect(first && first->number == 7 && !second && message::alive == 1, "the pool has one bucket");
     }
-    expect(message::alive == 0 && held(pool.get()) == 0, "a value gives its bucket back");
+    expect(message::alive == 0 && pool.info()->held_buckets == 0, "a value gives its bucket back");
+    auto read = bb::make<const message>(pool.get(), 7);
+    expect(read->number == 7 && pool.info()->held_buckets == 1, "a value may be constant");
+    read.reset();
     bool thrown = false;
     try {
         static_cast<void>(bb::make<message>(pool.get(), -1));
     } catch (const std::invalid_argument &) {
         thrown = true;
     }
-    expect(thrown && held(pool.get()) == 0, "a constructor that throws loses no bucket");
+    expect(thrown && pool.info()->held_buckets == 0, "a constructor that throws loses no bucket");
 }
 
 // Threads come and go: each has a party, which leaves when the thread ends, also with buckets that it didn't give back.
@@ -134,7 +125,7 @@ void lists_in_threads() {
                 std::pmr::list<int> list(30, number, &nodes);
                 for (int each : list)
                     expect(each == number, "a node has what its thread wrote");
-                expect(held(party.get()) == 30, "each node has a bucket");
+                expect(party.info()->held_buckets == 30, "each node has a bucket");
                 auto left_behind = bb::make<int>(party.get(), number);
                 expect(left_behind.release() != nullptr, "a value isn't given back");
             });
@@ -146,7 +137,71 @@ void lists_in_threads() {
     moved = std::move(last);
     bb::pool_resource nodes(moved.get());
     std::pmr::list<int> list(buckets, 1, &nodes);
-    expect(held(moved.get()) == buckets, "every bucket came back");
+    expect(moved.info()->held_buckets == buckets && !last.info(), "every bucket came back");
+    expect(pool.info()->pool.held_buckets == buckets && pool.info()->refused == 0, "any thread sees it");
+}
+
+// Two threads in turn make a value in the one bucket, and give it back; at last one leaves with it. The turns order no memory, so
+// the checker of threads would see a race, were it told of no taking or no return.
+void values_in_threads() {
+    constexpr int turns = 1000;
+    bb::shared_pool pool;
+    expect_ok(pool.init(BB_OF(int), region, sizeof(int), 2));
+    std::atomic<int> turn{0};
+    auto run = [&](int own) {
+        bb::pool_party party;
+        expect_ok(pool.join(party));
+        for (int at = own; at < turns; at += 2) {
+            while (turn.load(std::memory_order_relaxed) != at)
+                std::this_thread::yield();
+            auto value = bb::make<int>(party.get(), at);
+            expect(value && *value == at, "the bucket is there");
+            if (at == turns - 2) {
+                expect(value.release() != nullptr, "a value isn't given back");
+                party.leave();
+            }
+            value.reset();
+            turn.store(at + 1, std::memory_order_relaxed);
+        }
+    };
+    std::thread one(run, 0), other(run, 1);
+    one.join();
+    other.join();
+    expect(pool.info()->pool.held_buckets == 0, "each bucket is back");
+}
+
+// The heap, which counts what comes back.
+struct counting : std::pmr::memory_resource {
+    int returned = 0;
+    void *do_allocate(std::size_t size, std::size_t align) override {
+        return std::pmr::new_delete_resource()->allocate(size, align);
+    }
+    void do_deallocate(void *place, std::size_t size, std::size_t align) override {
+        returned++;
+        std::pmr::new_delete_resource()->deallocate(place, size, align);
+    }
+    bool do_is_equal(const std::pmr::memory_resource &other) const noexcept override { return this == &other; }
+};
+
+// What the pool gave never goes upstream: not where another party holds it, and not where the party has left.
+void places_of_the_pool() {
+    bb::shared_pool pool;
+    expect_ok(pool.init(bucket, bucket, region, sizeof region, 2));
+    bb::pool_party party, other;
+    expect_ok(pool.join(party));
+    expect_ok(pool.join(other));
+    counting heap;
+    bb::pool_resource nodes(party.get(), &heap);
+    void *first = nodes.allocate(1, 1), *last = nodes.allocate(1, 1), *large = nodes.allocate(2 * bucket, 1);
+    auto value = bb::make<int>(other.get(), 7);
+    nodes.deallocate(value.get(), 1, 1);
+    nodes.deallocate(first, 1, 1);
+    nodes.deallocate(first, 1, 1);
+    party.leave();
+    nodes.deallocate(last, 1, 1);
+    expect(heap.returned == 0, "upstream gets no bucket");
+    nodes.deallocate(large, 2 * bucket, 1);
+    expect(heap.returned == 1 && *value == 7, "upstream gets what it gave");
 }
 
 void words_in_a_shared_bump() {
@@ -157,9 +212,10 @@ void words_in_a_shared_bump() {
         expect_ok(bump.join(party));
         bb::bump_resource words_of(party.get());
         std::pmr::vector<std::uint64_t> words(100, 7, &words_of);
-        expect(words[99] == 7 && bb_shared_bump_reset(bump.get()) == BB_PARTIES_JOINED, "a party has joined");
+        expect(words[99] == 7 && bump.reset() == bb::error::parties_joined, "a party has joined");
+        expect(party.info()->used_space == 800, "its words are used");
     }
-    expect(bb_shared_bump_reset(bump.get()) == BB_OK, "it left");
+    expect_ok(bump.reset());
 }
 
 }  // namespace
@@ -169,6 +225,8 @@ int main() {
     nodes_in_a_pool();
     values_in_a_pool();
     lists_in_threads();
+    values_in_threads();
+    places_of_the_pool();
     words_in_a_shared_bump();
     std::puts("containers: every bucket came back");
     return 0;

@@ -13,6 +13,7 @@
 #include <string.h>
 
 #include "bb_memory.h"
+#include "thread_sanitizer.h"
 
 enum { SENDERS = 2, RECEIVERS = 2, MESSAGES = 5000, BUCKETS = 12, BUCKET_SIZE = 64, SLOTS = 8 };
 
@@ -40,34 +41,6 @@ typedef struct {
 } worker;
 
 static worker senders[SENDERS], receivers[RECEIVERS];
-
-#if defined(__SANITIZE_THREAD__)
-#define HAS_THREAD_SANITIZER
-#elif defined(__has_feature)
-#if __has_feature(thread_sanitizer)
-#define HAS_THREAD_SANITIZER
-#endif
-#endif
-
-// A return of a bucket comes before its next taking, by steps that the checker of threads can't see in the library.
-#ifdef HAS_THREAD_SANITIZER
-#ifdef __cplusplus
-extern "C" {
-#endif
-void __tsan_acquire(void *at);
-void __tsan_release(void *at);
-#ifdef __cplusplus
-}
-#endif
-
-static void tell_taking(void *place) { __tsan_acquire(place); }
-
-static void tell_return(void *place) { __tsan_release(place); }
-#else
-static void tell_taking(void *place) { (void)place; }
-
-static void tell_return(void *place) { (void)place; }
-#endif
 
 static void expect(int holds, const char *what) {
     if (!holds) {

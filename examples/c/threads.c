@@ -1,8 +1,5 @@
 // Four threads over one shared pool and one shared bump. Each thread has a party of both, fills each chunk with a pattern of its
 // own, checks that nobody else wrote there, and gives the bucket back. What one thread holds, another can't return.
-//
-// A return of a bucket comes before its next taking, by steps in the library. ThreadSanitizer doesn't see these, since the
-// library isn't built for it, so they are told to it.
 #define _POSIX_C_SOURCE 200809L
 #include <pthread.h>
 #include <sched.h>
@@ -11,6 +8,7 @@
 #include <stdlib.h>
 
 #include "bb_memory.h"
+#include "thread_sanitizer.h"
 
 enum { THREADS = 4, ROUNDS = 20000, HELD = 2, BUCKETS = 8, BUCKET_SIZE = 64, SHARE = 40, CHUNKS = 20000, CHUNK = 8 };
 
@@ -26,33 +24,6 @@ typedef struct {
 } worker;
 
 static worker workers[THREADS];
-
-#if defined(__SANITIZE_THREAD__)
-#define HAS_THREAD_SANITIZER
-#elif defined(__has_feature)
-#if __has_feature(thread_sanitizer)
-#define HAS_THREAD_SANITIZER
-#endif
-#endif
-
-#ifdef HAS_THREAD_SANITIZER
-#ifdef __cplusplus
-extern "C" {
-#endif
-void __tsan_acquire(void *at);
-void __tsan_release(void *at);
-#ifdef __cplusplus
-}
-#endif
-
-static void tell_taking(void *place) { __tsan_acquire(place); }
-
-static void tell_return(void *place) { __tsan_release(place); }
-#else
-static void tell_taking(void *place) { (void)place; }
-
-static void tell_return(void *place) { (void)place; }
-#endif
 
 static void expect(int holds, const char *what) {
     if (!holds) {

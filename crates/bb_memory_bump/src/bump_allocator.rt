@@ -23,16 +23,7 @@ use std::marker::Model;
 
 /// Gives chunks in order, each at the first suitable place behind the one before. All are given back at once.
 ///
-/// ```
-/// let mut bump = BumpAllocator::new(4096, 1024);
-/// let layout = Layout::from_size_align(48, 4).unwrap();
-/// let chunk = bump.allocate(layout)?;
-/// let (place, len, used) = (chunk.place(), chunk.len(), bump.used_space());
-/// prove!(place == 4096 && len == 48 && used == 48);
-/// bump.deallocate(place, layout);
-/// let free = bump.free_space();
-/// prove!(free == 1024);
-/// ```
+/// Example: `comments::bump` of `crates/examples`.
 #[derive(Debug, Drop)]
 pub struct BumpAllocator {
     start: usize,

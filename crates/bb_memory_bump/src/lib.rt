@@ -9,9 +9,6 @@
 //!   - `all_parties`: what a user has who met all of them.
 //!
 //! Crate `bb_memory` passes all of it on.
-//!
-//! The examples in the comments of this crate stand in `crates/examples/src/comments.rt`, where they are proved; its first
-//! lines have the imports, and the attribute that computes least places.
 #![tactic(auto)]
 
 pub use bb_memory_traits::{allocator, layout, region};

@@ -40,18 +40,7 @@ use std::marker::{Brand, Model};
 /// who has all parties is told so by [`meet_all`](SharedBumpAllocator::meet_all), and then has [`shared_bump_meeting_law`];
 /// [`shared_bump_law`] says what a user has of one party, and of two that met.
 ///
-/// ```
-/// let Ok((shared, mut parties)) = BumpAllocator::new(4096, 64).share(alloc, 1) else {
-///     return Err(AllocationError::OutOfMemory);
-/// };
-/// let mut party = parties.pop().unwrap();
-/// let chunk = shared.allocate(&mut party, Layout::from_size_align(40, 1).unwrap())?;
-/// let (place, len) = (chunk.place(), chunk.len());
-/// prove!(4096 <= place && len == 40);
-/// let bump = shared.into_owner(party);
-/// let total = bump.total_space();
-/// prove!(total == 64);
-/// ```
+/// Example: `comments::shared_bump` of `crates/examples`.
 #[derive(Drop)]
 pub struct SharedBumpAllocator {
     position: Position,

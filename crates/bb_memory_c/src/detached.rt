@@ -10,8 +10,8 @@ use crate::call::{free, is_made, keep};
 use crate::code;
 use crate::handle::{DetachedHandle, Handle, PoolPartyHandle};
 use crate::shared_pool::JoinedPool;
-use bb_memory_traits::layout::Chunk;
 use bb_memory_shared_pools::shared_pool::{DetachedBucket, by_number};
+use bb_memory_traits::layout::Chunk;
 use std::alloc::Global;
 use std::marker::Model;
 

@@ -7,8 +7,8 @@ ghost use Rattle.bb_memory_c.specs.Answers.{invalid_argument, invalid_layout, no
 ghost use Rattle.bb_memory_c.specs.Calls.{FailsOf, HasRoom, IsCuttable, IsOf, LacksRoomOf, MayBeShared};
 
 use crate::code;
-use bb_memory_traits::layout::Layout;
 use bb_memory_owned::pool_allocator::{FixedSizePoolAllocator, PoolAllocator};
+use bb_memory_traits::layout::Layout;
 use std::alloc::Global;
 
 /// The layout of this size and this alignment, if they make one.

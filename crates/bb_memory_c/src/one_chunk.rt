@@ -13,9 +13,9 @@ use crate::code;
 use crate::handle::{Handle, OneChunkHandle};
 use crate::kind::{Gives, Keeps};
 use crate::layout::layouts_of;
+use bb_memory_owned::one_chunk_allocator::OneChunkAllocator;
 use bb_memory_traits::allocator::{AllocationError, Allocator, BaseAllocator};
 use bb_memory_traits::layout::{Chunk, Layout};
-use bb_memory_owned::one_chunk_allocator::OneChunkAllocator;
 use std::alloc::Global;
 
 /// Makes a one-chunk allocator over the region of `size` bytes at `start`, behind a handle that has to be empty. The start

@@ -13,8 +13,8 @@ use crate::code;
 use crate::handle::PoolHandle;
 use crate::kind::{Bucketed, Gives, Keeps};
 use crate::layout::cut_into;
-use bb_memory_traits::layout::{Chunk, Layout};
 use bb_memory_owned::pool_allocator::{AllocationError, BaseAllocator, PoolAllocator};
+use bb_memory_traits::layout::{Chunk, Layout};
 use std::alloc::Global;
 use std::marker::Model;
 

@@ -22,9 +22,11 @@ use crate::code;
 use crate::handle::{Handle, PoolPartyHandle, SharedPoolHandle};
 use crate::kind::{Bucketed, Gives, Keeps, Shares};
 use crate::layout::cut_into;
-use bb_memory_traits::layout::{Chunk, Layout};
 use bb_memory_owned::pool_allocator::AllocationError;
-use bb_memory_shared_pools::shared_pool::{CachingParty, PoolParty, SharedPoolAllocator, by_number};
+use bb_memory_shared_pools::shared_pool::{
+    CachingParty, PoolParty, SharedPoolAllocator, by_number,
+};
+use bb_memory_traits::layout::{Chunk, Layout};
 use std::alloc::Global;
 use std::marker::Model;
 use std::sync::Arc;

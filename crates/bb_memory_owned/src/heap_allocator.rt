@@ -54,18 +54,7 @@ impl HeapBlock {
 
 /// Gives blocks of bytes from the language's allocator.
 ///
-/// ```
-/// let heap = HeapAllocator::new(alloc);
-/// let four = Layout::from_size_align(4, 1).unwrap();
-/// let six = Layout::from_size_align(6, 1).unwrap();
-/// let mut block = heap.allocate(four)?;
-/// block.as_mut_slice()[0] = 7;
-/// let Ok(block) = heap.grow(block, four, six) else {
-///     return Err(AllocationError::OutOfMemory);
-/// };
-/// let (first, last) = (block.as_slice()[0], block.as_slice()[5]);
-/// prove!(first == 7 && last == 0);
-/// ```
+/// Example: `comments::heap` of `crates/examples`.
 #[derive(Drop)]
 pub struct HeapAllocator {
     alloc: Global,

@@ -9,9 +9,6 @@
 //! - `heap_allocator`: blocks of bytes from the language's allocator.
 //!
 //! The bump stands in crate `bb_memory_bump`, beside the one that threads share. Crate `bb_memory` passes all of it on.
-//!
-//! The examples in the comments of this crate stand in `crates/examples/src/comments.rt`, where they are proved; its first
-//! lines have the imports, and the attribute that computes least places.
 #![tactic(auto)]
 
 pub use bb_memory_traits::{allocator, layout, region};

@@ -23,20 +23,7 @@ use std::marker::Model;
 
 /// Gives one chunk at a time: all of the region from the first suitable place on. It can be resized in place.
 ///
-/// ```
-/// let mut one = OneChunkAllocator::new(4096, 1024);
-/// let layout = Layout::from_size_align(48, 4).unwrap();
-/// let small = Layout::from_size_align(32, 4).unwrap();
-/// let chunk = one.allocate(layout)?;
-/// let (place, len) = (chunk.place(), chunk.len());
-/// prove!(place == 4096 && len == 1024);
-/// let chunk = one.shrink(place, layout, small).unwrap();
-/// let (same_place, len) = (chunk.place(), chunk.len());
-/// prove!(same_place == 4096 && len == 32);
-/// one.deallocate(place, layout);
-/// let available = one.has_chunk_available();
-/// prove!(available);
-/// ```
+/// Example: `comments::one_chunk` of `crates/examples`.
 #[derive(Debug, Drop)]
 pub struct OneChunkAllocator {
     start: usize,
@@ -90,12 +77,7 @@ impl OneChunkAllocator {
     /// Tests that the chunk that is out has this place, so that it may be given back: true exactly where `deallocate` may be
     /// called with the place.
     ///
-    /// ```
-    /// let mut one = OneChunkAllocator::new(4096, 1024);
-    /// let chunk = one.allocate(Layout::empty())?;
-    /// let (here, behind) = (one.holds(chunk.place()), one.holds(4097));
-    /// prove!(here && !behind);
-    /// ```
+    /// Example: `comments::one_chunk_held` of `crates/examples`.
     #[inline(always)]
     pub fn holds(&self, place: usize) -> bool
         ensures value { IsTrue result ↔ (self.now.kept ≡ Some place) }

@@ -70,19 +70,7 @@ impl UninitPoolAllocator {
 /// Gives buckets of one layout. Which buckets are held is kept in words of 64 bits, which take memory once, in
 /// [`UninitPoolAllocator::init`].
 ///
-/// ```
-/// pool_count_law();
-/// let bucket = Layout::from_size_align(128, 8).unwrap();
-/// let Ok(mut pool) = PoolAllocator::new_uninit(bucket, 4096, 1024).init(alloc) else {
-///     return Err(AllocationError::OutOfMemory);
-/// };
-/// let count = pool.number_of_buckets();
-/// prove!(count == 8);
-/// let chunk = pool.allocate(Layout::from_size_align(48, 4).unwrap())?;
-/// let len = chunk.len();
-/// prove!(len == 48);
-/// pool.deallocate_bucket(chunk.place());
-/// ```
+/// Example: `comments::pool` of `crates/examples`.
 pub type PoolAllocator<A> = BucketPool<Words<A>>;
 
 // Functions that have no part in index words stand on one instance, so that callers name the type alone.

@@ -10,9 +10,6 @@
 //! - `detached`: buckets on their way from one party to another.
 //! - `figures`: how many buckets are held, and how many requests were refused, for any thread.
 //! - `fixed_size`: the pool of at most a constant of buckets.
-//!
-//! The examples in the comments of this crate stand in `crates/examples/src/comments.rt`, where they are proved; its first
-//! lines have the imports, and the attribute that computes least places.
 #![tactic(auto)]
 
 pub mod shared_pool;

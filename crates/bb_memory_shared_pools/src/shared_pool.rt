@@ -23,10 +23,12 @@ mod next_fit;
 mod party;
 mod rule;
 
-pub use bb_memory_traits::allocator::{AllocationError, AllocationGrowError, AllocationShrinkError};
-use bb_memory_traits::layout::Layout;
-use bb_memory_geometry::geometry::Geometry;
 pub use all_parties::shared_pool_meeting_law;
+use bb_memory_geometry::geometry::Geometry;
+pub use bb_memory_traits::allocator::{
+    AllocationError, AllocationGrowError, AllocationShrinkError,
+};
+use bb_memory_traits::layout::Layout;
 pub use bucket::Bucket;
 use buckets::SharedBucketPool;
 pub use caching::CachingParty;
@@ -47,16 +49,7 @@ use std::alloc::Global;
 /// all parties is told by `meet_all` that one interleaving has all their logs and no other steps; what follows is
 /// [`shared_pool_meeting_law`].
 ///
-/// ```
-/// pool_count_law();
-/// let bucket = Layout::from_size_align(128, 8).unwrap();
-/// let (pool, mut parties) = SharedPoolAllocator::new(alloc, bucket, 4096, 1024, 1)?;
-/// let mut party = parties.pop().unwrap();
-/// let taken = pool.allocate(&mut party, Layout::from_size_align(48, 4).unwrap())?;
-/// let (number, len) = (taken.number(), taken.chunk().len());
-/// prove!(number < 8 && len == 48);
-/// pool.deallocate_bucket(&mut party, taken);
-/// ```
+/// Example: `comments::shared_pool` of `crates/examples`.
 pub type SharedPoolAllocator = SharedBucketPool<0, 0>;
 
 impl SharedPoolAllocator {

@@ -14,11 +14,7 @@ use thiserror::Error;
 /// A size in bytes and an alignment, as `core::alloc::Layout` has them: the alignment is a power of two, and the size
 /// rounded up to a multiple of it is at most `isize::MAX`.
 ///
-/// ```
-/// let layout = Layout::from_size_align(48, 4)?;
-/// let (size, align) = (layout.size(), layout.align());
-/// prove!(size == 48 && align == 4);
-/// ```
+/// Example: `comments::layout` of `crates/examples`.
 #[derive(Debug, Clone, Copy, PartialEq, Eq)]
 pub struct Layout {
     pub size: usize,
@@ -106,11 +102,7 @@ pub fn layout_law()
 /// The least multiple of `align` that isn't below `v`, or `None` where that exceeds `usize::MAX`. The alignment has to be
 /// a power of two, as that of a [`Layout`] is.
 ///
-/// ```
-/// let eight = Layout::from_size_align(16, 8)?;
-/// let rounded = round_up(4097, eight.align());
-/// prove!(rounded == Some(4104));
-/// ```
+/// Example: `comments::rounding` of `crates/examples`.
 #[inline(always)]
 pub fn round_up(v: usize, align: usize) -> Option<usize>
     requires { IsPowerOfTwo align }

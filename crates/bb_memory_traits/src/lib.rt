@@ -8,9 +8,6 @@
 //!   of commands over any allocator.
 //!
 //! Crate `bb_memory_base` passes all of it on, and adds the machines of atomic steps.
-//!
-//! The examples in the comments of this crate stand in `crates/examples/src/comments.rt`, where they are proved; its first
-//! lines have the imports, and the attribute that computes least places.
 #![tactic(auto)]
 
 pub mod allocator;

@@ -11,18 +11,7 @@ use std::marker::Model;
 
 /// The memory that an allocator hands out: bytes at places from a start on. It serves one owner.
 ///
-/// ```
-/// let mut region = Region::new(4096, vec![in alloc; 7; 1024]?);
-/// let Some(chunk) = Chunk::new(4100, 4) else {
-///     return Ok(());
-/// };
-/// region.chunk_mut(chunk)[0] = 1;
-/// let byte = region.bytes()[4];
-/// prove!(byte == 1);
-/// region.zero(chunk);
-/// let byte = region.chunk(chunk)[0];
-/// prove!(byte == 0);
-/// ```
+/// Example: `comments::region` of `crates/examples`.
 #[derive(Drop)]
 pub struct Region {
     start: usize,

@@ -29,15 +29,7 @@ struct Sample {
 /// The samples are kept in the order of their ids, which is the order of the loans, so a sample is found by halving. One
 /// that leaves moves those before it or those behind it, whichever are fewer: the oldest and the newest move none.
 ///
-/// ```
-/// let mut book = LoanBook::new(alloc, allocator);
-/// let (id, _) = book.loan(48)?;
-/// prove!(id == 0);
-/// book.publish(id, 2)?;
-/// let first = book.give_back(id)?;
-/// let second = book.give_back(id)?;
-/// prove!(!first && second);
-/// ```
+/// Example: `comments::loans` of `crates/examples`.
 #[derive(Drop)]
 pub struct LoanBook<A: Allocator> {
     allocator: A,

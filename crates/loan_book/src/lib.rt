@@ -8,9 +8,6 @@
 //! - `book`: the loan book and its calls.
 //! - `run`: calls one after the other, and what a list of them does.
 //! - `laws`: what holds of every book and every answer.
-//!
-//! The examples in the comments of this crate stand in `crates/examples/src/comments.rt`, where they are proved; its first
-//! lines have the imports, and the attribute that computes least places.
 #![tactic(auto)]
 
 mod book;

@@ -2,7 +2,6 @@
 //! step.
 mod checks;
 mod faults;
-mod marks;
 mod out_of_memory;
 mod rows;
 mod table;

@@ -4,7 +4,6 @@ mod buckets;
 mod bumps;
 mod checks;
 mod laws;
-mod marks;
 mod out_of_memory;
 mod slots;
 mod threads;

@@ -1,5 +1,5 @@
 -- Threads that share a bump or a pool, each with a party of its own.
-use Rattle.std.specs.Prelude.{◌≡◌, ◌+◌, ◌%◌, ◌≤◌, ℕ, All, List, Result, Ok, length}
+use Rattle.std.specs.Prelude.{◌≡◌, ◌+◌, ◌%◌, ◌≤◌, [], ℕ, All, List, Result, Ok, length}
 use Rattle.std.proofs.lemmas.List.Elements.{All-contains, All-get_or}
 use Rattle.std.proofs.lemmas.Grind.{common_steps}
 use Rattle.std.proofs.lemmas.Option.{gets}
@@ -38,13 +38,14 @@ pub record MayTakeNextFit (old : PoolParty) (layout : Layout) (answer : Result T
 abbrev pub AsksNextFit : Layout → PoolParty → PoolParty → Type 0
 AsksNextFit = Asks MayTakeNextFit
 
--- the party's last steps are a request by next fit
+-- the party's steps are one request by next fit
 pub record HasAskedNextFit (layout : Layout) (party : PoolParty) : Type 0 where
   pub before : PoolParty
   pub answer : Result TakenBucket AllocationError
   pub asked : MayTakeNextFit before layout answer party
+  pub none : before.log ≡ []
 
--- as many parties come back as went out, all of them this pool's, and each has asked by next fit
+-- as many parties come back as went out, all of them this pool's, and the steps of each are one request by next fit
 pub record AllComeBack (layout : Layout) (pool : SharedPool) (old new : List PoolParty) : Type 0 where
   pub theirs : All (λ party. party.allocator ≡ pool) new
   pub all : length new ≡ length old
@@ -52,14 +53,15 @@ pub record AllComeBack (layout : Layout) (pool : SharedPool) (old new : List Poo
 
 -- A BUMP that threads have carved up
 
--- the party's last steps are a request for this layout
+-- the party's steps are one request for this layout
 pub record HasAsked (layout : Layout) (party : BumpParty) : Type 0 where
   pub before : BumpParty
   pub answer : Result Chunk AllocationError
   pub asked : MayTake before layout answer party
+  pub none : before.log ≡ []
 
--- Workers, so many, have each asked for this layout, of a region of which some was used. The space used then agrees with their
--- logs, which are all, and is the greatest position that one of them has seen.
+-- Workers, so many, have each asked for this layout once, of a region of which some was used. The space used then agrees with
+-- their logs, which are all, and is the greatest position that one of them has seen.
 pub record IsCarved (region : Region) (used_before workers : ℕ) (layout : Layout) (used : ℕ) : Type 0 where
   pub parties : List BumpParty
   pub agree : AgreeAt (scene_at region used_before workers) used parties

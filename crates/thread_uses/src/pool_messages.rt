@@ -4,9 +4,9 @@ ghost use Rattle.bb_memory_pool_machine.specs.PoolLogs.{IsHeldAfter};
 ghost use Rattle.bb_memory_shared_pools.specs.SharedPool.{MayTakeBucket, chunk_of};
 ghost use Rattle.thread_uses.specs.Threads.{KeepsBuckets, MayTakeNextFit, Sends, having_received};
 
+use bb_memory_shared_pools::shared_pool::{DetachedBucket, PoolParty, SharedPoolAllocator};
 use bb_memory_traits::allocator::AllocationError;
 use bb_memory_traits::layout::{Chunk, Layout};
-use bb_memory_shared_pools::shared_pool::{DetachedBucket, PoolParty, SharedPoolAllocator};
 
 /// Takes a bucket for a message, and detaches it. The token may go to any thread.
 pub fn send(

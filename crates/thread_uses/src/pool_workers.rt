@@ -1,12 +1,12 @@
 //! Threads that take buckets of one pool, and what is known once all of them are back.
-ghost use Rattle.std.specs.Prelude.{◌≡◌, All, IfOk, length};
+ghost use Rattle.std.specs.Prelude.{◌≡◌, [], All, IfOk, length};
 ghost use Rattle.bb_memory_traits.specs.declared.layout.Layout.{Layout};
 ghost use Rattle.bb_memory_shared_pools.specs.SharedPool.{AreFresh, HaveMet, HoldApart, PoolParty};
 ghost use Rattle.thread_uses.specs.Threads.{AllComeBack, AsksNextFit, ComesBack, HasAskedNextFit};
 
-use bb_memory_traits::layout::Layout;
 use bb_memory_owned::pool_allocator::pool_count_law;
 use bb_memory_shared_pools::shared_pool::{PoolParty, SharedPoolAllocator};
+use bb_memory_traits::layout::Layout;
 use std::alloc::{AllocError, Global};
 use std::thread;
 use std::thread::Threads;
@@ -17,7 +17,7 @@ pub fn take_one(pool: &SharedPoolAllocator, party: PoolParty, layout: Layout) ->
     requires { party.allocator ≡ pool.now }
     ensures back { ComesBack pool.entry.now party result }
     ensures once { AsksNextFit layout party result }
-    ensures asked { HasAskedNextFit layout result }
+    ensures asked { party.log ≡ [] → HasAskedNextFit layout result }
 {
     let mut party = party;
     ask_next_fit(pool, &mut party, layout);
@@ -33,7 +33,7 @@ fn ask_next_fit(pool: &SharedPoolAllocator, worker: &mut PoolParty, layout: Layo
     let _ = pool.allocate_next_fit(worker, layout);
 }
 
-/// Runs four workers, which take a bucket each, all at once. They meet when they are back: one list of steps has all their logs
+/// Runs four workers at once, which ask for one bucket each. They meet when they are back: one list of steps has all their logs
 /// and nothing else, and a flag is taken exactly where one of them holds the bucket, or it is detached. It is refused only where
 /// memory was.
 pub fn four_workers<R: Threads + Sync>(
@@ -75,7 +75,8 @@ fn take_one_each<R: Threads + Sync>(
     parties: Vec<PoolParty>,
     layout: Layout,
 ) -> Result<Vec<PoolParty>, AllocError>
-    requires { All (λ party. party.allocator ≡ pool.now) parties.items }
+    requires theirs { All (λ party. party.allocator ≡ pool.now) parties.items }
+    requires none { All (λ party. party.log ≡ []) parties.items }
     ensures { IfOk result (λ back. AllComeBack layout pool.now parties.items back.items) }
 {
     thread::map_vec(rt, parties, &|party| take_one(pool, party, layout))
@@ -86,6 +87,7 @@ fn take_one_each<R: Threads + Sync>(
 #[tactic(auto, unfolding(bb_memory_traits::specs::LeastPlace::least_place))]
 fn pool_of_four(alloc: Global) -> Result<(SharedPoolAllocator, Vec<PoolParty>), AllocError>
     ensures parties { IfOk result (λ made. AreFresh made.0 4 made.1.items) }
+    ensures none { IfOk result (λ made. All (λ party. party.log ≡ []) made.1.items) }
     ensures buckets { IfOk result (λ made. made.0.scene.geometry.buckets ≡ 8) }
 {
     pool_count_law();

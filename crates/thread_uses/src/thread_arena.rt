@@ -8,9 +8,9 @@ ghost use Rattle.bb_memory_traits.specs.BumpObject.{chunk_at_or_after};
 ghost use Rattle.thread_uses.specs.Threads.{HaveNothingShared, Serves};
 
 use bb_memory_bump::bump_allocator::{AllocationError, BaseAllocator, BumpAllocator};
-use bb_memory_traits::layout::{Chunk, Layout, parts_law};
 use bb_memory_bump::shared_bump::{BumpParty, SharedBumpAllocator};
 use bb_memory_lists::lists::append_law;
+use bb_memory_traits::layout::{Chunk, Layout, parts_law};
 use std::marker::Model;
 
 /// A bump over a chunk of a shared bump, for one thread with its party. A request makes no atomic step, and waits for nobody.

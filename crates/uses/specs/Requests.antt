@@ -28,9 +28,10 @@ pub record IsOfBytes (layout : Layout) (size : ℕ) : Type 0 where
 pub record MayAnswer (may_answer : Answers) (size : ℕ) (answer : Result Chunk AllocationError) : Type 0 where
   pub may : ¬ ((layout : Layout) → IsOfBytes layout size → ¬ may_answer layout answer)
 
--- a single request for so many bytes made this note of the one before: not every layout of them rules it out
+-- There is a layout of so many bytes, and a single request for it, whichever it is, made this note of the one before.
 pub record IsAskedOnce {Note : Type 0} (note_after : Layout → Note → Note) (size : ℕ) (old new : Note) : Type 0 where
-  pub once : ¬ ((layout : Layout) → IsOfBytes layout size → ¬ (new ≡ note_after layout old))
+  pub some : IsLayout size 1
+  pub once : (layout : Layout) → IsOfBytes layout size → new ≡ note_after layout old
 
 -- a request may be answered by a longer chunk
 pub record MayGiveLonger (may_answer : Answers) (size : ℕ) : Type 0 where

@@ -1,9 +1,9 @@
 //! A budget of chunks for one tenant of an allocator.
+use bb_memory_lists::lists::{append_law, remove_law};
 use bb_memory_traits::allocator::{
     AllocationError, AllocationGrowError, AllocationShrinkError, Allocator, BaseAllocator,
 };
 use bb_memory_traits::layout::{Chunk, Layout};
-use bb_memory_lists::lists::{append_law, remove_law};
 use std::marker::Model;
 
 /// An allocator that has at most so many chunks out. It is an allocator itself, so budgets nest.

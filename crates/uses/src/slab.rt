@@ -6,9 +6,9 @@ ghost use Rattle.bb_memory_traits.specs.declared.layout.Layout.{Layout};
 ghost use Rattle.bb_memory_traits.specs.HeldBytes.{HeldBytes, held_region};
 ghost use Rattle.uses.specs.Requests.{HoldsThen, IsOfBytes, Leaves, MayGiveLonger, NotesRequest, Stores, records_in};
 
+use bb_memory_lists::lists::append_law;
 use bb_memory_traits::allocator::{AllocationError, Allocator, BaseAllocator};
 use bb_memory_traits::layout::{Chunk, Layout, LayoutError};
-use bb_memory_lists::lists::append_law;
 use bb_memory_traits::region::{Region, live_bytes_law};
 use std::alloc::{AllocError, Global};
 use std::marker::Model;
@@ -79,6 +79,7 @@ impl<A: Allocator + Drop> Slab<A> {
     /// Stores one more record, behind the others. A refusal keeps all. It is refused in this order: with `Layout` where no layout
     /// has as many bytes, with `List` where memory was, with `Refused` as the allocator refuses to give as many, and with
     /// `NoExactChunk` where it gives more. The allocator is asked once, and only behind the first two tests.
+    #[tactic(auto, using(bb_memory_traits::proofs::Layouts::same_layout))]
     pub fn insert(&mut self, bytes: &[u8]) -> Result<(), InsertError>
         ensures stores { Stores A.geometry A.may_allocate self.old bytes.now result self.new }
         ensures asked_once { NotesRequest (A.note_after (A.geometry self.old.allocator))

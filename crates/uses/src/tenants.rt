@@ -8,9 +8,9 @@ ghost use Rattle.uses.specs.Requests.{HasLeft, IsRefusedUnasked, IsWhyNotAdmitte
 ghost use Rattle.uses.specs.Requests.{chunks_of, lease_at, limit_of, used_by, with_lease, with_tenant, without_lease};
 
 use crate::slab::{self, return_last};
+use bb_memory_lists::lists::{Grouped, append_law, group_law, map_law, position_law, sum_law};
 use bb_memory_traits::allocator::{AllocationError, Allocator, BaseAllocator};
 use bb_memory_traits::layout::{Chunk, Layout};
-use bb_memory_lists::lists::{Grouped, append_law, group_law, map_law, position_law, sum_law};
 use std::alloc::{AllocError, Global};
 use std::marker::Model;
 use thiserror::Error;
@@ -73,13 +73,7 @@ impl Lease {
 /// Tenants that share an allocator. Each is named by its number, from 0 in the order of their admission, and has a limit in
 /// bytes, within which its chunks stay. The limits together are at most a whole that the maker fixed.
 ///
-/// ```
-/// let mut tenants = Tenants::new(alloc, allocator, 1000);
-/// let tenant = tenants.admit(100)?;
-/// let layout = Layout::from_size_align(101, 1).unwrap();
-/// let refused = tenants.allocate(tenant, layout).is_err();
-/// prove!(refused);
-/// ```
+/// Example: `tenants::over_limit` of `crates/uses`.
 #[derive(Drop)]
 pub struct Tenants<A: Allocator + Drop> {
     allocator: A,

@@ -101,15 +101,7 @@ impl PartyMove {
 
 /// The bump machine over a region, with its parties. No step takes memory.
 ///
-/// ```
-/// let mut world = BumpWorld::new(alloc, 4096, 64, 2)?;
-/// let layout = Layout::from_size_align(40, 1).unwrap();
-/// let seen = world.step(BumpStep::Read { party: 0, layout });
-/// prove!(seen == BumpOutcome::Sees(0));
-/// world.step(BumpStep::Exchange { party: 0 });
-/// let used = world.used_space();
-/// prove!(used == 40);
-/// ```
+/// Example: `comments::bump_world` of `crates/examples`.
 #[derive(Drop)]
 pub struct BumpWorld {
     alloc: Global,

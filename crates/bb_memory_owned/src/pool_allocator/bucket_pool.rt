@@ -108,13 +108,7 @@ impl<S: IndexSet> BucketPool<S> {
     /// Returns the greatest number of buckets that were held at one time since the pool was made. A refused request doesn't
     /// change it, nor does a bucket that is given back. No bucket is looked at, and no read is counted.
     ///
-    /// ```
-    /// let chunk = pool.allocate(Layout::empty())?;
-    /// let greatest = pool.greatest_held();
-    /// pool.deallocate(chunk.place(), Layout::empty());
-    /// let still = pool.greatest_held();
-    /// prove!(still == greatest);
-    /// ```
+    /// Example: `pools::greatest_kept` of `crates/examples`.
     #[inline]
     pub fn greatest_held(&self) -> u32
         ensures value { result ≡ self.now.greatest }
@@ -127,12 +121,7 @@ impl<S: IndexSet> BucketPool<S> {
     /// Tests that a bucket is free, so that a request that is no greater than a bucket, in size and alignment, is accepted.
     /// Nothing is searched, and no read is counted.
     ///
-    /// ```
-    /// let before = pool.has_room();
-    /// let answer = pool.allocate(Layout::empty());
-    /// let given = answer.is_ok();
-    /// prove!(given == before);
-    /// ```
+    /// Example: `pools::room_told` of `crates/examples`.
     #[inline(always)]
     pub fn has_room(&self) -> bool
         ensures { IsTrue result ↔ ((i : ℕ) × Lacks self.now.pool.held i) }
@@ -143,11 +132,7 @@ impl<S: IndexSet> BucketPool<S> {
     /// Tests that this is the place of a held bucket, which may be given back: true exactly where `deallocate` may be called with
     /// the place. Nothing is searched, and no read is counted.
     ///
-    /// ```
-    /// let chunk = pool.allocate(Layout::empty())?;
-    /// let held = pool.holds(chunk.place());
-    /// prove!(held);
-    /// ```
+    /// Example: `comments::pool_held` of `crates/examples`.
     #[inline(always)]
     pub fn holds(&self, place: usize) -> bool
         ensures value { IsTrue result ↔ HoldsPlace self.now.pool place }
@@ -161,13 +146,7 @@ impl<S: IndexSet> BucketPool<S> {
     /// It is for places of which nothing is known, as they come from another process: `deallocate` asks that the bucket is held,
     /// and doesn't look.
     ///
-    /// ```
-    /// let chunk = pool.allocate(Layout::empty())?;
-    /// let given_back = pool.deallocate_if_held(chunk.place());
-    /// prove!(given_back);
-    /// let again = pool.deallocate_if_held(chunk.place());
-    /// prove!(!again);
-    /// ```
+    /// Example: `pools::back_if_held` of `crates/examples`.
     #[inline(always)]
     pub fn deallocate_if_held(&mut self, place: usize) -> bool
         ensures held { IsTrue result ↔ HoldsPlace self.old.pool place }

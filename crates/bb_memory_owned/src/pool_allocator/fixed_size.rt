@@ -16,18 +16,7 @@ use std::fmt;
 /// Gives buckets of one layout, at most `MAX_NUMBER_OF_BUCKETS` of them. Which are held is kept in an array of its own: it
 /// never takes memory.
 ///
-/// ```
-/// pool_count_law();
-/// let bucket = Layout::from_size_align(128, 8).unwrap();
-/// let mut pool = FixedSizePoolAllocator::<512>::new(bucket, 4096, 1024);
-/// let small = Layout::from_size_align(48, 4).unwrap();
-/// let large = Layout::from_size_align(64, 4).unwrap();
-/// let chunk = pool.allocate(small)?;
-/// let grown = pool.grow(chunk.place(), small, large).unwrap();
-/// let (place, len) = (grown.place(), grown.len());
-/// prove!(place == chunk.place() && len == 64);
-/// pool.deallocate(place, small);
-/// ```
+/// Example: `comments::fixed_pool` of `crates/examples`.
 pub type FixedSizePoolAllocator<const MAX_NUMBER_OF_BUCKETS: usize> = BucketPool<
     Flags<MAX_NUMBER_OF_BUCKETS>,
 >;

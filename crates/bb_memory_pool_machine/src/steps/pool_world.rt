@@ -10,13 +10,7 @@ use std::marker::Model;
 
 /// The pool machine over some buckets, with its parties. No step takes memory.
 ///
-/// ```
-/// let mut world = PoolWorld::new(alloc, 2, 3)?;
-/// let taken = world.step(PoolStep::Try { party: 2 });
-/// prove!(taken == PoolOutcome::Takes(0));
-/// let holder = world.holder(0);
-/// prove!(holder == Some(2));
-/// ```
+/// Example: `comments::pool_world` of `crates/examples`.
 #[derive(Drop)]
 pub struct PoolWorld {
     alloc: Global,

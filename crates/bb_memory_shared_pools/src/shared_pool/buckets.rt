@@ -16,10 +16,10 @@ use super::bucket::Bucket;
 use super::flags::Flags;
 use super::party::{Hint, PoolParty};
 use super::rule::{Scene, View};
+use atomic_table::Seat;
+use bb_memory_geometry::geometry::Geometry;
 use bb_memory_traits::allocator::{AllocationError, AllocationGrowError, AllocationShrinkError};
 use bb_memory_traits::layout::{Chunk, Layout};
-use bb_memory_geometry::geometry::Geometry;
-use atomic_table::Seat;
 use std::alloc::Global;
 use std::marker::Model;
 

@@ -36,12 +36,7 @@ impl<const CAPPED: usize, const MOST: usize> SharedBucketPool<CAPPED, MOST> {
 /// since. The length has to be at most the bucket's size. Tokens that there are already stay: a return by one leaves the others
 /// stale, which still answer the bucket's number and chunk when another party has taken it.
 ///
-/// ```
-/// let taken = pool.allocate(&mut party, Layout::from_size_align(48, 4).unwrap())?;
-/// let number = taken.number();
-/// let again = by_number::bucket(&pool, &party, number, 48);
-/// pool.deallocate_bucket(&mut party, again);
-/// ```
+/// Example: `comments::shared_pool_by_number` of `crates/examples`.
 pub fn bucket<'a, const CAPPED: usize, const MOST: usize>(
     pool: &'a SharedBucketPool<CAPPED, MOST>,
     party: &PoolParty,

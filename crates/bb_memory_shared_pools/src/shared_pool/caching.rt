@@ -36,20 +36,7 @@ fn list_of(alloc: Global, most: u32) -> Result<Vec<u32>, AllocError>
 /// A cached bucket stays held, so the other parties are refused where each bucket is cached or out. Give a pool more buckets than
 /// all its parties together may cache. Dropping a caching party leaks the buckets that it caches; `into_party` gives them back.
 ///
-/// ```
-/// let Ok(mut caching) = CachingParty::new(alloc, party, 4) else {
-///     return Err(AllocationError::OutOfMemory);
-/// };
-/// let layout = Layout::from_size_align(48, 4).unwrap();
-/// let taken = caching.allocate(&pool, layout)?;
-/// let number = taken.number();
-/// caching.deallocate(&pool, taken);
-/// let again = caching.allocate(&pool, layout)?;
-/// let its_number = again.number();
-/// prove!(its_number == number);
-/// caching.deallocate(&pool, again);
-/// let party = caching.into_party(&pool);
-/// ```
+/// Example: `comments::shared_pool_caching` of `crates/examples`.
 #[derive(Drop)]
 pub struct CachingParty {
     party: PoolParty,

@@ -56,15 +56,7 @@ impl<const CAPPED: usize, const MOST: usize> SharedBucketPool<CAPPED, MOST> {
     /// pool's; and the party's log holds the bucket: this party took or attached it, and hasn't given it back or detached it
     /// since.
     ///
-    /// ```
-    /// let taken = pool.allocate(sender, Layout::from_size_align(48, 4).unwrap())?;
-    /// let message = pool.detach(sender, taken);
-    /// let (number, len) = (message.number(), message.len());
-    /// let received = pool.attach(receiver, message);
-    /// let (its_number, its_len) = (received.number(), received.chunk().len());
-    /// prove!(its_number == number && its_len == len && len == 48);
-    /// pool.deallocate_bucket(receiver, received);
-    /// ```
+    /// Example: `comments::shared_pool_detached` of `crates/examples`.
     pub fn detach(&self, party: &mut PoolParty, bucket: Bucket<'_>) -> DetachedBucket
         requires may { MayDetach self.now party.old bucket }
         ensures bucket { result ≡ bucket.entry }

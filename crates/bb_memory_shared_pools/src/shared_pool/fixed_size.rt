@@ -6,27 +6,15 @@ ghost use Rattle.bb_memory_shared_pools.specs.SharedPool.{AreFresh};
 
 use super::buckets::SharedBucketPool;
 use super::party::PoolParty;
+use bb_memory_geometry::geometry::Geometry;
 use bb_memory_traits::allocator::AllocationError;
 use bb_memory_traits::layout::Layout;
-use bb_memory_geometry::geometry::Geometry;
 use std::alloc::Global;
 
 /// Gives buckets of one layout, at most `MAX_NUMBER_OF_BUCKETS` of them, to any number of threads, as
 /// [`SharedPoolAllocator`](super::SharedPoolAllocator) does.
 ///
-/// ```
-/// pool_count_law();
-/// let bucket = Layout::from_size_align(128, 8).unwrap();
-/// let made = SharedFixedSizePoolAllocator::<4>::new(alloc, bucket, 4096, 1024, 2);
-/// let Ok((pool, mut parties)) = made else {
-///     return Err(AllocationError::OutOfMemory);
-/// };
-/// let count = pool.number_of_buckets();
-/// prove!(count == 4);
-/// let mut party = parties.pop().unwrap();
-/// let taken = pool.allocate(&mut party, Layout::from_size_align(48, 4).unwrap())?;
-/// pool.deallocate_bucket(&mut party, taken);
-/// ```
+/// Example: `comments::shared_fixed_pool` of `crates/examples`.
 pub type SharedFixedSizePoolAllocator<const MAX_NUMBER_OF_BUCKETS: usize> = SharedBucketPool<
     1,
     MAX_NUMBER_OF_BUCKETS,

@@ -18,8 +18,8 @@ use super::rule::{
     Agreement, Attaches, Detaches, Gather, GiveDetached, GiveFirst, LooksAt, Meets, Returns, Scene,
     TakeIn, Tries, TriesAt, View,
 };
-use bb_memory_geometry::geometry::Geometry;
 use atomic_table::{Seat, Table};
+use bb_memory_geometry::geometry::Geometry;
 use std::alloc::{AllocError, Global};
 use std::marker::Model;
 use std::sync::atomic::AtomicU64;

@@ -11,9 +11,9 @@ use super::bucket::Bucket;
 use super::buckets::SharedBucketPool;
 use super::party::PoolParty;
 use super::rule::View;
+use atomic_table::Seat;
 use bb_memory_traits::allocator::AllocationError;
 use bb_memory_traits::layout::Layout;
-use atomic_table::Seat;
 
 /// The bucket that a probe tries, in a search over so many buckets that begins at bucket `first`.
 fn probed(buckets: u32, first: u32, probe: u32) -> u32

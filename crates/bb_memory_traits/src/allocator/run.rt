@@ -79,14 +79,7 @@ fn apply_base<A: BaseAllocator>(allocator: &mut A, live: &mut Vec<Chunk>, comman
 /// allocator. `AllocError` comes only where memory was refused, and then no command is applied, and the allocator and the list
 /// are as before.
 ///
-/// ```
-/// let (mut bump, mut live) = (BumpAllocator::new(4096, 1024), Vec::new(alloc));
-/// let layout = Layout::from_size_align(48, 4).unwrap();
-/// let commands = [Command::Allocate(layout), Command::Release(0)];
-/// let _replies = run_base(&mut bump, &mut live, &commands)?;
-/// let total = bump.total_space();
-/// prove!(total == 1024);
-/// ```
+/// Example: `comments::run_of_a_bump` of `crates/examples`.
 pub fn run_base<A: BaseAllocator>(
     allocator: &mut A,
     live: &mut Vec<Chunk>,
@@ -202,14 +195,7 @@ fn apply_full<A: Allocator>(allocator: &mut A, live: &mut Vec<Chunk>, command: C
 /// The allocator has to stand for the live list. `AllocError` comes only where memory was refused, and then the allocator and
 /// the list are as before.
 ///
-/// ```
-/// let (mut one, mut live) = (OneChunkAllocator::new(4096, 1024), Vec::new(alloc));
-/// let (old, new) = (Layout::empty(), Layout::from_size_align(48, 4).unwrap());
-/// let commands = [Command::Allocate(old), Command::Grow(0, old, new)];
-/// let _replies = run_full(&mut one, &mut live, &commands)?;
-/// let size = one.size();
-/// prove!(size == 1024);
-/// ```
+/// Example: `comments::run_of_one_chunk` of `crates/examples`.
 pub fn run_full<A: Allocator>(
     allocator: &mut A,
     live: &mut Vec<Chunk>,

@@ -105,14 +105,7 @@ impl Chunk {
 
     /// Its first `size` bytes, of which it has to have so many.
     ///
-    /// ```
-    /// let Some(chunk) = Chunk::new(4096, 64) else {
-    ///     return;
-    /// };
-    /// let (head, body) = (chunk.first(16), chunk.behind(16));
-    /// let (len, place) = (head.len(), body.place());
-    /// prove!(len == 16 && place == 4112);
-    /// ```
+    /// Example: `comments::parts_of_a_chunk` of `crates/examples`.
     #[inline]
     pub fn first(&self, size: usize) -> Chunk
         requires { size ≤ self.now.len }

@@ -4,3 +4,4 @@ mod after_making;
 mod init;
 mod layers;
 mod loans;
+mod runs;

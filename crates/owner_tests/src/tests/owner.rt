@@ -75,6 +75,10 @@ impl<A: BaseAllocator + Drop> Owner<A> {
         true
     }
 
+    pub(super) fn number_of_live(&self) -> usize {
+        self.live.len()
+    }
+
     /// Returns whether just `count` chunks are live, at `place` and each `stride` bytes further on.
     pub(super) fn are_at(&self, place: usize, stride: usize, count: usize) -> bool {
         let mut place = place;
@@ -105,7 +109,7 @@ impl<A: BaseAllocator + Drop> Owner<A> {
         }
     }
 
-    fn deallocate(&mut self, position: usize) -> Reply {
+    pub(super) fn deallocate(&mut self, position: usize) -> Reply {
         let Some(chunk) = chunk_at(&self.live, position) else {
             return Reply::Passed;
         };
@@ -116,15 +120,6 @@ impl<A: BaseAllocator + Drop> Owner<A> {
             self.live.remove(position);
         }
         Reply::Released
-    }
-
-    /// Makes a call of a `BaseAllocator`. A resize is passed over.
-    pub(super) fn reply_base(&mut self, command: Command) -> Reply {
-        match command {
-            Command::Allocate(layout) => self.allocate(layout, false),
-            Command::Release(position) => self.deallocate(position),
-            Command::Grow(..) | Command::Shrink(..) => Reply::Passed,
-        }
     }
 
     pub(super) fn run_base(&mut self, commands: &[Command]) -> Result<Vec<Reply>, AllocError> {
@@ -159,7 +154,7 @@ impl<A: Allocator + Drop> Owner<A> {
         }
     }
 
-    fn shrink(&mut self, position: usize, old: Layout, new: Layout) -> Reply {
+    pub(super) fn shrink(&mut self, position: usize, old: Layout, new: Layout) -> Reply {
         let Some(chunk) = resized_at(&self.live, position, old) else {
             return Reply::Passed;
         };
@@ -180,15 +175,6 @@ impl<A: Allocator + Drop> Owner<A> {
         match chunk_at(&self.live, position) {
             Some(chunk) => Some(self.allocator.reserved(chunk.place())),
             None => None,
-        }
-    }
-
-    /// Makes a call of an `Allocator`.
-    pub(super) fn reply(&mut self, command: Command) -> Reply {
-        match command {
-            Command::Grow(position, old, new) => self.grow(position, old, new, false),
-            Command::Shrink(position, old, new) => self.shrink(position, old, new),
-            _ => self.reply_base(command),
         }
     }
 

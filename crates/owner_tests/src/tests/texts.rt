@@ -14,10 +14,8 @@ use std::process::Abort;
 
 /// Checks a value's Display text.
 fn has_text<D: Display>(rt: &impl Abort, alloc: Global, value: &D, text: &str) {
-    match format!(in alloc; "{value}") {
-        Ok(told) => check(rt, told.as_str() == text),
-        Err(_) => panic!(rt; "memory was refused"),
-    }
+    let told = format!(in alloc; "{value}").expect(rt, "there is memory for a text");
+    check(rt, told.as_str() == text);
 }
 
 const ALIGNMENT: &str = "the requested alignment is not supported";

@@ -1,9 +1,9 @@
 //! Checks, proved once: a test's own proof carries no more of a check than its call.
-use super::marks::{none_was_asked, some_was_refused};
 use bb_memory_base::layout::{Chunk, Layout};
 use std::alloc::Global;
 use std::fmt::{Debug, Display};
 use std::process::Abort;
+use test_marks::{none_was_asked, some_was_refused};
 
 /// Checks a condition.
 pub(super) fn check(rt: &impl Abort, found: bool) {

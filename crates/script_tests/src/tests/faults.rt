@@ -1,7 +1,8 @@
 //! Readers and writers that fail at each of their calls in turn, and a script that is cut at every byte.
 use super::checks::check_at;
 use super::table::ends;
-use script_runner::{Status, run};
+use script_runner::Status::{self, Done, Unreadable};
+use script_runner::run;
 use std::alloc::Global;
 use std::io;
 use std::io::{ErrorKind, Read, Write};
@@ -24,31 +25,9 @@ used 1024 free 0 total 1024\n";
 type Row = (&'static [u8], &'static [u8], usize, Status);
 
 const SCRIPTS: [Row; 2] = [
-    (FIRST_PATH, FIRST_PATH_LINES, 49, Status::Done),
-    (
-        b"bump 4096 8\nbad\n",
-        b"line 2: refused\n",
-        4,
-        Status::Unreadable,
-    ),
+    (FIRST_PATH, FIRST_PATH_LINES, 49, Done),
+    (b"bump 4096 8\nbad\n", b"line 2: refused\n", 4, Unreadable),
 ];
-
-/// An error of a reader or a writer.
-#[derive(Clone, Copy)]
-enum Fault {
-    Other,
-    OutOfMemory,
-    Interrupted,
-}
-
-/// Returns the error of a fault.
-fn error_of(fault: Fault) -> io::Error {
-    match fault {
-        Fault::Other => io::Error::from(ErrorKind::Other),
-        Fault::OutOfMemory => io::Error::from(ErrorKind::OutOfMemory),
-        Fault::Interrupted => io::Error::from(ErrorKind::Interrupted),
-    }
-}
 
 /// Gives its bytes seven at a time, and fails at one of its reads.
 #[derive(Drop)]
@@ -56,14 +35,14 @@ struct FailingReader<'a> {
     left: &'a [u8],
     reads: usize,
     /// The number of the read that is answered with this error, counted from 1.
-    fails_read: (usize, Fault),
+    fails_read: (usize, ErrorKind),
 }
 
 impl Read for FailingReader<'_> {
     fn read(&mut self, buf: &mut [u8]) -> io::Result<usize> {
         self.reads = self.reads.saturating_add(1);
         if self.reads == self.fails_read.0 {
-            return Err(error_of(self.fails_read.1));
+            return Err(io::Error::from(self.fails_read.1));
         }
         let most = buf.len().min(7);
         self.left.read(&mut buf[..most])
@@ -78,7 +57,7 @@ struct CountingWriter<'a> {
     writes: usize,
     flushes: usize,
     /// The number of the write that is answered with this error, counted from 1.
-    fails_write: (usize, Fault),
+    fails_write: (usize, ErrorKind),
     fails_flush: bool,
 }
 
@@ -86,7 +65,7 @@ impl Write for CountingWriter<'_> {
     fn write(&mut self, buf: &[u8]) -> io::Result<usize> {
         self.writes = self.writes.saturating_add(1);
         if self.writes == self.fails_write.0 {
-            return Err(error_of(self.fails_write.1));
+            return Err(io::Error::from(self.fails_write.1));
         }
         let most = buf.len().min(5);
         self.kept.write(&buf[..most])
@@ -95,14 +74,20 @@ impl Write for CountingWriter<'_> {
     fn flush(&mut self) -> io::Result<()> {
         self.flushes = self.flushes.saturating_add(1);
         if self.fails_flush {
-            return Err(error_of(Fault::Other));
+            return Err(io::Error::from(ErrorKind::Other));
         }
         Ok(())
     }
 }
 
 /// Runs the script of row `bump-first-path` over a failing reader, and checks status and output.
-fn reads(rt: &impl Abort, alloc: Global, fails_read: (usize, Fault), ends: Status, lines: &[u8]) {
+fn reads(
+    rt: &impl Abort,
+    alloc: Global,
+    fails_read: (usize, ErrorKind),
+    ends: Status,
+    lines: &[u8],
+) {
     let mut told = Vec::new(alloc);
     let reader = FailingReader {
         left: FIRST_PATH,
@@ -114,20 +99,20 @@ fn reads(rt: &impl Abort, alloc: Global, fails_read: (usize, Fault), ends: Statu
 }
 
 /// Fails each read in turn. The script has 70 bytes: ten reads, and one that finds its end.
-fn each_read_fails(rt: &impl Abort, alloc: Global, fault: Fault, ends: Status) {
+fn each_read_fails(rt: &impl Abort, alloc: Global, fault: ErrorKind, ends: Status) {
     for at in 1..12 {
         reads(rt, alloc, (at, fault), ends, b"");
     }
-    reads(rt, alloc, (12, fault), Status::Done, FIRST_PATH_LINES);
+    reads(rt, alloc, (12, fault), Done, FIRST_PATH_LINES);
 }
 
 // row: reader-fails-in-turn
 #[test]
 fn reader_fails_in_turn(rt: HostRuntime) {
-    each_read_fails(&rt, rt.alloc(), Fault::Other, Status::InputFailed);
-    each_read_fails(&rt, rt.alloc(), Fault::OutOfMemory, Status::OutOfMemory);
-    let interrupted = (3, Fault::Interrupted);
-    reads(&rt, rt.alloc(), interrupted, Status::Done, FIRST_PATH_LINES);
+    each_read_fails(&rt, rt.alloc(), ErrorKind::Other, Status::InputFailed);
+    each_read_fails(&rt, rt.alloc(), ErrorKind::OutOfMemory, Status::OutOfMemory);
+    let interrupted = (3, ErrorKind::Interrupted);
+    reads(&rt, rt.alloc(), interrupted, Done, FIRST_PATH_LINES);
 }
 
 /// Runs a script over a writer. Checks that it ends with this status after so many writes and flushes, and that the output begins
@@ -136,7 +121,7 @@ fn writes(
     rt: &impl Abort,
     alloc: Global,
     row: &Row,
-    (fails_write, fails_flush): ((usize, Fault), bool),
+    (fails_write, fails_flush): ((usize, ErrorKind), bool),
     ends: (Status, usize, usize),
 ) {
     let mut kept = Vec::new(alloc);
@@ -157,16 +142,16 @@ fn writes(
 /// Fails the write of this number, and interrupts it.
 fn write_fails(rt: &impl Abort, alloc: Global, at: usize, row: &Row) {
     let failed = (Status::OutputFailed, at, 0);
-    writes(rt, alloc, row, ((at, Fault::Other), false), failed);
+    writes(rt, alloc, row, ((at, ErrorKind::Other), false), failed);
     let done = (row.3, row.2.saturating_add(1), 1);
-    writes(rt, alloc, row, ((at, Fault::Interrupted), false), done);
+    writes(rt, alloc, row, ((at, ErrorKind::Interrupted), false), done);
 }
 
 /// A failed write is the last call, and an interrupted write is tried again.
 // row: writer-fails-in-turn
 #[test]
 fn writer_fails_in_turn(rt: HostRuntime) {
-    let none = (0, Fault::Other);
+    let none = (0, ErrorKind::Other);
     for row in &SCRIPTS {
         for at in 0..row.2 {
             write_fails(&rt, rt.alloc(), at.saturating_add(1), row);
@@ -213,10 +198,10 @@ fn cuts(rt: &impl Abort, alloc: Global, from: usize, to: usize, (status, lines):
 #[test]
 fn script_cut_at_every_byte(rt: HostRuntime) {
     for row in &UNREADABLE_CUTS {
-        cuts(&rt, rt.alloc(), row.0, row.1, (Status::Unreadable, row.2));
+        cuts(&rt, rt.alloc(), row.0, row.1, (Unreadable, row.2));
     }
     for row in &DONE_CUTS {
         let lines = FIRST_PATH_LINES.get(..row.2).unwrap_or(b"no such lines");
-        cuts(&rt, rt.alloc(), row.0, row.1, (Status::Done, lines));
+        cuts(&rt, rt.alloc(), row.0, row.1, (Done, lines));
     }
 }

@@ -2,8 +2,8 @@
 use super::checks::check_at;
 use super::table::{check_rows, ends};
 use bb_memory_base::steps::{bump_theorem, pool_theorem};
-use script_runner::{Status, equality_law, lines_law};
-use std::alloc::Global;
+use script_runner::Status::{self, Done, Unreadable};
+use script_runner::{equality_law, lines_law};
 
 const BUMP: &str = "\
 bump-odd-start-refused | bump 4097 8; alloc 8 8; show | \
@@ -90,45 +90,30 @@ an allocator's line | loan-pool 4096 128 128 8; alloc 1 1 | line 2: refused";
 #[test]
 fn scripts_that_are_done(rt: HostRuntime) {
     let alloc = rt.alloc();
-    check_rows(&rt, alloc, Status::Done, BUMP);
-    check_rows(&rt, alloc, Status::Done, ONE_CHUNK);
-    check_rows(&rt, alloc, Status::Done, POOLS);
-    check_rows(&rt, alloc, Status::Done, STEPS);
-    check_rows(&rt, alloc, Status::Done, LOANS);
+    check_rows(&rt, alloc, Done, BUMP);
+    check_rows(&rt, alloc, Done, ONE_CHUNK);
+    check_rows(&rt, alloc, Done, POOLS);
+    check_rows(&rt, alloc, Done, STEPS);
+    check_rows(&rt, alloc, Done, LOANS);
 }
 
 #[test]
 fn unreadable_scripts(rt: HostRuntime) {
-    check_rows(&rt, rt.alloc(), Status::Unreadable, UNREADABLE);
+    check_rows(&rt, rt.alloc(), Unreadable, UNREADABLE);
 }
 
-/// Scripts that no row of a table can have, each with its name, its status and its output.
-const OTHER_BYTES: [(&str, &[u8], Status, &[u8]); 3] = [
-    (
-        "script-no-last-line-feed",
-        b"bump 4096 8\nalloc 1 1",
-        Status::Done,
-        b"chunk 4096 1\n",
-    ),
-    (
-        "script-empty",
-        b"",
-        Status::Unreadable,
-        b"line 1: refused\n",
-    ),
-    (
-        "script-stray-byte",
-        b"bump 4096 8\n\xff\n",
-        Status::Unreadable,
-        b"line 2: refused\n",
-    ),
+/// Scripts that no row of a table can have, each with its status and its output.
+const OTHER_BYTES: [(&[u8], Status, &[u8]); 3] = [
+    (b"bump 4096 8\nalloc 1 1", Done, b"chunk 4096 1\n"),
+    (b"", Unreadable, b"line 1: refused\n"),
+    (b"bump 4096 8\n\xff\n", Unreadable, b"line 2: refused\n"),
 ];
 
 // row: script-empty, script-no-last-line-feed, script-stray-byte
 #[test]
 fn scripts_of_other_bytes(rt: HostRuntime) {
     for row in &OTHER_BYTES {
-        check_at(&rt, ends(rt.alloc(), row.1, row.2, row.3), row.0);
+        check_at(&rt, ends(rt.alloc(), row.0, row.1, row.2), row.0.len());
     }
 }
 

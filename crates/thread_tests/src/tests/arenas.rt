@@ -2,7 +2,7 @@
 ghost use Rattle.std.specs.Prelude.{◌≡◌};
 
 use super::bumps::two;
-use super::checks::{chunk, fail, layout, same};
+use super::checks::{chunk, layout, same};
 use bb_memory_bump::bump_allocator::AllocationError::{self, OutOfMemory, SizeIsZero};
 use bb_memory_bump::shared_bump::{BumpParty, SharedBumpAllocator};
 use std::process::Abort;
@@ -19,10 +19,8 @@ fn arena(
     requires { party.allocator ≡ shared.now }
     ensures { result.party.allocator ≡ shared.entry.now }
 {
-    match ThreadArena::new(shared, party, layout(rt, size, align)) {
-        Ok(arena) => arena,
-        Err(_) => panic!(rt; "an arena was refused"),
-    }
+    let arena = ThreadArena::new(shared, party, layout(rt, size, align)).ok();
+    arena.expect(rt, "there is room for an arena")
 }
 
 /// Asks an arena for a chunk. Returns its place and length.
@@ -57,12 +55,9 @@ fn arenas_of_two_parties(rt: HostRuntime) {
     same(&rt, take(&rt, &mut other, 1, 1), Ok((4224, 1)));
     meet(&shared, &mut one, &mut other);
     same(&rt, take(&rt, &mut other, 1, 1), Ok((4225, 1)));
-    match ThreadArena::new(&shared, other.into_party(), layout(&rt, 697, 1)) {
-        Ok(_) => fail(&rt, "too much was given"),
-        Err((party, cause)) => {
-            same(&rt, cause, OutOfMemory);
-            let rest = arena(&rt, &shared, party, 696, 1);
-            same(&rt, rest.whole(), chunk(&rt, 4424, 696));
-        }
-    }
+    let large = ThreadArena::new(&shared, other.into_party(), layout(&rt, 697, 1));
+    let (party, cause) = large.err().expect(&rt, "there is less room");
+    same(&rt, cause, OutOfMemory);
+    let rest = arena(&rt, &shared, party, 696, 1);
+    same(&rt, rest.whole(), chunk(&rt, 4424, 696));
 }

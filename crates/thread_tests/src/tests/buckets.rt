@@ -1,14 +1,16 @@
 //! Shared pools of buckets of 128 bytes at 4096, and calls that promise no more than a further call needs.
-ghost use Rattle.std.specs.Prelude.{◌≡◌, ◌<◌, ℕ, All, IfSome};
+ghost use Rattle.std.specs.Prelude.{◌≡◌, ◌<◌, ℕ, All, IfOk, IfSome};
 ghost use Rattle.bb_memory_pool_machine.specs.PoolLogs.{IsHeldAfter};
 
 use super::checks::refused;
-use super::marks::refuse_memory;
-use bb_memory_traits::layout::Layout;
 use bb_memory_owned::pool_allocator::PoolAllocator;
-use bb_memory_shared_pools::shared_pool::{AllocationError, Bucket, PoolParty, SharedPoolAllocator};
+use bb_memory_shared_pools::shared_pool::{
+    AllocationError, Bucket, PoolParty, SharedPoolAllocator,
+};
+use bb_memory_traits::layout::Layout;
 use std::alloc::Global;
 use std::process::Abort;
+use test_marks::refuse_memory;
 
 /// A bucket's number, and its chunk's place and length.
 pub(super) type Found = (u32, usize, usize);
@@ -80,6 +82,26 @@ pub(super) fn two(
     (pool, first, second)
 }
 
+/// Asks for a bucket by a next-fit search, or by a pass.
+pub(super) fn ask<'a>(
+    pool: &'a SharedPoolAllocator,
+    party: &mut PoolParty,
+    layout: Layout,
+    next_fit: bool,
+) -> Result<Bucket<'a>, AllocationError>
+    requires { party.old.allocator ≡ pool.now }
+    ensures party { party.new.allocator ≡ pool.now }
+    ensures kept { (other : ℕ) → IsHeldAfter party.old.log other → IsHeldAfter party.new.log other }
+    ensures bucket { IfOk result (λ bucket. bucket.allocator ≡ pool.now) }
+    ensures held { IfOk result (λ bucket. IsHeldAfter party.new.log bucket.number) }
+{
+    if next_fit {
+        pool.allocate_next_fit(party, layout)
+    } else {
+        pool.allocate(party, layout)
+    }
+}
+
 /// Takes a bucket by a pass.
 pub(super) fn hold<'a>(
     rt: &impl Abort,
@@ -92,10 +114,8 @@ pub(super) fn hold<'a>(
     ensures bucket { result.allocator ≡ pool.now }
     ensures held { IsHeldAfter party.new.log result.number }
 {
-    match pool.allocate(party, layout) {
-        Ok(bucket) => bucket,
-        Err(_) => panic!(rt; "no bucket is free"),
-    }
+    let bucket = ask(pool, party, layout, false).ok();
+    bucket.expect(rt, "a bucket is free")
 }
 
 pub(super) fn found(bucket: &Bucket<'_>) -> Found {
@@ -113,10 +133,7 @@ pub(super) fn take(
     ensures party { party.new.allocator ≡ pool.now }
     ensures kept { (other : ℕ) → IsHeldAfter party.old.log other → IsHeldAfter party.new.log other }
 {
-    match pool.allocate(party, layout) {
-        Ok(bucket) => Ok(found(&bucket)),
-        Err(error) => Err(error),
-    }
+    Ok(found(&ask(pool, party, layout, false)?))
 }
 
 /// Asks for a bucket by a next-fit search, and drops its token.
@@ -126,13 +143,9 @@ pub(super) fn fit(
     layout: Layout,
 ) -> Result<Found, AllocationError>
     requires { party.old.allocator ≡ pool.now }
-    ensures party { party.new.allocator ≡ pool.now }
-    ensures kept { (other : ℕ) → IsHeldAfter party.old.log other → IsHeldAfter party.new.log other }
+    ensures { party.new.allocator ≡ pool.now }
 {
-    match pool.allocate_next_fit(party, layout) {
-        Ok(bucket) => Ok(found(&bucket)),
-        Err(error) => Err(error),
-    }
+    Ok(found(&ask(pool, party, layout, true)?))
 }
 
 pub(super) fn give(pool: &SharedPoolAllocator, party: &mut PoolParty, bucket: Bucket<'_>)

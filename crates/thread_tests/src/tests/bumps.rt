@@ -1,13 +1,13 @@
 //! Shared bumps, and calls that promise no more than a further call needs.
 ghost use Rattle.std.specs.Prelude.{◌≡◌, All, IfOk, IfSome};
 
-use super::checks::{check, fail, refused, same};
-use super::marks::refuse_memory;
+use super::checks::{check, refused, same};
 use bb_memory_bump::bump_allocator::{AllocationError, BaseAllocator, BumpAllocator};
-use bb_memory_traits::layout::Layout;
 use bb_memory_bump::shared_bump::{BumpParty, SharedBumpAllocator};
+use bb_memory_traits::layout::Layout;
 use std::alloc::Global;
 use std::process::Abort;
+use test_marks::refuse_memory;
 
 /// A start, a size and the used space.
 pub(super) type Of = (usize, usize, usize);
@@ -34,10 +34,8 @@ fn is_unchanged(rt: &impl Abort, alloc: Global, bump: &BumpAllocator, of: Of) {
     let text = format!(in alloc;
         "BumpAllocator {{ start: {start}, size: {size}, current_position: {used} }}"
     );
-    match (format!(in alloc; "{bump}"), text) {
-        (Ok(told), Ok(text)) => check(rt, told.as_str() == text.as_str()),
-        _ => fail(rt, "there is memory for a text"),
-    }
+    let told = format!(in alloc; "{bump}").expect(rt, "there is memory for a text");
+    check(rt, told == text.expect(rt, "there is memory for a text"));
 }
 
 /// Shares a bump, a second time where memory was refused: then it comes back unchanged. Memory may be refused from here on.
@@ -58,10 +56,8 @@ pub(super) fn share(
         Err(bump) => {
             refused(rt, alloc);
             is_unchanged(rt, alloc, &bump, of);
-            match shared(alloc, bump, parties) {
-                Ok(made) => made,
-                Err(_) => panic!(rt; "there is memory to share a bump"),
-            }
+            let made = shared(alloc, bump, parties).ok();
+            made.expect(rt, "there is memory to share a bump")
         }
     }
 }
@@ -77,10 +73,7 @@ fn shared(
     if parties == 0 {
         return Err(bump);
     }
-    match bump.share(alloc, parties) {
-        Ok(made) => Ok(made),
-        Err((bump, _)) => Err(bump),
-    }
+    bump.share(alloc, parties).map_err(|(bump, _)| bump)
 }
 
 /// Takes the last of these parties out.
@@ -125,10 +118,8 @@ pub(super) fn take(
     let Ok(layout) = Layout::from_size_align(size, align) else {
         return Err(AllocationError::SizeTooLarge);
     };
-    match shared.allocate(party, layout) {
-        Ok(chunk) => Ok((chunk.place(), chunk.len())),
-        Err(error) => Err(error),
-    }
+    let chunk = shared.allocate(party, layout)?;
+    Ok((chunk.place(), chunk.len()))
 }
 
 /// Returns the used space and the free space.

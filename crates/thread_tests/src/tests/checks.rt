@@ -1,9 +1,9 @@
 //! Checks, proved once: a test's own proof carries no more of a check than its call.
-use super::marks::{none_was_asked, some_was_refused};
 use bb_memory_traits::layout::{Chunk, Layout};
 use std::alloc::Global;
 use std::fmt::Debug;
 use std::process::Abort;
+use test_marks::{none_was_asked, some_was_refused};
 
 /// Checks a condition.
 pub(super) fn check(rt: &impl Abort, found: bool) {
@@ -13,11 +13,6 @@ pub(super) fn check(rt: &impl Abort, found: bool) {
 /// Checks an answer. A failure says both.
 pub(super) fn same<T: PartialEq + Debug + Copy>(rt: &impl Abort, found: T, wanted: T) {
     assert_eq!(rt; found, wanted);
-}
-
-/// Ends the test.
-pub(super) fn fail(rt: &impl Abort, cause: &str) {
-    panic!(rt; "{cause}");
 }
 
 /// Checks that memory was refused.

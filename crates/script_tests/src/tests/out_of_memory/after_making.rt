@@ -1,10 +1,10 @@
 //! Steps of both machines without memory, in worlds of more parties than a script has, or of steps that no script has.
 use super::worlds::made;
 use crate::tests::checks::{chunk, layout, none_asked, same};
-use crate::tests::marks::refuse_memory;
 use bb_memory_base::steps::PoolOutcome::{Attaches, Detaches, Gives, Misses, Passed, Takes};
 use bb_memory_base::steps::PoolStep::{Attach, Detach, GiveBack, Try, TryAt};
 use bb_memory_base::steps::{BumpOutcome, BumpStep, BumpWorld, PoolWorld};
+use test_marks::refuse_memory;
 
 /// The last of 1,000 parties takes a chunk.
 #[test]

@@ -34,10 +34,8 @@ fn keeps(rt: &impl Abort, alloc: Global, ends: Status, row: &str) {
 }
 
 const SCRIPTS: &str = "\
-bump 4096 1024; alloc 48 4; show; alloc 10 32; alloc 950 1; alloc 1 1; show | \
-    chunk 4096 48; BumpAllocator { start: 4096, size: 1024, current_position: 48 }; used 48 free 976 total 1024; \
-    chunk 4160 10; chunk 4170 950; OutOfMemory; BumpAllocator { start: 4096, size: 1024, current_position: 1024 }; \
-    used 1024 free 0 total 1024
+bump 4096 8; alloc 4 1; show; alloc 8 1; free 0 | \
+    chunk 4096 4; BumpAllocator { start: 4096, size: 8, current_position: 4 }; used 4 free 4 total 8; OutOfMemory; released
 one 4096 64; alloc 8 8; show; free 0; alloc 8 8 | chunk 4096 64; one start 4096 size 64 available no; released; chunk 4096 64
 pool 4096 128 128 8; alloc 48 4; alloc 1 1; show; free 0 | \
     chunk 4096 48; OutOfMemory; pool start 4096 size 128 bucket 128 align 8 buckets 1 live 1 reads 1; released
@@ -48,21 +46,13 @@ steps-pool 2; try 0; try 1; show; try 1; give 0 0 | takes 0; loses 0; held 0 -; 
 loan-pool 4096 128 128 8; out 0; loan 48; loan 1; publish 0 2; back 0; back 0; loan 7 | \
     no; loan 0 4096 48; OutOfMemory; published; kept; returned; loan 1 4096 7";
 
+/// The line about the first unreadable one takes memory, too.
 // row: refused-program
 #[test]
 fn a_script_of_each_kind(rt: HostRuntime) {
     for row in SCRIPTS.lines() {
         keeps(&rt, rt.alloc(), Status::Done, row);
     }
-}
-
-/// The line about the first unreadable one takes memory, too.
-#[test]
-fn an_unreadable_script(rt: HostRuntime) {
-    keeps(
-        &rt,
-        rt.alloc(),
-        Status::Unreadable,
-        "bump 4096 8; bad | line 2: refused",
-    );
+    let unreadable = "bump 4096 8; bad | line 2: refused";
+    keeps(&rt, rt.alloc(), Status::Unreadable, unreadable);
 }

@@ -1,5 +1,7 @@
 //! Replays of steps. A refused replay leaves its world unchanged, and is made again.
 use crate::tests::checks::{check, chunk, layout, refused, same};
+use bb_memory_base::steps::PoolOutcome::{Gives, Loses, RefusedAtLoss, Takes};
+use bb_memory_base::steps::PoolStep::{GiveBack, Try};
 use bb_memory_base::steps::{BumpOutcome, BumpStep, BumpWorld, PoolOutcome, PoolStep, PoolWorld};
 use std::alloc::{AllocError, Global};
 use std::process::Abort;
@@ -57,25 +59,27 @@ fn a_bump_is_raced_for(rt: HostRuntime) {
     same(&rt, world.used_space(), 40);
 }
 
+const GIVE: PoolStep = GiveBack {
+    party: 0,
+    bucket: 0,
+};
+
 const STEPS: [PoolStep; 6] = [
-    PoolStep::Try { party: 0 },
-    PoolStep::Try { party: 1 },
-    PoolStep::Try { party: 2 },
-    PoolStep::GiveBack {
-        party: 0,
-        bucket: 0,
-    },
-    PoolStep::Try { party: 1 },
-    PoolStep::Try { party: 2 },
+    Try { party: 0 },
+    Try { party: 1 },
+    Try { party: 2 },
+    GIVE,
+    Try { party: 1 },
+    Try { party: 2 },
 ];
 
 const OUTCOMES: [PoolOutcome; 6] = [
-    PoolOutcome::Takes(0),
-    PoolOutcome::Loses(0),
-    PoolOutcome::Loses(0),
-    PoolOutcome::Gives(0),
-    PoolOutcome::Takes(1),
-    PoolOutcome::RefusedAtLoss(1),
+    Takes(0),
+    Loses(0),
+    Loses(0),
+    Gives(0),
+    Takes(1),
+    RefusedAtLoss(1),
 ];
 
 /// Replays the steps, at a second trial where memory was refused: then the pool is still fresh.
@@ -85,11 +89,7 @@ fn replayed_by_pool(rt: &impl Abort, alloc: Global, world: &mut PoolWorld) -> Ve
     }
     refused(rt, alloc);
     same(rt, (world.holder(0), world.holder(1)), (None, None));
-    let give = PoolStep::GiveBack {
-        party: 0,
-        bucket: 0,
-    };
-    same(rt, world.step(give), PoolOutcome::Passed);
+    same(rt, world.step(GIVE), PoolOutcome::Passed);
     world.replay(&STEPS).expect(rt, "there is memory again")
 }
 

@@ -1,6 +1,6 @@
 //! Heap blocks. Where memory is refused, no block is made, and a growth hands its block back unchanged: then the call is made
 //! again. Alignments decide nothing.
-use crate::tests::checks::{fail, layout, refused, same};
+use crate::tests::checks::{layout, refused, same};
 use bb_memory_owned::heap_allocator::{
     AllocationError, AllocationGrowError, AllocationShrinkError, HeapAllocator, HeapBlock,
 };
@@ -77,10 +77,8 @@ fn grown(rt: &impl Abort, alloc: Global, block: HeapBlock, size: usize, zeroed: 
             same(rt, error, AllocationGrowError::OutOfMemory);
             refused(rt, alloc);
             same(rt, digits(&block), before);
-            match grow(alloc, block, new, zeroed) {
-                Ok(block) => block,
-                Err(_) => panic!(rt; "there is memory for a block"),
-            }
+            let again = grow(alloc, block, new, zeroed).ok();
+            again.expect(rt, "there is memory for a block")
         }
     }
 }
@@ -98,10 +96,8 @@ pub(super) fn shrink(
 
 /// Shrinks a block.
 pub(super) fn shrunk(rt: &impl Abort, alloc: Global, block: HeapBlock, size: usize) -> HeapBlock {
-    match shrink(alloc, block, layout(rt, size, 4096)) {
-        Ok(block) => block,
-        Err(_) => panic!(rt; "the block wasn't shrunk"),
-    }
+    let shrunk = shrink(alloc, block, layout(rt, size, 4096)).ok();
+    shrunk.expect(rt, "the block is shrunk")
 }
 
 /// Checks that a shrink is refused, and hands the block back unchanged.
@@ -113,23 +109,18 @@ fn not_shrunk(
     wanted: AllocationShrinkError,
 ) -> HeapBlock {
     let before = digits(&block);
-    match shrink(alloc, block, layout(rt, size, 1)) {
-        Ok(_) => panic!(rt; "the block was shrunk"),
-        Err((block, error)) => {
-            same(rt, (digits(&block), error), (before, wanted));
-            block
-        }
-    }
+    let refused = shrink(alloc, block, layout(rt, size, 1)).err();
+    let (block, error) = refused.expect(rt, "the block isn't shrunk");
+    same(rt, (digits(&block), error), (before, wanted));
+    block
 }
 
 // row: heap-grow-and-shrink, refused-heap-allocate, refused-heap-grow
 #[test]
 fn a_block_is_grown_and_shrunk(rt: HostRuntime) {
     let alloc = rt.alloc();
-    match allocate(alloc, layout(&rt, 0, 1), false) {
-        Ok(_) => fail(&rt, "a block of no bytes was made"),
-        Err(error) => same(&rt, error, AllocationError::SizeIsZero),
-    }
+    let empty = allocate(alloc, layout(&rt, 0, 1), false);
+    same(&rt, empty.err(), Some(AllocationError::SizeIsZero));
     let block = counted(made(&rt, alloc, 4, false), 1);
     same(&rt, digits(&block), (4, 1234));
     let block = grown(&rt, alloc, block, 6, false);
@@ -145,13 +136,9 @@ fn a_block_is_grown_and_shrunk(rt: HostRuntime) {
 fn a_block_is_zeroed_and_refused(rt: HostRuntime) {
     let alloc = rt.alloc();
     let block = counted(made(&rt, alloc, 3, true), 5);
-    let block = match grow(alloc, block, layout(&rt, 3, 1), false) {
-        Ok(_) => panic!(&rt; "a block was grown to its own size"),
-        Err((block, error)) => {
-            same(&rt, error, AllocationGrowError::GrowWouldShrink);
-            block
-        }
-    };
+    let refused = grow(alloc, block, layout(&rt, 3, 1), false).err();
+    let (block, error) = refused.expect(&rt, "the block isn't grown");
+    same(&rt, error, AllocationGrowError::GrowWouldShrink);
     same(&rt, digits(&block), (3, 567));
     let block = grown(&rt, alloc, block, 5, true);
     same(&rt, digits(&block), (5, 56_700));

@@ -2,10 +2,10 @@
 ghost use Rattle.std.specs.Prelude.{◌≡◌};
 
 use crate::tests::buckets::two;
-use crate::tests::checks::{check, layout, refused};
+use crate::tests::checks::{check, layout, refused, same};
+use bb_memory_shared_pools::shared_pool::{CachingParty, PoolParty, SharedPoolAllocator};
 use bb_memory_traits::allocator::AllocationError;
 use bb_memory_traits::layout::Layout;
-use bb_memory_shared_pools::shared_pool::{CachingParty, PoolParty, SharedPoolAllocator};
 use std::alloc::Global;
 use std::process::Abort;
 
@@ -103,8 +103,6 @@ fn two_of_two_buckets_are_cached(rt: HostRuntime) {
     };
     check(&rt, caches_two(&rt, alloc, &pool, &mut one, small).is_ok());
     one.meet(&pool, &mut other);
-    check(
-        &rt,
-        one.party().number() == 1 && other.party().number() == 0,
-    );
+    let numbers = (one.party().number(), other.party().number());
+    same(&rt, numbers, (1, 0));
 }

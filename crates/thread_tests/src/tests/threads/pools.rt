@@ -1,11 +1,12 @@
 //! Threads over one shared pool of at most eight buckets.
 ghost use Rattle.std.specs.Prelude.{◌≡◌, All};
 
-use crate::tests::buckets::{last_of, pool_at_last, take as ask};
+use crate::tests::buckets::{ask, give, last_of, pool_at_last, take as found};
 use crate::tests::checks::{check, layout, same};
 use crate::tests::slots::Slots;
+use bb_memory_shared_pools::shared_pool::AllocationError::OutOfMemory;
+use bb_memory_shared_pools::shared_pool::{PoolParty, SharedPoolAllocator};
 use bb_memory_traits::layout::Layout;
-use bb_memory_shared_pools::shared_pool::{AllocationError, PoolParty, SharedPoolAllocator};
 use std::alloc::Global;
 use std::process::Abort;
 use std::thread;
@@ -28,17 +29,12 @@ fn take_one(rt: &impl Abort, pool: &SharedPoolAllocator, work: &Work, party: &mu
     requires { party.old.allocator ≡ pool.now }
     ensures { party.new.allocator ≡ pool.now }
 {
-    let given = if work.next_fit {
-        pool.allocate_next_fit(party, work.layout)
-    } else {
-        pool.allocate(party, work.layout)
-    };
-    if let Ok(bucket) = given {
+    if let Ok(bucket) = ask(pool, party, work.layout, work.next_fit) {
         let at = bucket.number() as usize;
         check(rt, work.buckets.mark(at));
         if work.returns {
             check(rt, work.buckets.unmark(at));
-            pool.deallocate_bucket(party, bucket);
+            give(pool, party, bucket);
         }
     }
 }
@@ -85,14 +81,16 @@ fn all_take(
     let mut party = last_of(rt, &pool, &mut back);
     for number in left..pool.number_of_buckets() {
         let place = (number as usize).saturating_mul(128).saturating_add(4096);
-        let found = ask(&pool, &mut party, work.layout);
-        same(rt, found, Ok((number, place, 48)));
+        same(
+            rt,
+            found(&pool, &mut party, work.layout),
+            Ok((number, place, 48)),
+        );
     }
-    let found = ask(&pool, &mut party, work.layout);
-    same(rt, found, Err(AllocationError::OutOfMemory));
+    same(rt, found(&pool, &mut party, work.layout), Err(OutOfMemory));
 }
 
-/// Takes a bucket 1,000 times, and gives it back, in each of four threads.
+/// Takes a bucket 1,000 times and gives it back, in each of four threads.
 fn take_and_return(rt: &(impl Threads + Sync + Abort), alloc: Global, size: usize, next_fit: bool) {
     let work = Work {
         buckets: Slots::new(rt, alloc, 8),

@@ -3,8 +3,10 @@ ghost use Rattle.std.specs.Prelude.{◌≡◌, ◌<◌, IfOk, Some};
 
 use crate::tests::buckets::{take, two};
 use crate::tests::checks::{layout, same};
+use bb_memory_shared_pools::shared_pool::{
+    AllocationError, DetachedBucket, PoolParty, SharedPoolAllocator,
+};
 use bb_memory_traits::layout::Layout;
-use bb_memory_shared_pools::shared_pool::{AllocationError, DetachedBucket, PoolParty, SharedPoolAllocator};
 use rtrb::{Consumer, Producer, Protocol, PushError, RingBuffer};
 use std::alloc::{AllocError, Global};
 use std::marker::{Brand, PhantomData};

@@ -1,14 +1,12 @@
 //! Held buckets: their count, the greatest one so far, buckets by number, and the reads of a request.
 use crate::tests::checks::{check, layout, none_asked, refused, same};
-use crate::tests::kinds::{fixed_over, pool_over};
-use crate::tests::marks::refuse_memory;
+use crate::tests::kinds::{Kind, fixed_over, pool_over};
 use bb_memory_owned::pool_allocator::{
     AllocationError, BaseAllocator, FixedSizePoolAllocator, PoolAllocator,
 };
 use std::alloc::Global;
 use std::process::Abort;
-
-type Pool = PoolAllocator<Global>;
+use test_marks::refuse_memory;
 
 /// How many buckets are held, how many were at most, and whether there is room for one more.
 type Counts = (u32, u32, bool);
@@ -17,14 +15,14 @@ type Counts = (u32, u32, bool);
 type At = (Option<usize>, Option<u32>, bool);
 
 /// A pool of either kind.
-trait Buckets: BaseAllocator + Drop {
+pub(in crate::tests) trait Buckets: Kind {
     fn told(&self, number: u32, place: usize) -> (Counts, At);
 
     /// Calls `deallocate_if_held`.
     fn give(&mut self, place: usize) -> bool;
 }
 
-impl Buckets for Pool {
+impl Buckets for PoolAllocator<Global> {
     fn told(&self, number: u32, place: usize) -> (Counts, At) {
         let counts = (self.held_buckets(), self.greatest_held(), self.has_room());
         let (at, number) = (self.place_at(number), self.number_at(place));
@@ -86,7 +84,7 @@ fn has_none_between(rt: &impl Abort, pool: &mut impl Buckets, buckets: u32) {
     }
 }
 
-/// Takes all buckets of 16 bytes and gives them back. The greatest number of held ones stays.
+/// Takes all buckets of 16 bytes, gives them back, and takes one. Neither a return nor a refusal changes the greatest number.
 fn goes_round(rt: &impl Abort, alloc: Global, made: Option<impl Buckets>, buckets: u32) {
     let Some(mut pool) = made else {
         return refused(rt, alloc);
@@ -96,13 +94,19 @@ fn goes_round(rt: &impl Abort, alloc: Global, made: Option<impl Buckets>, bucket
         counts(rt, &pool, held, held, buckets);
         takes(rt, &mut pool, 16);
     }
-    check(rt, pool.allocate(layout(rt, 16, 8)).is_err());
+    for (size, align) in [(16, 8), (17, 8), (16, 32)] {
+        check(rt, pool.allocate(layout(rt, size, align)).is_err());
+    }
     has_none_between(rt, &mut pool, buckets);
     for number in 0..buckets {
         counts(rt, &pool, buckets - number, buckets, buckets);
         gives(rt, &mut pool, number);
     }
     counts(rt, &pool, 0, buckets, buckets);
+    if buckets > 1 {
+        takes(rt, &mut pool, 16);
+        counts(rt, &pool, 1, buckets, buckets);
+    }
     none_asked(rt, alloc);
 }
 
@@ -126,56 +130,8 @@ fn fixed_counts_what_it_holds(rt: HostRuntime) {
     }
 }
 
-/// Gives so many of the first five buckets back.
-fn give_some(rt: &impl Abort, pool: &mut impl Buckets, many: u32) {
-    let mut given = 0u32;
-    for number in 0..5 {
-        if given < many && pool.give(place_of(number)) {
-            given = given.saturating_add(1);
-        }
-    }
-    same(rt, given, many);
-}
-
-/// Takes and gives back buckets of a pool that has five. Neither a return nor a refusal changes the greatest number.
-fn keeps_the_greatest(rt: &impl Abort, alloc: Global, made: Option<impl Buckets>) {
-    let Some(mut pool) = made else {
-        return refused(rt, alloc);
-    };
-    refuse_memory(alloc);
-    for (taken, given, held, greatest) in [
-        (3u32, 0, 3, 3),
-        (0, 2, 1, 3),
-        (1, 0, 2, 3),
-        (0, 2, 0, 3),
-        (4, 0, 4, 4),
-        (1, 0, 5, 5),
-        (0, 5, 0, 5),
-    ] {
-        for _ in 0..taken {
-            takes(rt, &mut pool, 16);
-        }
-        give_some(rt, &mut pool, given);
-        check(rt, pool.allocate(layout(rt, 17, 8)).is_err());
-        counts(rt, &pool, held, greatest, 5);
-    }
-    none_asked(rt, alloc);
-}
-
-#[test]
-fn pool_keeps_the_greatest(rt: HostRuntime) {
-    let (alloc, bucket) = (rt.alloc(), layout(&rt, 16, 16));
-    keeps_the_greatest(&rt, alloc, pool_over(alloc, bucket, 4096, 80));
-}
-
-#[test]
-fn fixed_keeps_the_greatest(rt: HostRuntime) {
-    let pool = fixed_over::<66>(layout(&rt, 16, 16), 4096, 80);
-    keeps_the_greatest(&rt, rt.alloc(), pool);
-}
-
 /// Asks for a byte, which reads one index word. It is given at `place`, or refused where this is `None`.
-fn by_one_read(rt: &impl Abort, pool: &mut Pool, place: Option<usize>) {
+fn by_one_read(rt: &impl Abort, pool: &mut PoolAllocator<Global>, place: Option<usize>) {
     let given = pool.allocate(layout(rt, 1, 1));
     same(rt, pool.last_reads(), 1);
     match given {
@@ -190,8 +146,7 @@ fn fills(rt: &impl Abort, alloc: Global, buckets: u32, place: usize) {
         return refused(rt, alloc);
     };
     refuse_memory(alloc);
-    for held in 0..buckets {
-        counts(rt, &pool, held, held, buckets);
+    for _ in 0..buckets {
         takes(rt, &mut pool, 1);
         same(rt, pool.last_reads(), 1);
     }

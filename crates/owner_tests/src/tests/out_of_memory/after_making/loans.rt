@@ -1,11 +1,11 @@
 //! Loan books, of which a loan alone takes memory.
 use crate::tests::checks::{check, layout, none_asked, refused, same};
 use crate::tests::kinds::pool_over;
-use crate::tests::marks::{none_was_asked, refuse_memory, some_was_refused};
 use crate::tests::out_of_memory::loans::{FULL, NO_MEMORY, one_book, reply};
 use loan_book::LoanCall::{GiveBack, IsOut, Loan, Publish};
 use loan_book::LoanReply::{Kept, Out, Published, Refused, Returned};
 use loan_book::{LoanBook, LoanError};
+use test_marks::{none_was_asked, refuse_memory, some_was_refused};
 
 /// Publishes and gives back a sample, and makes a book.
 #[test]
@@ -16,12 +16,15 @@ fn a_loan_book(rt: HostRuntime) {
         return refused(&rt, alloc);
     }
     refuse_memory(alloc);
-    let unknown = Refused(LoanError::UnknownSample);
-    same(&rt, reply(&mut book, Publish(1, 2)), unknown);
-    same(&rt, reply(&mut book, Publish(0, 2)), Published);
-    same(&rt, reply(&mut book, GiveBack(0)), Kept);
-    same(&rt, reply(&mut book, IsOut(0)), Out(true));
-    same(&rt, reply(&mut book, GiveBack(0)), Returned);
+    for (call, told) in [
+        (Publish(1, 2), Refused(LoanError::UnknownSample)),
+        (Publish(0, 2), Published),
+        (GiveBack(0), Kept),
+        (IsOut(0), Out(true)),
+        (GiveBack(0), Returned),
+    ] {
+        same(&rt, reply(&mut book, call), told);
+    }
     same(&rt, reply(&mut one_book(alloc), IsOut(0)), Out(false));
     none_asked(&rt, alloc);
 }

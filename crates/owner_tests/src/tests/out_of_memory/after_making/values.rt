@@ -1,6 +1,5 @@
 //! Layouts, roundings, chunks and a region; and the laws.
 use crate::tests::checks::{check, layout, none_asked, refused, same};
-use crate::tests::marks::refuse_memory;
 use bb_memory_bump::bump_allocator::bump_object_law;
 use bb_memory_owned::one_chunk_allocator::one_chunk_object_law;
 use bb_memory_owned::pool_allocator::{
@@ -8,6 +7,7 @@ use bb_memory_owned::pool_allocator::{
 };
 use bb_memory_traits::layout::{Chunk, Layout, given_law, layout_law, least_place_law, round_up};
 use bb_memory_traits::region::{Region, live_bytes_law, region_law, split_bytes_law};
+use test_marks::refuse_memory;
 
 /// Pairs of a size and an alignment, and whether they are a layout.
 const PAIRS: [(usize, usize, bool); 6] = [
@@ -19,9 +19,9 @@ const PAIRS: [(usize, usize, bool); 6] = [
     (9_223_372_036_854_775_807, 2, false),
 ];
 
-// row: layouts-accepted-and-refused
+// row: layouts-accepted-and-refused, round-up-three-answers
 #[test]
-fn layouts(rt: HostRuntime) {
+fn layouts_and_roundings(rt: HostRuntime) {
     refuse_memory(rt.alloc());
     for (size, align, is_layout) in &PAIRS {
         let made = Layout::from_size_align(*size, *align);
@@ -30,13 +30,6 @@ fn layouts(rt: HostRuntime) {
             same(&rt, (made.size(), made.align()), (*size, *align));
         }
     }
-    none_asked(&rt, rt.alloc());
-}
-
-// row: round-up-three-answers
-#[test]
-fn roundings(rt: HostRuntime) {
-    refuse_memory(rt.alloc());
     let (two, eight) = (layout(&rt, 0, 2).align(), layout(&rt, 0, 8).align());
     same(&rt, round_up(4097, eight), Some(4104));
     same(&rt, round_up(0, eight), Some(0));

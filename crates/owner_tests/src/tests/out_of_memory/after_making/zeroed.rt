@@ -1,16 +1,16 @@
 //! Calls that clear bytes. The region's bytes are all 7 at first.
 use crate::tests::checks::{check, chunk, layout, none_asked, refused, same};
 use crate::tests::kinds::{Of, fixed_over, fresh};
-use crate::tests::marks::refuse_memory;
 use crate::tests::owner::Owner;
 use bb_memory_bump::bump_allocator::BumpAllocator;
 use bb_memory_owned::one_chunk_allocator::OneChunkAllocator;
 use bb_memory_owned::pool_allocator::{FixedSizePoolAllocator, PoolAllocator};
 use bb_memory_traits::allocator::{
-    AllocationError, AllocationGrowError, Allocator, BaseAllocator, Command, Reply,
+    AllocationError, AllocationGrowError, Allocator, BaseAllocator, Reply,
 };
 use std::alloc::Global;
 use std::process::Abort;
+use test_marks::refuse_memory;
 use uses::chunk_budget::ChunkBudget;
 
 /// Asks for a chunk, and returns where it begins.
@@ -37,7 +37,7 @@ fn resizes<A: Allocator + Drop>(
     let told = if new.size() > old.size() {
         owner.grow(0, old, new, true)
     } else {
-        owner.reply(Command::Shrink(0, old, new))
+        owner.shrink(0, old, new)
     };
     same(rt, told, Reply::Chunk(chunk(rt, place, len)));
 }
@@ -87,7 +87,7 @@ fn one_chunk_is_shrunk_and_grown(rt: HostRuntime) {
     resizes(&rt, &mut one, (4096, 64, 32), 32);
     resizes(&rt, &mut one, (4096, 48, 64), 1024);
     same(&rt, one.reserved(0), Some(1024));
-    same(&rt, one.reply(Command::Release(0)), Reply::Released);
+    same(&rt, one.deallocate(0), Reply::Released);
     let back = one.allocator();
     check(&rt, back.has_chunk_available() && !back.holds(4096));
     check(&rt, one.has_zeros(4144, 5120));
@@ -101,7 +101,7 @@ fn a_bucket_is_grown_and_shrunk(rt: HostRuntime) {
     let place = takes(&rt, &mut pool, (48, 4), false);
     resizes(&rt, &mut pool, (place, 48, 64), 64);
     resizes(&rt, &mut pool, (place, 64, 32), 32);
-    same(&rt, pool.reply(Command::Release(0)), Reply::Released);
+    same(&rt, pool.deallocate(0), Reply::Released);
     let cleared = place.saturating_add(48);
     check(&rt, pool.has_zeros(cleared, cleared.saturating_add(16)));
     none_asked(&rt, rt.alloc());
@@ -129,7 +129,7 @@ fn fills(rt: &impl Abort, alloc: Global, of: Of, (stride, count): (usize, usize)
     }
     check(rt, pool.are_at(4096, stride, count));
     same(rt, pool.reserved(0), Some(of[2]));
-    same(rt, pool.reply(Command::Release(1)), Reply::Released);
+    same(rt, pool.deallocate(1), Reply::Released);
     let place = takes(rt, &mut pool, (9, 1), true);
     check(rt, pool.has_zeros(place, place.saturating_add(9)));
     none_asked(rt, alloc);
@@ -161,7 +161,7 @@ fn a_budget_of_one_chunk(rt: HostRuntime) {
     same(&rt, budget.allocator().out(), 1);
     let spent = Reply::Refused(AllocationError::OutOfMemory);
     same(&rt, budget.allocate(large, false), spent);
-    same(&rt, budget.reply(Command::Release(0)), Reply::Released);
+    same(&rt, budget.deallocate(0), Reply::Released);
     same(&rt, budget.allocator().out(), 0);
     none_asked(&rt, alloc);
 }

@@ -1,9 +1,9 @@
 //! A heap block.
 use crate::tests::checks::{check, none_asked, same};
-use crate::tests::marks::{refuse_memory, some_was_freed};
 use crate::tests::out_of_memory::blocks::{counted, digits, made, shrunk};
 use bb_memory_owned::heap_allocator::HeapAllocator;
 use bb_memory_traits::layout::Layout;
+use test_marks::{refuse_memory, some_was_freed};
 
 /// A block is written, shrunk and deallocated, which gives its memory back.
 #[test]

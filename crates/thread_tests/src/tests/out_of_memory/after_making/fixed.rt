@@ -1,14 +1,14 @@
 //! A shared pool of at most four buckets of 128 bytes.
 ghost use Rattle.std.specs.Prelude.{◌≡◌, All, IfSome};
 
-use crate::tests::checks::{chunk, fail, layout, none_asked, refused, same};
-use crate::tests::marks::refuse_memory;
-use bb_memory_traits::allocator::{AllocationError, AllocationGrowError};
-use bb_memory_traits::layout::{Chunk, Layout};
+use crate::tests::checks::{check, chunk, layout, none_asked, refused, same};
 use bb_memory_owned::pool_allocator::FixedSizePoolAllocator;
 use bb_memory_shared_pools::shared_pool::{Bucket, PoolParty, SharedFixedSizePoolAllocator};
+use bb_memory_traits::allocator::{AllocationError, AllocationGrowError};
+use bb_memory_traits::layout::{Chunk, Layout};
 use std::alloc::Global;
 use std::process::Abort;
+use test_marks::refuse_memory;
 
 type Four = SharedFixedSizePoolAllocator<4>;
 
@@ -31,10 +31,7 @@ fn number(pool: &Four, party: &mut PoolParty, layout: Layout) -> Result<u32, All
     requires { party.old.allocator ≡ pool.now }
     ensures { party.new.allocator ≡ pool.now }
 {
-    match pool.allocate(party, layout) {
-        Ok(bucket) => Ok(bucket.number()),
-        Err(error) => Err(error),
-    }
+    Ok(pool.allocate(party, layout)?.number())
 }
 
 /// Grows a bucket's chunk, and checks the answer.
@@ -50,7 +47,7 @@ fn grow(
     ensures { bucket.new.allocator ≡ pool.now }
 {
     if bucket.chunk().place() % old.align() != 0 {
-        return fail(rt, "the bucket isn't aligned");
+        return check(rt, false);
     }
     same(rt, pool.grow(bucket, old, new), wanted);
 }
@@ -61,19 +58,27 @@ fn fills(rt: &impl Abort, pool: &Four, mut parties: Vec<PoolParty>)
 {
     let mut party = parties.pop().expect(rt, "there is a party");
     let (small, medium, large) = (layout(rt, 48, 4), layout(rt, 64, 4), layout(rt, 129, 4));
-    let Ok(mut first) = pool.allocate(&mut party, small) else {
-        return fail(rt, "no bucket is free");
-    };
+    let first = pool.allocate(&mut party, small);
+    let mut first = first.expect(rt, "a bucket is free");
     same(rt, (first.number(), first.chunk().place()), (0, 4096));
     same(rt, number(pool, &mut party, small), Ok(1));
     same(rt, number(pool, &mut party, small), Ok(2));
     same(rt, number(pool, &mut party, small), Ok(3));
-    let fifth = number(pool, &mut party, small);
-    same(rt, fifth, Err(AllocationError::OutOfMemory));
+    same(
+        rt,
+        number(pool, &mut party, small),
+        Err(AllocationError::OutOfMemory),
+    );
     let grown = chunk(rt, 4096, 64);
     grow(rt, pool, &mut first, small, medium, Ok(grown));
-    let full = Err(AllocationGrowError::OutOfMemory);
-    grow(rt, pool, &mut first, medium, large, full);
+    grow(
+        rt,
+        pool,
+        &mut first,
+        medium,
+        large,
+        Err(AllocationGrowError::OutOfMemory),
+    );
     same(rt, first.chunk(), grown);
 }
 

@@ -16,7 +16,8 @@ fn two_parties(rt: HostRuntime) {
     none_asked(&rt, rt.alloc());
 }
 
-// row: share-keeps-position
+/// Where a request for memory is refused, the bump comes back with its text.
+// row: share-keeps-position, refused-share
 #[test]
 fn what_was_used_stays_used(rt: HostRuntime) {
     let (shared, mut a, mut b) = two(&rt, rt.alloc(), (4096, 64, 40));
@@ -28,20 +29,11 @@ fn what_was_used_stays_used(rt: HostRuntime) {
     none_asked(&rt, rt.alloc());
 }
 
-/// Where a request for memory is refused, the bump comes back with its text.
-// row: refused-share
-#[test]
-fn a_refused_share_hands_the_bump_back(rt: HostRuntime) {
-    let (shared, mut a, b) = two(&rt, rt.alloc(), (4096, 1024, 48));
-    same(&rt, spaces(&shared, &mut a), (48, 976));
-    same(&rt, end(shared, b), (4096, 1024, 48));
-    none_asked(&rt, rt.alloc());
-}
-
-/// The last of a thousand parties has seen nothing of what another one took.
+/// A thousand parties meet. The last one has seen nothing of what another one took then.
 #[test]
 fn the_last_party_made_no_step(rt: HostRuntime) {
     let (shared, mut parties) = share(&rt, rt.alloc(), (4096, 64, 0), 1000);
+    shared.meet_all(&mut parties);
     let last = last_of(&rt, &shared, &mut parties);
     let mut other = last_of(&rt, &shared, &mut parties);
     same(&rt, (last.number(), other.number()), (999, 998));
@@ -61,15 +53,5 @@ fn two_parties_meet(rt: HostRuntime) {
     same(&rt, take(&shared, &mut b, 4, 4), Ok((4124, 4)));
     same(&rt, spaces(&shared, &mut a), (32, 32));
     same(&rt, end(shared, a), (4096, 64, 32));
-    none_asked(&rt, rt.alloc());
-}
-
-#[test]
-fn all_parties_meet(rt: HostRuntime) {
-    let (shared, mut parties) = share(&rt, rt.alloc(), (4096, 64, 40), 3);
-    shared.meet_all(&mut parties);
-    let last = last_of(&rt, &shared, &mut parties);
-    same(&rt, last.number(), 2);
-    same(&rt, end(shared, last), (4096, 64, 40));
     none_asked(&rt, rt.alloc());
 }

@@ -3,9 +3,11 @@ ghost use Rattle.std.specs.Prelude.{◌≡◌};
 
 use crate::tests::buckets::{counts, fit, found, give, hold, last_of, pool_at_last, take, two};
 use crate::tests::checks::{chunk, layout, none_asked, same};
+use bb_memory_shared_pools::shared_pool::{
+    AllocationShrinkError, Bucket, SharedPoolAllocator, by_number,
+};
 use bb_memory_traits::allocator::AllocationError::{AlignmentFailure, OutOfMemory, SizeTooLarge};
 use bb_memory_traits::layout::{Chunk, Layout};
-use bb_memory_shared_pools::shared_pool::{AllocationShrinkError, Bucket, SharedPoolAllocator, by_number};
 use std::process::Abort;
 
 // row: shared-pool-dropped-bucket, refused-shared-pools
@@ -37,11 +39,13 @@ fn two_parties_of_one_bucket(rt: HostRuntime) {
     none_asked(&rt, rt.alloc());
 }
 
-/// The last party's part of the pool is its last bucket.
+/// The last party's part of the pool is its last bucket, also when all parties have met.
 #[test]
 fn as_many_parties_as_buckets(rt: HostRuntime) {
     let (pool, mut all) = pool_at_last(&rt, rt.alloc(), 65536, 512);
+    pool.meet_all(&mut all);
     let (small, mut party) = (layout(&rt, 48, 4), last_of(&rt, &pool, &mut all));
+    same(&rt, (party.number(), all.len()), (511, 511));
     same(&rt, pool.number_of_buckets(), pool.number_of_parties());
     same(&rt, (pool.size(), pool.bucket_size()), (65536, 128));
     same(&rt, (pool.start_address(), pool.max_alignment()), (4096, 8));
@@ -102,16 +106,6 @@ fn a_meeting_keeps_where_a_search_begins(rt: HostRuntime) {
     none_asked(&rt, rt.alloc());
 }
 
-#[test]
-fn all_parties_meet(rt: HostRuntime) {
-    let (pool, mut parties) = pool_at_last(&rt, rt.alloc(), 384, 3);
-    pool.meet_all(&mut parties);
-    let (small, mut party) = (layout(&rt, 48, 4), last_of(&rt, &pool, &mut parties));
-    same(&rt, (party.number(), parties.len()), (2, 2));
-    same(&rt, fit(&pool, &mut party, small), Ok((2, 4352, 48)));
-    none_asked(&rt, rt.alloc());
-}
-
 /// The figures say how many buckets are held, how many were found held at most, and how many requests were refused.
 #[test]
 fn figures_count_what_is_held(rt: HostRuntime) {
@@ -160,11 +154,8 @@ fn a_bucket_by_its_number(rt: HostRuntime) {
     let (shorter, wanted) = (layout(&rt, 16, 4), chunk(&rt, 4096, 16));
     let told = shrink(&rt, &pool, &mut held, shorter, small);
     same(&rt, told, Err(AllocationShrinkError::ShrinkWouldGrow));
-    same(
-        &rt,
-        shrink(&rt, &pool, &mut held, small, shorter),
-        Ok(wanted),
-    );
+    let told = shrink(&rt, &pool, &mut held, small, shorter);
+    same(&rt, told, Ok(wanted));
     same(&rt, found(&held), (0, 4096, 16));
     let again = by_number::bucket(&pool, &party, number, 0);
     same(&rt, found(&again), (0, 4096, 0));

@@ -1,10 +1,14 @@
 //! Marks by which a test and the sweep of refused memory tell each other where the making ends and the calls do, and whether
-//! memory was refused. They are requests of sizes that no other has: `.ci/refuse.c` says which of them is refused when.
+//! memory was refused or given back. They are requests of sizes that no other has: `.ci/refuse.c` says which is refused when.
+#![tactic(auto)]
+
 use std::alloc::Global;
 
 const FIRST_MARK: usize = 100_003;
 
 const SECOND_MARK: usize = 100_019;
+
+const FREED_MARK: usize = 100_043;
 
 const REFUSED_MARK: usize = 100_049;
 
@@ -15,16 +19,21 @@ fn is_granted(alloc: Global, bytes: usize) -> bool {
 }
 
 /// Ends the making. Returns whether memory is refused from here on.
-pub(super) fn refuse_memory(alloc: Global) -> bool {
+pub fn refuse_memory(alloc: Global) -> bool {
     !is_granted(alloc, FIRST_MARK)
 }
 
 /// Ends the calls, so that memory is there again. Returns whether none of them asked for any.
-pub(super) fn none_was_asked(alloc: Global) -> bool {
+pub fn none_was_asked(alloc: Global) -> bool {
     is_granted(alloc, SECOND_MARK)
 }
 
+/// Tests that memory was given back since the making.
+pub fn some_was_freed(alloc: Global) -> bool {
+    is_granted(alloc, FREED_MARK)
+}
+
 /// Tests that a request for memory was refused since the test began. A test accepts want of memory only where this is true.
-pub(super) fn some_was_refused(alloc: Global) -> bool {
+pub fn some_was_refused(alloc: Global) -> bool {
     !is_granted(alloc, REFUSED_MARK)
 }

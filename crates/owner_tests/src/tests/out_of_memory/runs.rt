@@ -1,0 +1,127 @@
+//! Runs of commands. A refused run applies no command, and is made again.
+use super::after_making::held_buckets::Buckets;
+use crate::tests::checks::{check, chunk, layout, refused, same};
+use crate::tests::kinds::{Kind, Of, made};
+use crate::tests::owner::Owner;
+use bb_memory_bump::bump_allocator::BumpAllocator;
+use bb_memory_owned::one_chunk_allocator::OneChunkAllocator;
+use bb_memory_owned::pool_allocator::{FixedSizePoolAllocator, PoolAllocator};
+use bb_memory_traits::allocator::AllocationError::OutOfMemory;
+use bb_memory_traits::allocator::AllocationGrowError::{self, AlignmentFailure, GrowWouldShrink};
+use bb_memory_traits::allocator::Command::{self, Allocate, Grow, Release, Shrink};
+use bb_memory_traits::allocator::Reply::{self, GrowRefused, Passed, Refused, Released};
+use bb_memory_traits::layout::Layout;
+use std::alloc::Global;
+use std::process::Abort;
+
+/// Runs commands, a second time where memory was refused: then as many chunks are live as before.
+fn replies<A: Kind>(
+    rt: &impl Abort,
+    alloc: Global,
+    owner: &mut Owner<A>,
+    commands: &[Command],
+) -> Vec<Reply> {
+    let live = owner.number_of_live();
+    if let Ok(replies) = A::run(owner, commands) {
+        return replies;
+    }
+    refused(rt, alloc);
+    same(rt, owner.number_of_live(), live);
+    A::run(owner, commands).expect(rt, "there is memory for a run")
+}
+
+/// Runs commands by a fresh allocator of 1024 bytes at `start`, and checks the replies.
+fn replied<A: Kind>(
+    rt: &impl Abort,
+    alloc: Global,
+    start: usize,
+    commands: &[Command],
+    wanted: &[Reply],
+) {
+    let mut owner = made::<A>(rt, alloc, [start, 1024, 0, 0]);
+    let told = replies(rt, alloc, &mut owner, commands);
+    check(rt, told.as_slice() == wanted);
+}
+
+fn given(rt: &impl Abort, place: usize, len: usize) -> Reply {
+    Reply::Chunk(chunk(rt, place, len))
+}
+
+// row: bump-first-path, refused-run
+#[test]
+fn a_bump_is_filled(rt: HostRuntime) {
+    let commands = [
+        Allocate(layout(&rt, 48, 4)),
+        Grow(0, Layout::empty(), layout(&rt, 64, 4)),
+        Allocate(layout(&rt, 10, 32)),
+        Allocate(layout(&rt, 950, 1)),
+        Allocate(layout(&rt, 1, 1)),
+    ];
+    let (first, second) = (given(&rt, 4096, 48), given(&rt, 4160, 10));
+    let wanted = [
+        first,
+        Passed,
+        second,
+        given(&rt, 4170, 950),
+        Refused(OutOfMemory),
+    ];
+    replied::<BumpAllocator>(&rt, rt.alloc(), 4096, &commands, &wanted);
+}
+
+// row: one-resizes, refused-run
+#[test]
+fn one_chunk_is_resized(rt: HostRuntime) {
+    let (small, large) = (layout(&rt, 48, 4), layout(&rt, 64, 4));
+    let commands = [
+        Allocate(small),
+        Shrink(0, large, layout(&rt, 32, 4)),
+        Grow(0, small, large),
+        Grow(0, large, large),
+        Grow(0, small, layout(&rt, 64, 8)),
+        Grow(0, small, layout(&rt, 1022, 4)),
+        Grow(0, small, layout(&rt, 1021, 4)),
+        Grow(0, layout(&rt, 48, 16), layout(&rt, 64, 16)),
+    ];
+    let wanted = [
+        given(&rt, 4100, 1021),
+        given(&rt, 4100, 32),
+        given(&rt, 4100, 1021),
+        GrowRefused(GrowWouldShrink),
+        GrowRefused(AlignmentFailure),
+        GrowRefused(AllocationGrowError::OutOfMemory),
+        given(&rt, 4100, 1021),
+        Passed,
+    ];
+    replied::<OneChunkAllocator>(&rt, rt.alloc(), 4097, &commands, &wanted);
+}
+
+/// Takes two buckets, gives one back, and takes one more. Checks how many are held then, and how many were at most.
+fn takes<A: Buckets>(
+    rt: &impl Abort,
+    alloc: Global,
+    pool: &mut Owner<A>,
+    counts: (u32, u32, bool),
+) -> Vec<Reply> {
+    let take = Allocate(Layout::empty());
+    let commands = [take, take, Release(0), take];
+    let told = replies(rt, alloc, pool, &commands);
+    same(rt, pool.allocator().told(0, 0).0, counts);
+    told
+}
+
+/// Takes all buckets of a pool of four by two runs. A third one is refused a bucket.
+fn fills<A: Buckets>(rt: &impl Abort, alloc: Global, of: Of) {
+    let mut pool = made::<A>(rt, alloc, of);
+    same(rt, takes(rt, alloc, &mut pool, (2, 2, true)).len(), 4);
+    same(rt, takes(rt, alloc, &mut pool, (4, 4, false)).len(), 4);
+    let told = takes(rt, alloc, &mut pool, (4, 4, false));
+    same(rt, told.first().copied(), Some(Refused(OutOfMemory)));
+}
+
+/// The fixed pool's region has room for eight buckets.
+// row: fixed-constant-four, refused-run
+#[test]
+fn pools_of_four_buckets(rt: HostRuntime) {
+    fills::<PoolAllocator<Global>>(&rt, rt.alloc(), [4096, 64, 16, 8]);
+    fills::<FixedSizePoolAllocator<4>>(&rt, rt.alloc(), [4096, 1024, 128, 8]);
+}
