@@ -13,8 +13,7 @@ use Rattle.bb_memory_traits.specs.declared.layout.Layout.{Layout}
 use Rattle.bb_memory_traits.specs.LeastPlace.{least_place}
 use Rattle.bb_memory_traits.proofs.PowersOfTwo.{power_of_two-from_test}
 use Rattle.bb_memory_traits.proofs.PoolGeometries.{stride-above, first_place-above, room-quotient}
-use Rattle.bb_memory_geometry.specs.Geometry.{MayBeCut}
-use Rattle.bb_memory_geometry.specs.Geometry.{Shifts}
+use Rattle.bb_memory_geometry.specs.Geometry.{MayBeCut, Shifts}
 
 -- STRIDES
 

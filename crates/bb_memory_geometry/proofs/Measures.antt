@@ -1,5 +1,5 @@
 -- The buckets of a region, as it is measured.
-use Rattle.std.proofs.Common.{◌≡◌, ℕ, suc, ◌+◌, ◌-◌, ◌*◌, ◌/◌, ◌%◌, ◌^◌, ◌<◌, ◌≤◌, Option, arith, ap, sym, subst, ◌∙◌, inl, inr}
+use Rattle.std.proofs.Common.{◌≡◌, ℕ, suc, ◌+◌, ◌-◌, ◌*◌, ◌/◌, ◌%◌, ◌^◌, ◌<◌, ◌≤◌, Option, arith, ap, sym, ◌∙◌, inl, inr}
 use Rattle.std.proofs.Common.{div-add-mod', pow_pos, pow_mono, pow-add, pow-suc}
 use Rattle.std.specs.Int.{IsPowerOfTwo}
 use Rattle.std.proofs.Math.Nat.{mul_assoc}
@@ -28,31 +28,15 @@ bucket-inside geometry i len is below short =
 
 -- a geometry with the numbers that are kept of it
 module _ (geometry : PoolGeometry) (first step : ℕ) (shift : Option ℕ) (measured : IsMeasured geometry first step shift) where
-  pub measured-inside : (i len : ℕ) → i < geometry.buckets → len ≤ geometry.bucket.size →
-      IsInside geometry.region (chunk_at geometry i len)
-  measured-inside i len below short = bucket-inside geometry i len measured.is_geometry below short
-
-  -- the first bytes of a bucket are a chunk
-  pub measured-chunk : (i len : ℕ) → i < geometry.buckets → len ≤ geometry.bucket.size → IsChunk (chunk_at geometry i len)
-  measured-chunk i len below short =
-      let inside = measured-inside i len below short in
-      record {
-        place = omega (arith, inside.above, measured.is_region.start);
-        end = omega (arith, inside.below, measured.is_region.end);
-      }
-
-  -- so are as many bytes at the place of a bucket
-  pub placed-chunk : (place len : ℕ) → IsPlaceOfBucket geometry place → len ≤ geometry.bucket.size →
-      IsChunk (record { place = place; len = len })
-  placed-chunk place len at short =
-      subst (λ p. IsChunk (record { place = p; len = len })) (sym at.2) (measured-chunk at.0 len at.1 short)
-
-  -- and they lie in the region
-  pub placed-inside : (place len : ℕ) → IsPlaceOfBucket geometry place → len ≤ geometry.bucket.size →
-      IsInside geometry.region (record { place = place; len = len })
-  placed-inside place len at short =
-      subst (λ p. IsInside geometry.region (record { place = p; len = len })) (sym at.2)
-      (measured-inside at.0 len at.1 short)
+  -- the first bytes at the place of a bucket are a chunk, and lie in the region
+  pub placed : (place len : ℕ) → IsPlaceOfBucket geometry place → len ≤ geometry.bucket.size →
+      IsChunk (record { place = place; len = len }) × IsInside geometry.region (record { place = place; len = len })
+  placed place len (i, below, at) short =
+      let inside = bucket-inside geometry i len measured.is_geometry below short in
+      let region = measured.is_region in (
+        record { place = omega (arith, inside.above, region.start, at); end = omega (arith, inside.below, region.end, at) },
+        record { above = omega (arith, inside.above, at); below = omega (arith, inside.below, at) },
+      )
 
   -- a bucket's place as it is computed
   pub measured-place : (i : ℕ) → first + i * step ≡ bucket_place geometry i

@@ -35,7 +35,6 @@ pub record IsMeasured (geometry : PoolGeometry) (first step : ℕ) (shift : Opti
   pub strides : step ≡ stride geometry.bucket
   pub shifts : Shifts step shift
 
--- the place is that of a bucket
 abbrev pub IsPlaceOfBucket : PoolGeometry → ℕ → Type 0
 IsPlaceOfBucket geometry place =
     (i : ℕ) × (i < geometry.buckets) × (place ≡ bucket_place geometry i)

@@ -3,8 +3,7 @@ ghost use Rattle.std.specs.Prelude.{◌≡◌, ℕ, ◌<◌, ◌≤◌, ◌/◌,
 ghost use Rattle.bb_memory_traits.specs.Chunk.{IsRegion, region_at, Chunk, IsInside, first_place};
 ghost use Rattle.bb_memory_traits.specs.PoolObject.{IsCut, IsPoolGeometry, at_most, bucket_place, pool_geometry, stride};
 ghost use Rattle.bb_memory_traits.specs.PoolObject.{MayGrow, MayShrink};
-ghost use Rattle.bb_memory_geometry.specs.Geometry.{IsPlaceOfBucket, Shifts, TellsPlace};
-ghost use Rattle.bb_memory_geometry.specs.Geometry.{IsCutAtMost, MayBeCut};
+ghost use Rattle.bb_memory_geometry.specs.Geometry.{IsPlaceOfBucket, Shifts, TellsPlace, IsCutAtMost, MayBeCut};
 
 use bb_memory_traits::allocator::{AllocationGrowError, AllocationShrinkError};
 use bb_memory_traits::layout::{Chunk, Layout, round_up};

@@ -1,4 +1,4 @@
-mod AsideNumbers
+pub mod AsideNumbers
 mod Listings
 mod LowestBits
 mod NumberFlags

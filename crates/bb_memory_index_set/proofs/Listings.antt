@@ -1,6 +1,6 @@
--- A listing of the words that aren't full, after one is full or open again.
-use Rattle.std.proofs.Common.{◌≡◌, ◌≢◌, ℕ, ◌+◌, ◌-◌, ◌^◌, ◌<◌, ◌≤◌, eqb, List, length, map, get_or, if◌then◌else◌, sym, ◌∙◌, ap}
-use Rattle.std.proofs.Common.{inl, inr, arith, eq-eqb}
+-- A listing of the numbers that are open, after one is open no more, or again.
+use Rattle.std.proofs.Common.{◌≡◌, ◌≢◌, ℕ, ◌+◌, ◌-◌, ◌<◌, ◌≤◌, eqb, List, length, map, get_or, if◌then◌else◌, sym, ◌∙◌, ap}
+use Rattle.std.proofs.Common.{subst, inl, inr, arith, eq-eqb}
 use Rattle.std.specs.List.{range_with_len}
 use Rattle.std.proofs.lemmas.Bool.{cases_eq, eqb-true, ne_eqb}
 use Rattle.std.proofs.lemmas.List.{get_or_default}
@@ -8,7 +8,7 @@ use Rattle.std.proofs.lemmas.List.FromFn.{length-map-range_with_len, get_or-map-
 use Rattle.std.proofs.lemmas.Map.Keys.{IsDistinct-from_apart}
 use Rattle.std.proofs.lemmas.Map.Steps.{length-le_from_distinct_below}
 use Rattle.std.proofs.lemmas.Map.Views.{Contains-from_any}
-use Rattle.bb_memory_index_set.specs.IndexSets.{IsListing, PutsAt}
+use Rattle.bb_memory_index_set.specs.IndexSets.{IsListing}
 
 -- numbers below n, each once, are at most n
 few : (xs : List ℕ) (n : ℕ) → ((k : ℕ) → k < length xs → get_or xs k 0 < n) →
@@ -50,28 +50,27 @@ few_more named count n at below once within apart =
     ]) in
     omega (arith, fits, len)
 
--- with a full word the listed ones are fewer than all
-pub room_left : (words : List ℕ) (named : ℕ → ℕ) (top at : ℕ) → IsListing words named top → at < length words →
-    get_or words at 0 ≡ 2 ^ 64 - 1 → top < length words
-room_left words named top at is within full =
-    few_more named top (length words) at is.below is.once within
-    (λ k h e. is.each k h (ap (λ x. get_or words x 0) e ∙ full))
+-- where a number isn't open, the listed ones are fewer than all
+pub room_left : (bound : ℕ) (Open : ℕ → Type 0) (named : ℕ → ℕ) (top at : ℕ) → IsListing bound Open named top → at < bound →
+    (Open at → ⊥) → top < bound
+room_left bound Open named top at is within full =
+    few_more named top bound at is.below is.once within (λ k h e. full (subst Open e (is.each k h)))
 
--- What a word becomes, and the words beside it stay. Before and after, so many are listed by `named` and by `now`.
-module _ (words new : List ℕ) (named now : ℕ → ℕ) (top at : ℕ) (is : IsListing words named top) (puts : PutsAt words at new) where
-  -- the word that was listed last is full
-  pub filled : 0 < top → named (top - 1) ≡ at → get_or new at 0 ≡ 2 ^ 64 - 1 →
-      ((k : ℕ) → k < top - 1 → now k ≡ named k) → IsListing new now (top - 1)
+-- What one number becomes, and the others stay. Before and after, so many are listed by `named` and by `now`.
+module _ (bound : ℕ) (Open Now : ℕ → Type 0) (named now : ℕ → ℕ) (top at : ℕ) (is : IsListing bound Open named top)
+    (others : (other : ℕ) → other ≢ at → (Open other → Now other) × (Now other → Open other)) where
+  -- the number that was listed last isn't open any more
+  pub filled : 0 < top → named (top - 1) ≡ at → (Now at → ⊥) → ((k : ℕ) → k < top - 1 → now k ≡ named k) →
+      IsListing bound Now now (top - 1)
   filled some last full same = record {
-    fits = omega (arith, is.fits, puts.len);
-    below = λ k h. rw (same k h) (omega (arith, is.below k (omega (arith, h)), puts.len));
-    each = λ k h. rw (same k h) (λ is_full.
-        let other : named k ≢ at = λ e. is.once k (top - 1) h (omega (arith, some)) (e ∙ sym last) in
-        is.each k (omega (arith, h)) (sym (puts.others (named k) other) ∙ is_full));
+    fits = omega (arith, is.fits);
+    below = λ k h. rw (same k h) (is.below k (omega (arith, h)));
+    each = λ k h. rw (same k h) (
+        (others (named k) (λ e. is.once k (top - 1) h (omega (arith, some)) (e ∙ sym last))).0 (is.each k (omega (arith, h))));
     once = λ i k before h. rw (same i (omega (arith, before, h)), same k h) (is.once i k before (omega (arith, h)));
-    all = λ a within not.
-        let other : a ≢ at = λ e. not (ap (λ x. get_or new x 0) e ∙ full) in
-        let old = is.all a (omega (arith, within, puts.len)) (λ e. not (puts.others a other ∙ e)) in
+    all = λ a within clear.
+        let other : a ≢ at = λ e. full (subst Now e clear) in
+        let old = is.all a within ((others a other).1 clear) in
         let before : old.0 < top - 1 = elim (cases_eq old.0 (top - 1)) [
           | inl e ↦ absurd (other (sym old.2 ∙ ap named e ∙ last))
           | inr ne ↦ omega (arith, old.1, ne)
@@ -79,40 +78,37 @@ module _ (words new : List ℕ) (named now : ℕ → ℕ) (top at : ℕ) (is : I
         (old.0, before, same old.0 before ∙ old.2);
   }
 
-  -- a word that was open still is
-  pub still : at < length words → get_or words at 0 ≢ 2 ^ 64 - 1 → get_or new at 0 ≢ 2 ^ 64 - 1 → IsListing new named top
-  still within was_open not_full =
-      let there = is.all at within was_open in
+  -- a number that was open still is
+  pub still : Open at → Now at → IsListing bound Now named top
+  still was_open is_open =
+      let same : (a : ℕ) → (Open a → Now a) × (Now a → Open a) = λ a. elim (cases_eq a at) [
+        | inl e ↦ (λ _. subst Now (sym e) is_open, λ _. subst Open (sym e) was_open)
+        | inr other ↦ others a other
+      ] in
       record {
-        fits = omega (arith, is.fits, puts.len);
-        below = λ k h. omega (arith, is.below k h, puts.len);
-        each = λ k h same. elim (cases_eq (named k) at) [
-          | inl e ↦ not_full (ap (λ x. get_or new x 0) (sym e) ∙ same)
-          | inr other ↦ is.each k h (sym (puts.others (named k) other) ∙ same)
-        ];
+        fits = is.fits;
+        below = is.below;
+        each = λ k h. (same (named k)).0 (is.each k h);
         once = is.once;
-        all = λ a inside not. elim (cases_eq a at) [
-          | inl e ↦ (there.0, there.1, there.2 ∙ sym e)
-          | inr other ↦ is.all a (omega (arith, inside, puts.len)) (λ e. not (puts.others a other ∙ e))
-        ];
+        all = λ a within still_open. is.all a within ((same a).1 still_open);
       }
 
-  -- a word that was full is open, and is listed behind the others
-  pub opened : at < length words → get_or words at 0 ≡ 2 ^ 64 - 1 → get_or new at 0 ≢ 2 ^ 64 - 1 → now top ≡ at →
-      ((k : ℕ) → k < top → now k ≡ named k) → IsListing new now (top + 1)
-  opened within full not_full last same =
-      let apart : (k : ℕ) → k < top → named k ≢ at = λ k h e. is.each k h (ap (λ x. get_or words x 0) e ∙ full) in
+  -- a number that wasn't open is, and is listed behind the others
+  pub opened : at < bound → (Open at → ⊥) → Now at → now top ≡ at → ((k : ℕ) → k < top → now k ≡ named k) →
+      IsListing bound Now now (top + 1)
+  opened within full is_open last same =
+      let apart : (k : ℕ) → k < top → named k ≢ at = λ k h e. full (subst Open e (is.each k h)) in
       record {
-        fits = omega (arith, room_left words named top at is within full, puts.len);
+        fits = omega (arith, room_left bound Open named top at is within full);
         below = λ k h. elim (cases_eq k top) [
-          | inl e ↦ rw (e, last) (omega (arith, within, puts.len))
-          | inr other ↦ rw (same k (omega (arith, h, other))) (omega (arith, is.below k (omega (arith, h, other)), puts.len))
+          | inl e ↦ rw (e, last) within
+          | inr other ↦ rw (same k (omega (arith, h, other))) (is.below k (omega (arith, h, other)))
         ];
         each = λ k h. elim (cases_eq k top) [
-          | inl e ↦ rw (e, last) not_full
+          | inl e ↦ rw (e, last) is_open
           | inr other ↦
               let before : k < top = omega (arith, h, other) in
-              rw (same k before) (λ is_full. is.each k before (sym (puts.others (named k) (apart k before)) ∙ is_full))
+              rw (same k before) ((others (named k) (apart k before)).0 (is.each k before))
         ];
         once = λ i k before h. elim (cases_eq k top) [
           | inl e ↦ rw (e, last, same i (omega (arith, before, e))) (apart i (omega (arith, before, e)))
@@ -120,10 +116,10 @@ module _ (words new : List ℕ) (named now : ℕ → ℕ) (top at : ℕ) (is : I
               rw (same i (omega (arith, before, h)), same k (omega (arith, h, other)))
               (is.once i k before (omega (arith, h, other)))
         ];
-        all = λ a inside not. elim (cases_eq a at) [
+        all = λ a inside still_open. elim (cases_eq a at) [
           | inl e ↦ (top, omega arith, last ∙ sym e)
           | inr other ↦
-              let old = is.all a (omega (arith, inside, puts.len)) (λ e. not (puts.others a other ∙ e)) in
+              let old = is.all a inside ((others a other).1 still_open) in
               (old.0, omega (arith, old.1), same old.0 old.1 ∙ old.2)
         ];
       }

@@ -4,7 +4,7 @@ use Rattle.std.proofs.Common.{inr, arith, eq-eqb, get_or-set_same, get_or-set_ot
 use Rattle.std.proofs.lemmas.Bool.{cases_eq, ne_eqb}
 use Rattle.std.specs.Int.{trailing_ones}
 use Rattle.std.specs.Prelude.{bit_or}
-use Rattle.bb_memory_index_set.specs.IndexSets.{IsListing, IsWordSet, PutsAt, AreIndexWords, open_word, index_words}
+use Rattle.bb_memory_index_set.specs.IndexSets.{IsListing, IsOpen, IsWordSet, PutsAt, AreIndexWords, open_word, index_words}
 use Rattle.bb_memory_index_set.specs.IndexSets.{Lacks, IsFull, numbers_of}
 use Rattle.bb_memory_index_set.proofs.LowestBits.{taken}
 use Rattle.bb_memory_index_set.proofs.AsideNumbers.{given, word_count}
@@ -31,7 +31,8 @@ none_open bound words listed hand top is none =
     ])
 
 -- else the word in hand is open
-pub hand_open : (words listed : List ℕ) (hand top : ℕ) → IsListing words (open_word listed hand top) top → 0 < top →
+pub hand_open : (words listed : List ℕ) (hand top : ℕ) →
+    IsListing (length words) (IsOpen words) (open_word listed hand top) top → 0 < top →
     (hand < length words) × (get_or words hand 0 ≢ 2 ^ 64 - 1)
 hand_open words listed hand top is some =
     let last = top_word listed hand top (top - 1) (omega (arith, some)) in (
@@ -54,6 +55,12 @@ hand_taken bound words listed hand top word is some read low =
 -- what the search for the proof of a taking uses
 pub ruleset of_a_taking = (given, word_count, has_word, hand_open)
 
+-- the words beside it are open or full as they were
+stay_open : (words new : List ℕ) (at : ℕ) → PutsAt words at new → (other : ℕ) → other ≢ at →
+    (IsOpen words other → IsOpen new other) × (IsOpen new other → IsOpen words other)
+stay_open words new at puts other apart =
+    let same = puts.others other apart in (λ clear full. clear (sym same ∙ full), λ clear full. clear (same ∙ full))
+
 -- another word in place of one
 put_word : (words : List ℕ) (at word : ℕ) → PutsAt words at (set words at word)
 put_word words at word =
@@ -70,8 +77,9 @@ set_left bound words listed hand top left is are some not =
     record {
       are = are;
       room = omega (arith, is.room, puts.len);
-      listing = still words (set words hand left) named named top hand is.listing puts it.0 it.1
-          (λ full. not (sym (get_or-set_same words hand left 0 it.0) ∙ full));
+      listing = rw puts.len (still (length words) (IsOpen words) (IsOpen (set words hand left)) named named top hand is.listing
+          (stay_open words (set words hand left) hand puts) it.1
+          (λ full. not (sym (get_or-set_same words hand left 0 it.0) ∙ full)));
     }
 
 -- the same, and it is full then: the word that is listed last is in hand, if one is listed
@@ -86,8 +94,10 @@ set_filled bound words listed hand top left next is are some full last_listed =
     record {
       are = are;
       room = omega (arith, is.room, puts.len);
-      listing = filled words (set words hand left) named (open_word listed next (top - 1)) top hand listing puts some
-          (top_word listed hand top (top - 1) (omega (arith, some))) (get_or-set_same words hand left 0 within ∙ full)
+      listing = rw puts.len (filled (length words) (IsOpen words) (IsOpen (set words hand left)) named
+          (open_word listed next (top - 1)) top hand listing (stay_open words (set words hand left) hand puts) some
+          (top_word listed hand top (top - 1) (omega (arith, some)))
+          (λ clear. clear (get_or-set_same words hand left 0 within ∙ full))
           (λ k h.
           let under = under_word listed hand top k (omega (arith, h)) in
           elim (cases_eq (k + 1) (top - 1)) [
@@ -96,7 +106,7 @@ set_filled bound words listed hand top left next is are some full last_listed =
                 top_word listed next (top - 1) k e ∙ last_listed (omega (arith, e)) ∙ ap (λ x. get_or listed x 0) place
                 ∙ sym under
             | inr other ↦ under_word listed next (top - 1) k other ∙ sym under
-          ]);
+          ]));
     }
 
 -- a release: a full word has a bit less, and is in hand, and the one that was in hand is listed
@@ -107,9 +117,10 @@ pub set_opened : (bound : ℕ) (words listed new named : List ℕ) (hand top at 
 set_opened bound words listed new named hand top at is are puts within full not_full len name = record {
   are = are;
   room = omega (arith, len, is.room, puts.len);
-  listing = opened words new (open_word listed hand top) (open_word named at (top + 1)) top at is.listing puts within full
-      not_full (top_word named at (top + 1) top (omega arith))
-      (λ k h. under_word named at (top + 1) k (omega (arith, h)) ∙ name k h);
+  listing = rw puts.len (opened (length words) (IsOpen words) (IsOpen new) (open_word listed hand top)
+      (open_word named at (top + 1)) top at is.listing (stay_open words new at puts) within (λ clear. clear full) not_full
+      (top_word named at (top + 1) top (omega arith))
+      (λ k h. under_word named at (top + 1) k (omega (arith, h)) ∙ name k h));
 }
 
 -- the list with the word in hand at its end
@@ -126,14 +137,15 @@ named_hand listed hand top k h room = elim (cases_eq (k + 1) top) [
 
 -- a release of a number whose word wasn't full, and is named already
 pub set_still : (bound : ℕ) (words listed new left : List ℕ) (hand top at : ℕ) → IsWordSet bound words listed hand top →
-    AreIndexWords bound new → PutsAt words at new → at < length words → get_or words at 0 ≢ 2 ^ 64 - 1 →
-    get_or new at 0 ≢ 2 ^ 64 - 1 → left ≡ listed → IsWordSet bound new left hand top
-set_still bound words listed new left hand top at is are puts within was_open not_full same =
+    AreIndexWords bound new → PutsAt words at new → IsOpen words at → IsOpen new at → left ≡ listed →
+    IsWordSet bound new left hand top
+set_still bound words listed new left hand top at is are puts was_open not_full same =
     let named = open_word listed hand top in
     record {
       are = are;
       room = ap length same ∙ omega (arith, is.room, puts.len);
-      listing = rw same (still words new named named top at is.listing puts within was_open not_full);
+      listing = rw (same, puts.len) (still (length words) (IsOpen words) (IsOpen new) named named top at is.listing
+          (stay_open words new at puts) was_open not_full);
     }
 
 -- fresh words, all of them open: the first in hand, and the others listed, the second one last

@@ -1,5 +1,5 @@
 -- How many members a set of numbers has, and the greatest number of them that it had.
-use Rattle.std.proofs.Common.{◌≡◌, ℕ, zero, suc, ◌+◌, ◌-◌, ◌<◌, ◌≤◌, max, min, Bool, true, false, List, length, replicate, get_or}
+use Rattle.std.proofs.Common.{◌≡◌, ℕ, zero, suc, ◌+◌, ◌-◌, ◌<◌, ◌≤◌, max, min, Bool, true, false, List, [], ◌∷◌, length, replicate, get_or}
 use Rattle.std.proofs.Common.{set, refl, sym, ap, arith, length-set}
 use Rattle.std.proofs.lemmas.List.Sums.{count_by-le-length, sum_by-cons, sum_by-set}
 use Rattle.std.proofs.lemmas.Option.{slice_get_within, get_or_from_slice_get}
@@ -28,6 +28,13 @@ pub member_count-fresh : (bound : ℕ) → member_count (replicate bound false) 
 member_count-fresh zero = refl
 member_count-fresh (suc bound) =
     let rest = member_count-fresh bound in omega (arith, sum_by-cons weight false (replicate bound false))
+
+-- where one is counted, it is a number of the set
+pub some_member : (numbers : List Bool) → 0 < member_count numbers → (i : ℕ) × Has numbers i
+some_member [] some = absurd (omega arith)
+some_member (true ∷ numbers) some = (zero, refl)
+some_member (false ∷ numbers) some =
+    let (i, has) = some_member numbers (omega (arith, some, sum_by-cons weight false numbers)) in (suc i, has)
 
 -- a number is taken
 pub tally-taken : (numbers : List Bool) (count most i : ℕ) → IsTally numbers count most → Lacks numbers i →

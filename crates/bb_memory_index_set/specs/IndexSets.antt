@@ -1,11 +1,9 @@
 -- A set of numbers below a bound, as a flag for each number.
-use Rattle.std.specs.Prelude.{◌≡◌, ℕ, ◌<◌, Bool, true, false, List, Some, length, slice_get, slice_set}
-use Rattle.std.specs.Prelude.{◌+◌, ◌-◌, ◌/◌, ◌≢◌, ◌*◌, ◌%◌, ◌^◌, ◌≤◌, ◌==◌, if◌then◌else◌, map, take, drop}
-use Rattle.std.specs.Prelude.{slice_index, not, eqb, count_by, replicate}
-use Rattle.std.specs.List.{range_with_len, list_any}
+use Rattle.std.specs.Prelude.{◌≡◌, ℕ, ◌<◌, Bool, true, false, List, Some, length, slice_get, slice_set, ◌+◌, ◌-◌, ◌/◌, ◌≢◌, ◌*◌}
+use Rattle.std.specs.Prelude.{◌%◌, ◌^◌, ◌≤◌, ◌==◌, if◌then◌else◌, map, take, drop, slice_index, count_by, replicate}
+use Rattle.std.specs.List.{range_with_len}
 use Rattle.std.specs.Int.{bit_at}
 
--- the number is in the set
 abbrev pub Has : List Bool → ℕ → Type 0
 Has set number = slice_get set number ≡ Some true
 
@@ -17,7 +15,6 @@ Lacks set number = slice_get set number ≡ Some false
 abbrev pub IsFull : List Bool → Type 0
 IsFull set = (number : ℕ) → number < length set → Has set number
 
--- how many numbers are in the set
 abbrev pub member_count : List Bool → ℕ
 member_count set = count_by (λ held. held) set
 
@@ -65,7 +62,6 @@ pub record SetsBit (words : List ℕ) (number : ℕ) (flag : Bool) (new : List �
 unfoldable pub numbers_of : ℕ → List ℕ → List Bool
 numbers_of bound words = map (has_bit words) (range_with_len 0 bound)
 
--- the numbers without the one that is aside
 abbrev pub less_aside : List Bool → ℕ → List Bool
 less_aside numbers aside = slice_set numbers aside false
 
@@ -95,13 +91,17 @@ pub record PutsAt (words : List ℕ) (at : ℕ) (new : List ℕ) : Type 0 where
 abbrev pub open_word : List ℕ → ℕ → ℕ → ℕ → ℕ
 open_word listed hand top k = if k + 1 == top then hand else slice_index listed k
 
--- the first `top` entries are just the words that aren't full, each once
-pub record IsListing (words : List ℕ) (named : ℕ → ℕ) (top : ℕ) : Type 0 where
-  pub fits : top ≤ length words
-  pub below : (k : ℕ) → k < top → named k < length words
-  pub each : (k : ℕ) → k < top → slice_index words (named k) ≢ 2 ^ 64 - 1
+-- the word isn't full
+abbrev pub IsOpen : List ℕ → ℕ → Type 0
+IsOpen words at = slice_index words at ≢ 2 ^ 64 - 1
+
+-- the first `top` names are just the numbers below the bound that are open, each once
+pub record IsListing (bound : ℕ) (Open : ℕ → Type 0) (named : ℕ → ℕ) (top : ℕ) : Type 0 where
+  pub fits : top ≤ bound
+  pub below : (k : ℕ) → k < top → named k < bound
+  pub each : (k : ℕ) → k < top → Open (named k)
   pub once : (i : ℕ) (k : ℕ) → i < k → k < top → named i ≢ named k
-  pub all : (at : ℕ) → at < length words → slice_index words at ≢ 2 ^ 64 - 1 → (k : ℕ) × (k < top) × (named k ≡ at)
+  pub all : (at : ℕ) → at < bound → Open at → (k : ℕ) × (k < top) × (named k ≡ at)
 
 -- the words hold a set, one of them is in hand, and those that aren't full are listed or in hand
 pub record IsWordSet
@@ -109,29 +109,11 @@ pub record IsWordSet
     : Type 0 where
   pub are : AreIndexWords bound words
   pub room : length listed ≡ length words - 1
-  pub listing : IsListing words (open_word listed hand top) top
+  pub listing : IsListing (length words) (IsOpen words) (open_word listed hand top) top
 
--- A set of numbers below a bound, as flags, with a list of the numbers that aren't in it.
-
--- whether a number is not in the list
-abbrev pub is_held : List ℕ → ℕ → Bool
-is_held free number = not (list_any (eqb number) free)
-
--- the set: for each number below the bound, whether it is not in the list
-unfoldable pub held_numbers : ℕ → List ℕ → List Bool
-held_numbers bound free = map (is_held free) (range_with_len 0 bound)
-
--- the first entries of the array, so many, are numbers below the bound, no two the same
-pub record IsFreeList (room : ℕ) (bound : ℕ) (free : List ℕ) (left : ℕ) : Type 0 where
-  pub len : length free ≡ room
-  pub fits : bound ≤ room
-  pub few : left ≤ bound
-  pub below : (k : ℕ) → k < left → slice_index free k < bound
-  pub once : (i : ℕ) (k : ℕ) → i < k → k < left → slice_index free i ≢ slice_index free k
-
--- the first entries are such a list, and each flag below the bound says that its number isn't among them
-pub record AreFlags (room : ℕ) (bound : ℕ) (held : List Bool) (free : List ℕ) (left : ℕ)
-    : Type 0 where
-  pub listed : IsFreeList room bound free left
+-- A set of numbers below a bound, as flags: the first entries of an array are just the numbers that aren't in it, each once.
+pub record AreFlags (room : ℕ) (bound : ℕ) (held : List Bool) (free : List ℕ) (left : ℕ) : Type 0 where
   pub len : length held ≡ room
-  pub flags : take bound held ≡ held_numbers bound (take left free)
+  pub free_len : length free ≡ room
+  pub fits : bound ≤ room
+  pub listing : IsListing bound (Lacks held) (slice_index free) left

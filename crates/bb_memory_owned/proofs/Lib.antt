@@ -1,5 +1,5 @@
-mod EmptyChunks
 mod FreshPools
+mod KeptRuns
 mod OneChunks
 mod PoolAnswers
 mod PoolCalls

@@ -7,19 +7,16 @@ use Rattle.bb_memory_traits.specs.Chunk.{Region, region_end, Chunk, chunk_end, I
 use Rattle.bb_memory_traits.specs.Object.{IsRun, Step, ResizableStep}
 use Rattle.bb_memory_traits.specs.declared.layout.Layout.{Layout}
 use Rattle.bb_memory_traits.specs.declared.allocator.AllocationError.{AllocationError}
-use Rattle.bb_memory_traits.specs.declared.allocator.AllocationError.TheVariants.{SizeIsZero, SizeTooLarge, AlignmentFailure}
 use Rattle.bb_memory_traits.specs.declared.allocator.AllocationError.TheVariants.{OutOfMemory}
 use Rattle.bb_memory_traits.specs.declared.allocator.AllocationGrowError.{AllocationGrowError}
 use Rattle.bb_memory_traits.specs.declared.allocator.AllocationGrowError.TheVariants as grow
 use Rattle.bb_memory_traits.specs.declared.allocator.AllocationShrinkError.{AllocationShrinkError}
 use Rattle.bb_memory_traits.specs.declared.allocator.AllocationShrinkError.TheVariants as shrink
 use Rattle.bb_memory_traits.specs.declared.allocator.Command.{Command}
-use Rattle.bb_memory_traits.specs.declared.allocator.Command.TheVariants.{Allocate, Release, Grow, Shrink}
 use Rattle.bb_memory_traits.specs.declared.allocator.Reply.{Reply}
-use Rattle.bb_memory_traits.specs.declared.allocator.Reply.TheVariants as reply
 use Rattle.bb_memory_traits.proofs.LeastPlaces.{least_place-is, least_place-multiple}
 use Rattle.bb_memory_traits.proofs.LiveLists.{sound_from_order}
-use Rattle.bb_memory_traits.proofs.Runs.{IsRun-keeps}
+use Rattle.bb_memory_owned.proofs.KeptRuns as kept_runs
 use Rattle.bb_memory_owned.specs.OneChunk.{OneChunk, HasByteAt, IsOneChunk, IsKept, StandsFor, only_chunk}
 use Rattle.bb_memory_traits.specs.OneChunkObject.{reserved_at, rest_from, MayAllocate, MayGrow, MayShrink, one_chunk_object}
 
@@ -78,15 +75,9 @@ gives_or_refuses region live layout chunk given (inr (inr far)) = let ends = giv
 pub one_answer : (region : Region) (live : List Chunk) (layout : Layout) (one other : Result Chunk AllocationError) →
     MayAllocate region live layout one → MayAllocate region live layout other → one ≡ other
 one_answer region live layout (Ok c) (Ok d) first second = ap Ok (first.2 ∙ sym second.2)
-one_answer region live layout (Err OutOfMemory) (Err OutOfMemory) first second = refl
 one_answer region live layout (Ok c) (Err OutOfMemory) first second = absurd (gives_or_refuses region live layout c first second)
 one_answer region live layout (Err OutOfMemory) (Ok c) first second = absurd (gives_or_refuses region live layout c second first)
-one_answer region live layout (Err SizeIsZero) other first second = absurd first
-one_answer region live layout (Err SizeTooLarge) other first second = absurd first
-one_answer region live layout (Err AlignmentFailure) other first second = absurd first
-one_answer region live layout one (Err SizeIsZero) first second = absurd second
-one_answer region live layout one (Err SizeTooLarge) first second = absurd second
-one_answer region live layout one (Err AlignmentFailure) first second = absurd second
+one_answer region live layout one other first second = grind (arith, first, second)
 
 -- there is an answer to each request to grow
 pub some_grow : (region : Region) (place : ℕ) (old new : Layout) →
@@ -107,13 +98,7 @@ some_grow region place old new =
 pub one_grow : (region : Region) (place : ℕ) (old new : Layout) (one other : Result Chunk AllocationGrowError) →
     MayGrow region place old new one → MayGrow region place old new other → one ≡ other
 one_grow region place old new (Ok c) (Ok d) first second = ap Ok (first.3 ∙ sym second.3)
-one_grow region place old new (Err grow.GrowWouldShrink) (Err grow.GrowWouldShrink) first second = refl
-one_grow region place old new (Err grow.AlignmentFailure) (Err grow.AlignmentFailure) first second = refl
-one_grow region place old new (Err grow.OutOfMemory) (Err grow.OutOfMemory) first second = refl
-one_grow region place old new (Ok c) (Err grow.GrowWouldShrink) first second = absurd (omega arith)
-one_grow region place old new (Ok c) (Err grow.AlignmentFailure) first second = absurd (omega arith)
-one_grow region place old new (Ok c) (Err grow.OutOfMemory) first second = absurd (omega arith)
-one_grow region place old new one other first second = absurd (omega arith)
+one_grow region place old new one other first second = grind (arith, first, second)
 
 -- there is an answer to each request to shrink
 pub some_shrink : (place : ℕ) (old new : Layout) → (answer : Result Chunk AllocationShrinkError) × MayShrink place old new answer
@@ -130,11 +115,7 @@ some_shrink place old new =
 pub one_shrink : (place : ℕ) (old new : Layout) (one other : Result Chunk AllocationShrinkError) →
     MayShrink place old new one → MayShrink place old new other → one ≡ other
 one_shrink place old new (Ok c) (Ok d) first second = ap Ok (first.2 ∙ sym second.2)
-one_shrink place old new (Err shrink.ShrinkWouldGrow) (Err shrink.ShrinkWouldGrow) first second = refl
-one_shrink place old new (Err shrink.AlignmentFailure) (Err shrink.AlignmentFailure) first second = refl
-one_shrink place old new one (Err shrink.SizeIsZero) first second = absurd second
-one_shrink place old new (Err shrink.SizeIsZero) other first second = absurd first
-one_shrink place old new one other first second = absurd (omega arith)
+one_shrink place old new one other first second = grind (arith, first, second)
 
 -- a chunk that is given begins at a multiple of the alignment
 pub answer-aligned : (region : Region) (live : List Chunk) (layout : Layout) (chunk : Chunk) →
@@ -175,14 +156,13 @@ answer-long region live layout chunk told =
     let ends = told.1.ends in
     omega (arith, ap (λ (k : Chunk). k.len) told.2)
 
+-- RUNS
+
 -- some one chunk over the region stands for this list
 record IsOneChunkList (region : Region) (live : List Chunk) : Type 0 where
   kept : Option ℕ
   within : ForSome kept (HasByteAt region)
   stands : StandsFor (one_of region kept) live
-
-none_list : (region : Region) → IsOneChunkList region []
-none_list region = record { kept = None; within = λ place some. cc; stands = StandsFor-empty region }
 
 one_list : (region : Region) (chunk : Chunk) → HasByteAt region chunk.place → chunk_end chunk ≤ region_end region →
     IsOneChunkList region (chunk ∷ [])
@@ -192,26 +172,14 @@ one_list region chunk byte below = record {
   stands = StandsFor-one region chunk (record { above = byte.above; below = below });
 }
 
-same_list : (region : Region) (old new : List Chunk) → new ≡ old → IsOneChunkList region old → IsOneChunkList region new
-same_list region old new same is = subst (IsOneChunkList region) (sym same) is
-
--- what stands at a position of such a list is all of it
-only : (region : Region) (live : List Chunk) (position : ℕ) (chunk : Chunk) → IsOneChunkList region live →
-    slice_get live position ≡ Some chunk → (live ≡ chunk ∷ []) × (position ≡ 0) × HasByteAt region chunk.place
-only region live position chunk is at =
-    let parts = only_chunk is.kept live position chunk is.stands.keeps at in
-    (parts.0, parts.1, is.within chunk.place parts.2)
-
 -- a resize that keeps the place and ends inside leads to such a list
 resized_list : (region : Region) (live : List Chunk) (position : ℕ) (chunk resized : Chunk) → IsOneChunkList region live →
-    slice_get live position ≡ Some chunk → resized.place ≡ chunk.place → chunk_end resized ≤ region_end region →
-    IsOneChunkList region (slice_set live position resized)
+    slice_get live position ≡ Some chunk → resized.place ≡ chunk.place →
+    (HasByteAt region chunk.place → chunk_end resized ≤ region_end region) → IsOneChunkList region (slice_set live position resized)
 resized_list region live position chunk resized is at place below =
-    let parts = only region live position chunk is at in
-    let left : slice_set live position resized ≡ resized ∷ [] =
-    ap (λ n. slice_set live n resized) parts.1 ∙ ap (λ (l : List Chunk). slice_set l 0 resized) parts.0 in
-    same_list region (resized ∷ []) (slice_set live position resized) left
-    (one_list region resized (subst (HasByteAt region) (sym place) parts.2) below)
+    let parts = only_chunk is.kept live position chunk is.stands.keeps at in
+    let byte = is.within chunk.place parts.2 in
+    rw (parts.1, parts.0) (one_list region resized (subst (HasByteAt region) (sym place) byte) (below byte))
 
 -- a release leads to the empty list
 removed : (kept : Option ℕ) (live : List Chunk) (position : ℕ) → IsKept kept live → position < length live →
@@ -222,70 +190,37 @@ removed (Some place) live position (one, is, same) within =
     let first : position ≡ 0 = omega arith in
     ap (λ n. remove live n) first ∙ ap (λ (l : List Chunk). remove l 0) is
 
--- each step without resizes leads from such a list to such a list
-base_step-keeps : (region : Region) (old new : List Chunk) (command : Command) (answer : Reply) →
-    IsOneChunkList region old → Step (one_chunk_object region).base old command answer new → IsOneChunkList region new
-base_step-keeps region old new (Allocate layout) (reply.Chunk chunk) is step =
-    let told = step.answers in
-    let left : new ≡ chunk ∷ [] = step.leaves ∙ ap (λ (l : List Chunk). l ++ chunk ∷ []) told.0 in
-    let byte = answer-byte region old layout chunk told in
-    let whole = answer-whole region old layout chunk told in
-    same_list region (chunk ∷ []) new left (one_list region chunk byte (omega (arith, whole.1)))
-base_step-keeps region old new (Allocate layout) (reply.Refused error) is step = same_list region old new step.leaves is
-base_step-keeps region old new (Release position) reply.Released is step =
-    same_list region [] new (step.leaves ∙ removed is.kept old position is.stands.keeps step.within) (none_list region)
-base_step-keeps region old new (Release position) reply.Passed is step = same_list region old new step.1 is
-base_step-keeps region old new (Grow position from to) reply.Passed is step = same_list region old new step is
-base_step-keeps region old new (Shrink position from to) reply.Passed is step = same_list region old new step is
-base_step-keeps region old new command other is step = absurd step
+-- each step leads from such a list to such a list
+kept_lists : (region : Region) → kept_runs.IsKept (one_chunk_object region) (IsOneChunkList region)
+kept_lists region = record {
+  given = λ live layout chunk is told.
+      subst (λ (l : List Chunk). IsOneChunkList region (l ++ chunk ∷ [])) (sym told.0)
+      (one_list region chunk (answer-byte region live layout chunk told)
+      (omega (arith, (answer-whole region live layout chunk told).1)));
+  left = λ live position is within. rw (removed is.kept live position is.stands.keeps within)
+      record { kept = None; within = λ place some. cc; stands = StandsFor-empty region };
+  grown = λ live position chunk resized from to is may told place.
+      resized_list region live position chunk resized is may.at place
+      (λ byte. omega (arith, byte.below, ap (λ (k : Chunk). chunk_end k) told.3));
+  shrunk = λ live position chunk resized from to is may told place.
+      resized_list region live position chunk resized is may.grown.at place
+      (λ byte. omega (arith, byte.below, may.within, told.0, ap (λ (k : Chunk). chunk_end k) told.2));
+}
 
--- so does each step
-step-keeps : (region : Region) (old new : List Chunk) (command : Command) (answer : Reply) →
-    IsOneChunkList region old → ResizableStep (one_chunk_object region) old command answer new → IsOneChunkList region new
-step-keeps region old new (Allocate layout) answer is step =
-    base_step-keeps region old new (Allocate layout) answer is step
-step-keeps region old new (Release position) answer is step =
-    base_step-keeps region old new (Release position) answer is step
-step-keeps region old new (Grow position from to) (reply.Chunk resized) is (chunk, may, told, resizes) =
-    let byte = (only region old position chunk is may.at).2 in
-    let end = ap (λ (k : Chunk). chunk_end k) told.3 in
-    let below : chunk_end resized ≤ region_end region = omega (arith, byte.below, end) in
-    same_list region (slice_set old position resized) new resizes.leaves
-    (resized_list region old position chunk resized is may.at resizes.place below)
-step-keeps region old new (Grow position from to) (reply.GrowRefused error) is (chunk, may, told, same) =
-    same_list region old new same is
-step-keeps region old new (Grow position from to) reply.Passed is step = same_list region old new step.1 is
-step-keeps region old new (Shrink position from to) (reply.Chunk resized) is (chunk, may, told, resizes) =
-    let byte = (only region old position chunk is may.grown.at).2 in
-    let end = ap (λ (k : Chunk). chunk_end k) told.2 in
-    let below : chunk_end resized ≤ region_end region = omega (arith, byte.below, may.within, told.0, end) in
-    same_list region (slice_set old position resized) new resizes.leaves
-    (resized_list region old position chunk resized is may.grown.at resizes.place below)
-step-keeps region old new (Shrink position from to) (reply.ShrinkRefused error) is (chunk, may, told, same) =
-    same_list region old new same is
-step-keeps region old new (Shrink position from to) reply.Passed is step = same_list region old new step.1 is
-step-keeps region old new command other is step = absurd step
+-- each run from a list that a one chunk stands for leads to such a list, with resizes or without
+module _ (one : OneChunk) (live new : List Chunk) (commands : List Command) (replies : List Reply) (is : IsOneChunk one)
+    (stands : StandsFor one live) where
+  from : IsOneChunkList one.region live
+  from = record { kept = one.kept; within = is.kept; stands = stands }
 
--- where each step leads from such a list to such a list, so does each run
-keeps_from_steps : (step : List Chunk → Command → Reply → List Chunk → Type 0) (one : OneChunk) →
-    ((old new : List Chunk) (command : Command) (answer : Reply) → IsOneChunkList one.region old →
-    step old command answer new → IsOneChunkList one.region new) → (live new : List Chunk) (commands : List Command)
-    (replies : List Reply) → IsOneChunk one → StandsFor one live → IsRun step live commands replies new →
-    (left : OneChunk) × IsOneChunk left × (left.region ≡ one.region) × StandsFor left new
-keeps_from_steps step one keeps live new commands replies is stands run =
-    let region = one.region in
-    let from : IsOneChunkList region live = record { kept = one.kept; within = is.kept; stands = stands } in
-    let to = IsRun-keeps step (IsOneChunkList region) keeps live new commands replies from run in
-    (one_of region to.kept, record { region = is.region; kept = to.within }, refl, to.stands)
+  left : IsOneChunkList one.region new →
+      (left : OneChunk) × IsOneChunk left × (left.region ≡ one.region) × StandsFor left new
+  left to = (one_of one.region to.kept, record { region = is.region; kept = to.within }, refl, to.stands)
 
--- each run from a list that a one chunk stands for leads to such a list
-pub run-keeps : (one : OneChunk) (live new : List Chunk) (commands : List Command) (replies : List Reply) →
-    IsOneChunk one → StandsFor one live → IsRun (ResizableStep (one_chunk_object one.region)) live commands replies new →
-    (left : OneChunk) × IsOneChunk left × (left.region ≡ one.region) × StandsFor left new
-run-keeps one = keeps_from_steps (ResizableStep (one_chunk_object one.region)) one (step-keeps one.region)
+  pub run-keeps : IsRun (ResizableStep (one_chunk_object one.region)) live commands replies new →
+      (left : OneChunk) × IsOneChunk left × (left.region ≡ one.region) × StandsFor left new
+  run-keeps run = left (kept_runs.run_keeps _ _ (kept_lists one.region) live new commands replies from run)
 
--- so does each run without resizes
-pub base_run-keeps : (one : OneChunk) (live new : List Chunk) (commands : List Command) (replies : List Reply) →
-    IsOneChunk one → StandsFor one live → IsRun (Step (one_chunk_object one.region).base) live commands replies new →
-    (left : OneChunk) × IsOneChunk left × (left.region ≡ one.region) × StandsFor left new
-base_run-keeps one = keeps_from_steps (Step (one_chunk_object one.region).base) one (base_step-keeps one.region)
+  pub base_run-keeps : IsRun (Step (one_chunk_object one.region).base) live commands replies new →
+      (left : OneChunk) × IsOneChunk left × (left.region ≡ one.region) × StandsFor left new
+  base_run-keeps run = left (kept_runs.base_run_keeps _ _ (kept_lists one.region) live new commands replies from run)

@@ -8,8 +8,7 @@ use Rattle.bb_memory_traits.specs.PoolObject.{PoolGeometry, bucket_place, IsPool
 use Rattle.bb_memory_traits.specs.PoolObject.{MayShrink, chunk_in}
 use Rattle.bb_memory_traits.specs.declared.layout.Layout.{Layout}
 use Rattle.bb_memory_traits.specs.declared.allocator.AllocationError.{AllocationError}
-use Rattle.bb_memory_traits.specs.declared.allocator.AllocationError.TheVariants.{SizeIsZero, SizeTooLarge, AlignmentFailure}
-use Rattle.bb_memory_traits.specs.declared.allocator.AllocationError.TheVariants.{OutOfMemory}
+use Rattle.bb_memory_traits.specs.declared.allocator.AllocationError.TheVariants.{SizeTooLarge, AlignmentFailure, OutOfMemory}
 use Rattle.bb_memory_traits.specs.declared.allocator.AllocationGrowError.{AllocationGrowError}
 use Rattle.bb_memory_traits.specs.declared.allocator.AllocationGrowError.TheVariants as grow
 use Rattle.bb_memory_traits.specs.declared.allocator.AllocationShrinkError.{AllocationShrinkError}
@@ -77,22 +76,14 @@ some_answer geometry live layout =
 pub one_cause : (geometry : PoolGeometry) (live : List Chunk) (layout : Layout) (one other : AllocationError) →
     MayAllocate geometry live layout (Err one) → MayAllocate geometry live layout (Err other) → one ≡ other
 one_cause geometry live layout SizeTooLarge SizeTooLarge first second = refl
-one_cause geometry live layout AlignmentFailure AlignmentFailure first second = refl
-one_cause geometry live layout OutOfMemory OutOfMemory first second = refl
-one_cause geometry live layout SizeIsZero other first second = absurd first
-one_cause geometry live layout one SizeIsZero first second = absurd second
-one_cause geometry live layout one other first second = absurd (grind (arith, first, second))
+one_cause geometry live layout one other first second = grind (arith, first, second)
 
 -- where a chunk may be given, there is no refusal
 pub given_or_refused : (geometry : PoolGeometry) (live : List Chunk) (layout : Layout) (chunk : Chunk)
     (error : AllocationError) → MayAllocate geometry live layout (Ok chunk) → ¬ MayAllocate geometry live layout (Err error)
-given_or_refused geometry live layout chunk SizeTooLarge given refused =
-    let small = given.1.within.size in omega (arith, refused)
-given_or_refused geometry live layout chunk AlignmentFailure given refused =
-    let fine = given.1.within.align in omega (arith, refused.1)
 given_or_refused geometry live layout chunk OutOfMemory given refused =
     given.1.free (refused.1 given.0 given.1.bucket)
-given_or_refused geometry live layout chunk SizeIsZero given refused = refused
+given_or_refused geometry live layout chunk error given refused = let within = given.1.within in grind (arith, refused)
 
 -- A CHUNK THAT IS GIVEN
 
@@ -150,28 +141,11 @@ some_grow bucket place old new =
       ]
     ]
 
--- a request to grow that is granted isn't refused
-grown_or_refused : (bucket : Layout) (place : ℕ) (old new : Layout) (grown : Chunk) (error : AllocationGrowError) →
-    MayGrow bucket place old new (Ok grown) → ¬ MayGrow bucket place old new (Err error)
-grown_or_refused bucket place old new grown grow.GrowWouldShrink (longer, within, given) refused =
-    omega (arith, longer, refused)
-grown_or_refused bucket place old new grown grow.AlignmentFailure (longer, within, given) refused =
-    let fine = within.align in omega (arith, refused.1)
-grown_or_refused bucket place old new grown grow.OutOfMemory (longer, within, given) refused =
-    let small = within.size in omega (arith, refused.2)
-
 -- there is no other answer to it
 pub one_grow : (bucket : Layout) (place : ℕ) (old new : Layout) (one other : Result Chunk AllocationGrowError) →
     MayGrow bucket place old new one → MayGrow bucket place old new other → one ≡ other
 one_grow bucket place old new (Ok c) (Ok d) first second = ap Ok (first.2 ∙ sym second.2)
-one_grow bucket place old new (Ok c) (Err error) first second =
-    absurd (grown_or_refused bucket place old new c error first second)
-one_grow bucket place old new (Err error) (Ok c) first second =
-    absurd (grown_or_refused bucket place old new c error second first)
-one_grow bucket place old new (Err grow.GrowWouldShrink) (Err grow.GrowWouldShrink) first second = refl
-one_grow bucket place old new (Err grow.AlignmentFailure) (Err grow.AlignmentFailure) first second = refl
-one_grow bucket place old new (Err grow.OutOfMemory) (Err grow.OutOfMemory) first second = refl
-one_grow bucket place old new one other first second = absurd (omega arith)
+one_grow bucket place old new one other first second = grind (arith, first, second)
 
 -- there is an answer to each request to shrink
 pub some_shrink : (bucket : Layout) (place : ℕ) (old new : Layout) →
@@ -189,8 +163,4 @@ some_shrink bucket place old new =
 pub one_shrink : (bucket : Layout) (place : ℕ) (old new : Layout) (one other : Result Chunk AllocationShrinkError) →
     MayShrink bucket place old new one → MayShrink bucket place old new other → one ≡ other
 one_shrink bucket place old new (Ok c) (Ok d) first second = ap Ok (first.2 ∙ sym second.2)
-one_shrink bucket place old new (Err shrink.ShrinkWouldGrow) (Err shrink.ShrinkWouldGrow) first second = refl
-one_shrink bucket place old new (Err shrink.AlignmentFailure) (Err shrink.AlignmentFailure) first second = refl
-one_shrink bucket place old new one (Err shrink.SizeIsZero) first second = absurd second
-one_shrink bucket place old new (Err shrink.SizeIsZero) other first second = absurd first
-one_shrink bucket place old new one other first second = absurd (omega arith)
+one_shrink bucket place old new one other first second = grind (arith, first, second)

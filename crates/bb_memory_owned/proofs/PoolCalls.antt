@@ -1,30 +1,24 @@
 -- What a pool's requests and releases make of each live list that it stands for.
-use Rattle.std.proofs.Common.{◌≡◌, ◌≢◌, ℕ, suc, ◌+◌, ◌-◌, ◌*◌, ◌/◌, ◌%◌, ◌^◌, ◌<◌, ◌≤◌, Bool, true, false, List, [], ◌∷◌, ◌++◌}
-use Rattle.std.proofs.Common.{Result, Ok, Err, refl, sym, ap, subst, ◌∙◌, arith, Some, inl, inr, div-add-mod', pow_pos, pow_mono}
-use Rattle.std.proofs.Common.{pow-add, pow-suc, cond, leb, max, min, ◌&&◌}
+use Rattle.std.proofs.Common.{◌≡◌, ◌≢◌, ℕ, ◌-◌, ◌/◌, ◌%◌, ◌<◌, ◌≤◌, Bool, true, false, List, [], ◌∷◌, ◌++◌, Result, Ok, Err, refl}
+use Rattle.std.proofs.Common.{sym, ap, subst, ◌∙◌, arith, Some, inl, inr, cond, leb, max, min, ◌&&◌}
 use Rattle.std.proofs.lemmas.Bool.{le-leb, cases_lt}
 use Rattle.std.specs.Prelude.{slice_get, slice_set, remove, IfOk}
-use Rattle.std.specs.Int.{IsPowerOfTwo}
-use Rattle.std.proofs.Math.Nat.{mul_assoc}
-use Rattle.std.proofs.lemmas.Nat.{mod-mul-add}
 use Rattle.bb_memory_traits.specs.Chunk.{Chunk, IsInside, first_place}
-use Rattle.bb_memory_traits.specs.PoolObject.{PoolGeometry, bucket_place, stride, IsWithin, chunk_in, MayAllocate, MayGrow}
-use Rattle.bb_memory_traits.specs.PoolObject.{MayShrink}
+use Rattle.bb_memory_traits.specs.PoolObject.{bucket_place, stride, IsWithin, chunk_in, MayAllocate, MayGrow, MayShrink}
 use Rattle.bb_memory_traits.specs.declared.layout.Layout.{Layout}
 use Rattle.bb_memory_traits.specs.declared.allocator.AllocationError.{AllocationError}
 use Rattle.bb_memory_traits.specs.declared.allocator.AllocationError.TheVariants.{SizeIsZero, SizeTooLarge, AlignmentFailure}
 use Rattle.bb_memory_traits.specs.declared.allocator.AllocationError.TheVariants.{OutOfMemory}
 use Rattle.bb_memory_traits.specs.declared.allocator.AllocationGrowError.{AllocationGrowError}
 use Rattle.bb_memory_traits.specs.declared.allocator.AllocationShrinkError.{AllocationShrinkError}
-use Rattle.bb_memory_traits.proofs.Layouts.{layout-plain}
 use Rattle.bb_memory_traits.proofs.PoolGeometries.{bucket_place-aligned, bucket_place-after}
 use Rattle.bb_memory_lists.proofs.SliceGets.{slice_get-set_other, slice_get-set_same}
 use Rattle.bb_memory_index_set.specs.IndexSets.{Has, Lacks}
-use Rattle.bb_memory_owned.specs.Pool.{Pool, IsPool, StandsFor, HoldsPlace, Takes, with_flag, CountedPool, TakesBucket}
+use Rattle.bb_memory_owned.specs.Pool.{Pool, IsPool, StandsFor, filled-at, HoldsPlace, Takes, with_flag, CountedPool, TakesBucket}
 use Rattle.bb_memory_owned.specs.Pool.{FreesBucket, counted, held_count, reads_of, bucket_held_at, held_at_bucket}
 use Rattle.bb_memory_geometry.proofs.Cuts.{number-at}
 use Rattle.bb_memory_geometry.proofs.Measures.{bucket_place-multiple}
-use Rattle.bb_memory_owned.proofs.Pools.{Has-set_true, IsPool-with_flag, bucket-below, filled-at, held-inside, lacked-free}
+use Rattle.bb_memory_owned.proofs.Pools.{Has-set_true, IsPool-with_flag, bucket-below, held-inside, lacked-free}
 use Rattle.bb_memory_owned.proofs.Pools.{one_bucket, stands-given, stands-freed, stands-resized}
 use Rattle.bb_memory_index_set.proofs.Tallies.{member_count-taken, member_count-released}
 
@@ -76,21 +70,6 @@ Takes-given pool layout (Ok chunk) new (i, within, lacks, given, after) =
     (held_at_bucket (with_flag pool i true) chunk.place i (slice_get-set_same pool.held i true false lacks)
     (ap (λ (c : Chunk). c.place) given))
 Takes-given pool layout (Err error) new takes = tt
-
--- each that was held before still is
-pub Takes-others_kept : (pool : Pool) (layout : Layout) (answer : Result Chunk AllocationError) (new : Pool) →
-    Takes pool layout answer new → (place : ℕ) → HoldsPlace pool place → HoldsPlace new place
-Takes-others_kept pool layout (Ok chunk) new (i, within, lacks, given, after) place there =
-    let holds = bucket_held_at pool place there in
-    subst (λ (p : Pool). HoldsPlace p place) (sym after)
-    (held_at_bucket (with_flag pool i true) place holds.0 (Has-set_true pool.held i holds.0 lacks holds.1) holds.2)
-Takes-others_kept pool layout (Err SizeTooLarge) new takes place holds =
-    subst (λ (p : Pool). HoldsPlace p place) (sym takes.1) holds
-Takes-others_kept pool layout (Err AlignmentFailure) new takes place holds =
-    subst (λ (p : Pool). HoldsPlace p place) (sym takes.2) holds
-Takes-others_kept pool layout (Err OutOfMemory) new takes place holds =
-    subst (λ (p : Pool). HoldsPlace p place) (sym takes.2) holds
-Takes-others_kept pool layout (Err SizeIsZero) new takes place holds = absurd takes
 
 -- a refusal changes nothing, and comes only where the layout is too much for a bucket, or each is held
 refused : (pool : Pool) (layout : Layout) (error : AllocationError) (new : Pool) → IsPool pool →
@@ -148,7 +127,9 @@ TakesBucket-is old layout (Ok chunk) new words is most at_least (i, within, lack
             let more : i < holds.0 = omega (arith, above, differ place there) in
             inr (omega (arith, bucket_place-after pool.geometry i holds.0 more, at, holds.2))
       ];
-      others_kept = Takes-others_kept pool layout (Ok chunk) new.pool (i, within, lacks, given, after);
+      others_kept = λ place there.
+          let (j, has, at) = bucket_held_at pool place there in
+          rw after (held_at_bucket (with_flag pool i true) place j (Has-set_true pool.held i j lacks has) at);
       bucket_aligned = ap (λ (c : Chunk). c.place % pool.geometry.bucket.align) given ∙ bucket_place-aligned pool.geometry i;
       one_more = ap held_count after ∙ member_count-taken pool.held i lacks;
       greatest = greatest;
@@ -242,20 +223,28 @@ module _ (pool : Pool) (place i : ℕ) (is : IsPool pool) (has : Has pool.held i
 
 -- RESIZES
 
-pub MayGrow-resized : (pool : Pool) (place : ℕ) (old new : Layout) (answer : Result Chunk AllocationGrowError) → IsPool pool →
-    MayGrow pool.geometry.bucket place old new answer →
-    IfOk answer (λ grown. (live : List Chunk) (position : ℕ) (chunk : Chunk) → StandsFor pool live →
-    slice_get live position ≡ Some chunk → chunk.place ≡ place → StandsFor pool (slice_set live position grown))
-MayGrow-resized pool place old new (Ok grown) is (longer, within, given) = λ live position chunk stands at there.
-    stands-resized pool live position chunk grown is stands at (ap (λ (c : Chunk). c.place) given ∙ sym there)
-    (let small = within.size in omega (arith, ap (λ (c : Chunk). c.len) given))
-MayGrow-resized pool place old new (Err error) is may = tt
+-- a chunk that a resize gives is at the place, has at least the asked size, and no more than a bucket
+abbrev pub FitsBucket : {E : Type 0} → Layout → ℕ → ℕ → Result Chunk E → Type 0
+FitsBucket bucket place size answer = IfOk answer (λ resized. resized.place ≡ place)
+    × IfOk answer (λ resized. size ≤ resized.len) × IfOk answer (λ resized. resized.len ≤ bucket.size)
 
-pub MayShrink-resized : (pool : Pool) (place : ℕ) (old new : Layout) (answer : Result Chunk AllocationShrinkError) →
-    IsPool pool → old.size ≤ pool.geometry.bucket.size → MayShrink pool.geometry.bucket place old new answer →
-    IfOk answer (λ shrunk. (live : List Chunk) (position : ℕ) (chunk : Chunk) → StandsFor pool live →
-    slice_get live position ≡ Some chunk → chunk.place ≡ place → StandsFor pool (slice_set live position shrunk))
-MayShrink-resized pool place old new (Ok shrunk) is within (shorter, aligned, given) = λ live position chunk stands at there.
-    stands-resized pool live position chunk shrunk is stands at (ap (λ (c : Chunk). c.place) given ∙ sym there)
-    (omega (arith, ap (λ (c : Chunk). c.len) given))
-MayShrink-resized pool place old new (Err error) is within may = tt
+pub MayGrow-fits : (bucket : Layout) (place : ℕ) (old new : Layout) (answer : Result Chunk AllocationGrowError) →
+    MayGrow bucket place old new answer → FitsBucket bucket place new.size answer
+MayGrow-fits bucket place old new (Ok grown) (longer, within, given) =
+    let small = within.size in
+    let len = ap (λ (c : Chunk). c.len) given in (ap (λ (c : Chunk). c.place) given, omega arith, omega arith)
+MayGrow-fits bucket place old new (Err error) may = (tt, tt, tt)
+
+pub MayShrink-fits : (bucket : Layout) (place : ℕ) (old new : Layout) (answer : Result Chunk AllocationShrinkError) →
+    old.size ≤ bucket.size → MayShrink bucket place old new answer → FitsBucket bucket place new.size answer
+MayShrink-fits bucket place old new (Ok shrunk) reserved (shorter, aligned, given) =
+    let len = ap (λ (c : Chunk). c.len) given in (ap (λ (c : Chunk). c.place) given, omega arith, omega arith)
+MayShrink-fits bucket place old new (Err error) reserved may = (tt, tt, tt)
+
+pub resized-stands : {E : Type 0} (pool : Pool) (place size : ℕ) (answer : Result Chunk E) → IsPool pool →
+    FitsBucket pool.geometry.bucket place size answer →
+    IfOk answer (λ resized. (live : List Chunk) (position : ℕ) (chunk : Chunk) → StandsFor pool live →
+    slice_get live position ≡ Some chunk → chunk.place ≡ place → StandsFor pool (slice_set live position resized))
+resized-stands pool place size (Ok resized) is fits = λ live position chunk stands at there.
+    stands-resized pool live position chunk resized is stands at (fits.0 ∙ sym there) fits.2
+resized-stands pool place size (Err error) is fits = tt

@@ -1,28 +1,26 @@
 -- The live lists that a pool stands for: where their chunks are, and what releases and runs of the pool object lead to.
-use Rattle.std.proofs.Common.{◌≡◌, ◌≢◌, ℕ, zero, suc, ◌%◌, ◌<◌, ◌≤◌, Bool, true, false, List, [], ◌∷◌, ◌++◌, Result, Ok, Err}
-use Rattle.std.proofs.Common.{Some, length, get_or, refl, sym, ◌∙◌, ap, subst, ◌⊎◌, inl, inr, arith}
+use Rattle.std.proofs.Common.{◌≡◌, ◌≢◌, ℕ, ◌%◌, ◌<◌, ◌≤◌, Bool, true, false, List, Result, Ok, Err}
+use Rattle.std.proofs.Common.{Some, length, get_or, refl, sym, ◌∙◌, ap, inl, inr, arith}
 use Rattle.std.specs.Prelude.{slice_get, slice_set, remove, All, AllPairs, IsOk}
 use Rattle.std.proofs.lemmas.Bool.{cases_lt}
 use Rattle.std.proofs.lemmas.Option.{slice_get-get_or}
 use Rattle.bb_memory_traits.specs.Chunk.{Chunk}
 use Rattle.bb_memory_traits.specs.Object.{IsRun, Step, ResizableStep}
-use Rattle.bb_memory_traits.specs.PoolObject.{PoolGeometry, bucket_place, IsWithin, MayGive, MayAllocate, chunk_in, pool_object}
+use Rattle.bb_memory_traits.specs.PoolObject.{PoolGeometry, bucket_place, IsWithin, MayAllocate, pool_object}
 use Rattle.bb_memory_traits.specs.declared.layout.Layout.{Layout}
 use Rattle.bb_memory_traits.specs.declared.allocator.AllocationError.{AllocationError}
 use Rattle.bb_memory_traits.specs.declared.allocator.AllocationError.TheVariants.{SizeIsZero, SizeTooLarge, AlignmentFailure}
 use Rattle.bb_memory_traits.specs.declared.allocator.AllocationError.TheVariants.{OutOfMemory}
 use Rattle.bb_memory_traits.specs.declared.allocator.Command.{Command}
-use Rattle.bb_memory_traits.specs.declared.allocator.Command.TheVariants.{Allocate, Release, Grow, Shrink}
 use Rattle.bb_memory_traits.specs.declared.allocator.Reply.{Reply}
-use Rattle.bb_memory_traits.specs.declared.allocator.Reply.TheVariants as reply
 use Rattle.bb_memory_traits.proofs.PoolGeometries.{bucket_place-aligned, bucket_place-after}
-use Rattle.bb_memory_traits.proofs.Runs.{IsRun-keeps}
+use Rattle.bb_memory_index_set.proofs.NumberSets.{has_or_lacks}
+use Rattle.bb_memory_owned.proofs.KeptRuns.{IsKept, run_keeps, base_run_keeps}
 use Rattle.bb_memory_lists.proofs.SliceGets.{slice_get-set_same}
-use Rattle.bb_memory_index_set.specs.IndexSets.{Has, Lacks}
-use Rattle.bb_memory_owned.specs.Pool.{Pool, IsPool, StandsFor, pool_of, with_flag}
+use Rattle.bb_memory_index_set.specs.IndexSets.{Lacks}
+use Rattle.bb_memory_owned.specs.Pool.{Pool, IsPool, StandsFor, filled-at, pool_of, with_flag}
 use Rattle.bb_memory_geometry.specs.Geometry.{AreAStrideApart}
-use Rattle.bb_memory_owned.proofs.Pools.{IsPool-with_flag, bucket-below, filled-at, lacked-free, stands-given, stands-freed}
-use Rattle.bb_memory_owned.proofs.Pools.{stands-resized}
+use Rattle.bb_memory_owned.proofs.Pools.{IsPool-with_flag, bucket-below, lacked-free, stands-given, stands-freed, stands-resized}
 use Rattle.bb_memory_lists.proofs.Positions.{All-from_positions, AllPairs-at, AllPairs-from_positions}
 
 -- PLACES
@@ -92,30 +90,6 @@ record IsPoolList (geometry : PoolGeometry) (live : List Chunk) : Type 0 where
   is : IsPool (pool_of geometry held)
   stands : StandsFor (pool_of geometry held) live
 
-same_list : (geometry : PoolGeometry) (old new : List Chunk) → new ≡ old → IsPoolList geometry old → IsPoolList geometry new
-same_list geometry old new same is = subst (IsPoolList geometry) (sym same) is
-
--- a number below the bound is in the set or not
-has_or_lacks : (set : List Bool) (i : ℕ) → i < length set → Has set i ⊎ Lacks set i
-has_or_lacks [] i below = absurd (omega arith)
-has_or_lacks (true ∷ set) zero below = inl refl
-has_or_lacks (false ∷ set) zero below = inr refl
-has_or_lacks (flag ∷ set) (suc i) below = has_or_lacks set i (omega arith)
-
-given_list : (geometry : PoolGeometry) (live : List Chunk) (layout : Layout) (i : ℕ) → IsPoolList geometry live →
-    MayGive geometry live layout i → IsPoolList geometry (live ++ chunk_in geometry i layout ∷ [])
-given_list geometry live layout i list may =
-    let pool : Pool = pool_of geometry list.held in
-    let below = may.bucket in
-    elim (has_or_lacks list.held i (omega (arith, list.is.flags))) [
-      | inl has ↦ absurd (may.free (list.stands.held i has))
-      | inr lacks ↦ record {
-        held = slice_set list.held i true;
-        is = IsPool-with_flag pool list.is i true;
-        stands = stands-given pool live layout i list.is list.stands may.within lacks;
-      }
-    ]
-
 released_list : (geometry : PoolGeometry) (live : List Chunk) (position : ℕ) → IsPoolList geometry live →
     position < length live → IsPoolList geometry (remove live position)
 released_list geometry live position list there =
@@ -138,69 +112,41 @@ resized_list geometry live position chunk resized list at place short = record {
   stands = stands-resized (pool_of geometry list.held) live position chunk resized list.is list.stands at place short;
 }
 
--- each step without a resize leads from such a list to such a list
-base_step-keeps : (geometry : PoolGeometry) (old new : List Chunk) (command : Command) (answer : Reply) →
-    IsPoolList geometry old → Step (pool_object geometry).base old command answer new → IsPoolList geometry new
-base_step-keeps geometry old new (Allocate layout) (reply.Chunk chunk) list step =
-    let may = step.answers in
-    let left : new ≡ old ++ chunk_in geometry may.0 layout ∷ [] =
-    step.leaves ∙ ap (λ (c : Chunk). old ++ c ∷ []) may.2 in
-    same_list geometry (old ++ chunk_in geometry may.0 layout ∷ []) new left (given_list geometry old layout may.0 list may.1)
-base_step-keeps geometry old new (Allocate layout) (reply.Refused error) list step = same_list geometry old new step.leaves list
-base_step-keeps geometry old new (Release position) reply.Released list step =
-    same_list geometry (remove old position) new step.leaves (released_list geometry old position list step.within)
-base_step-keeps geometry old new (Release position) reply.Passed list step = same_list geometry old new step.1 list
-base_step-keeps geometry old new (Grow position from to) reply.Passed list step = same_list geometry old new step list
-base_step-keeps geometry old new (Shrink position from to) reply.Passed list step = same_list geometry old new step list
-base_step-keeps geometry old new command other list step = absurd step
+-- each step leads from such a list to such a list
+kept_lists : (geometry : PoolGeometry) → IsKept (pool_object geometry) (IsPoolList geometry)
+kept_lists geometry = record {
+  given = λ live layout chunk list (i, may, given).
+      elim (has_or_lacks list.held i (let below = may.bucket in omega (arith, list.is.flags))) [
+        | inl has ↦ absurd (may.free (list.stands.held i has))
+        | inr lacks ↦ rw given record {
+          held = slice_set list.held i true;
+          is = IsPool-with_flag (pool_of geometry list.held) list.is i true;
+          stands = stands-given (pool_of geometry list.held) live layout i list.is list.stands may.within lacks;
+        }
+      ];
+  left = released_list geometry;
+  grown = λ live position chunk resized from to list may told place.
+      let small = told.1.size in
+      resized_list geometry live position chunk resized list may.at place (omega (arith, ap (λ (c : Chunk). c.len) told.2));
+  shrunk = λ live position chunk resized from to list may told place.
+      resized_list geometry live position chunk resized list may.grown.at place
+      (let reserved : from.size ≤ geometry.bucket.size = may.within in
+      omega (arith, told.0, reserved, ap (λ (c : Chunk). c.len) told.2));
+}
 
--- so does each step of the pool object
-step-keeps : (geometry : PoolGeometry) (old new : List Chunk) (command : Command) (answer : Reply) →
-    IsPoolList geometry old → ResizableStep (pool_object geometry) old command answer new → IsPoolList geometry new
-step-keeps geometry old new (Allocate layout) answer list step =
-    base_step-keeps geometry old new (Allocate layout) answer list step
-step-keeps geometry old new (Release position) answer list step =
-    base_step-keeps geometry old new (Release position) answer list step
-step-keeps geometry old new (Grow position from to) (reply.Chunk resized) list (chunk, may, (longer, within, given), resizes) =
-    let small = within.size in
-    same_list geometry (slice_set old position resized) new resizes.leaves
-    (resized_list geometry old position chunk resized list may.at resizes.place
-    (omega (arith, ap (λ (c : Chunk). c.len) given)))
-step-keeps geometry old new (Grow position from to) (reply.GrowRefused error) list (chunk, may, told, same) =
-    same_list geometry old new same list
-step-keeps geometry old new (Grow position from to) reply.Passed list step = same_list geometry old new step.1 list
-step-keeps geometry old new (Shrink position from to) (reply.Chunk resized) list (chunk, may, (smaller, fine, given), resizes) =
-    let reserved : from.size ≤ geometry.bucket.size = may.within in
-    same_list geometry (slice_set old position resized) new resizes.leaves
-    (resized_list geometry old position chunk resized list may.grown.at resizes.place
-    (omega (arith, smaller, reserved, ap (λ (c : Chunk). c.len) given)))
-step-keeps geometry old new (Shrink position from to) (reply.ShrinkRefused error) list (chunk, may, told, same) =
-    same_list geometry old new same list
-step-keeps geometry old new (Shrink position from to) reply.Passed list step = same_list geometry old new step.1 list
-step-keeps geometry old new command other list step = absurd step
+-- each run from a list that a pool stands for leads to such a list, with resizes or without
+module _ (pool : Pool) (live new : List Chunk) (commands : List Command) (replies : List Reply) (is : IsPool pool)
+    (stands : StandsFor pool live) where
+  from : IsPoolList pool.geometry live
+  from = record { held = pool.held; is = is; stands = stands }
 
--- where each step leads to such a list, so does each run
-keeps_from_steps : (step : List Chunk → Command → Reply → List Chunk → Type 0) (pool : Pool) →
-    ((old new : List Chunk) (command : Command) (answer : Reply) → IsPoolList pool.geometry old →
-    step old command answer new → IsPoolList pool.geometry new) → (live new : List Chunk) (commands : List Command)
-    (replies : List Reply) → IsPool pool → StandsFor pool live → IsRun step live commands replies new →
-    (left : Pool) × IsPool left × (left.geometry ≡ pool.geometry) × StandsFor left new
-keeps_from_steps step pool keeps live new commands replies is stands run =
-    let geometry : PoolGeometry = pool.geometry in
-    let from : IsPoolList geometry live = record { held = pool.held; is = is; stands = stands } in
-    let to = IsRun-keeps step (IsPoolList geometry) keeps live new commands replies from run in
-    (pool_of geometry to.held, to.is, refl, to.stands)
+  left : IsPoolList pool.geometry new → (left : Pool) × IsPool left × (left.geometry ≡ pool.geometry) × StandsFor left new
+  left to = (pool_of pool.geometry to.held, to.is, refl, to.stands)
 
--- each run from a list that a pool stands for leads to such a list
-pub run-keeps : (pool : Pool) (live new : List Chunk) (commands : List Command) (replies : List Reply) → IsPool pool →
-    StandsFor pool live → IsRun (ResizableStep (pool_object pool.geometry)) live commands replies new →
-    (left : Pool) × IsPool left × (left.geometry ≡ pool.geometry) × StandsFor left new
-run-keeps pool live new commands replies =
-    keeps_from_steps (ResizableStep (pool_object pool.geometry)) pool (step-keeps pool.geometry) live new commands replies
+  pub run-keeps : IsRun (ResizableStep (pool_object pool.geometry)) live commands replies new →
+      (left : Pool) × IsPool left × (left.geometry ≡ pool.geometry) × StandsFor left new
+  run-keeps run = left (run_keeps _ _ (kept_lists pool.geometry) live new commands replies from run)
 
--- so does each run without resizes
-pub base_run-keeps : (pool : Pool) (live new : List Chunk) (commands : List Command) (replies : List Reply) → IsPool pool →
-    StandsFor pool live → IsRun (Step (pool_object pool.geometry).base) live commands replies new →
-    (left : Pool) × IsPool left × (left.geometry ≡ pool.geometry) × StandsFor left new
-base_run-keeps pool live new commands replies =
-    keeps_from_steps (Step (pool_object pool.geometry).base) pool (base_step-keeps pool.geometry) live new commands replies
+  pub base_run-keeps : IsRun (Step (pool_object pool.geometry).base) live commands replies new →
+      (left : Pool) × IsPool left × (left.geometry ≡ pool.geometry) × StandsFor left new
+  base_run-keeps run = left (base_run_keeps _ _ (kept_lists pool.geometry) live new commands replies from run)

@@ -1,5 +1,5 @@
 -- The live lists that a pool stands for: of no chunk, of one more, of one less, and with one resized.
-use Rattle.std.proofs.Common.{◌≡◌, ◌≢◌, ℕ, ◌<◌, ◌≤◌, Bool, true, false, List, [], ◌∷◌, ◌++◌, length, refl, sym, ap, subst, ◌∙◌}
+use Rattle.std.proofs.Common.{◌≡◌, ◌≢◌, ℕ, zero, suc, ◌<◌, ◌≤◌, Bool, true, false, List, [], ◌∷◌, ◌++◌, length, refl, sym, ap, subst, ◌∙◌}
 use Rattle.std.proofs.Common.{arith, Some, inl, inr}
 use Rattle.std.specs.Prelude.{slice_get, slice_set, remove, All}
 use Rattle.std.proofs.lemmas.Bool.{cases_eq, cases_lt}
@@ -15,8 +15,11 @@ use Rattle.bb_memory_traits.proofs.PoolLists.{IsInBucket, AreInBuckets-from_plac
 use Rattle.bb_memory_lists.proofs.SliceGets.{slice_get-set, slice_get-set_other, slice_get-set_same, slice_get-replicated}
 use Rattle.bb_memory_lists.proofs.SliceGets.{length-set_at, slice_get-last, slice_get-push}
 use Rattle.bb_memory_index_set.specs.IndexSets.{Has, Lacks}
-use Rattle.bb_memory_owned.specs.Pool.{Pool, IsPool, Fills, StandsFor, HoldsPlace, fresh_pool, with_flag, bucket_held_at}
-use Rattle.bb_memory_lists.proofs.Positions.{All-at, All-from_positions, AllPairs-at, AllPairs-from_positions, slice_get-removed}
+use Rattle.bb_memory_index_set.proofs.AsideNumbers.{given}
+use Rattle.bb_memory_index_set.proofs.Tallies.{member_count-released, some_member}
+use Rattle.bb_memory_owned.specs.Pool.{Pool, IsPool, Fills, StandsFor, filled-at, HoldsPlace, fresh_pool, with_flag, bucket_held_at}
+use Rattle.bb_memory_owned.specs.Pool.{held_count, pool_of}
+use Rattle.bb_memory_lists.proofs.Positions.{All-from_positions, AllPairs-at, AllPairs-from_positions, slice_get-removed}
 use Rattle.bb_memory_lists.proofs.Positions.{slice_get-unremoved}
 
 -- BUCKETS
@@ -76,11 +79,6 @@ stands_from pool is live filled differ held =
       held = held;
     }
 
--- what stands at a position is in a held bucket
-pub filled-at : (pool : Pool) (live : List Chunk) → StandsFor pool live → (position : ℕ) (chunk : Chunk) →
-    slice_get live position ≡ Some chunk → (i : ℕ) × Fills pool chunk i
-filled-at pool live stands position chunk at = All-at (λ c. (i : ℕ) × Fills pool c i) live stands.filled position chunk at
-
 -- chunks at two positions have two places
 places-apart : (live : List Chunk) → PlacesDiffer live → (i j : ℕ) (one other : Chunk) → i ≢ j →
     slice_get live i ≡ Some one → slice_get live j ≡ Some other → one.place ≢ other.place
@@ -102,13 +100,17 @@ lacked-free pool live is stands i lacks (position, at) =
 
 -- NO CHUNK
 
-pub fresh-stands : (geometry : PoolGeometry) → StandsFor (fresh_pool geometry) []
-fresh-stands geometry = record {
+pub empty-stands : (pool : Pool) → ((i : ℕ) → ¬ Has pool.held i) → StandsFor pool []
+empty-stands pool none = record {
   sound = record { inside = λ k d within. absurd (omega arith); apart = λ i j d before within. absurd (omega arith) };
   filled = λ k d within. absurd (omega arith);
   differ = λ i j d before within. absurd (omega arith);
-  held = λ i held. absurd (let e = slice_get-replicated geometry.buckets i false true held in cc);
+  held = λ i held. absurd (none i held);
 }
+
+pub fresh-stands : (geometry : PoolGeometry) → StandsFor (fresh_pool geometry) []
+fresh-stands geometry =
+    empty-stands (fresh_pool geometry) (λ i held. let e = slice_get-replicated geometry.buckets i false true held in cc)
 
 -- ONE MORE
 
@@ -159,6 +161,26 @@ stands-given pool live layout i is stands within lacks =
         record { chunk = chunk; there = slice_get-last live chunk; placed = ap (bucket_place pool.geometry) (sym now.0) },
       )
     ])
+
+-- each pool stands for some list: a chunk as long as a bucket in each that is held
+stands_for_count : (n : ℕ) (pool : Pool) → IsPool pool → held_count pool ≡ n → (live : List Chunk) × StandsFor pool live
+stands_for_count zero pool is none =
+    ([], empty-stands pool (λ i has. absurd (omega (arith, none, member_count-released pool.held i has))))
+stands_for_count (suc n) pool is some =
+    let (i, has) = some_member pool.held (omega (arith, some)) in
+    let (lacks, same) = given pool.held _ i refl has in
+    let left = IsPool-with_flag pool is i false in
+    let (live, stands) = stands_for_count n (with_flag pool i false) left
+    (omega (arith, some, member_count-released pool.held i has)) in
+    let bucket = pool.geometry.bucket in (
+      live ++ chunk_in pool.geometry i bucket ∷ [],
+      subst (λ held. StandsFor (pool_of pool.geometry held) (live ++ chunk_in pool.geometry i bucket ∷ [])) (sym same)
+          (stands-given (with_flag pool i false) live bucket i left stands (record { size = omega arith; align = omega arith })
+          lacks),
+    )
+
+pub stands_for_some : (pool : Pool) → IsPool pool → (live : List Chunk) × StandsFor pool live
+stands_for_some pool is = stands_for_count (held_count pool) pool is refl
 
 -- ONE LESS
 

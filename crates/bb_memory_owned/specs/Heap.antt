@@ -14,7 +14,6 @@ abbrev pub MayAllocate : Layout → Result (List ℕ) AllocationError → Type 0
 MayAllocate layout (Ok block) = (0 < layout.size) × (block ≡ replicate layout.size 0)
 MayAllocate layout (Err SizeIsZero) = layout.size ≡ 0
 MayAllocate layout (Err OutOfMemory) = 0 < layout.size
--- no other answer is given
 MayAllocate layout answer = ⊥
 
 -- a grown block has the old bytes in front and zeros behind; a refusal hands the block back as it was
@@ -22,7 +21,6 @@ abbrev pub MayGrow : List ℕ → Layout → Layout → Result (List ℕ) (List 
 MayGrow block old new (Ok grown) = (old.size < new.size) × (grown ≡ block ++ replicate (new.size - old.size) 0)
 MayGrow block old new (Err (back, grow.GrowWouldShrink)) = (new.size ≤ old.size) × (back ≡ block)
 MayGrow block old new (Err (back, grow.OutOfMemory)) = (old.size < new.size) × (back ≡ block)
--- no other answer is given
 MayGrow block old new answer = ⊥
 
 -- a shrunk block has the first bytes; a refusal hands the block back as it was
@@ -30,5 +28,4 @@ abbrev pub MayShrink : List ℕ → Layout → Layout → Result (List ℕ) (Lis
 MayShrink block old new (Ok shrunk) = (0 < new.size) × (new.size < old.size) × (shrunk ≡ take new.size block)
 MayShrink block old new (Err (back, shrink.ShrinkWouldGrow)) = (old.size ≤ new.size) × (back ≡ block)
 MayShrink block old new (Err (back, shrink.SizeIsZero)) = (new.size ≡ 0) × (0 < old.size) × (back ≡ block)
--- no other answer is given
 MayShrink block old new answer = ⊥

@@ -2,14 +2,14 @@
 use Rattle.std.specs.Prelude.{◌≡◌, ℕ, ◌≤◌, ◌<◌, ◌↔◌, ◌⊎◌, List, [], ◌∷◌, Option, Some, None, IsSome, Result, Err, IsOk, IfOk}
 use Rattle.std.specs.Prelude.{OnErr, zero, suc, length, slice_get}
 use Rattle.std.specs.Option.{ForSome}
-use Rattle.bb_memory_traits.specs.Chunk.{Region, IsRegion, region_at, region_end, Chunk, chunk_end, first_place, IsSound}
+use Rattle.bb_memory_traits.specs.Chunk.{Region, IsRegion, region_at, region_end, Chunk, chunk_end, first_place, IsInside, IsSound}
 use Rattle.bb_memory_traits.specs.OneChunkObject.{HasRoom, LacksRoom, reserved_at}
 use Rattle.bb_memory_traits.specs.Object.{PlacesDiffer}
 use Rattle.bb_memory_traits.specs.declared.layout.Layout.{Layout}
 use Rattle.bb_memory_traits.specs.declared.allocator.AllocationError.{AllocationError}
 use Rattle.bb_memory_traits.specs.declared.allocator.AllocationError.TheVariants.{OutOfMemory}
-use Rattle.std.proofs.Common.{arith, ap, refl, subst, ◌∙◌}
-use Rattle.std.proofs.lemmas.Option.{slice_get_within, get_or_from_slice_get}
+use Rattle.std.proofs.Common.{arith, ap, refl, ◌∙◌}
+use Rattle.bb_memory_lists.proofs.Positions.{All-at}
 
 -- the allocator's region, and the place of the chunk that is out
 pub record OneChunk : Type 0 where
@@ -34,7 +34,6 @@ abbrev pub IsKept : Option ℕ → List Chunk → Type 0
 IsKept None live = live ≡ []
 IsKept (Some place) live = (chunk : Chunk) × (live ≡ chunk ∷ []) × (chunk.place ≡ place)
 
--- a one chunk stands for this live list
 pub record StandsFor (one : OneChunk) (live : List Chunk) : Type 0 where
   pub sound : IsSound one.region live
   pub keeps : IsKept one.kept live
@@ -62,18 +61,14 @@ Frees old new = new ≡ record old { kept = None }
 pub only_chunk : (kept : Option ℕ) (live : List Chunk) (position : ℕ) (chunk : Chunk) →
     IsKept kept live → slice_get live position ≡ Some chunk → (live ≡ chunk ∷ []) × (position ≡ 0) × (kept ≡ Some chunk.place)
 only_chunk None live position chunk empty at =
-    let none : slice_get live position ≡ None =
-    ap (λ (l : List Chunk). slice_get l position) empty in
-    cc
+    let none : slice_get live position ≡ None = ap (λ (l : List Chunk). slice_get l position) empty in cc
 only_chunk (Some place) live zero chunk (one, is, same) at =
     let first : slice_get live zero ≡ Some one = ap (λ (l : List Chunk). slice_get l zero) is in
     let other : one ≡ chunk = cc in
     let there : one.place ≡ chunk.place = ap (λ (c : Chunk). c.place) other in
     (is ∙ ap (λ (c : Chunk). c ∷ []) other, refl, cc)
 only_chunk (Some place) live (suc position) chunk (one, is, same) at =
-    let none : slice_get live (suc position) ≡ None =
-    ap (λ (l : List Chunk). slice_get l (suc position)) is in
-    cc
+    let none : slice_get live (suc position) ≡ None = ap (λ (l : List Chunk). slice_get l (suc position)) is in cc
 
 -- a live list has no two chunks, and so no two of one place
 pub places_differ : (kept : Option ℕ) (live : List Chunk) → IsKept kept live → PlacesDiffer live
@@ -86,11 +81,7 @@ places_differ (Some place) live (one, is, same) = λ i j d before within.
 pub covered : (one : OneChunk) (live : List Chunk) (position : ℕ) (chunk : Chunk) →
     StandsFor one live → slice_get live position ≡ Some chunk → chunk.len ≤ reserved_at one.region chunk.place
 covered one live position chunk stands at =
-    let inside = stands.sound.inside position chunk (slice_get_within live position chunk at) in
-    let same = get_or_from_slice_get live position chunk chunk at in
-    let below : chunk_end chunk ≤ region_end one.region =
-    subst (λ (c : Chunk). chunk_end c ≤ region_end one.region) same inside.below in
-    omega (arith, below)
+    let inside = All-at (IsInside one.region) live stands.sound.inside position chunk at in omega (arith, inside.below)
 
 -- the place that is kept is that of a chunk of it
 pub kept_is_live : (kept : Option ℕ) (live : List Chunk) (place : ℕ) →

@@ -1,12 +1,11 @@
 -- A pool, as its contracts see it.
-use Rattle.std.specs.Prelude.{◌≡◌, ◌≢◌, ℕ, ◌-◌, ◌+◌, ◌%◌, ◌≤◌, ◌<◌, ◌^◌, ◌⊎◌, ◌↔◌, Bool, true, false, ◌&&◌, if◌then◌else◌}
+use Rattle.std.specs.Prelude.{◌≡◌, ◌≢◌, ℕ, ◌+◌, ◌%◌, ◌≤◌, ◌<◌, ◌↔◌, Bool, true, false, ◌&&◌, if◌then◌else◌}
 use Rattle.std.specs.Prelude.{get_or, nat_eq, nat_le, List, All, length, max, min, replicate, slice_set, Result, Ok, Err, IsOk}
-use Rattle.std.specs.Prelude.{IfOk, OnErr, Some, slice_get, Option, IfSome, IfNone}
+use Rattle.std.specs.Prelude.{IfOk, OnErr, Some, slice_get}
 use Rattle.std.specs.List.{list_any, range_with_len}
-use Rattle.bb_memory_traits.specs.Chunk.{Region, IsRegion, Chunk, IsSound, first_place}
+use Rattle.bb_memory_traits.specs.Chunk.{IsRegion, Chunk, IsSound}
 use Rattle.bb_memory_traits.specs.Object.{PlacesDiffer, note_after_run}
-use Rattle.bb_memory_traits.specs.PoolObject.{PoolGeometry, stride, bucket_place, IsCut, IsPoolGeometry, IsHeld, IsWithin}
-use Rattle.bb_memory_traits.specs.PoolObject.{chunk_in}
+use Rattle.bb_memory_traits.specs.PoolObject.{PoolGeometry, bucket_place, IsCut, IsPoolGeometry, IsHeld, IsWithin, chunk_in}
 use Rattle.bb_memory_traits.specs.declared.layout.Layout.{Layout}
 use Rattle.bb_memory_traits.specs.declared.allocator.Command.{Command}
 use Rattle.bb_memory_traits.specs.declared.allocator.AllocationError.{AllocationError}
@@ -15,10 +14,11 @@ use Rattle.bb_memory_traits.specs.declared.allocator.AllocationError.TheVariants
 use Rattle.bb_memory_geometry.specs.Geometry.{AreAStrideApart, MayBeCut}
 use Rattle.bb_memory_index_set.specs.IndexSets.{Has, Lacks, IsFull, member_count}
 use Rattle.std.specs.Cmp.Derive.{both_true}
-use Rattle.std.proofs.Common.{refl, sym, ◌∙◌, ap, arith, subst}
-use Rattle.std.proofs.lemmas.Bool.{eq-eqb, eqb-true}
+use Rattle.std.proofs.Common.{sym, ◌∙◌, ap, arith}
+use Rattle.std.proofs.lemmas.Bool.{and_parts, eq-eqb, eqb-true}
 use Rattle.std.proofs.lemmas.List.Folds.{Any-from_list_any, list_any_at}
 use Rattle.std.proofs.lemmas.List.FromFn.{get_or-range_with_len, length-range_with_len}
+use Rattle.bb_memory_lists.proofs.Positions.{All-at}
 use Rattle.std.proofs.lemmas.Option.{slice_get-get_or, slice_get_within, get_or_from_slice_get}
 
 -- where its buckets are, and the set of those that are held
@@ -29,7 +29,6 @@ pub record Pool : Type 0 where
 abbrev pub pool_of : PoolGeometry → List Bool → Pool
 pool_of geometry held = record { geometry = geometry; held = held }
 
--- a pool with no bucket held
 abbrev pub fresh_pool : PoolGeometry → Pool
 fresh_pool geometry = pool_of geometry (replicate geometry.buckets false)
 
@@ -65,17 +64,14 @@ pub record StandsFor (pool : Pool) (live : List Chunk) : Type 0 where
 abbrev pub begins_held : Pool → ℕ → ℕ → Bool
 begins_held pool place i = get_or pool.held i false && nat_eq place (bucket_place pool.geometry i)
 
--- whether any held bucket begins at the place
 unfoldable pub holds_place : Pool → ℕ → Bool
 holds_place pool place = list_any (begins_held pool place) (range_with_len 0 (length pool.held))
 
--- the place is that of a held bucket
 abbrev pub HoldsPlace : Pool → ℕ → Type 0
 HoldsPlace pool place = holds_place pool place ≡ true
 
 -- WHAT CALLS DO
 
--- the pool with bucket i held, or free
 abbrev pub with_flag : Pool → ℕ → Bool → Pool
 with_flag pool i flag = pool_of pool.geometry (slice_set pool.held i flag)
 
@@ -97,7 +93,6 @@ abbrev pub Frees : Pool → ℕ → Pool → Type 0
 Frees pool place new =
     (i : ℕ) → Has pool.held i → place ≡ bucket_place pool.geometry i → new ≡ with_flag pool i false
 
--- how many of the pool's buckets are held
 abbrev pub held_count : Pool → ℕ
 held_count pool = member_count pool.held
 
@@ -157,10 +152,6 @@ reads_after bucket words before commands =
 
 -- LAWS OF HELD BUCKETS AND THEIR PLACES
 
-both : (a b : Bool) → (a && b) ≡ true → (a ≡ true) × (b ≡ true)
-both true b holds = (refl, holds)
-both false b holds = absurd (cc)
-
 -- a place that is held is that of a held bucket
 pub bucket_held_at : (pool : Pool) (place : ℕ) → HoldsPlace pool place →
     (i : ℕ) × Has pool.held i × (place ≡ bucket_place pool.geometry i)
@@ -170,7 +161,7 @@ bucket_held_at pool place holds =
     let (k, i, within, at, is) = Any-from_list_any (begins_held pool place) (range_with_len 0 count) holds in
     let below : k < count = omega (arith, within, length-range_with_len 0 count) in
     let number : i ≡ k = omega (arith, at, get_or-range_with_len 0 count k i below) in
-    let answers = both (get_or pool.held i false) (nat_eq place (bucket_place pool.geometry i)) is in (
+    let answers = and_parts (get_or pool.held i false) (nat_eq place (bucket_place pool.geometry i)) is in (
       i,
       slice_get-get_or pool.held i false (omega (arith, below, number)) ∙ ap Some answers.0,
       eqb-true place (bucket_place pool.geometry i) answers.1,
@@ -186,26 +177,24 @@ held_at_bucket pool place i has there =
     let begins : begins_held pool place i ≡ true =
     both_true (get_or_from_slice_get pool.held i true false has) (eq-eqb place (bucket_place pool.geometry i) there) in
     list_any_at (begins_held pool place) (range_with_len 0 count) i 0 (omega (arith, below, length-range_with_len 0 count))
-    (ap (begins_held pool place) (let e : get_or (range_with_len 0 count) i 0 ≡ i =
-    omega (arith, get_or-range_with_len 0 count i 0 below) in e) ∙ begins)
+    (let e : get_or (range_with_len 0 count) i 0 ≡ i = omega (arith, get_or-range_with_len 0 count i 0 below) in rw e begins)
 
 -- LAWS OF LIVE LISTS
 
--- what stands at a position of it has the place of a held bucket
+-- what stands at a position of it is in a held bucket, and has that bucket's place
+pub filled-at : (pool : Pool) (live : List Chunk) → StandsFor pool live → (position : ℕ) (chunk : Chunk) →
+    slice_get live position ≡ Some chunk → (i : ℕ) × Fills pool chunk i
+filled-at pool live stands position chunk at = All-at (λ c. (i : ℕ) × Fills pool c i) live stands.filled position chunk at
+
 pub held_place : (pool : Pool) (live : List Chunk) (position : ℕ) (chunk : Chunk) →
     StandsFor pool live → slice_get live position ≡ Some chunk → HoldsPlace pool chunk.place
 held_place pool live position chunk stands at =
-    let filled = stands.filled position chunk (slice_get_within live position chunk at) in
-    let same = get_or_from_slice_get live position chunk chunk at in
-    held_at_bucket pool chunk.place filled.0 filled.1.held (sym (ap (λ (c : Chunk). c.place) same) ∙ filled.1.placed)
+    let (i, fills) = filled-at pool live stands position chunk at in held_at_bucket pool chunk.place i fills.held fills.placed
 
 -- a live chunk is no longer than a bucket
 pub covered : (pool : Pool) (live : List Chunk) (position : ℕ) (chunk : Chunk) →
     StandsFor pool live → slice_get live position ≡ Some chunk → chunk.len ≤ pool.geometry.bucket.size
-covered pool live position chunk stands at =
-    let filled = stands.filled position chunk (slice_get_within live position chunk at) in
-    let same = get_or_from_slice_get live position chunk chunk at in
-    subst (λ (c : Chunk). c.len ≤ pool.geometry.bucket.size) same filled.1.short
+covered pool live position chunk stands at = (filled-at pool live stands position chunk at).1.short
 
 -- a held bucket's place is that of a chunk of it
 pub held_is_live : (pool : Pool) (live : List Chunk) (place : ℕ) →

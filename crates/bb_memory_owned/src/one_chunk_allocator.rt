@@ -14,7 +14,7 @@ ghost use Rattle.bb_memory_traits.specs.OneChunkObject.{MayAllocate, MayGrow, Ma
 pub use crate::allocator::{
     AllocationError, AllocationGrowError, AllocationShrinkError, Allocator, BaseAllocator,
 };
-use crate::allocator::{Command, Reply, run_base, run_full};
+use crate::allocator::{Command, Reply, run_full};
 use crate::layout::Chunk;
 pub use crate::layout::Layout;
 use crate::region;
@@ -282,22 +282,6 @@ pub fn run_one_chunk(
         commands.now result allocator.old allocator.new live.old.items live.new.items }
 {
     run_full(allocator, live, commands)
-}
-
-/// The same without resizes, which are passed over, as [`run_base`] does. The allocator has to stand for the live list.
-/// `AllocError` comes only where memory was refused, and then the allocator and the list are as before.
-pub fn run_base_one_chunk(
-    allocator: &mut OneChunkAllocator,
-    live: &mut Vec<Chunk>,
-    commands: &[Command],
-) -> Result<Vec<Reply>, AllocError>
-    requires { StandsFor allocator.old live.old.items }
-    ensures { AnswersRun StandsFor (λ one. one.region) (λ region. region)
-        (Step (one_chunk_object allocator.old.region).base)
-        Takes (λ old _ _ new. Frees old new)
-        commands.now result allocator.old allocator.new live.old.items live.new.items }
-{
-    run_base(allocator, live, commands)
 }
 
 /// Says what the definition of the one-chunk object says of every region and every list of commands. There is exactly one answer

@@ -22,9 +22,7 @@ use bb_memory_geometry::geometry::{Geometry, stride};
 use bb_memory_index_set::index_set::Counter;
 use bb_memory_index_set::index_set::words::Words;
 use bucket_pool::BucketPool;
-pub use bucket_pool::{
-    run_base_pool, run_base_pool as run_base_fixed_pool, run_pool, run_pool as run_fixed_pool,
-};
+pub use bucket_pool::{run_pool, run_pool as run_fixed_pool};
 pub use fixed_size::FixedSizePoolAllocator;
 pub use laws::{pool_count_law, pool_geometry_law, pool_held_law, pool_object_law};
 use std::alloc::{Allocator as LanguageAllocator, Global};

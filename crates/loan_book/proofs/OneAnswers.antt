@@ -3,7 +3,6 @@ use Rattle.std.proofs.Common.{◌≡◌, ℕ, ◌<◌, ◌-◌, Bool, true, fals
 use Rattle.std.specs.Prelude.{◌↔◌}
 use Rattle.bb_memory_traits.specs.Chunk.{Chunk}
 use Rattle.loan_book.specs.declared.error.LoanError.{LoanError}
-use Rattle.loan_book.specs.declared.error.LoanError.TheVariants.{Size, IdsExhausted, Memory, Allocation}
 use Rattle.loan_book.specs.declared.error.LoanError.TheVariants.{UnknownSample, AlreadyPublished, NoReaders}
 use Rattle.loan_book.specs.Book.{Sample, returns_to_come, Book, IsBook, IsAt, IsOut, IsPublished, IsUnpublished}
 use Rattle.loan_book.specs.Calls.{Answers, Loans, Publishes, GivesBack, with_returns, without}
@@ -11,15 +10,7 @@ use Rattle.loan_book.proofs.BookSteps.{one_position, one_sample, unpublished-now
 
 pub loan-one_book : (may_allocate : Answers) (old : Book) (size : ℕ) (answer : Result (ℕ × Chunk) LoanError) (new next : Book) →
     Loans may_allocate old size answer new → Loans may_allocate old size answer next → new ≡ next
-loan-one_book may_allocate old size (Ok (id, chunk)) new next (fits, may, numbered, same)
-    (fits_too, may_too, numbered_too, same_too) = same ∙ sym same_too
-loan-one_book may_allocate old size (Err Size) new next (large, same) (large_too, same_too) = same ∙ sym same_too
-loan-one_book may_allocate old size (Err IdsExhausted) new next (fits, used, same) (fits_too, used_too, same_too) =
-    same ∙ sym same_too
-loan-one_book may_allocate old size (Err Memory) new next (fits, left, same) (fits_too, left_too, same_too) = same ∙ sym same_too
-loan-one_book may_allocate old size (Err (Allocation error)) new next (fits, may, same) (fits_too, may_too, same_too) =
-    same ∙ sym same_too
-loan-one_book may_allocate old size answer new next none none_too = absurd none
+loan-one_book may_allocate old size answer new next first second = grind (arith, first, second)
 
 -- when each answer to a publish comes
 abbrev pub PublishCause : Book → ℕ → ℕ → Result (Unit {0}) LoanError → Type 0
@@ -32,35 +23,23 @@ PublishCause book id readers answer = ⊥
 publish-cause : (old : Book) (id readers : ℕ) (answer : Result (Unit {0}) LoanError) (new : Book) →
     Publishes old id readers answer new → PublishCause old id readers answer
 publish-cause old id readers (Ok done) new (i, sample, at, unpublished, some, same) = ((i, sample, at, unpublished), some)
-publish-cause old id readers (Err UnknownSample) new (gone, same) = gone
-publish-cause old id readers (Err AlreadyPublished) new (published, same) = published
 publish-cause old id readers (Err NoReaders) new (unpublished, none, same) = (unpublished, none)
+publish-cause old id readers (Err UnknownSample) new step = step.0
+publish-cause old id readers (Err AlreadyPublished) new step = step.0
 publish-cause old id readers answer new none = absurd none
 
 module _ (book : Book) (is : IsBook book) (id readers : ℕ) where
+  published_out : IsPublished book id → IsOut book id
+  published_out (returns, (position, sample, at, is)) = (position, sample, at)
+
+  unpublished_out : IsUnpublished book id → IsOut book id
+  unpublished_out (position, sample, at, is) = (position, sample, at)
+
   one-cause : (one other : Result (Unit {0}) LoanError) → PublishCause book id readers one →
       PublishCause book id readers other → one ≡ other
   one-cause (Ok done) (Ok done_too) first second = refl
-  one-cause (Ok done) (Err UnknownSample) (there, some) gone = absurd (gone (there.0, there.1, there.2))
-  one-cause (Ok done) (Err AlreadyPublished) (there, some) published = absurd (unpublished-nowhere book id is there published)
-  one-cause (Ok done) (Err NoReaders) (there, some) (there_too, none) = absurd (omega arith)
-  one-cause (Err UnknownSample) (Ok done) gone (there, some) = absurd (gone (there.0, there.1, there.2))
-  one-cause (Err UnknownSample) (Err UnknownSample) gone second = refl
-  one-cause (Err UnknownSample) (Err AlreadyPublished) gone was = absurd (gone (was.1.0, was.1.1, was.1.2))
-  one-cause (Err UnknownSample) (Err NoReaders) gone (there, none) = absurd (gone (there.0, there.1, there.2))
-  one-cause (Err AlreadyPublished) (Ok done) was (there, some) = absurd (unpublished-nowhere book id is there was)
-  one-cause (Err AlreadyPublished) (Err UnknownSample) was gone = absurd (gone (was.1.0, was.1.1, was.1.2))
-  one-cause (Err AlreadyPublished) (Err AlreadyPublished) published second = refl
-  one-cause (Err AlreadyPublished) (Err NoReaders) was (there, none) = absurd (unpublished-nowhere book id is there was)
-  one-cause (Err NoReaders) (Ok done) (there, none) (there_too, some) = absurd (omega arith)
-  one-cause (Err NoReaders) (Err UnknownSample) (there, none) gone = absurd (gone (there.0, there.1, there.2))
-  one-cause (Err NoReaders) (Err AlreadyPublished) (there, none) was = absurd (unpublished-nowhere book id is there was)
-  one-cause (Err NoReaders) (Err NoReaders) first second = refl
-  one-cause (Ok done) other first none = absurd none
-  one-cause (Err UnknownSample) other first none = absurd none
-  one-cause (Err AlreadyPublished) other first none = absurd none
-  one-cause (Err NoReaders) other first none = absurd none
-  one-cause one other none second = absurd none
+  one-cause one other first second =
+      grind (arith, first, second, published_out, unpublished_out, unpublished-nowhere book id is)
 
   same-set : (i j returns : ℕ) (sample found : Sample) → IsAt book id i sample → IsAt book id j found →
       with_returns book i sample returns ≡ with_returns book j found returns
@@ -73,10 +52,7 @@ module _ (book : Book) (is : IsBook book) (id readers : ℕ) where
   publish-one_book (Ok done) new next (i, sample, at, unpublished, some, same)
       (j, found, there, unpublished_too, some_too, same_too) =
       same ∙ same-set i j readers sample found at there ∙ sym same_too
-  publish-one_book (Err UnknownSample) new next (gone, same) (gone_too, same_too) = same ∙ sym same_too
-  publish-one_book (Err AlreadyPublished) new next (published, same) (published_too, same_too) = same ∙ sym same_too
-  publish-one_book (Err NoReaders) new next (there, none, same) (there_too, none_too, same_too) = same ∙ sym same_too
-  publish-one_book answer new next none none_too = absurd none
+  publish-one_book answer new next first second = grind (arith, first, second)
 
   to_come : (i j : ℕ) (sample found : Sample) → IsAt book id i sample → IsAt book id j found →
       returns_to_come sample.returns ≡ returns_to_come found.returns
@@ -96,16 +72,7 @@ module _ (book : Book) (is : IsBook book) (id readers : ℕ) where
     same ∙ ap (λ n. with_returns book i sample (n - 1)) (to_come i j sample found at there)
         ∙ same-set i j (returns_to_come found.returns - 1) sample found at there ∙ sym same_too,
   )
-  give-one (Ok true) (Err UnknownSample) new next (i, sample, at, last, same) (gone, same_too) = absurd (gone (i, sample, at))
-  give-one (Ok false) (Err UnknownSample) new next (i, sample, at, more, same) (gone, same_too) = absurd (gone (i, sample, at))
-  give-one (Err UnknownSample) (Ok true) new next (gone, same) (j, found, there, last, same_too) = absurd (gone (j, found, there))
-  give-one (Err UnknownSample) (Ok false) new next (gone, same) (j, found, there, more, same_too) =
-      absurd (gone (j, found, there))
-  give-one (Err UnknownSample) (Err UnknownSample) new next (gone, same) (gone_too, same_too) = (refl, same ∙ sym same_too)
-  give-one (Ok true) other new next first none = absurd none
-  give-one (Ok false) other new next first none = absurd none
-  give-one (Err UnknownSample) other new next first none = absurd none
-  give-one one other new next none second = absurd none
+  give-one one other new next first second = grind (arith, first, second)
 
 -- each refusal comes exactly where its cause holds
 pub publish-refusal : (book : Book) (is : IsBook book) (id readers : ℕ) (answer : Result (Unit {0}) LoanError) (new : Book) →

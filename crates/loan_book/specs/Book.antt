@@ -45,11 +45,9 @@ IsOut book id = (position : ℕ) × (sample : Sample) × IsAt book id position s
 abbrev pub HasReturns : Book → ℕ → Option ℕ → Type 0
 HasReturns book id returns = (position : ℕ) × (sample : Sample) × IsAt book id position sample × (sample.returns ≡ returns)
 
--- the sample of this id is out, and was published
 abbrev pub IsPublished : Book → ℕ → Type 0
 IsPublished book id = (returns : ℕ) × HasReturns book id (Some returns)
 
--- the sample of this id is out, and wasn't published yet
 abbrev pub IsUnpublished : Book → ℕ → Type 0
 IsUnpublished book id = HasReturns book id None
 

@@ -29,7 +29,6 @@ with_sample book chunk =
 abbrev pub with_returns : Book → ℕ → Sample → ℕ → Book
 with_returns book i sample returns = record book { out = slice_set book.out i (record sample { returns = Some returns }) }
 
--- the book without the sample at a position
 abbrev pub without : Book → ℕ → Book
 without book position = record book { out = remove book.out position }
 

@@ -1,11 +1,11 @@
 -- Known bytes that grow, and bytes that are sent, all or a beginning.
-use Rattle.std.proofs.Common.{arith, tests, ◌==◌, ◌≡◌, ◌≢◌, ◌∷◌, IfSome, ℕ, ◌-◌, List, [], ◌++◌, take}
-use Rattle.std.proofs.Common.{drop, length, Option, Some, None, true, inl, inr, ◌⊎◌, refl, sym, ap, ◌∙◌}
+use Rattle.std.proofs.Common.{arith, tests, ◌==◌, ◌≡◌, ◌∷◌, IfSome, ℕ, ◌-◌, List, [], ◌++◌, take}
+use Rattle.std.proofs.Common.{drop, length, Option, Some, None, true, inl, inr, refl, sym, ap, ◌∙◌}
 use Rattle.std.specs.Io.KnownBytes.{Appends, Keeps}
 use Rattle.std.proofs.lemmas.List.{append_assoc, append-nil, take-append-drop, take_rest}
-use Rattle.script_runner.specs.Inputs.{Ends, IsAnswered, IsOutput, IsUnreadable, IsLeft, BeginsOutput}
+use Rattle.script_runner.specs.Inputs.{Ends, IsAnswered, IsOutput, IsUnreadable, IsLeft}
 use Rattle.script_runner.specs.declared.status.Status.{Status}
-use Rattle.script_runner.specs.declared.status.Status.TheVariants.{Done, Unreadable, InputFailed, OutputFailed, OutOfMemory}
+use Rattle.script_runner.specs.declared.status.Status.TheVariants.{Done, Unreadable, OutputFailed, OutOfMemory}
 use Rattle.script_runner.specs.Scripts.{AppendsPart, Sends}
 use Rattle.script_words.specs.Words.{unreadable_text}
 
@@ -110,47 +110,8 @@ ends_refused input old = record {
   output_failed = λ is. absurd (cc);
 }
 
--- how a run ends where so much of the input was left, and what it writes
-pub record Written (left old new : Option (List ℕ)) (status : Status) : Type 0 where
-  pub done : status ≡ Done → (input : List ℕ) × (text : List ℕ) × IsLeft input left × IsAnswered input text
-      × Appends old new text
-  pub unreadable : status ≡ Unreadable → (input : List ℕ) × (number : ℕ) × IsLeft input left × IsUnreadable input number
-      × Appends old new (unreadable_text number)
-  pub input_failed : status ≡ InputFailed → Keeps old new
-  pub out_of_memory : status ≡ OutOfMemory → Keeps old new
-  pub output_failed : status ≡ OutputFailed → (input : List ℕ) × (sent : List ℕ) × IsLeft input left
-      × BeginsOutput input sent × Appends old new sent
-
 -- an input that was read to its end is all that was left
 pub left_all : (left : Option (List ℕ)) (before after : List ℕ) → before ≡ []
     → IfSome left (λ bytes. after ≡ before ++ bytes) → IsLeft after left
 left_all None before after none e = tt
 left_all (Some bytes) before after none e = e ∙ ap (λ l. l ++ bytes) none
-
--- a run on an input
-pub ended : (left old new : Option (List ℕ)) (input : List ℕ) (status : Status) → IsLeft input left
-    → Ends input old new status → Written left old new status
-ended left old new input status all ends = record {
-  done = λ is. let (text, answered, wrote) = ends.done is in (input, text, all, answered, wrote);
-  unreadable = λ is. let (number, unread, wrote) = ends.unreadable is in (input, number, all, unread, wrote);
-  input_failed = λ is. absurd (ends.input_read is);
-  out_of_memory = ends.out_of_memory;
-  output_failed = λ is. let (sent, begins, wrote) = ends.output_failed is in (input, sent, all, begins, wrote);
-}
-
--- no input was read, and nothing is written
-unread : (left old : Option (List ℕ)) (status : Status) → status ≢ Done → status ≢ Unreadable → status ≢ OutputFailed
-    → Written left old old status
-unread left old status not_done not_unreadable not_output = record {
-  done = λ is. absurd (not_done is);
-  unreadable = λ is. absurd (not_unreadable is);
-  input_failed = λ is. keeps_same old;
-  out_of_memory = λ is. keeps_same old;
-  output_failed = λ is. absurd (not_output is);
-}
-
-pub unread_input : (left old : Option (List ℕ)) → Written left old old InputFailed
-unread_input left old = unread left old InputFailed (λ is. cc) (λ is. cc) (λ is. cc)
-
-pub unread_memory : (left old : Option (List ℕ)) → Written left old old OutOfMemory
-unread_memory left old = unread left old OutOfMemory (λ is. cc) (λ is. cc) (λ is. cc)

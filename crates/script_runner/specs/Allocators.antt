@@ -50,7 +50,6 @@ reply_line (reply.ShrinkRefused shrink.ShrinkWouldGrow) = name_line (codes "Shri
 reply_line (reply.ShrinkRefused shrink.AlignmentFailure) = name_line (codes "AlignmentFailure")
 reply_line (reply.ShrinkRefused shrink.SizeIsZero) = name_line (codes "SizeIsZero")
 
--- an allocator that a script drives, and the chunks that it has out
 pub record LiveState (A : Type 0) : Type 0 where
   pub allocator : A
   pub live : List Chunk
@@ -86,7 +85,6 @@ pub record BumpRuns (old : Bump) (live : List Chunk) (commands : List Command)
   pub region : new.region ≡ old.region
   pub stands : BumpStandsFor new.region new.used left
 
--- a bump that a script drives: it begins with nothing used
 abbrev pub bump_rules : AllocatorRules Bump Bounds
 bump_rules = record {
   name = codes "bump";
@@ -106,12 +104,10 @@ pub record OneChunkRuns (old : OneChunk) (live : List Chunk) (commands : List Co
   pub region : new.region ≡ old.region
   pub stands : OneChunkStandsFor new left
 
--- whether no place is kept
 abbrev pub available_text : Option ℕ → List ℕ
 available_text None = codes " available yes\n"
 available_text (Some place) = codes " available no\n"
 
--- a one chunk that a script drives: it begins with nothing kept
 abbrev pub one_chunk_rules : AllocatorRules OneChunk Bounds
 one_chunk_rules = record {
   name = codes "one";
@@ -123,7 +119,6 @@ one_chunk_rules = record {
       ++ (codes " size " ++ (decimal one.region.size ++ available_text one.kept)));
 }
 
--- a pool may be made by the plan
 abbrev pub IsPoolPlan : PoolPlan → Type 0
 IsPoolPlan plan = MayBeCut (region_at plan.start plan.size) plan.bucket
 
@@ -155,7 +150,6 @@ pool_figures geometry live rest =
     ++ (codes " align " ++ (decimal geometry.bucket.align ++ (codes " buckets " ++ (decimal geometry.buckets
     ++ (codes " live " ++ (decimal live ++ rest)))))))))
 
--- a pool that a script drives: it begins with no bucket held
 abbrev pub pool_rules : AllocatorRules CountedPool PoolPlan
 pool_rules = record {
   name = codes "pool";
@@ -172,7 +166,6 @@ abbrev pub BeginsFixed : PoolPlan → CountedPool → Type 0
 BeginsFixed plan pool = (whole : PoolGeometry) × IsCut (region_at plan.start plan.size) plan.bucket whole
     × (pool ≡ counted (fresh_pool (at_most 512 whole)) 0 0)
 
--- a fixed pool that a script drives: it begins with no bucket held
 abbrev pub fixed_rules : AllocatorRules CountedPool PoolPlan
 fixed_rules = record {
   name = codes "fixed";

@@ -29,7 +29,6 @@ IsAnsweredBy lines text kind = (header : kind.Header) × (rest : List (List ℕ)
     × (script : List (Line kind.Command)) × (first : kind.State) × (last : kind.State) × AreScript kind.rules rest script
     × kind.rules.starts header first × IsPlayed kind.rules first script text last
 
--- the lines are a script of some kind
 abbrev pub AreReadable : List Kind → List (List ℕ) → Type 0
 AreReadable table lines = SomeOf table (IsScriptOf lines)
 
@@ -39,7 +38,6 @@ abbrev pub IsUnreadableAt : List Kind → List (List ℕ) → ℕ → Type 0
 IsUnreadableAt table lines number =
     ((number ≡ 1) ⊎ AreReadable table (take (number - 1) lines)) × ¬ AreReadable table (take number lines)
 
--- the outcome of checking and running the lines
 abbrev pub IsOutcome : List Kind → List (List ℕ) → Outcome → Type 0
 IsOutcome table lines (outcome.Answered text) = SomeOf table (IsAnsweredBy lines text.items)
 IsOutcome table lines (outcome.Unreadable number) = IsUnreadableAt table lines number
@@ -49,11 +47,9 @@ unfoldable pub kinds : List Kind
 kinds = kind (live_rules bump_rules) ∷ kind (live_rules one_chunk_rules) ∷ kind (live_rules pool_rules)
     ∷ kind (live_rules fixed_rules) ∷ kind bump_step_rules ∷ kind pool_step_rules ∷ kind loan_pool_rules ∷ []
 
--- the input is a script of some kind, and the text is what it is answered
 abbrev pub IsAnswered : List ℕ → List ℕ → Type 0
 IsAnswered input text = SomeOf kinds (IsAnsweredBy (lines_of input) text)
 
--- the input's first unreadable line has this number, counted from 1
 abbrev pub IsUnreadable : List ℕ → ℕ → Type 0
 IsUnreadable input number = IsUnreadableAt kinds (lines_of input) number
 
@@ -61,7 +57,6 @@ IsUnreadable input number = IsUnreadableAt kinds (lines_of input) number
 abbrev pub IsOutput : List ℕ → List ℕ → Type 0
 IsOutput input text = IsAnswered input text ⊎ ((number : ℕ) × IsUnreadable input number × (text ≡ unreadable_text number))
 
--- the bytes begin what is written of the input
 abbrev pub BeginsOutput : List ℕ → List ℕ → Type 0
 BeginsOutput input sent = (text : List ℕ) × IsOutput input text × Begins sent text
 

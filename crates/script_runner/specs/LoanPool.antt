@@ -61,7 +61,6 @@ pub record BeginsLoans (plan : PoolPlan) (loans : LoanBook CountedPool) : Type 0
   pub pool : BeginsPool plan loans.allocator
   pub book : loans.book ≡ record { loaned = 0; out = [] }
 
--- a loan book over a pool that a script drives; it can't be shown
 abbrev pub loan_pool_rules : Rules (LoanBook CountedPool) PoolPlan LoanCall LoanReply
 loan_pool_rules = record {
   name = codes "loan-pool";

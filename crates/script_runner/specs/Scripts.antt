@@ -48,7 +48,6 @@ pub record Kind : Type 1 where
 abbrev pub kind : {S O C R : Type 0} → Rules S O C R → Kind
 kind {S} {O} {C} {R} rules = record { State = S; Header = O; Command = C; Reply = R; rules = rules }
 
--- some kind of the table has the property
 abbrev pub SomeOf : List Kind → (Kind → Type 0) → Type 0
 SomeOf [] Holds = ⊥
 SomeOf (one ∷ others) Holds = Holds one ⊎ SomeOf others Holds
@@ -63,7 +62,6 @@ abbrev pub are_apart : List Kind → Bool
 are_apart [] = true
 are_apart (one ∷ others) = is_new one.rules.name others && are_apart others
 
--- the bytes begin the text
 abbrev pub Begins : List ℕ → List ℕ → Type 0
 Begins sent text = (rest : List ℕ) × (text ≡ sent ++ rest)
 
@@ -108,7 +106,6 @@ IsPlayed {S} {O} {C} {R} rules old script text new =
     (mid : S) × (waiting : List C) × (front : List ℕ) × (replies : List R) × IsTold rules old [] script front mid waiting
     × rules.runs mid waiting replies new × (text ≡ front ++ flat_map rules.reply_text replies)
 
--- the exit status
 abbrev pub code_of : Status → ℕ
 code_of Done = 0
 code_of Unreadable = 2

@@ -20,20 +20,17 @@ use bb_memory_pool_machine::steps::PoolWorld;
 use script_words::words::Numbers;
 use std::alloc::Global;
 
-/// The kinds of scripts, in the order in which a header is tried: a row for each, and then the rows behind it.
-pub type AllKinds = (Live<BumpAllocator>, FromOneChunk);
-
-type FromOneChunk = (Live<OneChunkAllocator>, FromPool);
-
-type FromPool = (Live<PoolAllocator<Global>>, FromFixed);
-
-type FromFixed = (Live<Fixed>, FromBumpSteps);
-
-type FromBumpSteps = (BumpWorld, FromPoolSteps);
-
-type FromPoolSteps = (PoolWorld, FromLoanPool);
-
-type FromLoanPool = (LoanPool, ());
+/// The kinds of scripts, in the order in which a header is tried: each, and those behind it.
+pub type AllKinds = (
+    Live<BumpAllocator>,
+    (
+        Live<OneChunkAllocator>,
+        (
+            Live<PoolAllocator<Global>>,
+            (Live<Fixed>, (BumpWorld, (PoolWorld, (LoanPool, ())))),
+        ),
+    ),
+);
 
 /// Kinds of scripts, one after another.
 pub trait Kinds {

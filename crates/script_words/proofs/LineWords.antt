@@ -1,9 +1,10 @@
 -- The words of a line: there is one way only to read them.
-use Rattle.std.proofs.Common.{arith, false, ◌==◌, ◌≡◌, ◌≢◌, ℕ, ◌<◌, ◌^◌, suc, List, [], ◌∷◌, ◌++◌, All, refl, sym, ap, ap₂, ◌∙◌}
+use Rattle.std.proofs.Common.{arith, false, ◌==◌, ◌≡◌, ◌≢◌, ℕ, ◌<◌, ◌^◌, List, [], ◌∷◌, ◌++◌, All, refl, sym, ap, ap₂, ◌∙◌}
 use Rattle.std.proofs.Common.{length, take, take_all, drop, ◌-◌}
 use Rattle.std.specs.Fmt.{decimal}
 use Rattle.std.proofs.lemmas.Fmt.{digits_decimal, decimal_injective}
 use Rattle.std.proofs.lemmas.List.{append_assoc, append-nil, get_or_default}
+use Rattle.std.proofs.lemmas.List.Elements.{All-tail}
 use Rattle.std.proofs.lemmas.Str.Parse.{digit_at}
 use Rattle.script_words.proofs.Numbers.{own}
 use Rattle.script_words.specs.Words.{Words, AreNumbers, AreWords, StartsWith, list_of, numbers_text}
@@ -13,10 +14,6 @@ use Rattle.script_words.specs.declared.words.Numbers.TheVariants.{Zero, One, Two
 -- no byte of the text is this one
 abbrev pub Without : ℕ → List ℕ → Type 0
 Without byte text = All (λ b. b ≢ byte) text
-
--- what holds of each byte holds of each byte behind the first
-Without-rest : (byte x : ℕ) (xs : List ℕ) → Without byte (x ∷ xs) → Without byte xs
-Without-rest byte x xs h = λ k d l. h (suc k) d (omega arith)
 
 -- a number is written without the space
 spaceless_decimal : (n : ℕ) → n < 2 ^ 64 → Without 32 (decimal n)
@@ -34,7 +31,7 @@ split_same byte (x ∷ xs) [] back [] h h' s s' e = absurd (cc)
 split_same byte (x ∷ xs) [] back (b ∷ back') h h' s s' e = absurd (h 0 0 (omega arith) (cc))
 split_same byte (x ∷ xs) (y ∷ ys) back back' h h' s s' e =
     let tails : xs ++ back ≡ ys ++ back' = cc in
-    let same = split_same byte xs ys back back' (Without-rest byte x xs h) (Without-rest byte y ys h') s s' tails in
+    let same = split_same byte xs ys back back' (All-tail (λ b. b ≢ byte) x xs h) (All-tail (λ b. b ≢ byte) y ys h') s s' tails in
     (cc, same.1)
 
 -- numbers start with a space
@@ -70,11 +67,7 @@ numbers_of (a ∷ b ∷ c ∷ d ∷ e ∷ more) = Five a b c d e
 
 numbers_of-list : (ns : Numbers) → numbers_of (list_of ns) ≡ ns
 numbers_of-list Zero = refl
-numbers_of-list (One a) = refl
-numbers_of-list (Two a b) = refl
-numbers_of-list (Three a b c) = refl
-numbers_of-list (Four a b c d) = refl
-numbers_of-list (Five a b c d e) = refl
+numbers_of-list ns = refl
 
 -- a line has one name and one list of numbers
 pub words_same : (one other : Words) (line : List ℕ) → AreWords one line → AreWords other line
@@ -131,11 +124,7 @@ next_number line name ns field after other so w s are =
 -- there are at most five
 pub at_most_five : (ns : Numbers) → 5 < length (list_of ns) → ⊥
 at_most_five Zero h = omega (arith, h)
-at_most_five (One a) h = omega (arith, h)
-at_most_five (Two a b) h = omega (arith, h)
-at_most_five (Three a b c) h = omega (arith, h)
-at_most_five (Four a b c d) h = omega (arith, h)
-at_most_five (Five a b c d e) h = omega (arith, h)
+at_most_five ns h = omega (arith, h)
 
 -- a rest with a byte is a space and what is behind it
 pub space_first : (rest front after : List ℕ) → StartsWith 32 rest → false ≡ (length rest == 0)

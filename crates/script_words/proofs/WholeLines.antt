@@ -1,25 +1,15 @@
 -- What the lines of an input are, and that no others are.
 use Rattle.std.proofs.Common.{◌≡◌, ◌≢◌, ℕ, suc, zero, Bool, true, false, List, [], ◌∷◌, ◌++◌, length, take}
 use Rattle.std.proofs.Common.{take_all, drop, ◌==◌, ◌-◌, arith, ◌<◌, refl, sym, ap, ◌∙◌}
-use Rattle.std.proofs.Common.{inl, inr, ◌⊎◌, append_assoc, subst, append-nil, length-append, tests, All, Contains, eqb}
+use Rattle.std.proofs.Common.{inl, inr, ◌⊎◌, append_assoc, subst, append-nil, length-append, tests, All, Contains, eqb, Some}
 use Rattle.std.specs.List.{onto_first}
 use Rattle.std.proofs.lemmas.List.{append_cancel_right, flat_map_more}
-use Rattle.std.proofs.lemmas.List.Elements.{All-nil, All-cons, All-head, All-tail}
+use Rattle.std.proofs.lemmas.List.Elements.{All-nil, All-cons, All-head, All-tail, All-contains, All-pop}
 use Rattle.script_words.specs.Words.{StartsWith, lines_of, ended, EndsInText, AreLines}
 
 -- whether a byte is a line feed
 abbrev feed : ℕ → Bool
 feed byte = eqb byte 10
-
--- what holds of each element holds of each in front
-All-front : {X : Type 0} (P : X → Type 0) (xs ys : List X) → All P (xs ++ ys) → All P xs
-All-front P [] ys all = All-nil P
-All-front P (x ∷ xs) ys all = All-cons P x xs (All-head P x (xs ++ ys) all) (All-front P xs ys (All-tail P x (xs ++ ys) all))
-
--- and of the last
-All-last : {X : Type 0} (P : X → Type 0) (xs : List X) (x : X) → All P (xs ++ x ∷ []) → P x
-All-last P [] x all = All-head P x [] all
-All-last P (y ∷ xs) x all = All-last P xs x (All-tail P y (xs ++ x ∷ []) all)
 
 -- no byte of the line is a line feed
 abbrev pub HasNoFeed : List ℕ → Type 0
@@ -40,9 +30,7 @@ no_feed-cons byte line other none (suc k, below, at) = none (k, omega (arith, be
 
 -- a text of other bytes has no line feed
 no_feed-all : (line : List ℕ) → All (λ byte. byte ≢ 10) line → HasNoFeed line
-no_feed-all [] all = no_feed-nil
-no_feed-all (byte ∷ line) all =
-    no_feed-cons byte line (All-head (λ b. b ≢ 10) byte line all) (no_feed-all line (All-tail (λ b. b ≢ 10) byte line all))
+no_feed-all line all has = All-contains (λ b. b ≢ 10) line 10 all has refl
 
 -- what isn't tested to be a line feed is none
 other_byte : (byte : ℕ) → feed byte ≡ false → byte ≢ 10
@@ -58,17 +46,6 @@ no_feed-onto byte [] other all = All-cons HasNoFeed (byte ∷ []) [] (no_feed-co
 no_feed-onto byte (line ∷ lines) other all =
     All-cons HasNoFeed (byte ∷ line) lines (no_feed-cons byte line other (All-head HasNoFeed line lines all))
     (All-tail HasNoFeed line lines all)
-
--- one byte more leaves lines without a line feed
-no_feed_by : (is : Bool) (byte : ℕ) (bytes : List ℕ) → feed byte ≡ is → All HasNoFeed (lines_of bytes)
-    → All HasNoFeed (lines_of (byte ∷ bytes))
-no_feed_by true byte bytes e later = rw e (All-cons HasNoFeed [] (lines_of bytes) no_feed-nil later)
-no_feed_by false byte bytes e later = rw e (no_feed-onto byte (lines_of bytes) (other_byte byte e) later)
-
--- no line has a line feed
-lines_no_feed : (input : List ℕ) → All HasNoFeed (lines_of input)
-lines_no_feed [] = All-nil HasNoFeed
-lines_no_feed (byte ∷ bytes) = no_feed_by (feed byte) byte bytes refl (lines_no_feed bytes)
 
 -- a last line with a byte keeps it where the first line grows
 text-onto : (byte : ℕ) (line : List ℕ) (lines : List (List ℕ)) → EndsInText (line ∷ lines) → EndsInText ((byte ∷ line) ∷ lines)
@@ -98,20 +75,22 @@ whole-feed bytes lines (inr (e, (front, last, same, some))) =
     inr (ap (λ bs. 10 ∷ bs) e, ([] ∷ front, last, ap (λ ls. [] ∷ ls) same, some))
 
 -- one byte more at the front
-whole_by : (is : Bool) (byte : ℕ) (bytes : List ℕ) → feed byte ≡ is → Whole bytes (lines_of bytes)
-    → Whole (byte ∷ bytes) (lines_of (byte ∷ bytes))
-whole_by true byte bytes e later =
-    rw e (subst (λ b. Whole (b ∷ bytes) ([] ∷ lines_of bytes)) (sym (feed_byte byte e)) (whole-feed bytes (lines_of bytes) later))
-whole_by false byte bytes e later = rw e (whole-onto byte bytes (lines_of bytes) later)
-
--- the lines are all of the input
-lines_whole : (input : List ℕ) → Whole input (lines_of input)
-lines_whole [] = inl refl
-lines_whole (byte ∷ bytes) = whole_by (feed byte) byte bytes refl (lines_whole bytes)
+are_by : (is : Bool) (byte : ℕ) (bytes : List ℕ) → feed byte ≡ is → AreLines bytes (lines_of bytes)
+    → AreLines (byte ∷ bytes) (lines_of (byte ∷ bytes))
+are_by true byte bytes e are = rw e (record {
+  no_feed = All-cons HasNoFeed [] (lines_of bytes) no_feed-nil are.no_feed;
+  whole = subst (λ b. Whole (b ∷ bytes) ([] ∷ lines_of bytes)) (sym (feed_byte byte e))
+      (whole-feed bytes (lines_of bytes) are.whole);
+})
+are_by false byte bytes e are = rw e (record {
+  no_feed = no_feed-onto byte (lines_of bytes) (other_byte byte e) are.no_feed;
+  whole = whole-onto byte bytes (lines_of bytes) are.whole;
+})
 
 -- the lines of an input are its lines
 pub lines_are : (input : List ℕ) → AreLines input (lines_of input)
-lines_are input = record { no_feed = lines_no_feed input; whole = lines_whole input }
+lines_are [] = record { no_feed = All-nil HasNoFeed; whole = inl refl }
+lines_are (byte ∷ bytes) = are_by (feed byte) byte bytes refl (lines_are bytes)
 
 -- the same for a byte more
 line_by : (is : Bool) (byte : ℕ) (line rest : List ℕ) → feed byte ≡ is → HasNoFeed (byte ∷ line) →
@@ -187,9 +166,7 @@ only_by : (input : List ℕ) (lines : List (List ℕ)) → All HasNoFeed lines �
 only_by input lines none (inl e) =
     sym (append-nil lines) ∙ (sym (lines_ended lines [] none) ∙ ap lines_of (append-nil (ended lines) ∙ e))
 only_by input lines none (inr (e, (front, last, same, some))) =
-    let all : All HasNoFeed (front ++ last ∷ []) = subst (All HasNoFeed) same none in
-    let before : All HasNoFeed front = All-front HasNoFeed front (last ∷ []) all in
-    let final : HasNoFeed last = All-last HasNoFeed front last all in
+    let (before, final) = All-pop HasNoFeed lines front (Some last) same none in
     let bytes : (ended front ++ last) ++ 10 ∷ [] ≡ input ++ 10 ∷ [] =
     append_assoc (ended front) last (10 ∷ [])
     ∙ (flat_map_more (λ line. line ++ 10 ∷ []) [] front last ∙ (ap ended (sym same) ∙ e)) in

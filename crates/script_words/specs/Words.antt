@@ -29,7 +29,6 @@ pub record AreLines (input : List ℕ) (lines : List (List ℕ)) : Type 0 where
   pub no_feed : All (λ line. ¬ Contains line 10) lines
   pub whole : (ended lines ≡ input) ⊎ ((ended lines ≡ input ++ 10 ∷ []) × EndsInText lines)
 
--- a name, and the numbers behind it
 pub record Words : Type 0 where
   pub name : List ℕ
   pub numbers : Numbers
@@ -70,7 +69,6 @@ figures_then (figure ∷ figures) text = figure.0.now ++ (decimal figure.1 ++ fi
 abbrev pub unreadable_text : ℕ → List ℕ
 unreadable_text number = words_then (codes "line") (One number) (codes ": refused\n")
 
--- the bytes of a line
 abbrev pub text_bytes : Text → List ℕ
 text_bytes (Name name) = name_line name.now
 text_bytes (Line name numbers) = words_then name.now numbers (codes "\n")
@@ -86,7 +84,6 @@ pub record MayStand (words : Words) : Type 0 where
   pub name : All (λ byte. byte ≢ 32) words.name
   pub numbers : AreNumbers (list_of words.numbers)
 
--- the line is these words
 pub record AreWords (words : Words) (line : List ℕ) : Type 0 where
   pub stand : MayStand words
   pub text : line ≡ words_text words
@@ -100,7 +97,6 @@ StartsWith byte (first ∷ text) = first ≡ byte
 abbrev pub IsParty : ℕ → Type 0
 IsParty party = party < 64
 
--- the region that a header names
 abbrev pub region_of : Bounds → Region
 region_of bounds = region_at bounds.start bounds.size
 

@@ -70,13 +70,8 @@ pub fn words(line: &[u8]) -> Option<(&[u8], Numbers)>
     let mut rest = behind;
     while !rest.is_empty() {
         let (field, after) = split_before(&rest[1..], b' ');
-        let Some(last) = number(field) else {
-            return None;
-        };
-        let Some(more) = numbers.and(last) else {
-            return None;
-        };
-        numbers = more;
+        let last = number(field)?;
+        numbers = numbers.and(last)?;
         rest = after;
     }
     Some((name, numbers))
@@ -249,9 +244,5 @@ pub fn party_of(number: usize) -> Option<u32>
 pub fn small(number: usize) -> Option<u32>
     ensures { SomeIff result (number < 2 ^ 32) number }
 {
-    if number <= u32::MAX as usize {
-        Some(number as u32)
-    } else {
-        None
-    }
+    u32::try_from(number).ok()
 }

@@ -23,14 +23,14 @@ pub struct Flags<const N: usize> {
 
 impl<const N: usize> Model for Flags<N> {
     ghost use Rattle.std.specs.Prelude.{◌-◌, ◌≤◌, take};
-    ghost use Rattle.bb_memory_index_set.specs.IndexSets.{AreFlags, IsTally, NumberSet, held_numbers, number_set};
+    ghost use Rattle.bb_memory_index_set.specs.IndexSets.{AreFlags, IsTally, NumberSet, number_set};
 
     ghost Value = { NumberSet };
 
-    ghost view = { λ a. number_set (held_numbers a.bound (take a.left a.free)) (a.bound - a.least) };
+    ghost view = { λ a. number_set (take a.bound a.held) (a.bound - a.least) };
 
     ghost invariant = { λ a. AreFlags N a.bound a.held a.free a.left × (a.least ≤ a.left)
-        × IsTally (held_numbers a.bound (take a.left a.free)) (a.bound - a.left) (a.bound - a.least) };
+        × IsTally (take a.bound a.held) (a.bound - a.left) (a.bound - a.least) };
 }
 
 impl<const N: usize> Flags<N> {

@@ -2,7 +2,7 @@
 ghost use Rattle.std.specs.Prelude.{◌≡◌, ◌≢◌, ◌↔◌, ◌≤◌, ℕ, false, true, List, OnOk, Some};
 ghost use Rattle.std.specs.Prelude.{IfSome, IsSome, IsTrue, length, max, remove, slice_get};
 ghost use Rattle.bb_memory_traits.specs.Chunk.{Chunk};
-ghost use Rattle.bb_memory_traits.specs.Object.{AnswersRun, Step, ResizableStep};
+ghost use Rattle.bb_memory_traits.specs.Object.{AnswersRun, ResizableStep};
 ghost use Rattle.bb_memory_traits.specs.PoolObject.{bucket_place, pool_object};
 ghost use Rattle.bb_memory_geometry.specs.Geometry.{TellsNumber, TellsPlace};
 ghost use Rattle.bb_memory_owned.specs.Pool.{held_count, FreesBucket, HoldsPlace, IsPool, StandsFor, TakesBucket};
@@ -12,7 +12,7 @@ ghost use Rattle.bb_memory_owned.specs.Pool.{Takes, pool_of, reads_after, reads_
 use super::geometry::Geometry;
 use crate::allocator::{
     AllocationError, AllocationGrowError, AllocationShrinkError, Allocator, BaseAllocator, Command,
-    Reply, run_base, run_full,
+    Reply, run_full,
 };
 use crate::layout::{Chunk, Layout};
 use bb_memory_index_set::index_set::{Counter, IndexSet};
@@ -371,27 +371,4 @@ pub fn run_pool<S: IndexSet>(
         allocator.old.reads commands.now) }
 {
     run_full(allocator, live, commands)
-}
-
-/// The same without resizes, which are passed over, as [`run_base`] does. The pool has to stand for the live list.
-/// `AllocError` comes only where memory was refused, and then the pool and the list are as before.
-pub fn run_base_pool<S: IndexSet>(
-    allocator: &mut BucketPool<S>,
-    live: &mut Vec<Chunk>,
-    commands: &[Command],
-) -> Result<Vec<Reply>, AllocError>
-    requires { StandsFor allocator.old.pool live.old.items }
-    ensures run { AnswersRun (λ pool. StandsFor pool.pool)
-        (λ pool. pool.pool.geometry)
-        (λ geometry. geometry.region)
-        (Step (pool_object allocator.old.pool.geometry).base)
-        (λ old layout answer new.
-        TakesBucket old layout answer new (S.words old.pool.geometry.buckets))
-        (λ old place _ new. FreesBucket old place new)
-        commands.now result allocator.old allocator.new live.old.items live.new.items }
-    ensures reads { OnOk result (allocator.new.reads ≡ reads_after
-        allocator.old.pool.geometry.bucket (S.words allocator.old.pool.geometry.buckets)
-        allocator.old.reads commands.now) }
-{
-    run_base(allocator, live, commands)
 }

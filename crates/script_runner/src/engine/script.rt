@@ -48,13 +48,8 @@ fn read_line<K: Driven>(text: &[u8]) -> Option<Line<K::Command>>
     if K::CAN_SHOW && is(text, b"show") {
         return Some(Line::Show);
     }
-    let Some((name, numbers)) = words(text) else {
-        return None;
-    };
-    match K::read(name, numbers) {
-        Some(command) => Some(Line::Command(command)),
-        None => None,
-    }
+    let (name, numbers) = words(text)?;
+    Some(Line::Command(K::read(name, numbers)?))
 }
 
 /// Cuts off the first line of an input, where a line is left.

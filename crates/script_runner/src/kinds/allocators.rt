@@ -101,17 +101,12 @@ impl<A: Scripted> Driven for Live<A> {
     fn read(name: &[u8], numbers: Numbers) -> Option<Command> {
         match numbers {
             Numbers::One(position) if is(name, b"free") => Some(Command::Release(position)),
-            Numbers::Two(size, align) if is(name, b"alloc") => match layout(size, align) {
-                Some(layout) => Some(Command::Allocate(layout)),
-                None => None,
-            },
+            Numbers::Two(size, align) if is(name, b"alloc") => {
+                Some(Command::Allocate(layout(size, align)?))
+            }
             Numbers::Five(position, old_size, old_align, size, align) => {
-                let Some(old) = layout(old_size, old_align) else {
-                    return None;
-                };
-                let Some(new) = layout(size, align) else {
-                    return None;
-                };
+                let old = layout(old_size, old_align)?;
+                let new = layout(size, align)?;
                 if is(name, b"grow") {
                     Some(Command::Grow(position, old, new))
                 } else if is(name, b"shrink") {

@@ -26,12 +26,8 @@ impl Scripted for BumpAllocator {
         Ok(BumpAllocator::new(header.start, header.size))
     }
 
-    fn run(
-        &mut self,
-        live: &mut Vec<Chunk>,
-        commands: &[Command],
-    ) -> Result<Vec<Reply>, AllocError> {
-        run_bump(self, live, commands)
+    fn run(&mut self, live: &mut Vec<Chunk>, calls: &[Command]) -> Result<Vec<Reply>, AllocError> {
+        run_bump(self, live, calls)
     }
 
     fn write_state(&self, _live: usize, line: &mut Vec<u8>) -> Result<(), AllocError> {

@@ -38,9 +38,7 @@ impl Driven for BumpWorld {
         match numbers {
             Numbers::Zero if is(name, b"clear") => Some(BumpStep::Clear),
             Numbers::One(party) => {
-                let Some(party) = party_of(party) else {
-                    return None;
-                };
+                let party = party_of(party)?;
                 if is(name, b"exchange") {
                     Some(BumpStep::Exchange { party })
                 } else if is(name, b"load") {
@@ -50,13 +48,9 @@ impl Driven for BumpWorld {
                 }
             }
             Numbers::Three(party, size, align) if is(name, b"read") => {
-                let Some(party) = party_of(party) else {
-                    return None;
-                };
-                match layout(size, align) {
-                    Some(layout) => Some(BumpStep::Read { party, layout }),
-                    None => None,
-                }
+                let party = party_of(party)?;
+                let layout = layout(size, align)?;
+                Some(BumpStep::Read { party, layout })
             }
             _ => None,
         }

@@ -56,10 +56,7 @@ impl Driven for LoanPool {
                 }
             }
             Numbers::Two(id, readers) if is(name, b"publish") => {
-                match small(readers) {
-                    Some(readers) => Some(LoanCall::Publish(id as u64, readers)),
-                    None => None,
-                }
+                Some(LoanCall::Publish(id as u64, small(readers)?))
             }
             _ => None,
         }

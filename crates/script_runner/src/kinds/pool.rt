@@ -28,9 +28,7 @@ pub fn pool_plan(kind: &[u8], name: &[u8], numbers: Numbers) -> Option<PoolPlan>
 {
     match numbers {
         Numbers::Four(start, size, bucket, align) if is(name, kind) => {
-            let Some(bucket) = layout(bucket, align) else {
-                return None;
-            };
+            let bucket = layout(bucket, align)?;
             if PoolAllocator::can_make(bucket, start, size) {
                 Some(PoolPlan {
                     start,
@@ -67,12 +65,8 @@ impl Scripted for PoolAllocator<Global> {
         }
     }
 
-    fn run(
-        &mut self,
-        live: &mut Vec<Chunk>,
-        commands: &[Command],
-    ) -> Result<Vec<Reply>, AllocError> {
-        run_pool(self, live, commands)
+    fn run(&mut self, live: &mut Vec<Chunk>, calls: &[Command]) -> Result<Vec<Reply>, AllocError> {
+        run_pool(self, live, calls)
     }
 
     fn write_state(&self, live: usize, line: &mut Vec<u8>) -> Result<(), AllocError> {
@@ -110,12 +104,8 @@ impl Scripted for Fixed {
         Ok(Fixed::new(header.bucket, header.start, header.size))
     }
 
-    fn run(
-        &mut self,
-        live: &mut Vec<Chunk>,
-        commands: &[Command],
-    ) -> Result<Vec<Reply>, AllocError> {
-        run_fixed_pool(self, live, commands)
+    fn run(&mut self, live: &mut Vec<Chunk>, calls: &[Command]) -> Result<Vec<Reply>, AllocError> {
+        run_fixed_pool(self, live, calls)
     }
 
     fn write_state(&self, live: usize, line: &mut Vec<u8>) -> Result<(), AllocError> {

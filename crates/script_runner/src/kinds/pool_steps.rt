@@ -42,17 +42,17 @@ impl Driven for PoolWorld {
 
     fn read(name: &[u8], numbers: Numbers) -> Option<PoolStep> {
         match numbers {
-            Numbers::One(party) if is(name, b"try") => match party_of(party) {
-                Some(party) => Some(PoolStep::Try { party }),
-                None => None,
-            },
-            Numbers::Two(party, bucket) if is(name, b"give") => match (
-                party_of(party),
-                small(bucket),
-            ) {
-                (Some(party), Some(bucket)) => Some(PoolStep::GiveBack { party, bucket }),
-                _ => None,
-            },
+            Numbers::One(party) if is(name, b"try") => {
+                Some(PoolStep::Try {
+                    party: party_of(party)?,
+                })
+            }
+            Numbers::Two(party, bucket) if is(name, b"give") => {
+                Some(PoolStep::GiveBack {
+                    party: party_of(party)?,
+                    bucket: small(bucket)?,
+                })
+            }
             _ => None,
         }
     }

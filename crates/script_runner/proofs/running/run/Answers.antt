@@ -1,38 +1,22 @@
-use Rattle.script_runner.proofs.Sending.{left_all, ended, unread_input, unread_memory}
+use Rattle.script_runner.proofs.Sending.{keeps_same, left_all}
 use Rattle.script_runner.proofs.running.run.Goals as goal
 
 pub returns-in-Ok : goal.returns-in-Ok
 returns-in-Ok g c =
     let input = c.read_to_end.new.buf.items in
-    let left = g.R.Read.remaining c.args.reader in
-    let all = left_all left c.new-input.result.items input c.new-input.ensures.items c.in-Ok.ensures.bytes in
-    let written = ended left _ _ input c.answer.result all (rw c.deref.ensures.value at c.answer.ensures) in
+    let all = left_all (g.R.Read.remaining c.args.reader) c.new-input.result.items input c.new-input.ensures.items
+    c.in-Ok.ensures.bytes in
+    let ends = rw c.deref.ensures.value at c.answer.ensures in
     record {
-      done = written.done;
-      unreadable = written.unreadable;
-      input_failed = written.input_failed;
-      out_of_memory = written.out_of_memory;
-      output_failed = written.output_failed;
+      done = λ is. let (text, answered, wrote) = ends.done is in (input, text, all, answered, wrote);
+      unreadable = λ is. let (number, unread, wrote) = ends.unreadable is in (input, number, all, unread, wrote);
+      input_failed = λ is. absurd (ends.input_read is);
+      out_of_memory = ends.out_of_memory;
+      output_failed = λ is. let (sent, begins, wrote) = ends.output_failed is in (input, sent, all, begins, wrote);
     }
 
-pub returns-in-Err : goal.returns-in-Err
-returns-in-Err g c =
-    let written = unread_memory (g.R.Read.remaining c.args.reader) (g.W.Write.contents c.args.writer.now) in
-    record {
-      done = written.done;
-      unreadable = written.unreadable;
-      input_failed = written.input_failed;
-      out_of_memory = written.out_of_memory;
-      output_failed = written.output_failed;
-    }
+pub returns-in-Err-clause-out_of_memory : goal.returns-in-Err-clause-out_of_memory
+returns-in-Err-clause-out_of_memory g c is = keeps_same _
 
-pub returns : goal.returns
-returns g c =
-    let written = unread_input (g.R.Read.remaining c.args.reader) (g.W.Write.contents c.args.writer.now) in
-    record {
-      done = written.done;
-      unreadable = written.unreadable;
-      input_failed = written.input_failed;
-      out_of_memory = written.out_of_memory;
-      output_failed = written.output_failed;
-    }
+pub returns-clause-input_failed : goal.returns-clause-input_failed
+returns-clause-input_failed g c is = keeps_same _

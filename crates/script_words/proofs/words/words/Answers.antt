@@ -12,19 +12,19 @@ so_far c =
     rw (space_first c.loop-rest.rest.now c.split_before-in-loop-rest.result.0.now c.split_before-in-loop-rest.result.1.now
     c.loop-rest.invariant.rest_starts c.loop-rest-test.ensures c.split_before-in-loop-rest.ensures.parts) at c.loop-rest.invariant
 
-pub returns-in_default-clause-none : goal.returns-in_default-clause-none
-returns-in_default-clause-none c other are =
-    let so = so_far (goal.at.returns-in_default-clause-none c).After-number in
+pub returns-in_err-last-clause-none : goal.returns-in_err-last-clause-none
+returns-in_err-last-clause-none c = rw c.from_residual.ensures (λ other are.
+    let so = so_far (goal.at.returns-in_err-last-clause-none c).After-number in
     let (n, small, written, more) = next_number _ _ _ _ _ other so c.split_before-in-loop-rest.ensures.first
     c.split_before-in-loop-rest.ensures.rest are in
-    none-some n (c.in_default.ensures.each n small written)
+    none-some n (c.in_err-last.ensures.each n small written))
 
-pub returns-in_default-and-clause-none : goal.returns-in_default-and-clause-none
-returns-in_default-and-clause-none c other are =
-    let so = so_far (goal.at.returns-in_default-and-clause-none c).After-number in
+pub returns-in_err-numbers-clause-none : goal.returns-in_err-numbers-clause-none
+returns-in_err-numbers-clause-none c = rw c.from_residual-in_err-numbers.ensures (λ other are.
+    let so = so_far (goal.at.returns-in_err-numbers-clause-none c).After-number in
     let (n, small, written, more) = next_number _ _ _ _ _ other so c.split_before-in-loop-rest.ensures.first
     c.split_before-in-loop-rest.ensures.rest are in
-    at_most_five other.numbers (omega (arith, more, c.in_default-and.ensures.full))
+    at_most_five other.numbers (omega (arith, more, c.in_err-numbers.ensures.full)))
 
 pub loop-rest-init : goal.loop-rest-init
 loop-rest-init c = record {
@@ -37,5 +37,5 @@ loop-rest-init c = record {
 pub loop-rest-preserved : goal.loop-rest-preserved
 loop-rest-preserved c =
     let so = so_far (goal.at.loop-rest-preserved c).After-number in
-    so_more _ _ _ _ _ _ c.in-Some.last so c.in-Some.ensures.written c.in-Some-and.ensures.more
+    so_more _ _ _ _ _ _ c.in_ok-last.last so c.in_ok-last.ensures.written c.in_ok-numbers.ensures.more
     c.split_before-in-loop-rest.ensures.rest

@@ -4,9 +4,9 @@ use Rattle.script_words.specs.Words.{words}
 use Rattle.script_runner.proofs.ScriptLines.{unread_line}
 use Rattle.script_runner.proofs.engine.script.read_line.Goals as goal
 
-pub returns-in-None-clause-unreadable : goal.returns-in-None-clause-unreadable
-returns-in-None-clause-unreadable g c =
+pub returns-in_err-read-clause-unreadable : goal.returns-in_err-read-clause-unreadable
+returns-in_err-read-clause-unreadable g c =
     let rules = g.K.Driven.rules in
     let no_show : IsTrue rules.can_show → c.args.text.now ≡ codes "show" → ⊥ = grind (arith, common_steps) in
-    unread_line rules (words c.in-Some.name.now c.in-Some.numbers) c.args.text.now c.in-Some.ensures.written
-    c.in-None.ensures.each no_show
+    rw c.from_residual-in_err-read.ensures (unread_line rules (words c.in_ok-name.name.now c.in_ok-name.numbers)
+    c.args.text.now c.in_ok-name.ensures.written c.in_err-read.ensures.each no_show)

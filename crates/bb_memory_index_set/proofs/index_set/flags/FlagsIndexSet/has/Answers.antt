@@ -1,28 +1,17 @@
-use Rattle.std.proofs.Common.{arith, ap, length, take}
+use Rattle.std.proofs.Common.{arith, ap, length, ◌<◌}
 use Rattle.bb_memory_index_set.specs.IndexSets.{NumberSet}
-use Rattle.bb_memory_index_set.proofs.NumberFlags.{has_flag, length-held_numbers}
+use Rattle.bb_memory_index_set.proofs.NumberFlags.{has_flag, length-flags}
 use Rattle.bb_memory_index_set.proofs.index_set.flags.FlagsIndexSet.has.Goals as goal
 
 pub bounds-self-inside-number : goal.bounds-self-inside-number
 bounds-self-inside-number g c =
-    let inside = c.self.inside in
-    let listed = c.self.invariant.0.listed in
-    omega (
-      arith,
-      c.requires,
-      ap (λ (s : NumberSet). length s.numbers) c.self.view_is,
-      length-held_numbers inside.bound (take inside.left inside.free),
-      c.self.invariant.0.len,
-      listed.fits,
-    )
+    let is = c.self.invariant.0 in
+    let view = ap (λ (s : NumberSet). length s.numbers) c.self.view_is in
+    omega (arith, c.requires, view, length-flags g.row.N _ _ _ _ is, is.len, is.fits)
 
 pub returns : goal.returns
 returns g c =
-    let inside = c.self.inside in
-    rw (← c.self.view_is) (has_flag g.row.N inside.bound inside.held inside.free inside.left c.args.number c.self.invariant.0
-    (omega (
-      arith,
-      c.requires,
-      ap (λ (s : NumberSet). length s.numbers) c.self.view_is,
-      length-held_numbers inside.bound (take inside.left inside.free),
-    )))
+    let is = c.self.invariant.0 in
+    let view = ap (λ (s : NumberSet). length s.numbers) c.self.view_is in
+    let below : c.args.number < c.self.inside.bound = omega (arith, c.requires, view, length-flags g.row.N _ _ _ _ is) in
+    rw (← c.self.view_is) (has_flag g.row.N _ _ _ _ is c.args.number below)

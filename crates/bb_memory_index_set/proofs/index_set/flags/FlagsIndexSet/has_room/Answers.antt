@@ -1,4 +1,4 @@
-use Rattle.std.proofs.Common.{◌-◌, ◌<◌, ℕ, arith, inl, inr, refl, get_or}
+use Rattle.std.proofs.Common.{◌-◌, arith, inl, inr, get_or}
 use Rattle.std.proofs.lemmas.Bool.{cases_lt, lt-ltb, ltb-true}
 use Rattle.bb_memory_index_set.proofs.NumberFlags.{all_held, lacked}
 use Rattle.bb_memory_index_set.proofs.NumberSets.{full_lacks_none}
@@ -7,17 +7,14 @@ use Rattle.bb_memory_index_set.proofs.index_set.flags.FlagsIndexSet.has_room.Goa
 pub returns : goal.returns
 returns g c =
     let inside = c.self.inside in
-    let is = c.self.invariant.0.listed in
-    let last : ℕ = get_or inside.free (inside.left - 1) 0 in (
-      λ has.
-          let some : 0 < inside.left = ltb-true 0 inside.left has in (
-            last,
-            rw (← c.self.view_is) (lacked inside.bound inside.free inside.left last some
-                (omega (arith, is.len, is.fits, is.few)) refl (is.below (inside.left - 1) (omega (arith, some)))),
-          ),
+    let is = c.self.invariant.0 in (
+      λ has. (
+        get_or inside.free (inside.left - 1) 0,
+        rw (← c.self.view_is) (lacked g.row.N inside.bound inside.held inside.free inside.left is (ltb-true 0 inside.left has)).1,
+      ),
       λ free. elim (cases_lt 0 inside.left) [
         | inl some ↦ lt-ltb 0 inside.left some
-        | inr none ↦ absurd (full_lacks_none c.args.self.now.numbers free.0
-            (rw (← c.self.view_is) (all_held inside.bound inside.free inside.left (omega (arith, none)))) free.1)
+        | inr none ↦ absurd (full_lacks_none c.args.self.now.numbers free.0 (rw (← c.self.view_is)
+            (all_held g.row.N inside.bound inside.held inside.free inside.left is (omega (arith, none)))) free.1)
       ],
     )

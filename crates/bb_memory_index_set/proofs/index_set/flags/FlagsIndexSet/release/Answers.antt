@@ -1,42 +1,35 @@
-use Rattle.std.proofs.Common.{arith}
-use Rattle.bb_memory_index_set.proofs.NumberFlags.{more, flags_released}
+use Rattle.std.proofs.Common.{arith, false}
+use Rattle.std.proofs.Math.Seq.{take-set-lt}
+use Rattle.bb_memory_index_set.proofs.NumberFlags.{put_behind}
 use Rattle.bb_memory_index_set.proofs.Tallies.{left-released}
 use Rattle.bb_memory_index_set.proofs.index_set.flags.FlagsIndexSet.release.Goals as goal
 
 pub overflow_cast-self : goal.overflow_cast-self
 overflow_cast-self g c =
-    let inside = c.self.inside in
-    let has = rw (← c.self.view_is) at c.requires in
-    let put = more g.row.N inside.bound inside.free inside.left c.args.number c.self.invariant.0.listed has in
-    omega (arith, put.0)
+    omega (arith, (put_behind g.row.N _ _ _ _ c.self.invariant.0 c.args.number (rw (← c.self.view_is) at c.requires)).0)
 
 pub bounds-self-inside-left : goal.bounds-self-inside-left
 bounds-self-inside-left g c =
-    let inside = c.self.inside in
-    let has = rw (← c.self.view_is) at c.requires in
-    let put = more g.row.N inside.bound inside.free inside.left c.args.number c.self.invariant.0.listed has in
-    omega (arith, put.1, c.self.invariant.0.listed.len)
+    let is = c.self.invariant.0 in
+    omega (arith, (put_behind g.row.N _ _ _ _ is c.args.number (rw (← c.self.view_is) at c.requires)).1, is.free_len, is.fits)
 
 pub bounds-self-inside-number : goal.bounds-self-inside-number
 bounds-self-inside-number g c =
-    let inside = c.self.inside in
-    let has = rw (← c.self.view_is) at c.requires in
-    let put = more g.row.N inside.bound inside.free inside.left c.args.number c.self.invariant.0.listed has in
-    omega (arith, put.0, c.self.invariant.0.len, c.self.invariant.0.listed.fits)
+    let is = c.self.invariant.0 in
+    omega (arith, (put_behind g.row.N _ _ _ _ is c.args.number (rw (← c.self.view_is) at c.requires)).0, is.len, is.fits)
 
 pub invariant_of-self : goal.invariant_of-self
 invariant_of-self g c =
     let inside = c.self.inside in
-    let is = c.self.invariant.0 in
-    let has = rw (← c.self.view_is) at c.requires in (
-      flags_released g.row.N inside.bound inside.held inside.free inside.left c.args.number is has,
+    let has = rw (← c.self.view_is) at c.requires in
+    let put = put_behind g.row.N _ _ _ _ c.self.invariant.0 c.args.number has in (
+      put.2,
       omega (arith, c.self.invariant.1),
       left-released inside.bound inside.left inside.least c.args.number _ _ c.self.invariant.2 has
-          (more g.row.N inside.bound inside.free inside.left c.args.number is.listed has).3,
+          (take-set-lt inside.bound inside.held c.args.number false put.0),
     )
 
 pub returns-clause-released : goal.returns-clause-released
 returns-clause-released g c =
-    let inside = c.self.inside in
-    let has = rw (← c.self.view_is) at c.requires in
-    rw (← c.self.view_is) (more g.row.N inside.bound inside.free inside.left c.args.number c.self.invariant.0.listed has).3
+    let put = put_behind g.row.N _ _ _ _ c.self.invariant.0 c.args.number (rw (← c.self.view_is) at c.requires) in
+    rw (← c.self.view_is) (take-set-lt c.self.inside.bound c.self.inside.held c.args.number false put.0)

@@ -26,8 +26,8 @@ list-requires g c =
     let has = (others_have _ inside.aside c.args.number (rw (← c.self.view_is) at c.requires)).1 in
     let is = c.self.invariant.0 in
     let within = (has_word inside.bound inside.words.words c.args.number is.are has).1 in
-    let left = room_left inside.words.words _ inside.top (c.args.number / 64) is.listing within
-    (told.was_full c.if-was_full.true) in
+    let left = room_left _ _ _ inside.top (c.args.number / 64) is.listing within
+    (λ clear. clear (told.was_full c.if-was_full.true)) in
     let room = is.room in
     omega (arith, left, room, ap length told.listed, c.if-self-gt0.true)
 
@@ -44,7 +44,7 @@ invariant_of-self g c =
     let left = put_back inside.bound words _ inside.aside c.args.number is.are c.self.invariant.1 in_set told.bit in
     let within = (has_word inside.bound words c.args.number is.are has).1 in
     let full = told.was_full c.if-was_full.true in
-    let fits = room_left words _ inside.top at is.listing within full in
+    let fits = room_left _ _ _ inside.top at is.listing within (λ clear. clear full) in
     let room = is.room in
     elim c.if-self-gt0.branch [
       | then-self-gt0 w ↦
@@ -76,11 +76,9 @@ invariant_of-self-else-was_full g c =
     let told = c.clear-was_full.ensures in
     let is = c.self.invariant.0 in
     let in_set = rw (← c.self.view_is) at c.requires in
-    let has = (others_have _ inside.aside c.args.number in_set).1 in
-    let left = put_back inside.bound words _ inside.aside c.args.number is.are c.self.invariant.1 in_set told.bit in
-    let within = (has_word inside.bound words c.args.number is.are has).1 in (
+    let left = put_back inside.bound words _ inside.aside c.args.number is.are c.self.invariant.1 in_set told.bit in (
       set_still inside.bound words inside.words.listed c.clear-was_full.new.self.words c.clear-was_full.new.self.listed
-          inside.hand inside.top (c.args.number / 64) is left.are told.others within
+          inside.hand inside.top (c.args.number / 64) is left.are told.others
           (told.was_open c.if-was_full.false) told.not_full told.listed,
       left.still_aside,
       left.tally inside.count inside.most c.self.invariant.2,

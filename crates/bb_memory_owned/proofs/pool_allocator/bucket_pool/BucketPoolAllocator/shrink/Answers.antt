@@ -1,20 +1,12 @@
-use Rattle.std.proofs.Common.{◌≡◌, ℕ, ◌≤◌, Result, Ok, Err, ap, arith}
-use Rattle.std.specs.Prelude.{IfOk}
-use Rattle.bb_memory_traits.specs.Chunk.{Chunk}
-use Rattle.bb_memory_traits.specs.PoolObject.{MayShrink}
-use Rattle.bb_memory_traits.specs.declared.layout.Layout.{Layout}
-use Rattle.bb_memory_traits.specs.declared.allocator.AllocationShrinkError.{AllocationShrinkError}
 use Rattle.bb_memory_owned.proofs.Pools.{held_bucket_below}
-use Rattle.bb_memory_owned.proofs.PoolCalls.{MayShrink-resized}
+use Rattle.bb_memory_owned.proofs.PoolCalls.{MayShrink-fits, resized-stands}
 use Rattle.bb_memory_owned.proofs.pool_allocator.bucket_pool.BucketPoolAllocator.shrink.Goals as goal
 
 pub returns-clause-value : goal.returns-clause-value
 returns-clause-value g c = rw (← c.self.view_is) c.shrink.ensures.answer
 
-pub returns-clause-resized : goal.returns-clause-resized
-returns-clause-resized g c =
-    MayShrink-resized c.args.self.now.pool c.args.place c.args.old c.args.new c.shrink.result
-    (rw (← c.self.view_is) c.self.invariant.0) c.requires.reserved (returns-clause-value g c)
+pub returns-clause-answer : goal.returns-clause-answer
+returns-clause-answer g c = λ live position chunk stands at there. returns-clause-value g c
 
 pub shrink-requires-clause-place : goal.shrink-requires-clause-place
 shrink-requires-clause-place g c =
@@ -23,33 +15,22 @@ shrink-requires-clause-place g c =
 pub shrink-requires-clause-reserved : goal.shrink-requires-clause-reserved
 shrink-requires-clause-reserved g c = rw (← c.self.view_is) at c.requires.reserved
 
-pub returns-clause-answer : goal.returns-clause-answer
-returns-clause-answer g c = λ live position chunk stands at there. returns-clause-value g c
-
-same_place : (bucket : Layout) (place : ℕ) (old new : Layout) (answer : Result Chunk AllocationShrinkError) →
-    MayShrink bucket place old new answer → IfOk answer (λ shrunk. shrunk.place ≡ place)
-same_place bucket place old new (Ok shrunk) (shorter, aligned, given) = ap (λ (c : Chunk). c.place) given
-same_place bucket place old new (Err error) may = tt
-
 pub returns-clause-same_place : goal.returns-clause-same_place
 returns-clause-same_place g c =
-    same_place c.self.inside.geometry.bucket c.args.place c.args.old c.args.new c.shrink.result c.shrink.ensures.answer
-
-long_enough : (bucket : Layout) (place : ℕ) (old new : Layout) (answer : Result Chunk AllocationShrinkError) →
-    MayShrink bucket place old new answer → IfOk answer (λ shrunk. new.size ≤ shrunk.len)
-long_enough bucket place old new (Ok shrunk) (shorter, aligned, given) = omega (arith, ap (λ (c : Chunk). c.len) given)
-long_enough bucket place old new (Err error) may = tt
+    (MayShrink-fits c.args.self.now.pool.geometry.bucket c.args.place c.args.old c.args.new c.shrink.result c.requires.reserved
+    (returns-clause-value g c)).0
 
 pub returns-clause-long_enough : goal.returns-clause-long_enough
 returns-clause-long_enough g c =
-    long_enough c.self.inside.geometry.bucket c.args.place c.args.old c.args.new c.shrink.result c.shrink.ensures.answer
-
-within_bucket : (bucket : Layout) (place : ℕ) (old new : Layout) (answer : Result Chunk AllocationShrinkError) →
-    old.size ≤ bucket.size → MayShrink bucket place old new answer → IfOk answer (λ shrunk. shrunk.len ≤ bucket.size)
-within_bucket bucket place old new (Ok shrunk) fits (shorter, aligned, given) = omega (arith, ap (λ (c : Chunk). c.len) given)
-within_bucket bucket place old new (Err error) fits may = tt
+    (MayShrink-fits c.args.self.now.pool.geometry.bucket c.args.place c.args.old c.args.new c.shrink.result c.requires.reserved
+    (returns-clause-value g c)).1
 
 pub returns-clause-within : goal.returns-clause-within
 returns-clause-within g c =
-    within_bucket c.args.self.now.pool.geometry.bucket c.args.place c.args.old c.args.new c.shrink.result
-    c.requires.reserved (returns-clause-value g c)
+    (MayShrink-fits c.args.self.now.pool.geometry.bucket c.args.place c.args.old c.args.new c.shrink.result c.requires.reserved
+    (returns-clause-value g c)).2
+
+pub returns-clause-resized : goal.returns-clause-resized
+returns-clause-resized g c =
+    resized-stands c.args.self.now.pool c.args.place c.args.new.size c.shrink.result (rw (← c.self.view_is) c.self.invariant.0)
+    (returns-clause-same_place g c, returns-clause-long_enough g c, returns-clause-within g c)

@@ -1,4 +1,4 @@
-use Rattle.bb_memory_owned.proofs.EmptyChunks.{stands_for_some}
+use Rattle.bb_memory_owned.proofs.Pools.{stands_for_some}
 use Rattle.bb_memory_owned.proofs.pool_allocator.bucket_pool.BucketPoolBaseAllocator.stands_for_some_list.Goals as goal
 
 pub returns : goal.returns

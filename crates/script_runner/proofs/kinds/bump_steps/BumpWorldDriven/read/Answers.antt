@@ -3,14 +3,15 @@ use Rattle.script_runner.proofs.Layouts.{reads_three}
 use Rattle.bb_memory_bump_machine.specs.declared.steps.bump.BumpStep.TheVariants.{Read}
 use Rattle.script_runner.proofs.kinds.bump_steps.BumpWorldDriven.read.Goals as goal
 
-pub returns-in-Some-layout-clause-each : goal.returns-in-Some-layout-clause-each
-returns-in-Some-layout-clause-each c step is name numbers =
+pub returns-in_ok-layout-in-Three-clause-each : goal.returns-in_ok-layout-in-Three-clause-each
+returns-in_ok-layout-in-Three-clause-each c step is name numbers =
     let three = c.in-Three in
-    let layout = c.in-Some-layout.layout in
-    ap (λ party. Some (Read party layout)) c.in-Some-party_of.ensures.1
-    ∙ reads_three (Some layout) three.party three.size three.align step c.in-Some-layout.ensures.each (sym three.is ∙ numbers)
+    let made = c.in_ok-layout-in-Three in
+    ap (λ party. Some (Read party made.layout)) c.in_ok-party-in-Three.ensures.1
+    ∙ reads_three (Some made.layout) three.party three.size three.align step made.ensures.each (sym three.is ∙ numbers)
 
-pub returns-in-None-clause-each : goal.returns-in-None-clause-each
-returns-in-None-clause-each c step is name numbers =
+pub returns-in_err-layout-in-Three-clause-each : goal.returns-in_err-layout-in-Three-clause-each
+returns-in_err-layout-in-Three-clause-each c step is name numbers =
     let three = c.in-Three in
-    reads_three None three.party three.size three.align step c.in-None.ensures.each (sym three.is ∙ numbers)
+    c.from_residual-in_err-layout-in-Three.ensures
+    ∙ reads_three None three.party three.size three.align step c.in_err-layout-in-Three.ensures.each (sym three.is ∙ numbers)
