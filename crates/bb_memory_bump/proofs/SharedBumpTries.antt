@@ -5,8 +5,8 @@ use Rattle.std.proofs.lemmas.List.Elements.{All-push}
 use Rattle.std.proofs.lemmas.List.Sums.{sum_by-append}
 use Rattle.bb_memory_traits.specs.Chunk.{Chunk}
 use Rattle.bb_memory_bump_machine.specs.BumpMachine.{BumpScene}
-use Rattle.bb_memory_bump_machine.specs.BumpLogs.{BumpEntry, BumpLog, chunks_won, is_loss, losses_in, HasPositionFrom, HasPositionUpTo}
-use Rattle.bb_memory_bump_machine.specs.BumpLogs.{seen_in}
+use Rattle.bb_memory_bump_machine.specs.BumpLogs.{BumpEntry, BumpLog, chunks_won, is_loss, losses_in, HasPositionFrom}
+use Rattle.bb_memory_bump_machine.specs.BumpLogs.{HasPositionUpTo, seen_in}
 use Rattle.bb_memory_bump_machine.proofs.BumpBounds.{won_grows}
 use Rattle.bb_memory_bump.specs.SharedBumpRule.{IsCounted}
 use Rattle.bb_memory_bump.proofs.SharedLogs.{losses_in-cons}

@@ -8,8 +8,8 @@ use Rattle.atomic_table.specs.Seated.{TableId}
 use Rattle.atomic_table.specs.Table.{State, Me, Step}
 use Rattle.bb_memory_traits.specs.Chunk.{IsRegion, region_at, Region, region_end, Chunk, IsInside, chunk_end}
 use Rattle.bb_memory_bump_machine.specs.BumpMachine.{BumpScene, OngoingCall, chunk_at, fits, read_move, exchange_move}
-use Rattle.bb_memory_bump_machine.specs.BumpLogs.{BumpEntry, BumpLog, Interleaving, LogsAgree, call_in, seen_in, chunks_won, entry_of}
-use Rattle.bb_memory_bump_machine.specs.BumpLogs.{losses_in, HasPositionFrom, CommonInterleaving, HasPositionUpTo}
+use Rattle.bb_memory_bump_machine.specs.BumpLogs.{BumpEntry, BumpLog, Interleaving, LogsAgree, call_in, seen_in, chunks_won}
+use Rattle.bb_memory_bump_machine.specs.BumpLogs.{entry_of, losses_in, HasPositionFrom, CommonInterleaving, HasPositionUpTo}
 use Rattle.bb_memory_seats.specs.Seats.{AreSeated, IsAt, Numbered, Seat, alone, fresh_from, number_of, numbered}
 use Rattle.bb_memory_seats.specs.Seats.{standing_for, view_log, HaveLogs, times_in}
 use Rattle.bb_memory_bump.specs.SharedBump.{BumpParty, IsSharedScene, SharedBump, scene_at, HasChunksWithin, HaveChunksApart}

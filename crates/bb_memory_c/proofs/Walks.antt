@@ -2,9 +2,8 @@
 -- Passes on what the walks use of the logic of machines. Assumes `Logic`.
 pub use Rattle.std.proofs.Common.{◌≡◌, List, [], ◌∷◌, ◌++◌, refl, sym, ◌∙◌, subst, lit<, ap, ℕ}
 pub use mathlib.Core.Bool.{true, false, ◌&&◌, Bool}
-pub use mir.Syntax.{a_type, impl, tnil, dnil, dcons, Fn, Callee, Ty, ty_ptr}
-pub use mir.Syntax.{ty_ref, named, erased, mut, local, value_local, seq, block, assign, return, place}
-pub use mir.Syntax.{deref, rv_opd, addr_of, copy}
+pub use mir.Syntax.{a_type, impl, tnil, dnil, dcons, Fn, Callee, Ty, ty_ptr, ty_ref, named, erased, mut, local, value_local, seq}
+pub use mir.Syntax.{block, assign, return, place, deref, rv_opd, addr_of, copy}
 pub use mir.MapTy.{inst_fn}
 pub use mir.Val.{Val, vptr, vcons, vnil, vstruct, of_list, has_ty, WT, vbool}
 pub use base.Logic.{SProp, ent, emp, id⊢, never, fst∗, sep, via, never_e}

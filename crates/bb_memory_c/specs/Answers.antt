@@ -19,8 +19,7 @@ pub use Rattle.bb_memory_c.specs.declared.code.TheConstants.{SHRINK_WOULD_GROW a
 pub use Rattle.bb_memory_c.specs.declared.code.TheConstants.{INVALID_LAYOUT as invalid_layout, UNINITIALIZED as uninitialized}
 pub use Rattle.bb_memory_c.specs.declared.code.TheConstants.{NOT_HELD as not_held, ALREADY_INITIALIZED as already_initialized}
 pub use Rattle.bb_memory_c.specs.declared.code.TheConstants.{INVALID_ARGUMENT as invalid_argument, NO_PARTY as no_party}
-pub use Rattle.bb_memory_c.specs.declared.code.TheConstants.{LAYOUT_MISMATCH as layout_mismatch}
-pub use Rattle.bb_memory_c.specs.declared.code.TheConstants.{MALLOC_REFUSED as malloc_refused}
+pub use Rattle.bb_memory_c.specs.declared.code.TheConstants.{LAYOUT_MISMATCH as layout_mismatch, MALLOC_REFUSED as malloc_refused}
 pub use Rattle.bb_memory_c.specs.declared.code.TheConstants.{MORE_THAN_RESERVED as more_than_reserved, NO_BUCKET as no_bucket}
 pub use Rattle.bb_memory_c.specs.declared.code.TheConstants.{PARTIES_JOINED as parties_joined, ONE_PARTY as one_party}
 pub use Rattle.bb_memory_c.specs.declared.code.TheConstants.{DETACHED_FULL as detached_full, DETACHED_EMPTY as detached_empty}

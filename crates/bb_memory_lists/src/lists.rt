@@ -1,8 +1,7 @@
 //! Laws of lists, for a user whose contracts speak of what a vector has. Each is a function that does nothing: called in a
 //! body, it puts its clauses in reach there.
-ghost use Rattle.std.specs.Prelude.{◌≡◌, ◌==◌, if◌then◌else◌, ◌<◌, ◌≤◌, ◌+◌, ◌-◌, ◌∷◌, ◌++◌};
-ghost use Rattle.std.specs.Prelude.{Bool, IsSome, position, true};
-ghost use Rattle.std.specs.Prelude.{ℕ, [], List, Some, length, map, remove, slice_get, slice_index_or, slice_set, sum, sum_by};
+ghost use Rattle.std.specs.Prelude.{◌≡◌, ◌==◌, if◌then◌else◌, ◌<◌, ◌≤◌, ◌+◌, ◌-◌, ◌∷◌, ◌++◌, Bool, IsSome, position, true, ℕ, []};
+ghost use Rattle.std.specs.Prelude.{List, Some, length, map, remove, slice_get, slice_index_or, slice_set, sum, sum_by};
 
 /// One more item behind the others.
 pub fn append_law<T>()

@@ -175,7 +175,8 @@ one_list region chunk byte below = record {
 -- a resize that keeps the place and ends inside leads to such a list
 resized_list : (region : Region) (live : List Chunk) (position : ℕ) (chunk resized : Chunk) → IsOneChunkList region live →
     slice_get live position ≡ Some chunk → resized.place ≡ chunk.place →
-    (HasByteAt region chunk.place → chunk_end resized ≤ region_end region) → IsOneChunkList region (slice_set live position resized)
+    (HasByteAt region chunk.place → chunk_end resized ≤ region_end region) →
+    IsOneChunkList region (slice_set live position resized)
 resized_list region live position chunk resized is at place below =
     let parts = only_chunk is.kept live position chunk is.stands.keeps at in
     let byte = is.within chunk.place parts.2 in

@@ -1,6 +1,6 @@
 -- The live lists that a pool stands for: of no chunk, of one more, of one less, and with one resized.
-use Rattle.std.proofs.Common.{◌≡◌, ◌≢◌, ℕ, zero, suc, ◌<◌, ◌≤◌, Bool, true, false, List, [], ◌∷◌, ◌++◌, length, refl, sym, ap, subst, ◌∙◌}
-use Rattle.std.proofs.Common.{arith, Some, inl, inr}
+use Rattle.std.proofs.Common.{◌≡◌, ◌≢◌, ℕ, zero, suc, ◌<◌, ◌≤◌, Bool, true, false, List, [], ◌∷◌, ◌++◌, length, refl, sym, ap}
+use Rattle.std.proofs.Common.{subst, ◌∙◌, arith, Some, inl, inr}
 use Rattle.std.specs.Prelude.{slice_get, slice_set, remove, All}
 use Rattle.std.proofs.lemmas.Bool.{cases_eq, cases_lt}
 use Rattle.std.proofs.lemmas.Option.{slice_get_within, slice_get-get_or, same_Some}
@@ -17,8 +17,8 @@ use Rattle.bb_memory_lists.proofs.SliceGets.{length-set_at, slice_get-last, slic
 use Rattle.bb_memory_index_set.specs.IndexSets.{Has, Lacks}
 use Rattle.bb_memory_index_set.proofs.AsideNumbers.{given}
 use Rattle.bb_memory_index_set.proofs.Tallies.{member_count-released, some_member}
-use Rattle.bb_memory_owned.specs.Pool.{Pool, IsPool, Fills, StandsFor, filled-at, HoldsPlace, fresh_pool, with_flag, bucket_held_at}
-use Rattle.bb_memory_owned.specs.Pool.{held_count, pool_of}
+use Rattle.bb_memory_owned.specs.Pool.{Pool, IsPool, Fills, StandsFor, filled-at, HoldsPlace, fresh_pool, with_flag}
+use Rattle.bb_memory_owned.specs.Pool.{bucket_held_at, held_count, pool_of}
 use Rattle.bb_memory_lists.proofs.Positions.{All-from_positions, AllPairs-at, AllPairs-from_positions, slice_get-removed}
 use Rattle.bb_memory_lists.proofs.Positions.{slice_get-unremoved}
 

@@ -2,7 +2,8 @@
 use Rattle.std.specs.Prelude.{◌≡◌, ℕ, ◌≤◌, ◌<◌, ◌↔◌, ◌⊎◌, List, [], ◌∷◌, Option, Some, None, IsSome, Result, Err, IsOk, IfOk}
 use Rattle.std.specs.Prelude.{OnErr, zero, suc, length, slice_get}
 use Rattle.std.specs.Option.{ForSome}
-use Rattle.bb_memory_traits.specs.Chunk.{Region, IsRegion, region_at, region_end, Chunk, chunk_end, first_place, IsInside, IsSound}
+use Rattle.bb_memory_traits.specs.Chunk.{Region, IsRegion, region_at, region_end, Chunk, chunk_end, first_place, IsInside}
+use Rattle.bb_memory_traits.specs.Chunk.{IsSound}
 use Rattle.bb_memory_traits.specs.OneChunkObject.{HasRoom, LacksRoom, reserved_at}
 use Rattle.bb_memory_traits.specs.Object.{PlacesDiffer}
 use Rattle.bb_memory_traits.specs.declared.layout.Layout.{Layout}

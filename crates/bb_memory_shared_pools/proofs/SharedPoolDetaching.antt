@@ -4,21 +4,21 @@ use Rattle.std.proofs.lemmas.List.{set-get_or}
 use mathlib.Core.Option.{none}
 use Rattle.atomic_table.specs.Table.{Me, keeps, step, Allows}
 use Rattle.bb_memory_pool_machine.specs.PoolMachine.{PoolScene}
-use Rattle.bb_memory_pool_machine.specs.PoolLogs.{PoolEntry, PoolLog, entry_of, HasLog, Interleaving, IsHeldAfter, IsDetachedAfter}
-use Rattle.bb_memory_pool_machine.specs.PoolLogs.{LogsAgree, pass_in, with_entry}
+use Rattle.bb_memory_pool_machine.specs.PoolLogs.{PoolEntry, PoolLog, entry_of, HasLog, Interleaving, IsHeldAfter}
+use Rattle.bb_memory_pool_machine.specs.PoolLogs.{IsDetachedAfter, LogsAgree, pass_in, with_entry}
 use Rattle.bb_memory_pool_machine.specs.declared.steps.pool.PoolStep.TheVariants.{Detach, Attach}
 use Rattle.bb_memory_pool_machine.specs.declared.steps.pool.PoolOutcome.TheVariants.{Detaches, Attaches}
 use Rattle.bb_memory_pool_machine.proofs.PoolLogFacts.{interleaved_log}
 use Rattle.bb_memory_pool_machine.proofs.PoolLogSteps.{detach_agrees, detached_after, attach_agrees}
 use Rattle.bb_memory_lists.proofs.SliceGets.{length-set_at, slice_get-set_same}
 use Rattle.bb_memory_shared_pools.specs.SharedPoolRule.{word_of, SeatView, WordsAndLogsAgree}
+use Rattle.bb_memory_shared_pools.specs.SharedPoolRule.{HasGained, TellsDetach, detaches, attaches}
 use Rattle.bb_memory_seats.specs.Seats.{alone, alone_with, number_of, view_log}
 use Rattle.bb_memory_shared_pools.specs.SharedPool.{attach_entry}
-use Rattle.bb_memory_shared_pools.specs.SharedPoolRule.{HasGained, TellsDetach, detaches, attaches}
 use Rattle.bb_memory_shared_pools.proofs.FlagWords.{at_word}
 use Rattle.bb_memory_seats.proofs.Seatings.{seated_with}
-use Rattle.bb_memory_shared_pools.proofs.SharedPoolDetached.{no_hold_left, no_hold_other, still_detached, fewer_detached_one, more_detached}
-use Rattle.bb_memory_shared_pools.proofs.SharedPoolDetached.{detached_of_seat}
+use Rattle.bb_memory_shared_pools.proofs.SharedPoolDetached.{no_hold_left, no_hold_other, still_detached, fewer_detached_one}
+use Rattle.bb_memory_shared_pools.proofs.SharedPoolDetached.{more_detached, detached_of_seat}
 use Rattle.bb_memory_shared_pools.proofs.SharedPoolTries.{idle_after_one}
 
 -- what a longer log is interleaved with

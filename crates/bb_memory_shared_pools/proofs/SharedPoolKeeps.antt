@@ -14,14 +14,14 @@ use Rattle.bb_memory_pool_machine.specs.declared.steps.pool.PoolOutcome.TheVaria
 use Rattle.bb_memory_pool_machine.proofs.PoolLogSteps.{give_agrees, lose_agrees, miss_agrees, take_agrees, take_at_agrees}
 use Rattle.bb_memory_pool_machine.proofs.PoolLogFacts.{free_not_held, taken_is_held_alone, length-flags, interleaved_log}
 use Rattle.bb_memory_lists.proofs.SliceGets.{slice_get-set_same, length-set_at}
-use Rattle.bb_memory_shared_pools.specs.SharedPoolRule.{as_word, bucket_of, word_of, words_of, IsSeatOf, SeatView, WordsAndLogsAgree}
-use Rattle.bb_memory_shared_pools.specs.SharedPoolRule.{HasMissedAt, TellsLookAt, TellsReturn, TellsTry, TellsTryAt}
-use Rattle.bb_memory_shared_pools.specs.SharedPoolRule.{Telling, at_flag, returns, tells_of}
+use Rattle.bb_memory_shared_pools.specs.SharedPoolRule.{as_word, bucket_of, word_of, words_of, IsSeatOf, SeatView}
+use Rattle.bb_memory_shared_pools.specs.SharedPoolRule.{WordsAndLogsAgree, HasMissedAt, TellsLookAt, TellsReturn, TellsTry}
+use Rattle.bb_memory_shared_pools.specs.SharedPoolRule.{TellsTryAt, Telling, at_flag, returns, tells_of}
 use Rattle.bb_memory_seats.specs.Seats.{alone, number_of, view_log}
 use Rattle.bb_memory_shared_pools.proofs.FlagWords.{at_word, changed, found_in, taken_again}
 use Rattle.bb_memory_seats.proofs.Seatings.{seated_step}
-use Rattle.bb_memory_shared_pools.proofs.SharedPoolDetached.{flag_elsewhere, no_hold_left, no_hold_loss, no_hold_other, still_detached}
-use Rattle.bb_memory_shared_pools.proofs.SharedPoolDetached.{detached_kept, detached_not_free, detached_not_held}
+use Rattle.bb_memory_shared_pools.proofs.SharedPoolDetached.{flag_elsewhere, no_hold_left, no_hold_loss, no_hold_other}
+use Rattle.bb_memory_shared_pools.proofs.SharedPoolDetached.{still_detached, detached_kept, detached_not_free, detached_not_held}
 use Rattle.bb_memory_shared_pools.proofs.SharedPoolMeetings.{unchanged}
 use Rattle.bb_memory_shared_pools.proofs.SharedPoolTries.{idle_after_one}
 

@@ -9,7 +9,8 @@ use Rattle.atomic_table.specs.Table.{Me}
 use Rattle.bb_memory_pool_machine.specs.PoolMachine.{PoolScene}
 use Rattle.bb_memory_pool_machine.specs.PoolLogs.{PoolLog, IsHeldAfter}
 use Rattle.bb_memory_seats.specs.Seats.{number_of, view_log}
-use Rattle.bb_memory_shared_pools.specs.SharedPoolNextFit.{probed, miss_at, misses, start_of, refused_search, taking_at, taking_search}
+use Rattle.bb_memory_shared_pools.specs.SharedPoolNextFit.{probed, miss_at, misses, start_of, refused_search, taking_at}
+use Rattle.bb_memory_shared_pools.specs.SharedPoolNextFit.{taking_search}
 use Rattle.bb_memory_shared_pools.specs.SharedPoolRule.{IsSeatOfIdle, SeatView}
 use Rattle.bb_memory_shared_pools.specs.SharedPoolRule.{HasMissedAt, HasRefused, HasGained, HasTakenFrom, IsInSearch}
 use Rattle.bb_memory_shared_pools.proofs.SharedPoolRequests.{HasAsked}

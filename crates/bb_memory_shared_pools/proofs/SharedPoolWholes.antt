@@ -8,8 +8,8 @@ use Rattle.std.proofs.lemmas.List.Elements.{All-append, All-cons, All-contains, 
 use Rattle.bb_memory_traits.specs.Chunk.{Chunk}
 use Rattle.bb_memory_traits.specs.PoolObject.{IsHeld}
 use Rattle.bb_memory_pool_machine.specs.PoolMachine.{IsDetached, PoolScene, left_by, opening_state, pool_step}
-use Rattle.bb_memory_pool_machine.specs.PoolLogs.{IsPoolRun, PoolEntry, PoolLog, entry_of, history_of, is_by, log_of, pool_history}
-use Rattle.bb_memory_pool_machine.specs.PoolLogs.{AllAllowed, HasLog, IsHeldAfter, loss_at}
+use Rattle.bb_memory_pool_machine.specs.PoolLogs.{IsPoolRun, PoolEntry, PoolLog, entry_of, history_of, is_by, log_of}
+use Rattle.bb_memory_pool_machine.specs.PoolLogs.{pool_history, AllAllowed, HasLog, IsHeldAfter, loss_at}
 use Rattle.bb_memory_traits.specs.declared.layout.Layout.{Layout}
 use Rattle.bb_memory_pool_machine.specs.declared.steps.pool.PoolStep.{PoolStep}
 use Rattle.bb_memory_pool_machine.specs.declared.steps.pool.PoolStep.TheVariants.{Try, GiveBack, TryAt, Detach, Attach}
@@ -21,8 +21,8 @@ use Rattle.bb_memory_pool_machine.proofs.PoolFlags.{taken_from_flag, flag_from_t
 use Rattle.bb_memory_pool_machine.proofs.PoolHolders.{detached_unheld}
 use Rattle.bb_memory_pool_machine.proofs.PoolSteps.{test_same}
 use Rattle.bb_memory_pool_machine.proofs.PoolDetached.{was_detached_before}
-use Rattle.bb_memory_shared_pools.specs.SharedPool.{HasTaker, HaveMet, WasDetachedByOne, IsHeldByOne, IsHeldOrDetached, IsSharedScene}
-use Rattle.bb_memory_shared_pools.specs.SharedPool.{IsTaking, PoolParty, TookOne, losses, refused_pass}
+use Rattle.bb_memory_shared_pools.specs.SharedPool.{HasTaker, HaveMet, WasDetachedByOne, IsHeldByOne, IsHeldOrDetached}
+use Rattle.bb_memory_shared_pools.specs.SharedPool.{IsSharedScene, IsTaking, PoolParty, TookOne, losses, refused_pass}
 use Rattle.bb_memory_lists.proofs.Contained.{any_contained, contains-first, contains_at, stands_in_log}
 
 module _ (scene : PoolScene) (parties : List PoolParty) (met : HaveMet scene parties) where

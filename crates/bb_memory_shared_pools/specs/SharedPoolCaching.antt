@@ -6,7 +6,8 @@ use Rattle.bb_memory_pool_machine.specs.PoolLogs.{PoolLog, IsHeldAfter}
 use Rattle.bb_memory_traits.specs.declared.layout.Layout.{Layout}
 use Rattle.bb_memory_traits.specs.declared.allocator.AllocationError.{AllocationError}
 use Rattle.bb_memory_traits.specs.declared.allocator.AllocationError.TheVariants.{OutOfMemory}
-use Rattle.bb_memory_shared_pools.specs.SharedPool.{PoolParty, ServesNextFit, TakenBucket, return_entry, taken_bucket, with_entries}
+use Rattle.bb_memory_shared_pools.specs.SharedPool.{PoolParty, ServesNextFit, TakenBucket, return_entry, taken_bucket}
+use Rattle.bb_memory_shared_pools.specs.SharedPool.{with_entries}
 use Rattle.bb_memory_shared_pools.specs.SharedPoolNextFit.{MayTakeFrom, hint_of}
 
 -- A caching party: the pool's party, the numbers of the buckets that it caches, and how many it caches at most. The bucket that

@@ -3,8 +3,7 @@ ghost use Rattle.std.specs.Prelude.{◌≡◌, ◌^◌, ◌%◌, ◌<◌, ◌≤
 ghost use Rattle.std.specs.Align.{IsLayout};
 ghost use Rattle.std.specs.Int.{IsPowerOfTwo};
 ghost use Rattle.std.specs.Option.{SomeIff};
-ghost use Rattle.bb_memory_traits.specs.LeastPlace.{least_place, IsLeastPlace};
-ghost use Rattle.bb_memory_traits.specs.LeastPlace.{IsUsual};
+ghost use Rattle.bb_memory_traits.specs.LeastPlace.{least_place, IsLeastPlace, IsUsual};
 
 mod chunk;
 

@@ -9,7 +9,8 @@ use Rattle.bb_memory_pool_machine.specs.PoolLogs.{IsHeldAfter}
 use Rattle.bb_memory_traits.specs.declared.allocator.AllocationError.{AllocationError}
 use Rattle.bb_memory_traits.specs.declared.layout.Layout.{Layout}
 use Rattle.bb_memory_bump.specs.SharedBump.{AgreeAt, BumpParty, MayTake, greatest_seen, scene_at}
-use Rattle.bb_memory_shared_pools.specs.SharedPool.{PoolParty, SharedPool, TakenBucket, attach_entry, detach_entry, return_entry, with_entries}
+use Rattle.bb_memory_shared_pools.specs.SharedPool.{PoolParty, SharedPool, TakenBucket, attach_entry, detach_entry, return_entry}
+use Rattle.bb_memory_shared_pools.specs.SharedPool.{with_entries}
 use Rattle.bb_memory_shared_pools.specs.SharedPoolNextFit.{MayTakeFrom, hint_of}
 
 -- WORKERS, each of which hands its party back

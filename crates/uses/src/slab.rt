@@ -1,6 +1,5 @@
 //! Records of bytes, each in a chunk of its own.
-ghost use Rattle.std.specs.Prelude.{◌≡◌, ◌∷◌, ◌++◌, ◌<◌, [], ℕ, List, Some, Ok};
-ghost use Rattle.std.specs.Prelude.{length, remove, slice_get, slice_set};
+ghost use Rattle.std.specs.Prelude.{◌≡◌, ◌∷◌, ◌++◌, ◌<◌, [], ℕ, List, Some, Ok, length, remove, slice_get, slice_set};
 ghost use Rattle.bb_memory_traits.specs.Chunk.{Chunk, IsSound};
 ghost use Rattle.bb_memory_traits.specs.declared.layout.Layout.{Layout};
 ghost use Rattle.bb_memory_traits.specs.HeldBytes.{HeldBytes, held_region};

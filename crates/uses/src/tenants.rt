@@ -1,7 +1,6 @@
 //! Tenants of one allocator, each with a limit of its own.
-ghost use Rattle.std.specs.Prelude.{◌≡◌, ◌≢◌, ◌<◌, ◌≤◌, ◌+◌, ◌%◌, ◌↔◌, ◌∷◌, ◌++◌, [], ℕ, List, Some, Ok};
-ghost use Rattle.std.specs.Prelude.{IfOk, IfErr, IfSome, IsOk, IsSome, IsTrue, OnOk, OnErr};
-ghost use Rattle.std.specs.Prelude.{length, remove, slice_get, slice_index_or, sum};
+ghost use Rattle.std.specs.Prelude.{◌≡◌, ◌≢◌, ◌<◌, ◌≤◌, ◌+◌, ◌%◌, ◌↔◌, ◌∷◌, ◌++◌, [], ℕ, List, Some, Ok, IfOk, IfErr, IfSome};
+ghost use Rattle.std.specs.Prelude.{IsOk, IsSome, IsTrue, OnOk, OnErr, length, remove, slice_get, slice_index_or, sum};
 ghost use Rattle.bb_memory_traits.specs.Chunk.{IsInside, IsSound};
 ghost use Rattle.uses.specs.declared.tenants.Lease.{Lease};
 ghost use Rattle.uses.specs.Requests.{HasLeft, IsRefusedUnasked, IsWhyNotAdmitted, IsWhyNotLeased, bytes_for, bytes_out};

@@ -3,7 +3,8 @@ ghost use Rattle.std.specs.Prelude.{◌≡◌, ◌≢◌, ◌++◌, ℕ, All, An
 ghost use Rattle.bb_memory_traits.specs.Chunk.{Chunk};
 ghost use Rattle.bb_memory_traits.specs.BumpObject.{StandsFor};
 ghost use Rattle.bb_memory_bump_machine.specs.BumpMachine.{BumpScene};
-ghost use Rattle.bb_memory_bump_machine.specs.BumpLogs.{chunks_won, history_of, log_of, IsCallRun, OpensWith, calls_of, live_after};
+ghost use Rattle.bb_memory_bump_machine.specs.BumpLogs.{chunks_won, history_of, log_of, IsCallRun, OpensWith, calls_of};
+ghost use Rattle.bb_memory_bump_machine.specs.BumpLogs.{live_after};
 ghost use Rattle.bb_memory_bump.specs.SharedBump.{AgreeAt, BumpParty, HaveChunksApart, IsSharedScene};
 
 /// Says what follows for parties of a shared bump that met ([`meet_all`](super::SharedBumpAllocator::meet_all)), and above all of

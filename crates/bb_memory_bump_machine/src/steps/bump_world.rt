@@ -1,8 +1,8 @@
 //! A bump machine that can be run: a region, a position, and of each party the call that it is in.
 ghost use Rattle.std.specs.Prelude.{◌≡◌, ◌<◌, IfOk, IsSome, Some, slice_get, length};
 ghost use Rattle.bb_memory_traits.specs.Chunk.{Region, IsRegion};
-ghost use Rattle.bb_memory_bump_machine.specs.BumpMachine.{OngoingCall, IsFitting, PartyMove, ending, seeing, read_move, exchange_move};
-ghost use Rattle.bb_memory_bump_machine.specs.BumpMachine.{read, exchange, load};
+ghost use Rattle.bb_memory_bump_machine.specs.BumpMachine.{OngoingCall, IsFitting, PartyMove, ending, seeing, read_move};
+ghost use Rattle.bb_memory_bump_machine.specs.BumpMachine.{exchange_move, read, exchange, load};
 ghost use Rattle.bb_memory_bump_machine.specs.BumpWorld.{IsMove, IsPositionIn, Replays, Steps, in_state, opened};
 
 use super::{BumpOutcome, BumpStep};

@@ -7,7 +7,8 @@ ghost use Rattle.bb_memory_pool_machine.specs.PoolLogs.{IsHeldAfter};
 ghost use Rattle.bb_memory_seats.specs.Seats.{HasRoomFor, Stays, number_of, view_log};
 ghost use Rattle.bb_memory_shared_pools.specs.SharedPool.{AreAllHeldAfter, AreBothOf, AreFresh, AreInterleaved, HasTaker};
 ghost use Rattle.bb_memory_shared_pools.specs.SharedPool.{HaveMet, HoldApart, IsAlignedTo, IsResizedTo, IsSameParty};
-ghost use Rattle.bb_memory_shared_pools.specs.SharedPool.{IsSharedScene, MayTake, chunk_of, refused_pass, return_entry, with_entries};
+ghost use Rattle.bb_memory_shared_pools.specs.SharedPool.{IsSharedScene, MayTake, chunk_of, refused_pass, return_entry};
+ghost use Rattle.bb_memory_shared_pools.specs.SharedPool.{with_entries};
 ghost use Rattle.bb_memory_shared_pools.specs.SharedPoolRule.{IsIdleAt, all_parties, HasRefused, HasTaken};
 
 use super::bucket::Bucket;

@@ -2,8 +2,8 @@
 ghost use Rattle.std.specs.Prelude.{◌≡◌, ◌≢◌, ◌<◌, ◌≤◌, ◌∷◌, ◌++◌, [], ℕ, List, Contains, IfErr, IfOk, Ok, length, vec_capacity};
 ghost use Rattle.bb_memory_traits.specs.PoolObject.{IsWithin};
 ghost use Rattle.bb_memory_pool_machine.specs.PoolLogs.{IsHeldAfter};
-ghost use Rattle.bb_memory_shared_pools.specs.SharedPool.{AreBothOf, AreInterleaved, IsSameParty, Serves, attach_entry, detach_entry};
-ghost use Rattle.bb_memory_shared_pools.specs.SharedPool.{return_entry, taken_bucket, with_entries};
+ghost use Rattle.bb_memory_shared_pools.specs.SharedPool.{AreBothOf, AreInterleaved, IsSameParty, Serves, attach_entry};
+ghost use Rattle.bb_memory_shared_pools.specs.SharedPool.{detach_entry, return_entry, taken_bucket, with_entries};
 ghost use Rattle.bb_memory_shared_pools.specs.SharedPoolCaching.{AreCached, IsOut, ReturnsCaching, TakesCaching, returns_of};
 
 use super::bucket::Bucket;

@@ -2,9 +2,8 @@
 ghost use Rattle.std.specs.Prelude.{AllPairs, Ok, ◌≡◌, ◌∷◌, ◌++◌, ◌<◌, [], ℕ, List, Some, None, get_or, length, slice_get};
 ghost use Rattle.std.specs.Prelude.{slice_set};
 ghost use Rattle.bb_memory_traits.specs.Chunk.{Chunk};
-ghost use Rattle.loan_book.specs.Book.{Book, IsBook, IsAt, IsOut, IsPublished, chunks_of};
+ghost use Rattle.loan_book.specs.Book.{Book, IsBook, IsAt, IsOut, IsPublished, chunks_of, Sample, returns_to_come};
 ghost use Rattle.loan_book.specs.Calls.{Publishes, GivesBack, with_sample, with_returns};
-ghost use Rattle.loan_book.specs.Book.{Sample, returns_to_come};
 ghost use Rattle.uses.specs.Rings.{Returned, ids_of, readers_of};
 
 /// A sample behind the last is put in its place.

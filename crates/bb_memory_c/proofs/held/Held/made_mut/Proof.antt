@@ -1,17 +1,16 @@
 -- `made_mut` lends what was made, where it lies. Assumes `Logic`.
-use Rattle.bb_memory_c.proofs.Walks.{◌≡◌, List, [], ◌∷◌, refl, sym, lit<, ℕ, true, false, a_type, Fn, named, inst_fn, Val}
-use Rattle.bb_memory_c.proofs.Walks.{vptr, of_list, SProp, ent, emp, fst∗, sep, via, ftrue, flft, fsep, Fml, Lft, GName}
-use Rattle.bb_memory_c.proofs.Walks.{Share, fobs, fres, WpFn, Env, ‵, raw, at_ret, ◌⊛◌, ◌$◌, ◌∵◌, !, qed, by, move, keep}
-use Rattle.bb_memory_c.proofs.Walks.{split, fsplit, fjoin, use0, use1, drop, some, later, split3, join, pick, await, rewrite}
-use Rattle.bb_memory_c.proofs.Walks.{done, group, fsplit3, fpack, Item, mean, stop, fld, lit, of_opd, first, branches, exec}
-use Rattle.bb_memory_c.proofs.Walks.{no_more, and_then, returns, enter, blocks, load, un, addr, skips, returns_within}
-use Rattle.bb_memory_c.proofs.Walks.{alloc_all, pass_all, free_all, look_at, get, sets, sets_last, env, through, live, agg}
-use Rattle.bb_memory_c.proofs.Walks.{sub, whole, look_in, fact, fact_i, tables, Running, no, RattleType, owns, param}
-use Rattle.bb_memory_c.proofs.Walks.{layouts, plain, mut_ref_to, block_ptr, nothing, opens, closes, Stays, stay_dropped}
-use Rattle.bb_memory_c.proofs.Walks.{walk_of, Goes-spent_ref, after, Some-of, none_of, leaves, proved, Some, None, Option}
-use Rattle.bb_memory_c.proofs.Walks.{MatchOption, ghosts, Clauses, sem, Logic, full_share, Ura, Model, Part, follows}
-use Rattle.bb_memory_c.proofs.Walks.{lends_Part, part_at, mem, cell_at, lone, MutRef, MutBor, mut_vals, mut_Tells, on_entry}
-use Rattle.bb_memory_c.proofs.Walks.{T, word, Held, held_out, held_in, owns_either}
+use Rattle.bb_memory_c.proofs.Walks.{◌≡◌, List, [], ◌∷◌, refl, sym, lit<, ℕ, true, false, a_type, Fn, named, inst_fn, Val, vptr}
+use Rattle.bb_memory_c.proofs.Walks.{of_list, SProp, ent, emp, fst∗, sep, via, ftrue, flft, fsep, Fml, Lft, GName, Share, fobs}
+use Rattle.bb_memory_c.proofs.Walks.{fres, WpFn, Env, ‵, raw, at_ret, ◌⊛◌, ◌$◌, ◌∵◌, !, qed, by, move, keep, split, fsplit, fjoin}
+use Rattle.bb_memory_c.proofs.Walks.{use0, use1, drop, some, later, split3, join, pick, await, rewrite, done, group, fsplit3}
+use Rattle.bb_memory_c.proofs.Walks.{fpack, Item, mean, stop, fld, lit, of_opd, first, branches, exec, no_more, and_then, returns}
+use Rattle.bb_memory_c.proofs.Walks.{enter, blocks, load, un, addr, skips, returns_within, alloc_all, pass_all, free_all, look_at}
+use Rattle.bb_memory_c.proofs.Walks.{get, sets, sets_last, env, through, live, agg, sub, whole, look_in, fact, fact_i, tables}
+use Rattle.bb_memory_c.proofs.Walks.{Running, no, RattleType, owns, param, layouts, plain, mut_ref_to, block_ptr, nothing, opens}
+use Rattle.bb_memory_c.proofs.Walks.{closes, Stays, stay_dropped, walk_of, Goes-spent_ref, after, Some-of, none_of, leaves}
+use Rattle.bb_memory_c.proofs.Walks.{proved, Some, None, Option, MatchOption, ghosts, Clauses, sem, Logic, full_share, Ura, Model}
+use Rattle.bb_memory_c.proofs.Walks.{Part, follows, lends_Part, part_at, mem, cell_at, lone, MutRef, MutBor, mut_vals, mut_Tells}
+use Rattle.bb_memory_c.proofs.Walks.{on_entry, T, word, Held, held_out, held_in, owns_either}
 use denote.Memory.{part_of}
 use denote.Follow.{such_by, follows_by}
 use mir.Raw.{raw as bare}

@@ -1,14 +1,13 @@
 -- `of_loose` keeps what the loose box owned.
 use Rattle.bb_memory_c.proofs.Walks.{◌≡◌, List, [], ◌∷◌, ◌++◌, refl, sym, subst, true, a_type, inst_fn, Val, vptr, SProp, ent}
-use Rattle.bb_memory_c.proofs.Walks.{emp, id⊢, ftrue, flft, WpFn, ‵, raw, ◌⊛◌, ◌$◌, ◌∵◌, !, qed, by, move, keep, split}
-use Rattle.bb_memory_c.proofs.Walks.{fsplit, fjoin, suffices, use0, stop, fld, of_opd, true_lit, no_more, and_then, returns}
-use Rattle.bb_memory_c.proofs.Walks.{enter, alloc_all, pass_all, free_all, look_at, get, get_in, sets, agg, sub, whole, fact}
-use Rattle.bb_memory_c.proofs.Walks.{fact_i, tables, no, param, layouts, RattleType, owns, types_at, plain, block_ptr}
-use Rattle.bb_memory_c.proofs.Walks.{nothing, Stays, stay_dropped, walk_of, Goes-blank, proved_at, leaves, Some, ghosts}
+use Rattle.bb_memory_c.proofs.Walks.{emp, id⊢, ftrue, flft, WpFn, ‵, raw, ◌⊛◌, ◌$◌, ◌∵◌, !, qed, by, move, keep, split, fsplit}
+use Rattle.bb_memory_c.proofs.Walks.{fjoin, suffices, use0, stop, fld, of_opd, true_lit, no_more, and_then, returns, enter}
+use Rattle.bb_memory_c.proofs.Walks.{alloc_all, pass_all, free_all, look_at, get, get_in, sets, agg, sub, whole, fact, fact_i}
+use Rattle.bb_memory_c.proofs.Walks.{tables, no, param, layouts, RattleType, owns, types_at, plain, block_ptr, nothing, Stays}
+use Rattle.bb_memory_c.proofs.Walks.{stay_dropped, walk_of, Goes-blank, proved_at, leaves, Some, ghosts, both, Loose, loose_good}
+use Rattle.bb_memory_c.proofs.Walks.{loose_out, Held, word, held_in}
 use Rattle.std.specs.contracts.alloc.Global as heap
 use Rattle.std.proofs.alloc.Global.TheLaws as heap_laws
-use Rattle.bb_memory_c.proofs.Walks.{both, Loose, loose_good, loose_out}
-use Rattle.bb_memory_c.proofs.Walks.{Held, word, held_in}
 use Rattle.bb_memory_c.specs.contracts.held.Held.of_loose.{ended, clauses}
 use Rattle.bb_memory_c.specs.contracts.held.Held.of_loose.Key.{name as #self}
 use Rattle.bb_memory_c.proofs.held.Held.of_loose.Statement.{statement}

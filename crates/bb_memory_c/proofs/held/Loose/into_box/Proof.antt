@@ -1,15 +1,14 @@
 -- `into_box` makes the box again.
 use Rattle.bb_memory_c.proofs.Walks.{◌≡◌, List, [], ◌∷◌, ◌++◌, refl, sym, ap, subst, a_type, dcons, dnil, Val, vptr, inst_fn}
-use Rattle.bb_memory_c.proofs.Walks.{SProp, ent, id⊢, ftrue, flft, WpFn, ‵, raw, ◌⊛◌, some, later, at_ret, ◌$◌, ◌∵◌, !, qed}
-use Rattle.bb_memory_c.proofs.Walks.{by, move, keep, drop, split, split3, join, fsplit, fjoin, pick, suffices, use1, await}
-use Rattle.bb_memory_c.proofs.Walks.{rewrite, feq_i, stop, fld, of_opd, no_more, and_then, first, blocks, exec, returns}
-use Rattle.bb_memory_c.proofs.Walks.{enter, alloc_all, pass_all, free_all, look_at, get, get_in, sets, lands_last, env, sub}
-use Rattle.bb_memory_c.proofs.Walks.{whole, fact, ◌⊑◌, tables, no, RattleType, owns, types_at, plain, block_ptr, nothing}
-use Rattle.bb_memory_c.proofs.Walks.{only, param, layout, bounded, param_laws, Lasts, lasts, triple_of, calls_at_last, Stays}
-use Rattle.bb_memory_c.proofs.Walks.{stay_dropped, walk_of, Goes-blank, after, framed, Good, box_out, box_in, proved_at}
-use Rattle.bb_memory_c.proofs.Walks.{leaves}
+use Rattle.bb_memory_c.proofs.Walks.{SProp, ent, id⊢, ftrue, flft, WpFn, ‵, raw, ◌⊛◌, some, later, at_ret, ◌$◌, ◌∵◌, !, qed, by}
+use Rattle.bb_memory_c.proofs.Walks.{move, keep, drop, split, split3, join, fsplit, fjoin, pick, suffices, use1, await, rewrite}
+use Rattle.bb_memory_c.proofs.Walks.{feq_i, stop, fld, of_opd, no_more, and_then, first, blocks, exec, returns, enter, alloc_all}
+use Rattle.bb_memory_c.proofs.Walks.{pass_all, free_all, look_at, get, get_in, sets, lands_last, env, sub, whole, fact, ◌⊑◌}
+use Rattle.bb_memory_c.proofs.Walks.{tables, no, RattleType, owns, types_at, plain, block_ptr, nothing, only, param, layout}
+use Rattle.bb_memory_c.proofs.Walks.{bounded, param_laws, Lasts, lasts, triple_of, calls_at_last, Stays, stay_dropped, walk_of}
+use Rattle.bb_memory_c.proofs.Walks.{Goes-blank, after, framed, Good, box_out, box_in, proved_at, leaves, both, Loose, loose_good}
+use Rattle.bb_memory_c.proofs.Walks.{loose_out}
 use Rattle.std.proofs.BoxSteps.Form as box
-use Rattle.bb_memory_c.proofs.Walks.{both, Loose, loose_good, loose_out}
 use Rattle.std.specs.contracts.boxed.Box.from_raw as callee
 use Rattle.std.proofs.boxed.Box.from_raw.Met.{met}
 use Rattle.bb_memory_c.specs.contracts.held.Loose.into_box.{ended, clauses}

@@ -1,17 +1,16 @@
 -- `of` takes the box apart.
-use Rattle.bb_memory_c.proofs.Walks.{◌≡◌, List, [], ◌∷◌, ◌++◌, refl, sym, ap, ◌∙◌, subst, a_type, dcons, dnil, Val, vptr}
-use Rattle.bb_memory_c.proofs.Walks.{vstruct, of_list, inst_fn, SProp, ent, emp, never, id⊢, fst∗, ftrue, fsep, flft, WpFn}
-use Rattle.bb_memory_c.proofs.Walks.{sem, ‵, raw, ◌⊛◌, some, later, ◌$◌, ◌∵◌, !, qed, by, move, keep, drop, split, split3}
-use Rattle.bb_memory_c.proofs.Walks.{join, fsplit, fjoin, fpick, pick, suffices, use0, use1, await, rewrite, feq_l, stop, fld}
-use Rattle.bb_memory_c.proofs.Walks.{of_opd, no_more, and_then, returns, enter, alloc_all, pass_all, free_all, look_at, get}
-use Rattle.bb_memory_c.proofs.Walks.{get_in, sets, lands_as, agg, sub, whole, fact, fact_i, tables, no, RattleType, owns}
-use Rattle.bb_memory_c.proofs.Walks.{types_at, plain, RawPtr, Ptr, block_ptr, null_ptr, ptr_val, in_a_block, nothing, only}
-use Rattle.bb_memory_c.proofs.Walks.{heard, param, layout, bounded, param_laws, Tuple, triple_of, calls_at, Stays}
-use Rattle.bb_memory_c.proofs.Walks.{stay_dropped, walk_of, Goes-blank, handle_tells, framed, box_owns, box_out, box_in}
-use Rattle.bb_memory_c.proofs.Walks.{proved_at, leaves}
+use Rattle.bb_memory_c.proofs.Walks.{◌≡◌, List, [], ◌∷◌, ◌++◌, refl, sym, ap, ◌∙◌, subst, a_type, dcons, dnil, Val, vptr, vstruct}
+use Rattle.bb_memory_c.proofs.Walks.{of_list, inst_fn, SProp, ent, emp, never, id⊢, fst∗, ftrue, fsep, flft, WpFn, sem, ‵, raw}
+use Rattle.bb_memory_c.proofs.Walks.{◌⊛◌, some, later, ◌$◌, ◌∵◌, !, qed, by, move, keep, drop, split, split3, join, fsplit, fjoin}
+use Rattle.bb_memory_c.proofs.Walks.{fpick, pick, suffices, use0, use1, await, rewrite, feq_l, stop, fld, of_opd, no_more}
+use Rattle.bb_memory_c.proofs.Walks.{and_then, returns, enter, alloc_all, pass_all, free_all, look_at, get, get_in, sets}
+use Rattle.bb_memory_c.proofs.Walks.{lands_as, agg, sub, whole, fact, fact_i, tables, no, RattleType, owns, types_at, plain}
+use Rattle.bb_memory_c.proofs.Walks.{RawPtr, Ptr, block_ptr, null_ptr, ptr_val, in_a_block, nothing, only, heard, param, layout}
+use Rattle.bb_memory_c.proofs.Walks.{bounded, param_laws, Tuple, triple_of, calls_at, Stays, stay_dropped, walk_of, Goes-blank}
+use Rattle.bb_memory_c.proofs.Walks.{handle_tells, framed, box_owns, box_out, box_in, proved_at, leaves, both, loose_good}
+use Rattle.bb_memory_c.proofs.Walks.{loose_in}
 use mir.Raw.{raw as bare}
 use Rattle.std.proofs.BoxSteps.Form as box
-use Rattle.bb_memory_c.proofs.Walks.{both, loose_good, loose_in}
 use Rattle.std.specs.contracts.boxed.Box.into_raw_with_allocator as callee
 use Rattle.std.proofs.boxed.Box.into_raw_with_allocator.Met.{met}
 use Rattle.bb_memory_c.specs.contracts.held.Loose.of.{ended, clauses}

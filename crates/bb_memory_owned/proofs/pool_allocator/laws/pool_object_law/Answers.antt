@@ -1,6 +1,7 @@
 use Rattle.bb_memory_owned.proofs.Pools.{fresh-stands}
 use Rattle.bb_memory_owned.proofs.PoolAnswers.{some_answer, one_cause, given_or_refused, answer-aligned, answer-bucket_aligned}
-use Rattle.bb_memory_owned.proofs.PoolAnswers.{answer-len, answer-new, answer-inside, some_grow, one_grow, some_shrink, one_shrink}
+use Rattle.bb_memory_owned.proofs.PoolAnswers.{answer-len, answer-new, answer-inside, some_grow, one_grow, some_shrink}
+use Rattle.bb_memory_owned.proofs.PoolAnswers.{one_shrink}
 use Rattle.bb_memory_owned.proofs.PoolRuns.{places-aligned, places-a_stride_apart, released-room, run-keeps, base_run-keeps}
 use Rattle.bb_memory_owned.proofs.pool_allocator.laws.pool_object_law.Goals as goal
 
