@@ -37,8 +37,9 @@ pub(crate) trait Keeps: Drop {
     ghost frees: { Self → ℕ → Self → Type 0 };
 
     /// Returns whether a chunk is held at this place.
-    fn is_held(&self, place: usize) -> bool
-        ensures { IsTrue result ↔ holds self.now place };
+    fn is_held(&mut self, place: usize) -> bool
+        ensures value { IsTrue result ↔ holds self.old place }
+        ensures unchanged { self.new ≡ self.old };
 
     /// Gives back the chunk at this place where one is held there, and returns whether one was. Else it changes nothing.
     fn give_back(&mut self, place: usize) -> bool

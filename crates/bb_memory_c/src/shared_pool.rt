@@ -31,15 +31,16 @@ use std::alloc::Global;
 use std::marker::Model;
 use std::sync::Arc;
 
-/// How many flags fill two cache lines.
-const GAP: usize = 128;
+/// How many numbers of four bytes fill two cache lines.
+const GAP: usize = 32;
 
-/// One party, and for each bucket whether it is out: held, and not cached. Gaps keep what parties' calls write on lines apart.
+/// One party. Where it caches buckets, `at` has for each cached one its place in their list. The flags of the pool say which
+/// buckets the party holds. Gaps keep what parties' calls write on lines apart.
 #[derive(Drop)]
 pub struct JoinedPool {
     pub(crate) pool: Arc<SharedPoolAllocator, Global>,
     pub(crate) party: CachingParty,
-    pub(crate) out: Vec<bool>,
+    pub(crate) at: Vec<u32>,
     greatest: usize,
     gap: [u64; 16],
 }
@@ -49,7 +50,7 @@ impl Model for JoinedPool {
 
     ghost view = { λ s. s.party };
 
-    ghost invariant = { λ s. IsJoinedAt (arc_value s.pool) s.party s.out.items };
+    ghost invariant = { λ s. IsJoinedAt (arc_value s.pool) s.party s.at.items };
 }
 
 /// The figures of a shared pool, of which so many buckets are held, and so many were.
@@ -67,14 +68,13 @@ fn figures_of(pool: &SharedPoolAllocator, held: usize, greatest: usize) -> PoolI
     }
 }
 
-/// Gives back each bucket that the party holds, in order of their numbers. The flags say which those are.
-fn give_all_back(pool: &SharedPoolAllocator, party: &mut PoolParty, held: &[bool])
-    requires party { party.old.allocator ≡ pool.now }
-    requires held { AreFlagged pool.now (IsHeldAfter party.old.log) held.now }
+/// Gives back each bucket whose flag names the party, in order of their numbers.
+fn give_all_back(pool: &SharedPoolAllocator, party: &mut PoolParty)
+    requires { party.old.allocator ≡ pool.now }
     ensures { GivesAllBack party.old party.new }
 {
     for number in 0..pool.number_of_buckets() {
-        if held[number as usize] {
+        if pool.is_held_by(party, number) {
             let bucket = by_number::bucket(pool, party, number, 0);
             pool.deallocate_bucket(party, bucket);
         }
@@ -95,31 +95,61 @@ impl JoinedPool {
         let Ok(pool) = Arc::try_clone(pool) else {
             return Err(party);
         };
-        let flags = pool.number_of_buckets() as usize + GAP;
-        let Ok(out) = Vec::from_elem(alloc, false, flags) else {
-            return Err(party);
-        };
         let party = CachingParty::new(alloc, party, 0)?;
         let joined = JoinedPool {
             pool,
             party,
-            out,
+            at: Vec::new(alloc),
             greatest: 0,
             gap: [0; 16],
         };
         Box::new(alloc, joined).map_err(|refused| {
-            let JoinedPool { pool, party, .. } = refused.value;
-            party.into_party(&*pool)
+            let JoinedPool { party, .. } = refused.value;
+            party.into_inner()
         })
     }
 
+    /// Tells whether the bucket of this number is cached.
+    fn is_cached(&self, number: u32) -> bool
+        ensures { IsTrue result ↔ Contains self.now.cached number }
+    {
+        let Some(at) = self.at.get(number as usize) else {
+            return false;
+        };
+        self.party.cached().get(*at as usize) == Some(&number)
+    }
+
+    /// Tells whether the bucket of this number is out: held, and not cached.
+    fn is_out(&mut self, number: u32) -> bool
+        requires { number < (geometry_of self.old).buckets }
+        ensures value { IsTrue result ↔ IsOut self.old number }
+        ensures unchanged { self.new ≡ self.old }
+    {
+        !self.is_cached(number) && self.party.is_held(&*self.pool, number)
+    }
+
     /// The number of the bucket at this place, if it is out.
-    pub(crate) fn held_at(&self, place: usize) -> Option<u32>
-        ensures held { IfSome result (HoldsAt self.now place) }
-        ensures none { IfNone result (¬ HoldsPlace self.now place) }
+    pub(crate) fn held_at(&mut self, place: usize) -> Option<u32>
+        ensures held { IfSome result (HoldsAt self.old place) }
+        ensures none { IfNone result (¬ HoldsPlace self.old place) }
+        ensures unchanged { self.new ≡ self.old }
     {
         let number = self.pool.number_at(place)?;
-        self.out[number as usize].then_some(number)
+        self.is_out(number).then_some(number)
+    }
+
+    /// Counts the buckets that are out.
+    fn count_out(&mut self) -> usize
+        ensures count { CountsOut self.old result }
+        ensures unchanged { self.new ≡ self.old }
+    {
+        let mut count = 0;
+        for number in 0..self.pool.number_of_buckets() {
+            if self.is_out(number) {
+                count += 1;
+            }
+        }
+        count
     }
 
     /// Gives back the bucket of this number, which is out.
@@ -130,8 +160,10 @@ impl JoinedPool {
     {
         let pool = &*self.pool;
         let bucket = by_number::bucket(pool, self.party.party(), number, 0);
+        if let Some(at) = self.at.get_mut(number as usize) {
+            *at = self.party.number_of_cached();
+        }
         self.party.deallocate(pool, bucket);
-        self.out[number as usize] = false;
     }
 }
 
@@ -143,14 +175,11 @@ impl Gives<PoolInfo> for JoinedPool {
     #[inline(always)]
     fn give(&mut self, layout: Layout) -> Result<Chunk, AllocationError> {
         let bucket = self.party.allocate(&*self.pool, layout)?;
-        let number = bucket.number();
-        let chunk = bucket.chunk();
-        self.out[number as usize] = true;
-        Ok(chunk)
+        Ok(bucket.chunk())
     }
 
     fn show(&mut self) -> PoolInfo {
-        let held = self.out.iter().filter(|flag| **flag).count();
+        let held = self.count_out();
         self.greatest = self.greatest.max(held);
         figures_of(&*self.pool, held, self.greatest)
     }
@@ -161,7 +190,7 @@ impl Keeps for JoinedPool {
 
     ghost frees = { GivesBack };
 
-    fn is_held(&self, place: usize) -> bool {
+    fn is_held(&mut self, place: usize) -> bool {
         self.held_at(place).is_some()
     }
 
@@ -239,8 +268,9 @@ impl Shares<JoinedPool> for PoolParties {
     }
 
     fn take_back(&mut self, joined: JoinedPool) {
-        let mut party = joined.party.into_party(&*joined.pool);
-        give_all_back(&*joined.pool, &mut party, &joined.out);
+        let JoinedPool { pool, party, .. } = joined;
+        let mut party = party.into_inner();
+        give_all_back(&*pool, &mut party);
         self.parties.push_reserved(party);
     }
 }
@@ -348,7 +378,7 @@ pub extern "C" fn bb_pool_party_cache(alloc: Global, handle: &mut PoolPartyHandl
         return code::UNINITIALIZED;
     };
     let most = most.min(joined.pool.number_of_buckets());
-    match joined.party.cache_at_most(alloc, &*joined.pool, most) {
+    match joined.cache_at_most(alloc, most) {
         Ok(()) => code::OK,
         Err(_) => code::MALLOC_REFUSED,
     }

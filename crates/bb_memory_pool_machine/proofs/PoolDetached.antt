@@ -6,11 +6,12 @@ use Rattle.std.proofs.lemmas.Bool.{cases_eq}
 use Rattle.std.proofs.lemmas.Option.{same_Some}
 use Rattle.std.proofs.lemmas.List.{length-replicate}
 use Rattle.bb_memory_pool_machine.specs.PoolMachine.{PoolScene, PoolState, PoolMove, IsFlag, IsHolder, IsDetached, IsTaken}
-use Rattle.bb_memory_pool_machine.specs.PoolMachine.{pool_step, pool_after, opening_state, left_by, Flag, Free, HeldBy, Detached}
-use Rattle.bb_memory_pool_machine.specs.PoolMachine.{PoolStep, Detaches}
-use Rattle.bb_memory_pool_machine.specs.PoolLogs.{PoolEntry, PoolLog, entry_of, history_of, pool_history, WasDetached}
+use Rattle.bb_memory_pool_machine.specs.PoolMachine.{pool_step, pool_after, opening_state, left_by, Flag, Free, HeldBy}
+use Rattle.bb_memory_pool_machine.specs.PoolMachine.{DetachedBy, PoolStep, Detaches}
+use Rattle.bb_memory_pool_machine.specs.PoolLogs.{PoolEntry, PoolLog, entry_of, history_of, pool_history, IsDetachedIn, WasDetached}
 use Rattle.bb_memory_lists.proofs.SliceGets.{slice_get-replicated, slice_get-set_apart, slice_get-set_at}
-use Rattle.bb_memory_pool_machine.proofs.PoolSteps.{StepKind, takes, takes_at, gives, detaches, attaches, calls-step, kind_of}
+use Rattle.bb_memory_pool_machine.proofs.PoolSteps.{StepKind, takes, takes_at, gives, detaches, attaches, gives_detached}
+use Rattle.bb_memory_pool_machine.proofs.PoolSteps.{calls-step, kind_of}
 
 -- at the opening no flag is taken
 pub none_held_at_opening : (scene : PoolScene) (bucket party : ℕ) → ¬ IsHolder (opening_state scene) bucket party
@@ -19,7 +20,7 @@ none_held_at_opening scene bucket party held =
 
 pub none_detached_at_opening : (scene : PoolScene) (bucket : ℕ) → ¬ IsDetached (opening_state scene) bucket
 none_detached_at_opening scene bucket detached =
-    let free = slice_get-replicated scene.geometry.buckets bucket Free Detached detached in absurd (cc)
+    let free = slice_get-replicated scene.geometry.buckets bucket Free (DetachedBy detached.0) detached.1 in absurd (cc)
 
 pub none_taken_at_opening : (scene : PoolScene) (bucket : ℕ) → ¬ IsTaken (opening_state scene) bucket
 none_taken_at_opening scene bucket taken = elim taken [
@@ -31,12 +32,13 @@ none_taken_at_opening scene bucket taken = elim taken [
 
 -- a flag that becomes free, or has a holder then, leaves no other bucket detached than before
 detached_set : (state : PoolState) (at bucket : ℕ) (before after : Flag) → IsFlag state at before →
-    ¬ (after ≡ Detached) → slice_get (slice_set state.flags at after) bucket ≡ Some Detached → IsDetached state bucket
-detached_set state at bucket before after there another now = elim (cases_eq at bucket) [
+    ((sender : ℕ) → ¬ (after ≡ DetachedBy sender)) → IsDetachedIn (slice_set state.flags at after) bucket →
+    IsDetached state bucket
+detached_set state at bucket before after there another (sender, now) = elim (cases_eq at bucket) [
   | inl same ↦
-      absurd (another (same_Some after Detached
+      absurd (another sender (same_Some after (DetachedBy sender)
       (sym (slice_get-set_at state.flags at bucket after before same there) ∙ now)))
-  | inr apart ↦ sym (slice_get-set_apart state.flags at bucket after apart) ∙ now
+  | inr apart ↦ (sender, sym (slice_get-set_apart state.flags at bucket after apart) ∙ now)
 ]
 
 -- the step detaches this bucket, where there are two parties at least
@@ -47,17 +49,19 @@ record DetachesThis (state : PoolState) (move : PoolMove) (bucket : ℕ) : Type 
 detached_step : (state : PoolState) (step : PoolStep) (move : PoolMove) (bucket : ℕ) → StepKind state step move →
     IsDetached move.state bucket → IsDetached state bucket ⊎ DetachesThis state move bucket
 detached_step state step move bucket (takes other at next free) now =
-    inl (detached_set state at bucket Free (HeldBy other) free (λ same. absurd (cc)) now)
+    inl (detached_set state at bucket Free (HeldBy other) free (λ sender same. absurd (cc)) now)
 detached_step state step move bucket (takes_at other at idle free) now =
-    inl (detached_set state at bucket Free (HeldBy other) free (λ same. absurd (cc)) now)
+    inl (detached_set state at bucket Free (HeldBy other) free (λ sender same. absurd (cc)) now)
 detached_step state step move bucket (gives other at taken) now =
-    inl (detached_set state at bucket (HeldBy other) Free taken (λ same. absurd (cc)) now)
-detached_step state step move bucket (detaches other at taken others) now = elim (cases_eq at bucket) [
+    inl (detached_set state at bucket (HeldBy other) Free taken (λ sender same. absurd (cc)) now)
+detached_step state step move bucket (detaches other at taken others) (sender, now) = elim (cases_eq at bucket) [
   | inl same ↦ inr record { outcome = ap Detaches same; others = others }
-  | inr apart ↦ inl (sym (slice_get-set_apart state.flags at bucket Detached apart) ∙ now)
+  | inr apart ↦ inl (sender, sym (slice_get-set_apart state.flags at bucket (DetachedBy other) apart) ∙ now)
 ]
-detached_step state step move bucket (attaches other at idle detached) now =
-    inl (detached_set state at bucket Detached (HeldBy other) detached (λ same. absurd (cc)) now)
+detached_step state step move bucket (attaches other at idle (sender, detached)) now =
+    inl (detached_set state at bucket (DetachedBy sender) (HeldBy other) detached (λ sender same. absurd (cc)) now)
+detached_step state step move bucket (gives_detached other at idle (sender, detached)) now =
+    inl (detached_set state at bucket (DetachedBy sender) Free detached (λ sender same. absurd (cc)) now)
 detached_step state step move bucket _ now = inl now
 
 -- WHERE THERE IS NO OTHER PARTY

@@ -1,32 +1,26 @@
 -- A pool's flags, and which of them are taken.
-use Rattle.std.proofs.Common.{◌≡◌, ℕ, ◌<◌, length, List, map, refl, sym, ap, ◌∙◌, Bool, true, false, Option, Some, None, inl, inr}
-use Rattle.std.specs.Prelude.{◌⊎◌, option_map, slice_get, slice_set}
-use Rattle.std.proofs.Math.Seq.{map-set_same}
-use Rattle.std.proofs.lemmas.List.{map-set}
-use Rattle.std.proofs.lemmas.Option.{get_or_from_slice_get, slice_get-map, slice_get_within}
-use Rattle.bb_memory_pool_machine.specs.PoolMachine.{PoolState, IsFlag, IsTaken, Flag, Free, HeldBy, Detached}
-use Rattle.bb_memory_pool_machine.specs.PoolLogs.{is_taken, taken_flags}
-
-free_from_shown : (found : Option Flag) → option_map is_taken found ≡ Some false → found ≡ Some Free
-free_from_shown None is = absurd (cc)
-free_from_shown (Some Free) is = refl
-free_from_shown (Some (HeldBy party)) is = absurd (cc)
-free_from_shown (Some Detached) is = absurd (cc)
+use Rattle.std.proofs.Common.{◌≡◌, ℕ, ◌<◌, length, List, [], ◌∷◌, map, refl, sym, ap, ◌∙◌, subst, Bool, true, Option, Some, None}
+use Rattle.std.proofs.Common.{inl, inr}
+use Rattle.std.specs.Prelude.{◌⊎◌, option_map, slice_get}
+use Rattle.std.proofs.lemmas.Bool.{cases_eq}
+use Rattle.std.proofs.lemmas.Option.{same_Some, slice_get-map, slice_get_within}
+use Rattle.bb_memory_pool_machine.specs.PoolMachine.{PoolScene, PoolState, PoolMove, PoolStep, IsFlag, IsTaken, Flag, Free, HeldBy}
+use Rattle.bb_memory_pool_machine.specs.PoolMachine.{DetachedBy, NamesMade, left_by, opening_state, pool_after, pool_step, with_flag}
+use Rattle.bb_memory_pool_machine.specs.PoolLogs.{is_taken}
+use Rattle.bb_memory_lists.proofs.SliceGets.{slice_get-replicated, slice_get-set_apart, slice_get-set_at}
+use Rattle.bb_memory_pool_machine.proofs.PoolSteps.{StepKind, takes, takes_at, gives, detaches, attaches, gives_detached}
+use Rattle.bb_memory_pool_machine.proofs.PoolSteps.{calls-left_by, calls-step, kind_of}
 
 taken_from_shown : (found : Option Flag) → option_map is_taken found ≡ Some true →
-    ((party : ℕ) × (found ≡ Some (HeldBy party))) ⊎ (found ≡ Some Detached)
+    ((party : ℕ) × (found ≡ Some (HeldBy party))) ⊎ ((sender : ℕ) × (found ≡ Some (DetachedBy sender)))
 taken_from_shown None is = absurd (cc)
 taken_from_shown (Some Free) is = absurd (cc)
 taken_from_shown (Some (HeldBy party)) is = inl (party, refl)
-taken_from_shown (Some Detached) is = inr refl
+taken_from_shown (Some (DetachedBy sender)) is = inr (sender, refl)
 
-module _ (state : PoolState) (flags : List Bool) (bucket : ℕ) (same : taken_flags state ≡ flags) where
+module _ (state : PoolState) (flags : List Bool) (bucket : ℕ) (same : map is_taken state.flags ≡ flags) where
   shown_at : option_map is_taken (slice_get state.flags bucket) ≡ slice_get flags bucket
   shown_at = sym (slice_get-map is_taken state.flags bucket) ∙ ap (λ (f : List Bool). slice_get f bucket) same
-
-  -- a bucket that isn't taken has a free flag
-  pub free_from_flag : slice_get flags bucket ≡ Some false → IsFlag state bucket Free
-  free_from_flag free = free_from_shown (slice_get state.flags bucket) (shown_at ∙ free)
 
   -- a taken one has a holder, or is detached
   pub taken_from_flag : slice_get flags bucket ≡ Some true → IsTaken state bucket
@@ -36,23 +30,63 @@ module _ (state : PoolState) (flags : List Bool) (bucket : ℕ) (same : taken_fl
   pub flag_from_taken : IsTaken state bucket → slice_get flags bucket ≡ Some true
   flag_from_taken taken = sym shown_at ∙ elim taken [
     | inl held ↦ ap (option_map is_taken) held.1
-    | inr detached ↦ ap (option_map is_taken) detached
+    | inr detached ↦ ap (option_map is_taken) detached.1
   ]
 
 -- its bucket is there
 pub taken_within : (state : PoolState) (bucket : ℕ) → IsTaken state bucket → bucket < length state.flags
 taken_within state bucket taken = elim taken [
   | inl held ↦ slice_get_within state.flags bucket (HeldBy held.0) held.1
-  | inr detached ↦ slice_get_within state.flags bucket Detached detached
+  | inr detached ↦ slice_get_within state.flags bucket (DetachedBy detached.0) detached.1
 ]
 
--- which flags are taken after one is set
-pub taken_flags-set : (flags : List Flag) (bucket : ℕ) (flag : Flag) →
-    map is_taken (slice_set flags bucket flag) ≡ slice_set (map is_taken flags) bucket (is_taken flag)
-taken_flags-set flags bucket flag = map-set is_taken flags bucket flag
+-- WHOM FLAGS NAME
 
--- the same ones are where a flag is set that was as taken before
-pub taken_flags-again : (flags : List Flag) (bucket : ℕ) (before after : Flag) → slice_get flags bucket ≡ Some before →
-    is_taken before ≡ is_taken after → map is_taken (slice_set flags bucket after) ≡ map is_taken flags
-taken_flags-again flags bucket before after there same = map-set_same is_taken flags bucket after before
-    (sym same ∙ ap is_taken (sym (get_or_from_slice_get flags bucket before before there)))
+abbrev AllNameMade : PoolState → Type 0
+AllNameMade state = (bucket : ℕ) (flag : Flag) → slice_get state.flags bucket ≡ Some flag → NamesMade (length state.calls) flag
+
+-- a flag is set that names a party of the machine, or none
+named_set : (state : PoolState) (at : ℕ) (before after : Flag) → IsFlag state at before → AllNameMade state →
+    NamesMade (length state.calls) after → AllNameMade (with_flag state at after)
+named_set state at before after there named made bucket flag is = elim (cases_eq at bucket) [
+  | inl same ↦
+      subst (NamesMade (length state.calls))
+      (same_Some after flag (sym (slice_get-set_at state.flags at bucket after before same there) ∙ is)) made
+  | inr apart ↦ named bucket flag (sym (slice_get-set_apart state.flags at bucket after apart) ∙ is)
+]
+
+-- who takes a step is one of them
+there_is : (state : PoolState) (party : ℕ) (pass : Option ℕ) → slice_get state.calls party ≡ Some pass →
+    party < length state.calls
+there_is state party pass at = slice_get_within state.calls party pass at
+
+-- so is each that a flag names, as many as the parties are
+named_step : (state : PoolState) (step : PoolStep) (move : PoolMove) → StepKind state step move → AllNameMade state →
+    (bucket : ℕ) (flag : Flag) → slice_get move.state.flags bucket ≡ Some flag → NamesMade (length state.calls) flag
+named_step state step move (takes party bucket next free) named =
+    named_set state bucket Free (HeldBy party) free named (there_is state party next.pass next.there)
+named_step state step move (takes_at party bucket idle free) named =
+    named_set state bucket Free (HeldBy party) free named (there_is state party None idle)
+named_step state step move (gives party bucket held) named = named_set state bucket (HeldBy party) Free held named tt
+named_step state step move (detaches party bucket held others) named =
+    named_set state bucket (HeldBy party) (DetachedBy party) held named (named bucket (HeldBy party) held)
+named_step state step move (attaches party bucket idle (sender, detached)) named =
+    named_set state bucket (DetachedBy sender) (HeldBy party) detached named (there_is state party None idle)
+named_step state step move (gives_detached party bucket idle (sender, detached)) named =
+    named_set state bucket (DetachedBy sender) Free detached named tt
+named_step state step move _ named = named
+
+named_after : (state : PoolState) (steps : List PoolStep) → AllNameMade state → AllNameMade (pool_after state steps)
+named_after state [] named = named
+named_after state (step ∷ steps) named =
+    let move : PoolMove = pool_step state step in
+    let kind = kind_of state step in
+    named_after move.state steps (λ bucket flag is. subst (λ (n : ℕ). NamesMade n flag) (sym (calls-step state step move kind))
+    (named_step state step move kind named bucket flag is))
+
+pub names_made : (scene : PoolScene) (steps : List PoolStep) (bucket : ℕ) (flag : Flag) →
+    slice_get (left_by scene steps).flags bucket ≡ Some flag → NamesMade scene.parties flag
+names_made scene steps bucket flag is = subst (λ (n : ℕ). NamesMade n flag) (calls-left_by scene steps)
+    (named_after (opening_state scene) steps (λ b found free.
+    subst (NamesMade (length (opening_state scene).calls))
+    (slice_get-replicated scene.geometry.buckets b Free found free) tt) bucket flag is)

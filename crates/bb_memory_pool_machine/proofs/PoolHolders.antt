@@ -6,13 +6,13 @@ use Rattle.std.proofs.lemmas.Bool.{cases_eq, eqb-true}
 use Rattle.std.proofs.lemmas.Option.{same_Some}
 use Rattle.bb_memory_pool_machine.specs.PoolMachine.{PoolScene, PoolState, PoolMove, IsFlag, IsHolder, IsDetached, pool_step}
 use Rattle.bb_memory_pool_machine.specs.PoolMachine.{pool_after, opening_state, left_by, PoolOutcome, Flag, Free, HeldBy}
-use Rattle.bb_memory_pool_machine.specs.PoolMachine.{Detached, PoolStep}
+use Rattle.bb_memory_pool_machine.specs.PoolMachine.{DetachedBy, PoolStep}
 use Rattle.bb_memory_pool_machine.specs.PoolLogs.{entry_of, PoolLog, PoolEntry, pool_history, is_by, entries_by, log_of}
 use Rattle.bb_memory_pool_machine.specs.PoolLogs.{held_after, IsHeldAfter}
 use Rattle.bb_memory_lists.proofs.Logs.{fold-own}
 use Rattle.bb_memory_lists.proofs.SliceGets.{replicated-figure, slice_get-same, slice_get-set_apart, slice_get-set_at}
-use Rattle.bb_memory_pool_machine.proofs.PoolSteps.{StepKind, takes, takes_at, gives, detaches, attaches, kind_of}
-use Rattle.bb_memory_pool_machine.proofs.PoolSteps.{test_same, test_apart}
+use Rattle.bb_memory_pool_machine.proofs.PoolSteps.{StepKind, takes, takes_at, gives, detaches, attaches, gives_detached}
+use Rattle.bb_memory_pool_machine.proofs.PoolSteps.{kind_of, test_same, test_apart}
 
 abbrev pub is_holder : ℕ → Option Flag → Bool
 is_holder party (Some (HeldBy holder)) = holder == party
@@ -47,6 +47,10 @@ when_taken : (mine held : Bool) → held ≡ false → (if mine then true else h
 when_taken true held e = refl
 when_taken false held e = e
 
+when_unheld : (mine held : Bool) → held ≡ false → (if mine then false else held) ≡ false
+when_unheld true held e = refl
+when_unheld false held e = e
+
 when_returned : (mine held : Bool) → held ≡ mine → (if mine then false else held) ≡ false
 when_returned true held e = refl
 when_returned false held e = e
@@ -66,9 +70,11 @@ step_holds state step move party bucket held (takes_at other at idle free) =
 step_holds state step move party bucket held (gives other at taken) =
     held_set state at bucket party other held false (HeldBy other) Free taken (when_returned (other == party) held)
 step_holds state step move party bucket held (detaches other at taken others) =
-    held_set state at bucket party other held false (HeldBy other) Detached taken (when_returned (other == party) held)
-step_holds state step move party bucket held (attaches other at idle detached) =
-    held_set state at bucket party other held true Detached (HeldBy other) detached (when_taken (other == party) held)
+    held_set state at bucket party other held false (HeldBy other) (DetachedBy other) taken (when_returned (other == party) held)
+step_holds state step move party bucket held (attaches other at idle (sender, detached)) =
+    held_set state at bucket party other held true (DetachedBy sender) (HeldBy other) detached (when_taken (other == party) held)
+step_holds state step move party bucket held (gives_detached other at idle (sender, detached)) =
+    held_set state at bucket party other held false (DetachedBy sender) Free detached (when_unheld (other == party) held)
 step_holds state step move party bucket held _ = λ before. either_way (is_by party step) held ∙ before
 
 -- what each step changes by the entry of its own party alone is, after steps, what that party's log makes of it
@@ -91,7 +97,7 @@ nobody_holds n party bucket = replicated-figure (is_holder party) n bucket Free 
 holder_from_test : (party : ℕ) (found : Option Flag) → is_holder party found ≡ true → found ≡ Some (HeldBy party)
 holder_from_test party None e = absurd (cc)
 holder_from_test party (Some Free) e = absurd (cc)
-holder_from_test party (Some Detached) e = absurd (cc)
+holder_from_test party (Some (DetachedBy sender)) e = absurd (cc)
 holder_from_test party (Some (HeldBy holder)) e = ap (λ (h : ℕ). Some (HeldBy h)) (eqb-true holder party e)
 
 test_from_holder : (party : ℕ) (found : Option Flag) → found ≡ Some (HeldBy party) → is_holder party found ≡ true
@@ -122,11 +128,11 @@ one_holder scene steps party other bucket mine yours =
     let two = (holder_in_log scene steps other bucket).1 yours in
     same_holder (left_by scene steps) bucket party other one two
 
-not_detached : (party : ℕ) → ¬ (Detached ≡ HeldBy party)
-not_detached party same = absurd (cc)
+not_detached : (sender party : ℕ) → ¬ (DetachedBy sender ≡ HeldBy party)
+not_detached sender party same = absurd (cc)
 
 -- a detached bucket is held after no party's log
 pub detached_unheld : (scene : PoolScene) (steps : List PoolStep) (party bucket : ℕ) →
     IsDetached (left_by scene steps) bucket → ¬ IsHeldAfter (log_of scene steps party) bucket
-detached_unheld scene steps party bucket detached held =
-    not_detached party (same_Some Detached (HeldBy party) (sym detached ∙ (holder_in_log scene steps party bucket).1 held))
+detached_unheld scene steps party bucket (sender, detached) held = not_detached sender party
+    (same_Some (DetachedBy sender) (HeldBy party) (sym detached ∙ (holder_in_log scene steps party bucket).1 held))

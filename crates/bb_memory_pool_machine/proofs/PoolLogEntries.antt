@@ -5,10 +5,9 @@ use Rattle.std.specs.Prelude.{slice_get, slice_set, ◌==◌, if◌then◌else�
 use Rattle.std.proofs.lemmas.Bool.{cases_eq}
 use Rattle.std.proofs.lemmas.List.Elements.{All-push}
 use Rattle.bb_memory_pool_machine.specs.PoolMachine.{PoolScene, PoolState, PoolMove, pool_step, pool_after, opening_state}
-use Rattle.bb_memory_pool_machine.specs.PoolMachine.{left_by, PoolStep, PoolOutcome}
+use Rattle.bb_memory_pool_machine.specs.PoolMachine.{left_by, Flag, PoolStep, PoolOutcome}
 use Rattle.bb_memory_pool_machine.specs.PoolLogs.{entry_of, PoolLog, PoolEntry, pool_history, is_by, entries_by, history_of}
-use Rattle.bb_memory_pool_machine.specs.PoolLogs.{log_of, HasLog, pass_after, pass_in, taken_flags, IsAllowed, LogsAgree}
-use Rattle.bb_memory_pool_machine.specs.PoolLogs.{with_entry}
+use Rattle.bb_memory_pool_machine.specs.PoolLogs.{log_of, HasLog, pass_after, pass_in, IsAllowed, LogsAgree, with_entry}
 use Rattle.bb_memory_lists.proofs.Logs.{logs-push}
 use Rattle.bb_memory_lists.proofs.SliceGets.{slice_get-replicate, slice_get-set_apart, slice_get-set_at}
 use Rattle.bb_memory_pool_machine.proofs.PoolSteps.{IsNext, StepKind, takes, takes_at, loses, is_refused, kind_of, next_of_idle}
@@ -69,11 +68,11 @@ after-push state [] step = refl
 after-push state (first ∷ steps) step = after-push (pool_step state first).state steps step
 
 -- the step of a party that makes this move leaves flags and logs that agree again
-pub agree_on : (scene : PoolScene) (flags : List Bool) (logs : List PoolLog) (party : ℕ) (log : PoolLog)
+pub agree_on : (scene : PoolScene) (flags : List Flag) (logs : List PoolLog) (party : ℕ) (log : PoolLog)
     (agree : LogsAgree scene flags logs) → HasLog logs party log → (step : PoolStep) →
     ((other : ℕ) → is_by other step ≡ (party == other)) →
     (move : PoolMove) → pool_step (left_by scene agree.steps) step ≡ move → IsAllowed move.outcome →
-    (new : List Bool) → taken_flags move.state ≡ new →
+    (new : List Flag) → move.state.flags ≡ new →
     LogsAgree scene new (with_entry logs party log (entry_of step move.outcome))
 agree_on scene flags logs party log agree at step by move is allowed new leaves =
     let opening : PoolState = opening_state scene in
@@ -85,7 +84,8 @@ agree_on scene flags logs party log agree at step by move is allowed new leaves 
     record {
       steps = agree.steps ++ step ∷ [];
       allowed = subst (All Allowed) (sym longer) (All-push Allowed history entry agree.allowed allowed);
-      leaves = ap taken_flags (after-push opening agree.steps step) ∙ ap (λ (m : PoolMove). taken_flags m.state) is ∙ leaves;
+      leaves = ap (λ (s : PoolState). s.flags) (after-push opening agree.steps step) ∙ ap (λ (m : PoolMove). m.state.flags) is
+          ∙ leaves;
       each = λ other found there. ap (entries_by other) longer
           ∙ logs-push (λ p e. is_by p e.step) logs party log history entry at (by party ∙ test_same party party refl)
           (λ o apart. by o ∙ test_apart party o apart) agree.each other found there;

@@ -5,17 +5,19 @@ use Rattle.std.specs.Prelude.{◌⊎◌, ◌==◌, slice_get, if◌then◌else�
 use Rattle.std.specs.List.{AllByRecursion}
 use Rattle.std.proofs.lemmas.Bool.{cases_lt}
 use Rattle.std.proofs.lemmas.Option.{same_Some, slice_get_within}
-use Rattle.std.proofs.lemmas.List.{length-map, length-replicate}
+use Rattle.std.proofs.lemmas.List.{length-replicate}
 use Rattle.std.proofs.lemmas.List.Elements.{recursion_from_All}
-use Rattle.bb_memory_pool_machine.specs.PoolMachine.{PoolScene, PoolState, PoolMove, IsHolder, IsDetached, pool_step}
-use Rattle.bb_memory_pool_machine.specs.PoolMachine.{opening_state, left_by, Free, HeldBy, PoolStep, Try, TryAt, Takes}
+use Rattle.bb_memory_pool_machine.specs.PoolMachine.{PoolScene, PoolState, PoolMove, IsHolder, IsDetached, IsTaken, pool_step}
+use Rattle.bb_memory_pool_machine.specs.PoolMachine.{opening_state, left_by, Flag, Free, HeldBy, DetachedBy, PoolStep, Try, TryAt}
+use Rattle.bb_memory_pool_machine.specs.PoolMachine.{Takes}
 use Rattle.bb_memory_pool_machine.specs.PoolLogs.{entry_of, PoolLog, PoolEntry, pool_history, is_by, entries_by, history_of}
 use Rattle.bb_memory_pool_machine.specs.PoolLogs.{log_of, AllAllowed, CommonInterleaving, HasLog, IsHeldAfter, Interleaving}
-use Rattle.bb_memory_pool_machine.specs.PoolLogs.{IsAllowed, held_after, IsDetachedAfter, LogsAgree, is_taken}
+use Rattle.bb_memory_pool_machine.specs.PoolLogs.{IsAllowed, held_after, IsDetachedIn, LogsAgree, MayBeFound, is_taken}
 use Rattle.bb_memory_pool_machine.proofs.PoolSteps.{StepKind, takes, takes_at, loses, is_refused, gives, misses, detaches}
-use Rattle.bb_memory_pool_machine.proofs.PoolSteps.{attaches, passes, kind_of, calls-step, length-left_by, test_apart}
-use Rattle.bb_memory_pool_machine.proofs.PoolFlags.{free_from_flag, taken_from_flag, flag_from_taken}
-use Rattle.bb_memory_pool_machine.proofs.PoolHolders.{is_holder, step_holds, nobody_holds, holder_in_log, same_holder}
+use Rattle.bb_memory_pool_machine.proofs.PoolSteps.{attaches, gives_detached, passes, kind_of, calls-step, length-left_by}
+use Rattle.bb_memory_pool_machine.proofs.PoolSteps.{test_apart}
+use Rattle.bb_memory_pool_machine.proofs.PoolFlags.{names_made}
+use Rattle.bb_memory_pool_machine.proofs.PoolHolders.{is_holder, step_holds, nobody_holds, holder_in_log}
 use Rattle.bb_memory_pool_machine.proofs.PoolDetached.{none_detached_alone, none_detached_at_opening, none_held_at_opening}
 use Rattle.bb_memory_pool_machine.proofs.PoolDetached.{none_taken_at_opening}
 
@@ -43,6 +45,7 @@ module _ (state : PoolState) (party : ℕ) (absent : IsAbsent state party) where
   another_steps step move (is_refused other bucket next taken last) allowed = there other next.pass next.there
   another_steps step move (misses other bucket idle taken) allowed = there other None idle
   another_steps step move (attaches other bucket idle detached) allowed = there other None idle
+  another_steps step move (gives_detached other bucket idle detached) allowed = there other None idle
   another_steps step move (gives other bucket held) allowed = holds other bucket held
   another_steps step move (detaches other bucket held others) allowed = holds other bucket held
   another_steps step move (passes other) allowed = absurd allowed
@@ -87,6 +90,8 @@ first_kind scene step move (is_refused party bucket next taken last) allowed = a
 first_kind scene step move (gives party bucket taken) allowed = absurd (none_held_at_opening scene bucket party taken)
 first_kind scene step move (detaches party bucket taken others) allowed = absurd (none_held_at_opening scene bucket party taken)
 first_kind scene step move (attaches party bucket idle detached) allowed = absurd (none_detached_at_opening scene bucket detached)
+first_kind scene step move (gives_detached party bucket idle detached) allowed =
+    absurd (none_detached_at_opening scene bucket detached)
 first_kind scene step move (passes other) allowed = absurd allowed
 
 -- where all steps are allowed, the first takes a bucket
@@ -99,36 +104,19 @@ first_takes scene step steps allowed =
 
 -- WHAT FLAGS AND LOGS SAY OF EACH OTHER
 
-log_there : (logs : List PoolLog) (party : ℕ) → party < length logs → (log : PoolLog) × HasLog logs party log
-log_there [] party below = absurd (omega arith)
-log_there (log ∷ logs) zero below = (log, refl)
-log_there (log ∷ logs) (suc party) below = log_there logs party (omega arith)
+module _ (scene : PoolScene) (flags : List Flag) (logs : List PoolLog) (bucket : ℕ) (agree : LogsAgree scene flags logs) where
+  -- the flags are those of the machine
+  pub machine_flag : (flag : Flag) → slice_get flags bucket ≡ Some flag →
+      slice_get (left_by scene agree.steps).flags bucket ≡ Some flag
+  machine_flag flag is = ap (λ (all : List Flag). slice_get all bucket) agree.leaves ∙ is
 
-module _ (scene : PoolScene) (flags : List Bool) (logs : List PoolLog) (party : ℕ) (log : PoolLog) (bucket : ℕ)
-    (agree : LogsAgree scene flags logs) (at : HasLog logs party log) where
-  -- a party whose log holds a bucket is its holder
-  pub holder_from_log : IsHeldAfter log bucket → IsHolder (left_by scene agree.steps) bucket party
-  holder_from_log holds = (holder_in_log scene agree.steps party bucket).1
-      (subst (λ (l : PoolLog). IsHeldAfter l bucket) (sym (agree.each party log at)) holds)
+  -- one that isn't free is taken
+  pub machine_taken : (flag : Flag) → is_taken flag ≡ true → slice_get flags bucket ≡ Some flag →
+      IsTaken (left_by scene agree.steps) bucket
+  machine_taken Free taken is = absurd (cc)
+  machine_taken (HeldBy party) taken is = inl (party, machine_flag (HeldBy party) is)
+  machine_taken (DetachedBy party) taken is = inr (party, machine_flag (DetachedBy party) is)
 
-  pub free_not_held : slice_get flags bucket ≡ Some false → ¬ IsHeldAfter log bucket
-  free_not_held free holds =
-      let is_free = free_from_flag (left_by scene agree.steps) flags bucket agree.leaves free in
-      let same = same_Some Free (HeldBy party) (sym is_free ∙ holder_from_log holds) in absurd (cc)
-
-  pub held_is_taken : IsHeldAfter log bucket → slice_get flags bucket ≡ Some true
-  held_is_taken holds =
-      flag_from_taken (left_by scene agree.steps) flags bucket agree.leaves (inl (party, holder_from_log holds))
-
-pub logs_apart : (scene : PoolScene) (flags : List Bool) (logs : List PoolLog) (party : ℕ) (log : PoolLog) (other : ℕ)
-    (other_log : PoolLog) (bucket : ℕ) → LogsAgree scene flags logs → HasLog logs party log →
-    HasLog logs other other_log → IsHeldAfter log bucket → IsHeldAfter other_log bucket → party ≡ other
-logs_apart scene flags logs party log other other_log bucket agree at other_at holds other_holds =
-    let one = holder_from_log scene flags logs party log bucket agree at holds in
-    let two = holder_from_log scene flags logs other other_log bucket agree other_at other_holds in
-    same_holder (left_by scene agree.steps) bucket party other one two
-
-module _ (scene : PoolScene) (flags : List Bool) (logs : List PoolLog) (bucket : ℕ) (agree : LogsAgree scene flags logs) where
   -- the log of a bucket's holder holds it, and the holder was made
   holder_made : (party : ℕ) → IsHolder (left_by scene agree.steps) bucket party →
       (party < scene.parties) × IsHeldAfter (log_of scene agree.steps party) bucket
@@ -143,11 +131,11 @@ module _ (scene : PoolScene) (flags : List Bool) (logs : List PoolLog) (bucket :
 
   -- where each party's log is in the list, a bucket that is taken is held after one of them, or is detached
   pub taken_is_held_whole : ((party : ℕ) → party < scene.parties → (log : PoolLog) × HasLog logs party log) →
-      slice_get flags bucket ≡ Some true →
+      IsTaken (left_by scene agree.steps) bucket →
       ((party : ℕ) × (log : PoolLog) × (party < scene.parties) × HasLog logs party log × IsHeldAfter log bucket)
       ⊎ IsDetached (left_by scene agree.steps) bucket
   taken_is_held_whole each taken =
-      elim (taken_from_flag (left_by scene agree.steps) flags bucket agree.leaves taken) [
+      elim taken [
         | inr detached ↦ inr detached
         | inl held ↦
             let made = holder_made held.0 held.1 in
@@ -156,20 +144,42 @@ module _ (scene : PoolScene) (flags : List Bool) (logs : List PoolLog) (bucket :
             inl (held.0, own.0, made.0, own.1, holds)
       ]
 
-  -- where each party that was made has its log in the list, a bucket is detached where flags and logs say so
-  pub detached_from_logs : length logs ≡ scene.parties → IsDetachedAfter flags logs bucket →
-      IsDetached (left_by scene agree.steps) bucket
-  detached_from_logs all moving =
-      elim (taken_is_held_whole (λ party there. log_there logs party (omega arith)) moving.taken) [
-        | inr detached ↦ detached
-        | inl held ↦ absurd (moving.no_holder held.0 held.1 held.3 held.4)
-      ]
+-- a party's log holds a bucket exactly where the flag names the party
+module _ (scene : PoolScene) (flags : List Flag) (logs : List PoolLog) (party : ℕ) (log : PoolLog) (bucket : ℕ)
+    (agree : LogsAgree scene flags logs) (at : HasLog logs party log) where
+  pub named_from_log : IsHeldAfter log bucket → slice_get flags bucket ≡ Some (HeldBy party)
+  named_from_log holds = sym (ap (λ (all : List Flag). slice_get all bucket) agree.leaves)
+      ∙ (holder_in_log scene agree.steps party bucket).1
+      (subst (λ (l : PoolLog). IsHeldAfter l bucket) (sym (agree.each party log at)) holds)
 
-pub taken_is_held_alone : (scene : PoolScene) (flags : List Bool) (logs : List PoolLog) (log : PoolLog) (bucket : ℕ) →
-    LogsAgree scene flags logs → scene.parties ≡ 1 → HasLog logs 0 log →
-    slice_get flags bucket ≡ Some true → IsHeldAfter log bucket
-taken_is_held_alone scene flags logs log bucket agree one at taken =
-    elim (taken_from_flag (left_by scene agree.steps) flags bucket agree.leaves taken) [
+  pub log_from_named : slice_get flags bucket ≡ Some (HeldBy party) → IsHeldAfter log bucket
+  log_from_named named = subst (λ (l : PoolLog). IsHeldAfter l bucket) (agree.each party log at)
+      ((holder_in_log scene agree.steps party bucket).0
+      (machine_flag scene flags logs bucket agree (HeldBy party) named))
+
+  pub free_not_held : slice_get flags bucket ≡ Some Free → ¬ IsHeldAfter log bucket
+  free_not_held free holds = let same = same_Some Free (HeldBy party) (sym free ∙ named_from_log holds) in absurd (cc)
+
+  pub detached_not_held : IsDetachedIn flags bucket → ¬ IsHeldAfter log bucket
+  detached_not_held (sender, detached) holds =
+      let same = same_Some (DetachedBy sender) (HeldBy party) (sym detached ∙ named_from_log holds) in absurd (cc)
+
+  pub held_not_detached : IsHeldAfter log bucket → ¬ IsDetachedIn flags bucket
+  held_not_detached holds detached = detached_not_held detached holds
+
+pub logs_apart : (scene : PoolScene) (flags : List Flag) (logs : List PoolLog) (party : ℕ) (log : PoolLog) (other : ℕ)
+    (other_log : PoolLog) (bucket : ℕ) → LogsAgree scene flags logs → HasLog logs party log →
+    HasLog logs other other_log → IsHeldAfter log bucket → IsHeldAfter other_log bucket → party ≡ other
+logs_apart scene flags logs party log other other_log bucket agree at other_at holds other_holds =
+    let one = named_from_log scene flags logs party log bucket agree at holds in
+    let two = named_from_log scene flags logs other other_log bucket agree other_at other_holds in
+    let same = same_Some (HeldBy party) (HeldBy other) (sym one ∙ two) in cc
+
+pub taken_is_held_alone : (scene : PoolScene) (flags : List Flag) (logs : List PoolLog) (log : PoolLog) (bucket : ℕ) →
+    LogsAgree scene flags logs → scene.parties ≡ 1 → HasLog logs 0 log → (flag : Flag) → is_taken flag ≡ true →
+    slice_get flags bucket ≡ Some flag → IsHeldAfter log bucket
+taken_is_held_alone scene flags logs log bucket agree one at flag taken is =
+    elim (machine_taken scene flags logs bucket agree flag taken is) [
       | inr detached ↦ absurd (none_detached_alone scene agree.steps bucket one detached)
       | inl held ↦
           let made = holder_made scene flags logs bucket agree held.0 held.1 in
@@ -177,22 +187,33 @@ taken_is_held_alone scene flags logs log bucket agree one at taken =
           subst (λ (l : PoolLog). IsHeldAfter l bucket) (ap (log_of scene agree.steps) first ∙ agree.each 0 log at) made.1
     ]
 
-pub length-flags : (scene : PoolScene) (flags : List Bool) (logs : List PoolLog) →
+-- a bucket's flag may be found so
+pub may_be_found : (scene : PoolScene) (flags : List Flag) (logs : List PoolLog) (bucket : ℕ) → LogsAgree scene flags logs →
+    (flag : Flag) → slice_get flags bucket ≡ Some flag → MayBeFound scene bucket flag
+may_be_found scene flags logs bucket agree flag is =
+    let there = machine_flag scene flags logs bucket agree flag is in
+    record {
+      steps = agree.steps;
+      allowed = agree.allowed;
+      there = there;
+      made = names_made scene agree.steps bucket flag there;
+    }
+
+pub length-flags : (scene : PoolScene) (flags : List Flag) (logs : List PoolLog) →
     LogsAgree scene flags logs → length flags ≡ scene.geometry.buckets
 length-flags scene flags logs agree =
-    ap (λ (f : List Bool). length f) (sym agree.leaves) ∙ length-map (left_by scene agree.steps).flags is_taken
-    ∙ length-left_by scene agree.steps
+    ap (λ (f : List Flag). length f) (sym agree.leaves) ∙ length-left_by scene agree.steps
 
 -- INTERLEAVINGS
 
 -- the steps with which the logs agree are an interleaving of each log with others
-pub interleaved_log : (scene : PoolScene) (flags : List Bool) (logs : List PoolLog) (party : ℕ) (log : PoolLog) →
+pub interleaved_log : (scene : PoolScene) (flags : List Flag) (logs : List PoolLog) (party : ℕ) (log : PoolLog) →
     LogsAgree scene flags logs → HasLog logs party log → Interleaving scene party log
 interleaved_log scene flags logs party log agree at =
     record { steps = agree.steps; allowed = agree.allowed; logged = agree.each party log at }
 
 -- and of both of two
-pub interleaved_logs : (scene : PoolScene) (flags : List Bool) (logs : List PoolLog) (party : ℕ) (log : PoolLog)
+pub interleaved_logs : (scene : PoolScene) (flags : List Flag) (logs : List PoolLog) (party : ℕ) (log : PoolLog)
     (other : ℕ) (other_log : PoolLog) → LogsAgree scene flags logs → HasLog logs party log →
     HasLog logs other other_log → CommonInterleaving scene party log other other_log
 interleaved_logs scene flags logs party log other other_log agree at other_at = record {

@@ -1,6 +1,6 @@
 -- The takings and returns of a pool machine are a run of the pool object.
 use Rattle.std.proofs.Common.{◌≡◌, ◌≢◌, ℕ, zero, suc, ◌<◌, ◌↔◌, List, [], ◌∷◌, ◌++◌, length, refl, sym, ap, ◌∙◌, subst}
-use Rattle.std.proofs.Common.{arith, Option, Some, None, inl, inr}
+use Rattle.std.proofs.Common.{arith, Bool, true, Option, Some, None, inl, inr}
 use Rattle.std.specs.Prelude.{take, drop, slice_get, slice_set, remove, if◌then◌else◌}
 use Rattle.std.specs.List.{AllByRecursion}
 use Rattle.std.proofs.lemmas.Bool.{cases_eq}
@@ -13,8 +13,8 @@ use Rattle.bb_memory_traits.specs.Object.{IsRun}
 use Rattle.bb_memory_traits.specs.PoolObject.{PoolGeometry, bucket_place, IsPoolGeometry, IsAt, IsHeld, IsWithin}
 use Rattle.bb_memory_traits.specs.PoolObject.{MayGive, chunk_in}
 use Rattle.bb_memory_pool_machine.specs.PoolMachine.{PoolScene, PoolState, PoolMove, IsFlag, IsHolder, IsTaken, pool_step}
-use Rattle.bb_memory_pool_machine.specs.PoolMachine.{pool_after, opening_state, left_by, Flag, Free, HeldBy, Detached, PoolStep}
-use Rattle.bb_memory_pool_machine.specs.PoolMachine.{PoolOutcome}
+use Rattle.bb_memory_pool_machine.specs.PoolMachine.{pool_after, opening_state, left_by, Flag, Free, HeldBy, DetachedBy}
+use Rattle.bb_memory_pool_machine.specs.PoolMachine.{PoolStep, PoolOutcome}
 use Rattle.bb_memory_pool_machine.specs.PoolLogs.{PoolLog, PoolEntry, history_of, pool_history, outcomes_of, is_taken, IsCallRun}
 use Rattle.bb_memory_pool_machine.specs.PoolLogs.{PoolCall, AreAsked, IsPoolRun}
 use Rattle.bb_memory_lists.proofs.SliceGets.{replicated-figure, slice_get-same, slice_get-set_apart, slice_get-set_at}
@@ -23,7 +23,7 @@ use Rattle.bb_memory_traits.proofs.PoolGeometries.{bucket_place-apart}
 use Rattle.bb_memory_traits.proofs.PoolLists.{AreInBuckets, AreInBuckets-empty, AreInBuckets-push, AreInBuckets-remove}
 use Rattle.bb_memory_traits.proofs.PoolLists.{sound_from_buckets, count_at, count_at-push_same, count_at-push_other}
 use Rattle.bb_memory_traits.proofs.PoolLists.{count_at-remove_same, count_at-remove_other, at_from_count, count_from_at}
-use Rattle.bb_memory_pool_machine.proofs.PoolSteps.{StepKind, takes, takes_at, gives, kind_of, detaches, attaches}
+use Rattle.bb_memory_pool_machine.proofs.PoolSteps.{StepKind, takes, takes_at, gives, kind_of, detaches, attaches, gives_detached}
 
 -- STATES AND LISTS
 
@@ -34,7 +34,7 @@ taken_weight None = 0
 weight_of_taken : (state : PoolState) (bucket : ℕ) → IsTaken state bucket → taken_weight (slice_get state.flags bucket) ≡ 1
 weight_of_taken state bucket taken = elim taken [
   | inl held ↦ ap taken_weight held.1
-  | inr detached ↦ ap taken_weight detached
+  | inr detached ↦ ap taken_weight detached.1
 ]
 
 -- the list has one chunk in each bucket whose flag is taken, and no other
@@ -103,15 +103,17 @@ module _ (geometry : PoolGeometry) (is : IsPoolGeometry geometry) where
       (λ b apart. count_at-push_other (bucket_place geometry b) live chunk (bucket_place-apart geometry is bucket b apart))
       (AreInBuckets-push geometry live layout bucket may matches.buckets)
 
-  -- one that a party holds is free again, and its chunk is taken out
-  flag_freed : (state : PoolState) (live : List Chunk) (bucket party position : ℕ) →
-      Matches geometry state.flags live → IsHolder state bucket party → position < length live →
+  -- one that is taken is free again, and its chunk is taken out
+  flag_freed : (state : PoolState) (live : List Chunk) (bucket position : ℕ) (before : Flag) →
+      Matches geometry state.flags live → IsFlag state bucket before → is_taken before ≡ true → position < length live →
       IsAt live position (bucket_place geometry bucket) →
       Matches geometry (slice_set state.flags bucket Free) (remove live position)
-  flag_freed state live bucket party position matches held within at =
+  flag_freed state live bucket position before matches there taken within at =
       let place : ℕ = bucket_place geometry bucket in
-      flag_set state.flags live (remove live position) bucket (HeldBy party) Free matches held
-      (λ one. omega (arith, one, count_at-remove_same place position live at))
+      flag_set state.flags live (remove live position) bucket before Free matches there
+      (λ weight.
+      let one = weight ∙ ap (λ (b : Bool). if b then 1 else 0) taken in
+      omega (arith, one, count_at-remove_same place position live at))
       (λ b apart. count_at-remove_other (bucket_place geometry b) place position live at
       (bucket_place-apart geometry is bucket b apart))
       (AreInBuckets-remove geometry live position within matches.buckets)
@@ -132,6 +134,10 @@ module _ (geometry : PoolGeometry) (is : IsPoolGeometry geometry) where
       let there : IsHeld geometry live bucket = held_from_flag old live bucket matches (inl (party, held)) in
       let within_live = slice_get_within live there.0 there.1.chunk there.1.there in
       (remove live there.0, (there.0, there.1, record { within = within_live; leaves = refl }))
+  step_calls old live layout step move (gives_detached party bucket idle detached) matches within =
+      let there : IsHeld geometry live bucket = held_from_flag old live bucket matches (inr detached) in
+      let within_live = slice_get_within live there.0 there.1.chunk there.1.there in
+      (remove live there.0, (there.0, there.1, record { within = within_live; leaves = refl }))
   step_calls old live layout step move _ matches within = (live, refl)
 
   -- whichever such call it is, the list has again a chunk in each bucket that is taken
@@ -146,15 +152,18 @@ module _ (geometry : PoolGeometry) (is : IsPoolGeometry geometry) where
       (flag_taken old live layout party bucket matches call.answers.1.within free)
   step_matches old live new layout step move (gives party bucket held) matches (position, at, released) =
       subst (Matches geometry move.state.flags) (sym released.leaves)
-      (flag_freed old live bucket party position matches held released.within at)
+      (flag_freed old live bucket position (HeldBy party) matches held refl released.within at)
   step_matches old live new layout step move (detaches party bucket held others) matches call =
       subst (Matches geometry move.state.flags) (sym call)
-      (flag_set old.flags live live bucket (HeldBy party) Detached matches held
+      (flag_set old.flags live live bucket (HeldBy party) (DetachedBy party) matches held
       (λ one. one) (λ b apart. refl) matches.buckets)
-  step_matches old live new layout step move (attaches party bucket idle detached) matches call =
+  step_matches old live new layout step move (attaches party bucket idle (sender, detached)) matches call =
       subst (Matches geometry move.state.flags) (sym call)
-      (flag_set old.flags live live bucket Detached (HeldBy party) matches detached
+      (flag_set old.flags live live bucket (DetachedBy sender) (HeldBy party) matches detached
       (λ one. one) (λ b apart. refl) matches.buckets)
+  step_matches old live new layout step move (gives_detached party bucket idle (sender, detached)) matches (position, at, released) =
+      subst (Matches geometry move.state.flags) (sym released.leaves)
+      (flag_freed old live bucket position (DetachedBy sender) matches detached refl released.within at)
   step_matches old live new layout step move _ matches call = subst (Matches geometry old.flags) (sym call) matches
 
   -- LISTS OF STEPS
@@ -212,7 +221,7 @@ taken_from_weight : (state : PoolState) (bucket : ℕ) (found : Option Flag) →
 taken_from_weight state bucket None there some = absurd (omega arith)
 taken_from_weight state bucket (Some Free) there some = absurd (omega arith)
 taken_from_weight state bucket (Some (HeldBy party)) there some = inl (party, there)
-taken_from_weight state bucket (Some Detached) there some = inr there
+taken_from_weight state bucket (Some (DetachedBy sender)) there some = inr (sender, there)
 
 pub taken_is_held : (scene : PoolScene) (steps : List PoolStep) (layouts : List Layout)
     (live : List Chunk) (bucket : ℕ) → IsPoolGeometry scene.geometry → IsPoolRun scene steps layouts live →

@@ -7,9 +7,9 @@ use Rattle.std.proofs.lemmas.List.{length-set, length-replicate}
 use Rattle.bb_memory_pool_machine.specs.PoolMachine.{PoolScene, opening_state, left_by, move_of, PoolState, PoolMove, with_pass}
 use Rattle.bb_memory_pool_machine.specs.PoolMachine.{IsFlag, IsHolder, IsDetached, IsTaken, detaching, detach_flag, attaching}
 use Rattle.bb_memory_pool_machine.specs.PoolMachine.{attach_flag, attach, taking, return_of, passed, try_flag, try_next}
-use Rattle.bb_memory_pool_machine.specs.PoolMachine.{give_flag, try_at, try_one, pool_step, pool_after, Flag, Free, HeldBy}
-use Rattle.bb_memory_pool_machine.specs.PoolMachine.{Detached, PoolStep, Try, GiveBack, TryAt, Detach, Attach, Loses}
-use Rattle.bb_memory_pool_machine.specs.PoolMachine.{RefusedAtLoss, Misses}
+use Rattle.bb_memory_pool_machine.specs.PoolMachine.{give_flag, try_at, try_one, give_detached, give_detached_flag, pool_step}
+use Rattle.bb_memory_pool_machine.specs.PoolMachine.{pool_after, Flag, Free, HeldBy, DetachedBy, PoolStep, Try, GiveBack, TryAt}
+use Rattle.bb_memory_pool_machine.specs.PoolMachine.{Detach, Attach, GiveBackDetached, Loses, RefusedAtLoss, Misses}
 
 -- the party's pass is at this bucket, or begins there
 pub record IsNext (state : PoolState) (party bucket : ℕ) : Type 0 where
@@ -39,9 +39,11 @@ pub data StepKind (state : PoolState) : PoolStep → PoolMove → Type 0 where
   misses : (party bucket : ℕ) → IsIdle state party → IsTaken state bucket →
       StepKind state (TryAt party bucket) (move_of (Misses bucket) state)
   detaches : (party bucket : ℕ) → IsHolder state bucket party → 1 < length state.calls →
-      StepKind state (Detach party bucket) (detaching state bucket)
+      StepKind state (Detach party bucket) (detaching state party bucket)
   attaches : (party bucket : ℕ) → IsIdle state party → IsDetached state bucket →
       StepKind state (Attach party bucket) (attaching state party bucket)
+  gives_detached : (party bucket : ℕ) → IsIdle state party → IsDetached state bucket →
+      StepKind state (GiveBackDetached party bucket) (return_of state bucket)
   passes : (step : PoolStep) → StepKind state step (passed state)
 
 -- TESTS
@@ -68,7 +70,8 @@ module _ (state : PoolState) (party bucket : ℕ) where
   kind_of_exchange (Some Free) next is = takes party bucket next is
   kind_of_exchange (Some (HeldBy holder)) next is =
       kind_of_loss (nat_lt (bucket + 1) (length state.flags)) refl next (inl (holder, is))
-  kind_of_exchange (Some Detached) next is = kind_of_loss (nat_lt (bucket + 1) (length state.flags)) refl next (inr is)
+  kind_of_exchange (Some (DetachedBy sender)) next is =
+      kind_of_loss (nat_lt (bucket + 1) (length state.flags)) refl next (inr (sender, is))
 
   own_flag : (holder : ℕ) → (holder == party) ≡ true → IsHolder state bucket holder → IsHolder state bucket party
   own_flag holder test held = held ∙ ap (λ (h : ℕ). Some (HeldBy h)) (eqb-true holder party test)
@@ -88,7 +91,7 @@ module _ (state : PoolState) (party bucket : ℕ) where
   kind_of_one None idle is = passes (TryAt party bucket)
   kind_of_one (Some Free) idle is = takes_at party bucket idle is
   kind_of_one (Some (HeldBy holder)) idle is = misses party bucket idle (inl (holder, is))
-  kind_of_one (Some Detached) idle is = misses party bucket idle (inr is)
+  kind_of_one (Some (DetachedBy sender)) idle is = misses party bucket idle (inr (sender, is))
 
   kind_of_try_at : (found : Option (Option ℕ)) → slice_get state.calls party ≡ found →
       StepKind state (TryAt party bucket) (try_at state party bucket found)
@@ -97,7 +100,7 @@ module _ (state : PoolState) (party bucket : ℕ) where
 
   kind_of_detach_of : (holder : ℕ) (same others : Bool) → (holder == party) ≡ same → nat_lt 1 (length state.calls) ≡ others →
       IsHolder state bucket holder → StepKind state (Detach party bucket)
-      (if same then (if others then detaching state bucket else passed state) else passed state)
+      (if same then (if others then detaching state party bucket else passed state) else passed state)
   kind_of_detach_of holder true true test more held =
       detaches party bucket (own_flag holder test held) (ltb-true 1 (length state.calls) more)
   kind_of_detach_of holder true false test more held = passes (Detach party bucket)
@@ -111,13 +114,23 @@ module _ (state : PoolState) (party bucket : ℕ) where
 
   kind_of_attach_flag : (found : Option Flag) → IsIdle state party → slice_get state.flags bucket ≡ found →
       StepKind state (Attach party bucket) (attach_flag state party bucket found)
-  kind_of_attach_flag (Some Detached) idle is = attaches party bucket idle is
+  kind_of_attach_flag (Some (DetachedBy sender)) idle is = attaches party bucket idle (sender, is)
   kind_of_attach_flag _ idle is = passes (Attach party bucket)
 
   kind_of_attach : (found : Option (Option ℕ)) → slice_get state.calls party ≡ found →
       StepKind state (Attach party bucket) (attach state party bucket found)
   kind_of_attach (Some None) is = kind_of_attach_flag (slice_get state.flags bucket) is refl
   kind_of_attach _ is = passes (Attach party bucket)
+
+  kind_of_give_detached_flag : (found : Option Flag) → IsIdle state party → slice_get state.flags bucket ≡ found →
+      StepKind state (GiveBackDetached party bucket) (give_detached_flag state bucket found)
+  kind_of_give_detached_flag (Some (DetachedBy sender)) idle is = gives_detached party bucket idle (sender, is)
+  kind_of_give_detached_flag _ idle is = passes (GiveBackDetached party bucket)
+
+  kind_of_give_detached : (found : Option (Option ℕ)) → slice_get state.calls party ≡ found →
+      StepKind state (GiveBackDetached party bucket) (give_detached state bucket found)
+  kind_of_give_detached (Some None) is = kind_of_give_detached_flag (slice_get state.flags bucket) is refl
+  kind_of_give_detached _ is = passes (GiveBackDetached party bucket)
 
 kind_of_try : (state : PoolState) (party : ℕ) (found : Option (Option ℕ)) → slice_get state.calls party ≡ found →
     StepKind state (Try party) (try_next state party found)
@@ -133,6 +146,7 @@ kind_of state (GiveBack party bucket) = kind_of_give state party bucket (slice_g
 kind_of state (TryAt party bucket) = kind_of_try_at state party bucket (slice_get state.calls party) refl
 kind_of state (Detach party bucket) = kind_of_detach state party bucket (slice_get state.flags bucket) refl
 kind_of state (Attach party bucket) = kind_of_attach state party bucket (slice_get state.calls party) refl
+kind_of state (GiveBackDetached party bucket) = kind_of_give_detached state party bucket (slice_get state.calls party) refl
 
 -- HOW MANY FLAGS THERE ARE
 
@@ -141,8 +155,9 @@ pub length-step : (state : PoolState) (step : PoolStep) (move : PoolMove) → St
 length-step state step move (takes party bucket next free) = length-set state.flags bucket (HeldBy party)
 length-step state step move (takes_at party bucket idle free) = length-set state.flags bucket (HeldBy party)
 length-step state step move (gives party bucket held) = length-set state.flags bucket Free
-length-step state step move (detaches party bucket held others) = length-set state.flags bucket Detached
+length-step state step move (detaches party bucket held others) = length-set state.flags bucket (DetachedBy party)
 length-step state step move (attaches party bucket idle detached) = length-set state.flags bucket (HeldBy party)
+length-step state step move (gives_detached party bucket idle detached) = length-set state.flags bucket Free
 length-step state step move _ = refl
 
 -- steps leave as many flags as there were

@@ -2,8 +2,9 @@
 use Rattle.std.specs.Prelude.{ℕ, ◌==◌, Bool, List, [], ◌∷◌, filter, map, ◌+◌, ◌≡◌, true, false, nat_lt, if◌then◌else◌, ◌++◌}
 use Rattle.std.specs.Prelude.{Option, Some, None, All, Any, fold, slice_get, slice_set, unwrap_or, ◌<◌, ◌≤◌, Ok, length, take}
 use Rattle.bb_memory_pool_machine.specs.PoolMachine.{PoolScene, PoolState, opening_state, pool_step, PoolStep, Try, GiveBack}
-use Rattle.bb_memory_pool_machine.specs.PoolMachine.{TryAt, Detach, Attach, PoolOutcome, left_by, Flag, Free, Takes, Loses}
-use Rattle.bb_memory_pool_machine.specs.PoolMachine.{RefusedAtLoss, Gives, Passed, Detaches, Attaches, IsInCall, Misses}
+use Rattle.bb_memory_pool_machine.specs.PoolMachine.{TryAt, Detach, Attach, GiveBackDetached, PoolOutcome, left_by, Flag, Free}
+use Rattle.bb_memory_pool_machine.specs.PoolMachine.{DetachedBy, Takes, Loses, RefusedAtLoss, Gives, Passed, Detaches, Attaches}
+use Rattle.bb_memory_pool_machine.specs.PoolMachine.{IsFlag, IsInCall, Misses, NamesMade}
 use Rattle.bb_memory_traits.specs.Chunk.{Chunk}
 use Rattle.bb_memory_traits.specs.declared.layout.Layout.{Layout}
 use Rattle.bb_memory_traits.specs.Object.{Allocates, Releases, IsRun}
@@ -40,6 +41,7 @@ is_by party (GiveBack other bucket) = other == party
 is_by party (TryAt other bucket) = other == party
 is_by party (Detach other bucket) = other == party
 is_by party (Attach other bucket) = other == party
+is_by party (GiveBackDetached other bucket) = other == party
 
 -- a party's own entries of a history, in order
 abbrev pub entries_by : ℕ → PoolLog → PoolLog
@@ -89,9 +91,6 @@ abbrev pub is_taken : Flag → Bool
 is_taken Free = false
 is_taken _ = true
 
-abbrev pub taken_flags : PoolState → List Bool
-taken_flags state = map is_taken state.flags
-
 abbrev pub IsAllowed : PoolOutcome → Type 0
 IsAllowed Passed = ⊥
 IsAllowed _ = Unit {0}
@@ -103,16 +102,22 @@ abbrev pub HasLog : List PoolLog → ℕ → PoolLog → Type 0
 HasLog logs party log = slice_get logs party ≡ Some log
 
 -- some list of steps, each allowed, leaves these flags, and has as each party's own steps exactly its log, in order
-pub record LogsAgree (scene : PoolScene) (flags : List Bool) (logs : List PoolLog) : Type 0 where
+pub record LogsAgree (scene : PoolScene) (flags : List Flag) (logs : List PoolLog) : Type 0 where
   pub steps : List PoolStep
   pub allowed : AllAllowed (history_of scene steps)
-  pub leaves : taken_flags (left_by scene steps) ≡ flags
+  pub leaves : (left_by scene steps).flags ≡ flags
   pub each : (party : ℕ) (log : PoolLog) → HasLog logs party log → log_of scene steps party ≡ log
 
--- a bucket is detached, as flags and logs say it: its flag is taken, and it is held after no party's log
-pub record IsDetachedAfter (flags : List Bool) (logs : List PoolLog) (bucket : ℕ) : Type 0 where
-  pub taken : slice_get flags bucket ≡ Some true
-  pub no_holder : (party : ℕ) (log : PoolLog) → HasLog logs party log → ¬ IsHeldAfter log bucket
+-- some list of steps, each allowed, leaves the bucket's flag so, which names none but a party that was made
+pub record MayBeFound (scene : PoolScene) (bucket : ℕ) (flag : Flag) : Type 0 where
+  pub steps : List PoolStep
+  pub allowed : AllAllowed (history_of scene steps)
+  pub there : IsFlag (left_by scene steps) bucket flag
+  pub made : NamesMade scene.parties flag
+
+-- some party has detached the bucket, as these flags say
+abbrev pub IsDetachedIn : List Flag → ℕ → Type 0
+IsDetachedIn flags bucket = (sender : ℕ) × (slice_get flags bucket ≡ Some (DetachedBy sender))
 
 abbrev pub with_entry : List PoolLog → ℕ → PoolLog → PoolEntry → List PoolLog
 with_entry logs party log entry = slice_set logs party (log ++ entry ∷ [])

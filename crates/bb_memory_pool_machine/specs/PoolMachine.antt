@@ -1,15 +1,16 @@
 -- The pool machine: what any number of parties do to one flag a bucket, one atomic step at a time. Parties and buckets go by
 -- their numbers, from 0.
 use Rattle.std.specs.Prelude.{ℕ, ◌+◌, ◌≡◌, ◌==◌, nat_lt, List, [], ◌∷◌, length, Option, Some, None, if◌then◌else◌, slice_get}
-use Rattle.std.specs.Prelude.{slice_set, replicate, unwrap_or, ◌⊎◌}
+use Rattle.std.specs.Prelude.{slice_set, replicate, unwrap_or, ◌⊎◌, ◌<◌}
 use Rattle.bb_memory_traits.specs.PoolObject.{PoolGeometry}
 pub use Rattle.bb_memory_pool_machine.specs.declared.steps.pool.Flag.{Flag}
-pub use Rattle.bb_memory_pool_machine.specs.declared.steps.pool.Flag.TheVariants.{Detached, Free, HeldBy}
+pub use Rattle.bb_memory_pool_machine.specs.declared.steps.pool.Flag.TheVariants.{DetachedBy, Free, HeldBy}
 pub use Rattle.bb_memory_pool_machine.specs.declared.steps.pool.PoolOutcome.{PoolOutcome}
 pub use Rattle.bb_memory_pool_machine.specs.declared.steps.pool.PoolOutcome.TheVariants.{Attaches, Detaches, Gives, Loses, Misses}
 pub use Rattle.bb_memory_pool_machine.specs.declared.steps.pool.PoolOutcome.TheVariants.{Passed, RefusedAtLoss, Takes}
 pub use Rattle.bb_memory_pool_machine.specs.declared.steps.pool.PoolStep.{PoolStep}
-pub use Rattle.bb_memory_pool_machine.specs.declared.steps.pool.PoolStep.TheVariants.{Attach, Detach, GiveBack, Try, TryAt}
+pub use Rattle.bb_memory_pool_machine.specs.declared.steps.pool.PoolStep.TheVariants.{Attach, Detach, GiveBack, GiveBackDetached}
+pub use Rattle.bb_memory_pool_machine.specs.declared.steps.pool.PoolStep.TheVariants.{Try, TryAt}
 
 -- STATES
 
@@ -38,11 +39,17 @@ abbrev pub IsHolder : PoolState → ℕ → ℕ → Type 0
 IsHolder state bucket party = IsFlag state bucket (HeldBy party)
 
 abbrev pub IsDetached : PoolState → ℕ → Type 0
-IsDetached state bucket = IsFlag state bucket Detached
+IsDetached state bucket = (sender : ℕ) × IsFlag state bucket (DetachedBy sender)
 
 -- a flag is taken where some party holds the bucket, or the bucket is detached
 abbrev pub IsTaken : PoolState → ℕ → Type 0
 IsTaken state bucket = ((party : ℕ) × IsHolder state bucket party) ⊎ IsDetached state bucket
+
+-- the party that the flag names, if it names one, is one of so many
+abbrev pub NamesMade : ℕ → Flag → Type 0
+NamesMade parties Free = Unit {0}
+NamesMade parties (HeldBy party) = party < parties
+NamesMade parties (DetachedBy party) = party < parties
 
 -- who holds a bucket of which this is the flag, or None
 abbrev pub holder_in : Flag → Option ℕ
@@ -119,16 +126,16 @@ try_at state party bucket (Some None) = try_one state party bucket (slice_get st
 try_at state party bucket _ = passed state
 
 -- the holder detaches the bucket, whose flag stays taken
-abbrev pub detaching : PoolState → ℕ → PoolMove
-detaching state bucket = move_of (Detaches bucket) (with_flag state bucket Detached)
+abbrev pub detaching : PoolState → ℕ → ℕ → PoolMove
+detaching state party bucket = move_of (Detaches bucket) (with_flag state bucket (DetachedBy party))
 
 -- the holder may do so where there is another party to attach the bucket
-abbrev pub detach : PoolState → ℕ → PoolMove
-detach state bucket = if nat_lt 1 (length state.calls) then detaching state bucket else passed state
+abbrev pub detach : PoolState → ℕ → ℕ → PoolMove
+detach state party bucket = if nat_lt 1 (length state.calls) then detaching state party bucket else passed state
 
 -- a party detaches a bucket, of whose flag this is found, as only its holder may
 abbrev pub detach_flag : PoolState → ℕ → ℕ → Option Flag → PoolMove
-detach_flag state party bucket (Some (HeldBy holder)) = if holder == party then detach state bucket else passed state
+detach_flag state party bucket (Some (HeldBy holder)) = if holder == party then detach state party bucket else passed state
 detach_flag state party bucket _ = passed state
 
 -- the party attaches a detached bucket, and holds it then. The flag stays taken
@@ -137,7 +144,7 @@ attaching state party bucket = move_of (Attaches bucket) (with_flag state bucket
 
 -- a party attaches a bucket, of whose flag this is found, as it may where the bucket is detached
 abbrev pub attach_flag : PoolState → ℕ → ℕ → Option Flag → PoolMove
-attach_flag state party bucket (Some Detached) = attaching state party bucket
+attach_flag state party bucket (Some (DetachedBy sender)) = attaching state party bucket
 attach_flag state party bucket _ = passed state
 
 -- a party whose pass this is attaches a bucket, as it may where it is idle
@@ -145,12 +152,23 @@ abbrev pub attach : PoolState → ℕ → ℕ → Option (Option ℕ) → PoolMo
 attach state party bucket (Some None) = attach_flag state party bucket (slice_get state.flags bucket)
 attach state party bucket _ = passed state
 
+-- a detached bucket is given back, of whose flag this is found
+abbrev pub give_detached_flag : PoolState → ℕ → Option Flag → PoolMove
+give_detached_flag state bucket (Some (DetachedBy sender)) = return_of state bucket
+give_detached_flag state bucket _ = passed state
+
+-- a party whose pass this is gives back a detached bucket, as it may where it is idle
+abbrev pub give_detached : PoolState → ℕ → Option (Option ℕ) → PoolMove
+give_detached state bucket (Some None) = give_detached_flag state bucket (slice_get state.flags bucket)
+give_detached state bucket _ = passed state
+
 abbrev pub pool_step : PoolState → PoolStep → PoolMove
 pool_step state (Try party) = try_next state party (slice_get state.calls party)
 pool_step state (GiveBack party bucket) = give_flag state party bucket (slice_get state.flags bucket)
 pool_step state (TryAt party bucket) = try_at state party bucket (slice_get state.calls party)
 pool_step state (Detach party bucket) = detach_flag state party bucket (slice_get state.flags bucket)
 pool_step state (Attach party bucket) = attach state party bucket (slice_get state.calls party)
+pool_step state (GiveBackDetached party bucket) = give_detached state bucket (slice_get state.calls party)
 
 abbrev pub pool_after : PoolState → List PoolStep → PoolState
 pool_after state [] = state

@@ -215,6 +215,21 @@ module _ {S E : Type 0} (made : ℕ) (logs : List (List E)) (views : List (Seat 
       let within = total-at (standing number) views seat view at in
       let one = seated.once number below in omega arith
 
+-- a view more, which stands for no party
+pub seated_entered : {S E : Type 0} (made : ℕ) (logs : List (List E)) (views : List (Seat S E)) (view : Seat S E) →
+    HaveLogs made logs view.parties → ((number : ℕ) → times_in number view.parties ≡ 0) → AreSeated made logs views →
+    AreSeated made logs (views ++ view ∷ [])
+seated_entered {S = S} {E = E} made logs views view have none seated = record {
+  known = λ other found there. elim (at_snoc views view found other there) [
+    | inl before ↦ seated.known other found before
+    | inr last ↦ subst (λ (v : Seat S E). HaveLogs made logs v.parties) last have
+  ];
+  once = λ number below.
+      let pushed = total-push (standing number) views view in
+      let no_more = none number in
+      let one = seated.once number below in omega arith;
+}
+
 -- THE OPENING
 
 fresh_have : (E : Type 0) (made number count : ℕ) → number + count ≤ made →

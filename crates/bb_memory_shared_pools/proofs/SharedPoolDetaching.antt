@@ -1,121 +1,154 @@
--- Detaching and attaching a bucket keep words and logs in agreement.
-use Rattle.std.proofs.Common.{◌≡◌, ℕ, ◌<◌, None, List, [], ◌∷◌, ◌++◌, Bool, refl, sym, ◌∙◌, subst}
-use Rattle.std.proofs.lemmas.List.{set-get_or}
-use mathlib.Core.Option.{none}
-use Rattle.atomic_table.specs.Table.{Me, keeps, step, Allows}
+-- Detaching a bucket, attaching it and giving it back keep words and logs in agreement.
+use Rattle.std.proofs.Common.{◌≡◌, ℕ, ◌<◌, None, List, [], ◌∷◌, ◌++◌, refl, sym, subst, ◌∙◌}
+use Rattle.std.specs.Prelude.{slice_set}
+use mathlib.Core.Option.{none, some}
+use lib.ListN.{get_elem?}
+use Rattle.atomic_table.specs.Table.{State, Me, keeps, step, Allows}
 use Rattle.bb_memory_pool_machine.specs.PoolMachine.{PoolScene}
+use Rattle.bb_memory_pool_machine.specs.declared.steps.pool.Flag.{Flag}
+use Rattle.bb_memory_pool_machine.specs.declared.steps.pool.Flag.TheVariants.{Free, HeldBy, DetachedBy}
 use Rattle.bb_memory_pool_machine.specs.PoolLogs.{PoolEntry, PoolLog, entry_of, HasLog, Interleaving, IsHeldAfter}
-use Rattle.bb_memory_pool_machine.specs.PoolLogs.{IsDetachedAfter, LogsAgree, pass_in, with_entry}
-use Rattle.bb_memory_pool_machine.specs.declared.steps.pool.PoolStep.TheVariants.{Detach, Attach}
-use Rattle.bb_memory_pool_machine.specs.declared.steps.pool.PoolOutcome.TheVariants.{Detaches, Attaches}
-use Rattle.bb_memory_pool_machine.proofs.PoolLogFacts.{interleaved_log}
-use Rattle.bb_memory_pool_machine.proofs.PoolLogSteps.{detach_agrees, detached_after, attach_agrees}
+use Rattle.bb_memory_pool_machine.specs.PoolLogs.{IsDetachedIn, LogsAgree, pass_after, pass_in, with_entry}
+use Rattle.bb_memory_pool_machine.specs.declared.steps.pool.PoolStep.TheVariants.{Detach, Attach, GiveBackDetached}
+use Rattle.bb_memory_pool_machine.specs.declared.steps.pool.PoolOutcome.TheVariants.{Detaches, Attaches, Gives}
+use Rattle.bb_memory_pool_machine.proofs.PoolLogFacts.{detached_not_held, held_not_detached, interleaved_log, named_from_log}
+use Rattle.bb_memory_pool_machine.proofs.PoolLogSteps.{detach_agrees, attach_agrees, give_detached_agrees}
 use Rattle.bb_memory_lists.proofs.SliceGets.{length-set_at, slice_get-set_same}
-use Rattle.bb_memory_shared_pools.specs.SharedPoolRule.{word_of, SeatView, WordsAndLogsAgree}
-use Rattle.bb_memory_shared_pools.specs.SharedPoolRule.{HasGained, TellsDetach, detaches, attaches}
+use Rattle.bb_memory_shared_pools.specs.SharedPoolRule.{as_word, bucket_of, word_of, SeatView, WordsAndLogsAgree}
+use Rattle.bb_memory_shared_pools.specs.SharedPoolRule.{HasGained, TellsDetach, detaches, attaches, returns_detached}
 use Rattle.bb_memory_seats.specs.Seats.{alone, alone_with, number_of, view_log}
-use Rattle.bb_memory_shared_pools.specs.SharedPool.{attach_entry}
-use Rattle.bb_memory_shared_pools.proofs.FlagWords.{at_word}
+use Rattle.bb_memory_shared_pools.specs.SharedPool.{attach_entry, return_detached_entry}
+use Rattle.bb_memory_shared_pools.proofs.FlagWords.{at_word, changed}
 use Rattle.bb_memory_seats.proofs.Seatings.{seated_with}
-use Rattle.bb_memory_shared_pools.proofs.SharedPoolDetached.{no_hold_left, no_hold_other, still_detached, fewer_detached_one}
-use Rattle.bb_memory_shared_pools.proofs.SharedPoolDetached.{more_detached, detached_of_seat}
+use Rattle.bb_memory_shared_pools.proofs.SharedPoolDetached.{fewer_detached_one, more_detached, detached_of_seat}
 use Rattle.bb_memory_shared_pools.proofs.SharedPoolTries.{idle_after_one}
 
 -- what a longer log is interleaved with
-longer_interleaved : (scene : PoolScene) (flags : List Bool) (logs : List PoolLog) (party : ℕ) (log : PoolLog)
+longer_interleaved : (scene : PoolScene) (flags : List Flag) (logs : List PoolLog) (party : ℕ) (log : PoolLog)
     (entry : PoolEntry) → HasLog logs party log → LogsAgree scene flags (with_entry logs party log entry) →
     Interleaving scene party (log ++ entry ∷ [])
 longer_interleaved scene flags logs party log entry at agree =
     interleaved_log scene flags (with_entry logs party log entry) party (log ++ entry ∷ []) agree
     (slice_get-set_same logs party (log ++ entry ∷ []) log at)
 
+-- A store of a word at a bucket, by one party, which tells this of the bucket of the word.
+module _ (scene : PoolScene) (slots seat word bucket stored new : ℕ) (old me : Me ℕ SeatView)
+    (tells : Me ℕ SeatView → ℕ → Me ℕ SeatView → Type 0) (there : word ≡ word_of bucket) (is : me ≡ old)
+    (named : new ≡ stored)
+  where
+    stores_as : Allows (WordsAndLogsAgree scene) slots seat old (word_of bucket) (λ _. stored) (λ _. tells old bucket) →
+        Allows (WordsAndLogsAgree scene) slots seat me word (λ _. new) (λ _. tells me (bucket_of word))
+    stores_as allowed =
+        at_word (WordsAndLogsAgree scene) slots seat bucket word me (λ _. new) (λ b _. tells me b) there
+        (subst (λ (m : Me ℕ SeatView). Allows (WordsAndLogsAgree scene) slots seat m (word_of bucket) (λ _. new)
+        (λ _. tells m bucket)) (sym is)
+        (subst (λ (w : ℕ). Allows (WordsAndLogsAgree scene) slots seat old (word_of bucket) (λ _. w) (λ _. tells old bucket))
+        (sym named) allowed))
+
 -- DETACHING
 
 detaches_one : (scene : PoolScene) (slots seat party bucket : ℕ) (log : PoolLog) → 1 < scene.parties → IsHeldAfter log bucket →
-    Allows (WordsAndLogsAgree scene) slots seat (alone scene party log, []) (word_of bucket) (λ found. found)
+    Allows (WordsAndLogsAgree scene) slots seat (alone scene party log, []) (word_of bucket) (λ _. as_word (DetachedBy party))
     (λ _. TellsDetach scene party log bucket)
 detaches_one scene slots seat party bucket log others held state rule homes at fits =
     let old : SeatView = alone scene party log in
     let mine = rule.seated.known seat old at in
     let entry : PoolEntry = entry_of (Detach party bucket) (Detaches bucket) in
     let longer : PoolLog = log ++ entry ∷ [] in
+    let flags : List Flag = slice_set rule.flags bucket (DetachedBy party) in
     let logs : List PoolLog = with_entry rule.logs party log entry in
     let new : SeatView = alone_with scene party longer bucket in
-    let agree = detach_agrees scene rule.flags rule.logs party log bucket rule.agree others mine.1 held in
-    let now = detached_after scene rule.flags rule.logs party log bucket rule.agree others mine.1 held in (
+    let agree = detach_agrees scene rule.flags rule.logs party log bucket rule.agree mine.0 mine.1 others held in
+    let named = named_from_log scene rule.flags rule.logs party log bucket rule.agree mine.1 held in
+    let not_yet = held_not_detached scene rule.flags rule.logs party log bucket rule.agree mine.1 held in (
       new,
       keeps,
       tt,
       record {
-        flags = rule.flags;
+        flags = flags;
         logs = logs;
         agree = agree;
-        words = set-get_or state.words (word_of bucket) 0 ∙ rule.words;
+        words = changed state.words rule.flags bucket (DetachedBy party) rule.words;
         one_a_party = length-set_at rule.logs party longer ∙ rule.one_a_party;
         seated = seated_with scene.parties rule.logs state.views seat scene party log longer [] (bucket ∷ []) rule.seated at;
-        detached = more_detached rule.flags rule.logs logs state.views seat bucket old new refl refl at
-            (λ moving. moving.no_holder party log mine.1 held) rule.detached now
-            (λ b moving. still_detached rule.flags rule.flags rule.logs party log entry b mine.1 (no_hold_left bucket b) refl
-            moving);
+        detached = more_detached rule.flags state.views seat bucket party old new (HeldBy party) refl refl at named not_yet
+            rule.detached;
       },
-      record { is = refl; interleaved = longer_interleaved scene rule.flags rule.logs party log entry mine.1 agree },
+      record { is = refl; interleaved = longer_interleaved scene flags rule.logs party log entry mine.1 agree },
     )
 
 -- a seat of one party, which isn't the only one, may detach a bucket that is held after its log
-pub detaches_as : (scene : PoolScene) (slots seat word party bucket : ℕ) (log : PoolLog) (me : Me ℕ SeatView) →
-    word ≡ word_of bucket → me ≡ (alone scene party log, []) → 1 < scene.parties → IsHeldAfter log bucket →
-    Allows (WordsAndLogsAgree scene) slots seat me word (λ found. found) (detaches (step slots word 0 0 none) me)
-detaches_as scene slots seat word party bucket log me there is others held =
-    at_word (WordsAndLogsAgree scene) slots seat bucket word me (λ found. found)
-    (λ b _. TellsDetach me.0.scene (number_of me.0) (view_log me.0) b) there
-    (subst (λ (m : Me ℕ SeatView). Allows (WordsAndLogsAgree scene) slots seat m (word_of bucket) (λ found. found)
-    (λ _. TellsDetach m.0.scene (number_of m.0) (view_log m.0) bucket)) (sym is)
-    (detaches_one scene slots seat party bucket log others held))
+pub detaches_as : (scene : PoolScene) (slots seat word party bucket new : ℕ) (log : PoolLog) (me : Me ℕ SeatView) →
+    word ≡ word_of bucket → me ≡ (alone scene party log, []) → new ≡ as_word (DetachedBy party) → 1 < scene.parties →
+    IsHeldAfter log bucket →
+    Allows (WordsAndLogsAgree scene) slots seat me word (λ _. new) (λ _. detaches (step slots word new 0 none) me new)
+detaches_as scene slots seat word party bucket new log me there is named others held =
+    stores_as scene slots seat word bucket (as_word (DetachedBy party)) new (alone scene party log, []) me
+    (λ m b. TellsDetach m.0.scene (number_of m.0) (view_log m.0) b) there is named
+    (detaches_one scene slots seat party bucket log others held)
 
--- ATTACHING
+-- ATTACHING, AND GIVING BACK
 
-attaches_one : (scene : PoolScene) (slots seat word party bucket : ℕ) (log : PoolLog) → pass_in log ≡ None →
-    Allows (WordsAndLogsAgree scene) slots seat (alone_with scene party log bucket, []) word (λ found. found)
-    (λ _. HasGained scene party log (attach_entry party bucket) bucket)
-attaches_one scene slots seat word party bucket log idle state rule homes at fits =
-    let old : SeatView = alone_with scene party log bucket in
-    let mine = rule.seated.known seat old at in
-    let entry : PoolEntry = entry_of (Attach party bucket) (Attaches bucket) in
-    let longer : PoolLog = log ++ entry ∷ [] in
-    let logs : List PoolLog = with_entry rule.logs party log entry in
-    let new : SeatView = alone scene party longer in
-    let moving : IsDetachedAfter rule.flags rule.logs bucket =
-    detached_of_seat rule.flags rule.logs state.views seat bucket old refl at rule.detached in
-    let agree =
-    attach_agrees scene rule.flags rule.logs party log bucket rule.agree rule.one_a_party mine.0 mine.1 idle moving in (
-      new,
-      keeps,
-      tt,
-      record {
-        flags = rule.flags;
-        logs = logs;
-        agree = agree;
-        words = set-get_or state.words word 0 ∙ rule.words;
-        one_a_party = length-set_at rule.logs party longer ∙ rule.one_a_party;
-        seated = seated_with scene.parties rule.logs state.views seat scene party log longer (bucket ∷ []) [] rule.seated at;
-        detached = fewer_detached_one rule.flags rule.logs logs state.views seat bucket old new refl refl at rule.detached
-            (λ b apart other. still_detached rule.flags rule.flags rule.logs party log entry b mine.1
-            (no_hold_other bucket b apart) refl other);
-      },
-      record {
-        ended = record {
-          seat = record { is = refl; interleaved = longer_interleaved scene rule.flags rule.logs party log entry mine.1 agree };
-          idle = idle_after_one log entry idle refl;
-        };
-        free = moving.no_holder party log mine.1;
-      },
-    )
+-- A step of a party at whose seat the bucket is detached, and whose flag then is another.
+module _ (scene : PoolScene) (slots seat party bucket : ℕ) (log : PoolLog) (entry : PoolEntry) (flag : Flag)
+    (idle : pass_in log ≡ None) (stays_idle : pass_after None entry.outcome ≡ None)
+    (agrees : (flags : List Flag) (logs : List PoolLog) → LogsAgree scene flags logs → party < scene.parties →
+    HasLog logs party log → IsDetachedIn flags bucket →
+    LogsAgree scene (slice_set flags bucket flag) (with_entry logs party log entry))
+  where
+    ends_one : Allows (WordsAndLogsAgree scene) slots seat (alone_with scene party log bucket, []) (word_of bucket)
+        (λ _. as_word flag) (λ _. HasGained scene party log (entry ∷ []) bucket)
+    ends_one state rule homes at fits =
+        let old : SeatView = alone_with scene party log bucket in
+        let mine = rule.seated.known seat old at in
+        let longer : PoolLog = log ++ entry ∷ [] in
+        let flags : List Flag = slice_set rule.flags bucket flag in
+        let logs : List PoolLog = with_entry rule.logs party log entry in
+        let new : SeatView = alone scene party longer in
+        let moving : IsDetachedIn rule.flags bucket =
+        detached_of_seat rule.flags state.views seat bucket old refl at rule.detached in
+        let agree = agrees rule.flags rule.logs rule.agree mine.0 mine.1 moving in (
+          new,
+          keeps,
+          tt,
+          record {
+            flags = flags;
+            logs = logs;
+            agree = agree;
+            words = changed state.words rule.flags bucket flag rule.words;
+            one_a_party = length-set_at rule.logs party longer ∙ rule.one_a_party;
+            seated =
+                seated_with scene.parties rule.logs state.views seat scene party log longer (bucket ∷ []) [] rule.seated at;
+            detached = fewer_detached_one rule.flags state.views seat bucket old new flag refl refl at rule.detached;
+          },
+          record {
+            ended = record {
+              seat = record { is = refl; interleaved = longer_interleaved scene flags rule.logs party log entry mine.1 agree };
+              idle = idle_after_one log entry idle stays_idle;
+            };
+            free = detached_not_held scene rule.flags rule.logs party log bucket rule.agree mine.1 moving;
+          },
+        )
 
--- a seat of one idle party may attach the bucket that is detached there
-pub attaches_as : (scene : PoolScene) (slots seat word party bucket : ℕ) (log : PoolLog) (me : Me ℕ SeatView) →
-    me ≡ (alone_with scene party log bucket, []) → pass_in log ≡ None →
-    Allows (WordsAndLogsAgree scene) slots seat me word (λ found. found) (attaches (step slots word 0 0 none) me)
-attaches_as scene slots seat word party bucket log me is idle =
-    subst (λ (m : Me ℕ SeatView). Allows (WordsAndLogsAgree scene) slots seat m word (λ found. found)
-    (attaches (step slots word 0 0 none) m)) (sym is)
-    (attaches_one scene slots seat word party bucket log idle)
+-- a seat of one idle party may attach the bucket that is detached there, and may give it back
+module _ (scene : PoolScene) (slots seat word party bucket new : ℕ) (log : PoolLog) (me : Me ℕ SeatView)
+    (there : word ≡ word_of bucket) (is : me ≡ (alone_with scene party log bucket, [])) (idle : pass_in log ≡ None)
+  where
+    pub attaches_as : new ≡ as_word (HeldBy party) →
+        Allows (WordsAndLogsAgree scene) slots seat me word (λ _. new) (λ _. attaches (step slots word new 0 none) me new)
+    attaches_as named =
+        let entry : PoolEntry = entry_of (Attach party bucket) (Attaches bucket) in
+        stores_as scene slots seat word bucket (as_word (HeldBy party)) new (alone_with scene party log bucket, []) me
+        (λ m b. HasGained m.0.scene (number_of m.0) (view_log m.0) (attach_entry (number_of m.0) b) b) there is named
+        (ends_one scene slots seat party bucket log entry (HeldBy party) idle refl (λ flags logs agree made at moving.
+        attach_agrees scene flags logs party log bucket agree made at idle moving))
+
+    pub returns_detached_as : new ≡ 0 →
+        Allows (WordsAndLogsAgree scene) slots seat me word (λ _. new)
+        (λ _. returns_detached (step slots word new 0 none) me new)
+    returns_detached_as named =
+        let entry : PoolEntry = entry_of (GiveBackDetached party bucket) (Gives bucket) in
+        stores_as scene slots seat word bucket 0 new (alone_with scene party log bucket, []) me
+        (λ m b. HasGained m.0.scene (number_of m.0) (view_log m.0) (return_detached_entry (number_of m.0) b) b) there is named
+        (ends_one scene slots seat party bucket log entry Free idle refl (λ flags logs agree made at moving.
+        give_detached_agrees scene flags logs party log bucket agree made at idle moving))

@@ -1,16 +1,18 @@
 -- Parties that come to one seat, and what their meeting says of their logs.
 use Rattle.std.proofs.Common.{◌≡◌, ℕ, replicate, ◌≤◌, List, [], ◌∷◌, ◌++◌, Some, length, refl, sym, ap, ◌∙◌, subst, arith, inl}
-use Rattle.std.proofs.Common.{inr, true, false}
+use Rattle.std.proofs.Common.{inr, Bool, true}
 use Rattle.std.specs.Prelude.{All, Contains, map, slice_get}
 use Rattle.std.proofs.lemmas.Option.{same_Some}
 use Rattle.std.proofs.lemmas.List.{length-map, length-replicate, map-append}
 use Rattle.std.proofs.lemmas.List.Elements.{All-contains, All-from_recursion, All-nil, All-replicate}
 use Rattle.atomic_table.specs.Seated.{TableId}
 use Rattle.atomic_table.specs.Table.{Me}
-use Rattle.bb_memory_pool_machine.specs.PoolMachine.{PoolScene, left_by}
-use Rattle.bb_memory_pool_machine.specs.PoolLogs.{PoolLog, HasLog, IsHeldAfter}
-use Rattle.bb_memory_pool_machine.proofs.PoolFlags.{flag_from_taken}
-use Rattle.bb_memory_pool_machine.proofs.PoolLogFacts.{held_is_taken, taken_is_held_whole}
+use Rattle.bb_memory_pool_machine.specs.PoolMachine.{PoolScene, PoolState, left_by}
+use Rattle.bb_memory_pool_machine.specs.declared.steps.pool.Flag.{Flag}
+use Rattle.bb_memory_pool_machine.specs.declared.steps.pool.Flag.TheVariants.{Free, HeldBy}
+use Rattle.bb_memory_pool_machine.specs.PoolLogs.{PoolLog, HasLog, IsHeldAfter, is_taken}
+use Rattle.bb_memory_pool_machine.proofs.PoolFlags.{flag_from_taken, taken_from_flag}
+use Rattle.bb_memory_pool_machine.proofs.PoolLogFacts.{machine_flag, named_from_log, taken_is_held_whole}
 use Rattle.bb_memory_pool_machine.proofs.PoolLogSteps.{opening_agrees}
 use Rattle.bb_memory_seats.specs.Seats.{times_in}
 use Rattle.bb_memory_shared_pools.specs.declared.shared_pool.party.Hint.{Hint}
@@ -61,16 +63,30 @@ module _ (scene : PoolScene) (items : List PoolParty) (told : TellsMeeting scene
       any_contained (λ (p : PoolParty). IsHeldAfter p.log bucket) items one.one one.there
       (subst (λ (l : PoolLog). IsHeldAfter l bucket) (sym same) held)
 
+  -- the flags, each taken or not
+  abbrev state : PoolState
+  state = left_by scene told.agree.steps
+
+  abbrev taken_flags : List Bool
+  taken_flags = map is_taken told.flags
+
+  same_flags : map is_taken state.flags ≡ taken_flags
+  same_flags = ap (λ (flags : List Flag). map is_taken flags) told.agree.leaves
+
   -- what one of them holds is taken
-  one_taken : (bucket : ℕ) (one : IsHeldByOne items bucket) → slice_get told.flags bucket ≡ Some true
+  one_taken : (bucket : ℕ) (one : IsHeldByOne items bucket) → slice_get taken_flags bucket ≡ Some true
   one_taken bucket one =
       let own = subst (λ (p : PoolParty). HasLog told.logs p.number p.log) one.3 (had one.0 one.1 one.2) in
-      held_is_taken scene told.flags told.logs one.1.number one.1.log bucket told.agree own one.4
+      let named = named_from_log scene told.flags told.logs one.1.number one.1.log bucket told.agree own one.4 in
+      flag_from_taken state taken_flags bucket same_flags
+      (inl (one.1.number, machine_flag scene told.flags told.logs bucket told.agree (HeldBy one.1.number) named))
 
   pub agrees : HaveMet scene items
   agrees = (
-    told.flags,
+    taken_flags,
     record {
+      named = told.flags;
+      taken = refl;
       logs = told.logs;
       agree = told.agree;
       one_a_party = told.one_a_party;
@@ -82,14 +98,14 @@ module _ (scene : PoolScene) (items : List PoolParty) (told : TellsMeeting scene
             λ number below. has_number numbered_of items number (there number below),
             λ bucket. (
               λ taken. elim (taken_is_held_whole scene told.flags told.logs bucket told.agree
-                  (λ number below. its_log number (there number below)) taken) [
+                  (λ number below. its_log number (there number below))
+                  (taken_from_flag state taken_flags bucket same_flags taken)) [
                     | inl holder ↦ inl (its_bucket holder.0 holder.1 bucket (there holder.0 holder.2) holder.3 holder.4)
                     | inr detached ↦ inr detached
                   ],
               λ out. elim out [
                 | inl one ↦ one_taken bucket one
-                | inr detached ↦
-                    flag_from_taken (left_by scene told.agree.steps) told.flags bucket told.agree.leaves (inr detached)
+                | inr detached ↦ flag_from_taken state taken_flags bucket same_flags (inr detached)
               ],
             ),
           );
@@ -101,8 +117,10 @@ pub none_met : (scene : PoolScene) (items : List PoolParty) → IsSharedScene sc
 none_met scene items shared none =
     let logs : List PoolLog = replicate scene.parties [] in
     subst (HaveMet scene) (sym none) (
-      replicate scene.geometry.buckets false,
+      map is_taken (replicate scene.geometry.buckets Free),
       record {
+        named = replicate scene.geometry.buckets Free;
+        taken = refl;
         logs = logs;
         agree = opening_agrees scene logs (All-replicate (λ (log : PoolLog). log ≡ []) scene.parties [] refl);
         one_a_party = length-replicate scene.parties [];

@@ -1,73 +1,54 @@
 -- Each atomic step keeps words and logs in agreement.
-use Rattle.std.proofs.Common.{◌≡◌, ◌≢◌, ℕ, zero, suc, ◌<◌, List, [], ◌∷◌, ◌++◌, length, set, Bool, true, false, None, Some, eqb}
-use Rattle.std.proofs.Common.{refl, sym, ◌∙◌, subst, arith, suc-ne-zero}
+use Rattle.std.proofs.Common.{◌≡◌, ◌≢◌, ℕ, zero, suc, ◌<◌, ◌↔◌, List, [], ◌∷◌, ◌++◌, length, set, true, None, Some}
+use Rattle.std.proofs.Common.{get_or, refl, sym, ap, ◌∙◌, subst, arith}
 use Rattle.std.specs.Prelude.{slice_get, slice_set}
+use Rattle.std.proofs.lemmas.Option.{same_Some}
 use mathlib.Core.Option.{none, some}
 use lib.ListN.{get_elem?}
-use prog.Atomic.{either}
-use Rattle.atomic_table.specs.Table.{State, Me, Act, keeps, step, stepped, carried_after, Valid, Allows}
+use Rattle.atomic_table.specs.Table.{State, Me, Act, keeps, step, stepped, carried_after, Valid, Allows, Enters}
 use Rattle.bb_memory_pool_machine.specs.PoolMachine.{PoolScene}
-use Rattle.bb_memory_pool_machine.specs.PoolLogs.{PoolEntry, PoolLog, entry_of, HasLog, IsHeldAfter, IsDetachedAfter, LogsAgree}
-use Rattle.bb_memory_pool_machine.specs.PoolLogs.{Interleaving, held_after, loss_at, next_bucket, pass_in, with_entry}
+use Rattle.bb_memory_pool_machine.specs.declared.steps.pool.Flag.{Flag}
+use Rattle.bb_memory_pool_machine.specs.declared.steps.pool.Flag.TheVariants.{Free, HeldBy, DetachedBy}
+use Rattle.bb_memory_pool_machine.specs.PoolLogs.{PoolEntry, PoolLog, entry_of, HasLog, IsHeldAfter, IsDetachedIn, LogsAgree}
+use Rattle.bb_memory_pool_machine.specs.PoolLogs.{MayBeFound, is_taken, loss_at, next_bucket, pass_in, with_entry}
 use Rattle.bb_memory_pool_machine.specs.declared.steps.pool.PoolStep.TheVariants.{Try, GiveBack, TryAt}
 use Rattle.bb_memory_pool_machine.specs.declared.steps.pool.PoolOutcome.TheVariants.{Takes, Gives, Misses}
 use Rattle.bb_memory_pool_machine.proofs.PoolLogSteps.{give_agrees, lose_agrees, miss_agrees, take_agrees, take_at_agrees}
-use Rattle.bb_memory_pool_machine.proofs.PoolLogFacts.{free_not_held, taken_is_held_alone, length-flags, interleaved_log}
+use Rattle.bb_memory_pool_machine.proofs.PoolLogFacts.{free_not_held, held_not_detached, log_from_named, named_from_log}
+use Rattle.bb_memory_pool_machine.proofs.PoolLogFacts.{taken_is_held_alone, length-flags, interleaved_log, may_be_found}
 use Rattle.bb_memory_lists.proofs.SliceGets.{slice_get-set_same, length-set_at}
-use Rattle.bb_memory_shared_pools.specs.SharedPoolRule.{as_word, bucket_of, word_of, words_of, IsSeatOf, SeatView}
-use Rattle.bb_memory_shared_pools.specs.SharedPoolRule.{WordsAndLogsAgree, HasMissedAt, TellsLookAt, TellsReturn, TellsTry}
-use Rattle.bb_memory_shared_pools.specs.SharedPoolRule.{TellsTryAt, Telling, at_flag, returns, tells_of}
-use Rattle.bb_memory_seats.specs.Seats.{alone, number_of, view_log}
-use Rattle.bb_memory_shared_pools.proofs.FlagWords.{at_word, changed, found_in, taken_again}
-use Rattle.bb_memory_seats.proofs.Seatings.{seated_step}
-use Rattle.bb_memory_shared_pools.proofs.SharedPoolDetached.{flag_elsewhere, no_hold_left, no_hold_loss, no_hold_other}
-use Rattle.bb_memory_shared_pools.proofs.SharedPoolDetached.{still_detached, detached_kept, detached_not_free, detached_not_held}
+use Rattle.bb_memory_shared_pools.specs.SharedPoolRule.{as_word, bucket_of, word_of, words_of, IsSeatOf, SeatView, finds}
+use Rattle.bb_memory_shared_pools.specs.SharedPoolRule.{WordsAndLogsAgree, HasMissedAt, TellsHeld, TellsLookAt, TellsReturn}
+use Rattle.bb_memory_shared_pools.specs.SharedPoolRule.{TellsTry, TellsTryAt, Telling, all_parties, at_flag, returns, tells_of}
+use Rattle.bb_memory_seats.specs.Seats.{alone, number_of, standing_for, view_log}
+use Rattle.bb_memory_shared_pools.proofs.FlagWords.{at_word, changed, exchange_leaves, exchanged, found_in, made_again, taken_word}
+use Rattle.bb_memory_shared_pools.proofs.FlagWords.{word_names}
+use Rattle.bb_memory_seats.proofs.Seatings.{seated_entered, seated_step}
+use Rattle.bb_memory_shared_pools.proofs.SharedPoolDetached.{detached_entered, detached_kept, free_not_detached, still_detached}
 use Rattle.bb_memory_shared_pools.proofs.SharedPoolMeetings.{unchanged}
 use Rattle.bb_memory_shared_pools.proofs.SharedPoolTries.{idle_after_one}
 
 -- FLAGS
 
-some_at : (flags : List Bool) (i : ℕ) → i < length flags → (flag : Bool) × (slice_get flags i ≡ Some flag)
+some_at : (flags : List Flag) (i : ℕ) → i < length flags → (flag : Flag) × (slice_get flags i ≡ Some flag)
 some_at [] i below = absurd (omega arith)
 some_at (flag ∷ flags) zero below = (flag, refl)
 some_at (flag ∷ flags) (suc i) below = some_at flags i (omega arith)
 
+-- each bucket has one
+flag_at : (scene : PoolScene) (state : State ℕ SeatView) (rule : WordsAndLogsAgree scene state) (bucket : ℕ) →
+    bucket < scene.geometry.buckets → (flag : Flag) × (slice_get rule.flags bucket ≡ Some flag)
+flag_at scene state rule bucket below =
+    let count = length-flags scene rule.flags rule.logs rule.agree in some_at rule.flags bucket (omega arith)
+
 -- ONE STEP
-
--- what is detached stays so where a party takes a free bucket
-kept_at_taking : (flags : List Bool) (logs : List PoolLog) (party : ℕ) (log : PoolLog) (entry : PoolEntry) (bucket : ℕ) →
-    HasLog logs party log → slice_get flags bucket ≡ Some false →
-    ((b : ℕ) → bucket ≢ b → held_after b false entry.outcome ≡ false) → (b : ℕ) → IsDetachedAfter flags logs b →
-    IsDetachedAfter (slice_set flags bucket true) (with_entry logs party log entry) b
-kept_at_taking flags logs party log entry bucket at free no_hold b moving =
-    let apart = detached_not_free flags logs bucket b free moving in
-    still_detached flags (slice_set flags bucket true) logs party log entry b at (no_hold b apart)
-    (flag_elsewhere flags bucket b true apart) moving
-
--- where it finds a bucket taken
-kept_at_loss : (flags : List Bool) (logs : List PoolLog) (party : ℕ) (log : PoolLog) (entry : PoolEntry) →
-    HasLog logs party log → ((b : ℕ) → held_after b false entry.outcome ≡ false) → (b : ℕ) → IsDetachedAfter flags logs b →
-    IsDetachedAfter flags (with_entry logs party log entry) b
-kept_at_loss flags logs party log entry at no_hold b moving =
-    still_detached flags flags logs party log entry b at (no_hold b) refl moving
-
--- and where it gives back one that it holds
-kept_at_return : (flags : List Bool) (logs : List PoolLog) (party : ℕ) (log : PoolLog) (entry : PoolEntry) (bucket : ℕ) →
-    HasLog logs party log → IsHeldAfter log bucket →
-    ((b : ℕ) → held_after b false entry.outcome ≡ false) → (b : ℕ) → IsDetachedAfter flags logs b →
-    IsDetachedAfter (slice_set flags bucket false) (with_entry logs party log entry) b
-kept_at_return flags logs party log entry bucket at held no_hold b moving =
-    let apart = detached_not_held flags logs party log bucket b at held moving in
-    still_detached flags (slice_set flags bucket false) logs party log entry b at (no_hold b)
-    (flag_elsewhere flags bucket b false apart) moving
 
 -- the rule after a step of a party that stands alone in its seat
 entered : (scene : PoolScene) (state : State ℕ SeatView) (rule : WordsAndLogsAgree scene state) (seat party : ℕ)
-    (log : PoolLog) (entry : PoolEntry) (words : List ℕ) (flags : List Bool) →
+    (log : PoolLog) (entry : PoolEntry) (words : List ℕ) (flags : List Flag) →
     get_elem? state.views seat ≡ some (alone scene party log) →
     LogsAgree scene flags (with_entry rule.logs party log entry) →
-    words ≡ words_of flags →
-    ((b : ℕ) → IsDetachedAfter rule.flags rule.logs b → IsDetachedAfter flags (with_entry rule.logs party log entry) b) →
+    words ≡ words_of flags → ((b : ℕ) → IsDetachedIn rule.flags b → IsDetachedIn flags b) →
     WordsAndLogsAgree scene
     record { words = words; homes = state.homes; views = set state.views seat (alone scene party (log ++ entry ∷ [])) }
 entered scene state rule seat party log entry words flags at agree are keep =
@@ -79,12 +60,12 @@ entered scene state rule seat party log entry words flags at agree are keep =
       words = are;
       one_a_party = length-set_at rule.logs party longer ∙ rule.one_a_party;
       seated = seated_step scene.parties rule.logs state.views seat scene party log longer rule.seated at;
-      detached = detached_kept rule.flags flags rule.logs (with_entry rule.logs party log entry) state.views seat
-          (alone scene party log) (alone scene party longer) refl refl at rule.detached keep;
+      detached = detached_kept rule.flags flags state.views seat (alone scene party log) (alone scene party longer) refl refl at
+          rule.detached keep;
     }
 
 -- what it tells: the log is longer, and interleaved with others'
-told : (scene : PoolScene) (flags : List Bool) (logs : List PoolLog) (party : ℕ) (log : PoolLog) (entry : PoolEntry) →
+told : (scene : PoolScene) (flags : List Flag) (logs : List PoolLog) (party : ℕ) (log : PoolLog) (entry : PoolEntry) →
     HasLog logs party log → LogsAgree scene flags (with_entry logs party log entry) →
     IsSeatOf scene party (log ++ entry ∷ []) (alone scene party (log ++ entry ∷ []), [])
 told scene flags logs party log entry at agree = record {
@@ -104,63 +85,67 @@ Allowed becomes tells scene state seat bucket me found = (new : SeatView) × (ac
 -- A step of a party that stands alone in its seat, at the flag of a bucket.
 module _ (tells : Telling) (scene : PoolScene) (seat party bucket : ℕ) (log : PoolLog) where
   -- where the flag is so
-  abbrev AllowedAt : (ℕ → ℕ) → Bool → Type 0
+  abbrev AllowedAt : (ℕ → ℕ) → Flag → Type 0
   AllowedAt becomes flag = (state : State ℕ SeatView) (rule : WordsAndLogsAgree scene state) →
       get_elem? state.views seat ≡ some (alone scene party log) → slice_get rule.flags bucket ≡ Some flag →
       Allowed becomes tells scene state seat bucket (alone scene party log, []) (as_word flag)
 
-  -- where the flag is free, and becomes taken
-  takes_free : (entry : PoolEntry) → ((b : ℕ) → bucket ≢ b → held_after b false entry.outcome ≡ false) →
-      ((flags : List Bool) (logs : List PoolLog) → LogsAgree scene flags logs → party < scene.parties →
-      HasLog logs party log → slice_get flags bucket ≡ Some false →
-      LogsAgree scene (slice_set flags bucket true) (with_entry logs party log entry)) →
+  -- where the flag is free, and names the party then
+  takes_free : (entry : PoolEntry) →
+      ((flags : List Flag) (logs : List PoolLog) → LogsAgree scene flags logs → party < scene.parties →
+      HasLog logs party log → slice_get flags bucket ≡ Some Free →
+      LogsAgree scene (slice_set flags bucket (HeldBy party)) (with_entry logs party log entry)) →
       (IsSeatOf scene party (log ++ entry ∷ []) (alone scene party (log ++ entry ∷ []), []) →
       ¬ IsHeldAfter log bucket → tells scene party log bucket 0 (alone scene party (log ++ entry ∷ []), [])) →
-      AllowedAt (λ _. 1) false
-  takes_free entry no_other takes told_taking state rule at free =
+      AllowedAt (exchanged (as_word (HeldBy party))) Free
+  takes_free entry takes told_taking state rule at free =
       let mine = rule.seated.known seat (alone scene party log) at in
-      let flags : List Bool = slice_set rule.flags bucket true in
+      let flags : List Flag = slice_set rule.flags bucket (HeldBy party) in
       let agree = takes rule.flags rule.logs rule.agree mine.0 mine.1 free in (
         alone scene party (log ++ entry ∷ []),
         keeps,
         tt,
-        entered scene state rule seat party log entry (set state.words (word_of bucket) 1) flags at agree
-            (changed state.words rule.flags bucket true rule.words)
-            (kept_at_taking rule.flags rule.logs party log entry bucket mine.1 free no_other),
+        entered scene state rule seat party log entry (set state.words (word_of bucket) (as_word (HeldBy party))) flags at agree
+            (changed state.words rule.flags bucket (HeldBy party) rule.words)
+            (λ b. still_detached rule.flags bucket b (HeldBy party) (free_not_detached rule.flags bucket free)),
         told_taking (told scene flags rule.logs party log entry mine.1 agree)
             (free_not_held scene rule.flags rule.logs party log bucket rule.agree mine.1 free),
       )
 
   -- where the flag is taken, and stays so
-  loses_taken : (entry : PoolEntry) → ((b : ℕ) → held_after b false entry.outcome ≡ false) →
-      ((flags : List Bool) (logs : List PoolLog) → LogsAgree scene flags logs → party < scene.parties →
-      HasLog logs party log → slice_get flags bucket ≡ Some true → LogsAgree scene flags (with_entry logs party log entry)) →
+  loses_taken : (becomes : ℕ → ℕ) (flag : Flag) → is_taken flag ≡ true → becomes (as_word flag) ≡ as_word flag →
+      (entry : PoolEntry) →
+      ((flags : List Flag) (logs : List PoolLog) → LogsAgree scene flags logs → party < scene.parties →
+      HasLog logs party log → slice_get flags bucket ≡ Some flag → LogsAgree scene flags (with_entry logs party log entry)) →
       (IsSeatOf scene party (log ++ entry ∷ []) (alone scene party (log ++ entry ∷ []), []) →
       (scene.parties ≡ 1 → IsHeldAfter log bucket) →
-      tells scene party log bucket 1 (alone scene party (log ++ entry ∷ []), [])) →
-      AllowedAt (λ _. 1) true
-  loses_taken entry no_hold loses told_loss state rule at taken =
+      tells scene party log bucket (as_word flag) (alone scene party (log ++ entry ∷ []), [])) →
+      AllowedAt becomes flag
+  loses_taken becomes flag taken same entry loses told_loss state rule at there =
       let mine = rule.seated.known seat (alone scene party log) at in
       let made = mine.0 in
-      let agree = loses rule.flags rule.logs rule.agree made mine.1 taken in (
+      let agree = loses rule.flags rule.logs rule.agree made mine.1 there in (
         alone scene party (log ++ entry ∷ []),
         keeps,
         tt,
-        entered scene state rule seat party log entry (set state.words (word_of bucket) 1) rule.flags at agree
-            (taken_again state.words rule.flags bucket rule.words taken)
-            (kept_at_loss rule.flags rule.logs party log entry mine.1 no_hold),
+        entered scene state rule seat party log entry (set state.words (word_of bucket) (becomes (as_word flag))) rule.flags at
+            agree
+            (ap (λ (word : ℕ). set state.words (word_of bucket) word) same
+            ∙ made_again state.words rule.flags bucket flag rule.words there)
+            (λ b detached. detached),
         told_loss (told scene rule.flags rule.logs party log entry mine.1 agree) (λ one.
             let first : party ≡ 0 = omega (arith, made, one) in
             taken_is_held_alone scene rule.flags rule.logs log bucket rule.agree one
-            (subst (λ n. HasLog rule.logs n log) first mine.1) taken),
+            (subst (λ n. HasLog rule.logs n log) first mine.1) flag taken there),
       )
 
-  -- where the flag is free, and stays so
-  stays_free : (Interleaving scene party log → tells scene party log bucket 0 (alone scene party log, [])) →
-      AllowedAt (λ _. 0) false
-  stays_free told_nothing state rule at free =
+  -- a load that is in no log
+  stays : (flag : Flag) → ((flags : List Flag) (logs : List PoolLog) → LogsAgree scene flags logs → HasLog logs party log →
+      slice_get flags bucket ≡ Some flag → tells scene party log bucket (as_word flag) (alone scene party log, [])) →
+      AllowedAt (λ found. found) flag
+  stays flag told_so state rule at there =
       let mine = rule.seated.known seat (alone scene party log) at in
-      let found = found_in state.words rule.flags bucket false rule.words free in (
+      let found = found_in state.words rule.flags bucket flag rule.words there in (
         alone scene party log,
         keeps,
         tt,
@@ -169,27 +154,28 @@ module _ (tells : Telling) (scene : PoolScene) (seat party bucket : ℕ) (log : 
           homes = state.homes;
           views = set state.views seat (alone scene party log);
         }) found (unchanged scene state seat (word_of bucket) (alone scene party log) at rule),
-        told_nothing (interleaved_log scene rule.flags rule.logs party log rule.agree mine.1),
+        told_so rule.flags rule.logs rule.agree mine.1 there,
       )
 
--- A step may be made at a bucket that there is, where it may be made at a free flag and at a taken one.
+  -- a free flag and a taken one are all that there are
+  either_flag : (becomes : ℕ → ℕ) → AllowedAt becomes Free → ((flag : Flag) → is_taken flag ≡ true → AllowedAt becomes flag) →
+      (flag : Flag) → AllowedAt becomes flag
+  either_flag becomes free taken Free = free
+  either_flag becomes free taken (HeldBy holder) = taken (HeldBy holder) refl
+  either_flag becomes free taken (DetachedBy sender) = taken (DetachedBy sender) refl
+
+-- A step may be made at a bucket that there is, where it may be made at each flag.
 module _ (becomes : ℕ → ℕ) (tells : Telling) (scene : PoolScene) (slots seat word party bucket : ℕ) (log : PoolLog)
     (me : Me ℕ SeatView) (there : word ≡ word_of bucket) (is : me ≡ (alone scene party log, []))
-    (below : bucket < scene.geometry.buckets) (at_free : AllowedAt tells scene seat party bucket log becomes false)
-    (at_taken : AllowedAt tells scene seat party bucket log becomes true)
+    (below : bucket < scene.geometry.buckets) (at_flags : (flag : Flag) → AllowedAt tells scene seat party bucket log becomes flag)
   where
-    by_flag : (flag : Bool) → AllowedAt tells scene seat party bucket log becomes flag
-    by_flag false = at_free
-    by_flag true = at_taken
-
     at_bucket : Allows (WordsAndLogsAgree scene) slots seat (alone scene party log, []) (word_of bucket) becomes
         (tells_of tells (alone scene party log, []) bucket)
     at_bucket state rule homes at fits =
-        let count = length-flags scene rule.flags rule.logs rule.agree in
-        let flag = some_at rule.flags bucket (omega arith) in
+        let flag = flag_at scene state rule bucket below in
         let found = found_in state.words rule.flags bucket flag.0 rule.words flag.1 in
         subst (Allowed becomes tells scene state seat bucket (alone scene party log, [])) (sym found)
-        (by_flag flag.0 state rule at flag.1)
+        (at_flags flag.0 state rule at flag.1)
 
     steps_as : Allows (WordsAndLogsAgree scene) slots seat me word becomes (tells_of tells me (bucket_of word))
     steps_as = at_word (WordsAndLogsAgree scene) slots seat bucket word me becomes (tells_of tells me) there
@@ -198,18 +184,17 @@ module _ (becomes : ℕ → ℕ) (tells : Telling) (scene : PoolScene) (slots se
 
 -- EXCHANGES AND LOADS
 
-abbrev exchanged : ℕ → ℕ
-exchanged found = either (eqb found 0) 1 found
-
 -- an idle party misses a taken bucket, by an exchange or by a load
-misses_at : (tells : Telling) (scene : PoolScene) (seat party bucket : ℕ) (log : PoolLog) → pass_in log ≡ None →
-    ((new : Me ℕ SeatView) → HasMissedAt scene party log bucket new → tells scene party log bucket 1 new) →
-    AllowedAt tells scene seat party bucket log (λ _. 1) true
-misses_at tells scene seat party bucket log idle told_miss =
+misses_at : (tells : Telling) (scene : PoolScene) (seat party bucket : ℕ) (log : PoolLog) (becomes : ℕ → ℕ) →
+    pass_in log ≡ None → ((flag : Flag) → is_taken flag ≡ true → becomes (as_word flag) ≡ as_word flag) →
+    ((found : ℕ) (new : Me ℕ SeatView) → found ≢ 0 → HasMissedAt scene party log bucket new →
+    tells scene party log bucket found new) →
+    (flag : Flag) → is_taken flag ≡ true → AllowedAt tells scene seat party bucket log becomes flag
+misses_at tells scene seat party bucket log becomes idle leaves told_miss flag taken =
     let miss : PoolEntry = entry_of (TryAt party bucket) (Misses bucket) in
-    loses_taken tells scene seat party bucket log miss (λ b. refl)
-    (λ flags logs agree made at taken. miss_agrees scene flags logs party log bucket agree made at idle taken)
-    (λ new held. told_miss (alone scene party (log ++ miss ∷ []), [])
+    loses_taken tells scene seat party bucket log becomes flag taken (leaves flag taken) miss
+    (λ flags logs agree made at there. miss_agrees scene flags logs party log bucket agree made at idle flag taken there)
+    (λ new held. told_miss (as_word flag) (alone scene party (log ++ miss ∷ []), []) (taken_word flag taken)
     record { ended = record { seat = new; idle = idle_after_one log miss idle refl }; held = held })
 
 -- a seat of one party, and the word of a bucket
@@ -217,42 +202,106 @@ module _ (scene : PoolScene) (slots seat word party bucket : ℕ) (log : PoolLog
     (there : word ≡ word_of bucket) (is : me ≡ (alone scene party log, [])) (below : bucket < scene.geometry.buckets)
   where
     -- the party may try the bucket that is next
-    pub tries_as : next_bucket log ≡ bucket →
-        Allows (WordsAndLogsAgree scene) slots seat me word exchanged (at_flag TellsTry (step slots word 0 1 none) me)
-    tries_as next = steps_as exchanged TellsTry scene slots seat word party bucket log me there is below
-        (takes_free TellsTry scene seat party bucket log (entry_of (Try party) (Takes bucket)) (no_hold_other bucket)
+    tries : next_bucket log ≡ bucket → Allows (WordsAndLogsAgree scene) slots seat me word (exchanged (as_word (HeldBy party)))
+        (tells_of TellsTry me (bucket_of word))
+    tries next =
+        let own : ℕ = as_word (HeldBy party) in
+        let loss : PoolEntry = entry_of (Try party) (loss_at scene.geometry.buckets bucket) in
+        steps_as (exchanged own) TellsTry scene slots seat word party bucket log me there is below
+        (either_flag TellsTry scene seat party bucket log (exchanged own)
+        (takes_free TellsTry scene seat party bucket log (entry_of (Try party) (Takes bucket))
         (λ flags logs agree made at free. take_agrees scene flags logs party log bucket agree made at next free)
         (λ new free. (λ _. record { seat = new; free = free }, λ not_free. absurd (not_free refl))))
-        (loses_taken TellsTry scene seat party bucket log (entry_of (Try party) (loss_at scene.geometry.buckets bucket))
-        (no_hold_loss scene.geometry.buckets bucket)
-        (λ flags logs agree made at taken. lose_agrees scene flags logs party log bucket agree made at next taken)
-        (λ new held. (λ zero_found. absurd (suc-ne-zero zero zero_found), λ _. record { seat = new; held = held })))
+        (λ flag taken. loses_taken TellsTry scene seat party bucket log (exchanged own) flag taken
+        (exchange_leaves own flag taken) loss
+        (λ flags logs agree made at there. lose_agrees scene flags logs party log bucket agree made at next flag taken there)
+        (λ new held. (λ zero_found. absurd (taken_word flag taken zero_found), λ _. record { seat = new; held = held }))))
 
     -- an idle party may try any bucket
-    pub tries_at_as : pass_in log ≡ None →
-        Allows (WordsAndLogsAgree scene) slots seat me word exchanged (at_flag TellsTryAt (step slots word 0 1 none) me)
-    tries_at_as idle =
+    tries_at : pass_in log ≡ None → Allows (WordsAndLogsAgree scene) slots seat me word (exchanged (as_word (HeldBy party)))
+        (tells_of TellsTryAt me (bucket_of word))
+    tries_at idle =
+        let own : ℕ = as_word (HeldBy party) in
         let taking : PoolEntry = entry_of (TryAt party bucket) (Takes bucket) in
-        steps_as exchanged TellsTryAt scene slots seat word party bucket log me there is below
-        (takes_free TellsTryAt scene seat party bucket log taking (no_hold_other bucket)
+        steps_as (exchanged own) TellsTryAt scene slots seat word party bucket log me there is below
+        (either_flag TellsTryAt scene seat party bucket log (exchanged own)
+        (takes_free TellsTryAt scene seat party bucket log taking
         (λ flags logs agree made at free. take_at_agrees scene flags logs party log bucket agree made at idle free)
         (λ new free. (
           λ _. record { ended = record { seat = new; idle = idle_after_one log taking idle refl }; free = free },
           λ not_free. absurd (not_free refl),
         )))
-        (misses_at TellsTryAt scene seat party bucket log idle
-        (λ new missed. (λ zero_found. absurd (suc-ne-zero zero zero_found), λ _. missed)))
+        (misses_at TellsTryAt scene seat party bucket log (exchanged own) idle (exchange_leaves own)
+        (λ found new some missed. (λ zero_found. absurd (some zero_found), λ _. missed))))
+
+    -- by the word that names the party
+    module _ (own : ℕ) (named : own ≡ as_word (HeldBy party)) where
+      pub tries_as : next_bucket log ≡ bucket → Allows (WordsAndLogsAgree scene) slots seat me word (exchanged own)
+          (at_flag TellsTry (step slots word 0 own none) me)
+      tries_as next = subst (λ (w : ℕ). Allows (WordsAndLogsAgree scene) slots seat me word (exchanged w)
+          (tells_of TellsTry me (bucket_of word))) (sym named) (tries next)
+
+      pub tries_at_as : pass_in log ≡ None → Allows (WordsAndLogsAgree scene) slots seat me word (exchanged own)
+          (at_flag TellsTryAt (step slots word 0 own none) me)
+      tries_at_as idle = subst (λ (w : ℕ). Allows (WordsAndLogsAgree scene) slots seat me word (exchanged w)
+          (tells_of TellsTryAt me (bucket_of word))) (sym named) (tries_at idle)
 
     -- and look at it before
     pub looks_at_as : pass_in log ≡ None →
         Allows (WordsAndLogsAgree scene) slots seat me word (λ found. found) (at_flag TellsLookAt (step slots word 0 0 none) me)
     looks_at_as idle = steps_as (λ found. found) TellsLookAt scene slots seat word party bucket log me there is below
-        (stays_free TellsLookAt scene seat party bucket log (λ interleaved. (
-          λ _. record { seat = record { is = refl; interleaved = interleaved }; idle = idle },
+        (either_flag TellsLookAt scene seat party bucket log (λ found. found)
+        (stays TellsLookAt scene seat party bucket log Free (λ flags logs agree at free. (
+          λ _. record {
+            seat = record { is = refl; interleaved = interleaved_log scene flags logs party log agree at };
+            idle = idle;
+          },
           λ not_free. absurd (not_free refl),
         )))
-        (misses_at TellsLookAt scene seat party bucket log idle
-        (λ new missed. (λ zero_found. absurd (suc-ne-zero zero zero_found), λ _. missed)))
+        (misses_at TellsLookAt scene seat party bucket log (λ found. found) idle (λ flag taken. refl)
+        (λ found new some missed. (λ zero_found. absurd (some zero_found), λ _. missed))))
+
+    -- each party may look whether it holds a bucket
+    pub recognizes_as :
+        Allows (WordsAndLogsAgree scene) slots seat me word (λ found. found) (at_flag TellsHeld (step slots word 0 0 none) me)
+    recognizes_as = steps_as (λ found. found) TellsHeld scene slots seat word party bucket log me there is below (λ flag.
+        stays TellsHeld scene seat party bucket log flag (λ flags logs agree at there. (
+          refl,
+          (
+            λ named. log_from_named scene flags logs party log bucket agree at
+                (there ∙ ap Some (word_names flag party named)),
+            λ held.
+                let named = named_from_log scene flags logs party log bucket agree at held in
+                ap as_word (same_Some flag (HeldBy party) (sym there ∙ named)),
+          ),
+        )))
+
+-- a new seat may look at a flag
+pub finds_as : (scene : PoolScene) (slots word bucket : ℕ) → word ≡ word_of bucket → bucket < scene.geometry.buckets →
+    Enters (WordsAndLogsAgree scene) slots word (λ found view. finds (step slots word 0 0 none) (all_parties scene, []) found
+    (view, []))
+finds_as scene slots word bucket there below =
+    let Finds : ℕ → ℕ → Type 0 = λ found b. (flag : Flag) × (found ≡ as_word flag) × MayBeFound scene b flag in
+    λ state rule homes fits.
+    let view : SeatView = standing_for scene [] in
+    let flag = flag_at scene state rule bucket below in
+    let found = found_in state.words rule.flags bucket flag.0 rule.words flag.1 in (
+      view,
+      record {
+        flags = rule.flags;
+        logs = rule.logs;
+        agree = rule.agree;
+        words = rule.words;
+        one_a_party = rule.one_a_party;
+        seated = seated_entered scene.parties rule.logs state.views view tt (λ number. refl) rule.seated;
+        detached = detached_entered rule.flags state.views view refl rule.detached;
+      },
+      subst (λ (b : ℕ). Finds (get_or state.words word 0) b) (omega (arith, there)) (
+        flag.0,
+        ap (λ (w : ℕ). get_or state.words w 0) there ∙ found,
+        may_be_found scene rule.flags rule.logs bucket rule.agree flag.0 flag.1,
+      ),
+    )
 
 -- STORES
 
@@ -262,14 +311,15 @@ returns_one : (scene : PoolScene) (slots seat party bucket : ℕ) (log : PoolLog
 returns_one scene slots seat party bucket log held state rule homes at fits =
     let mine = rule.seated.known seat (alone scene party log) at in
     let entry : PoolEntry = entry_of (GiveBack party bucket) (Gives bucket) in
-    let flags : List Bool = slice_set rule.flags bucket false in
-    let agree = give_agrees scene rule.flags rule.logs party log bucket rule.agree mine.1 held in (
+    let flags : List Flag = slice_set rule.flags bucket Free in
+    let agree = give_agrees scene rule.flags rule.logs party log bucket rule.agree mine.0 mine.1 held in (
       alone scene party (log ++ entry ∷ []),
       keeps,
       tt,
       entered scene state rule seat party log entry (set state.words (word_of bucket) 0) flags at agree
-          (changed state.words rule.flags bucket false rule.words)
-          (kept_at_return rule.flags rule.logs party log entry bucket mine.1 held (λ b. no_hold_left bucket b)),
+          (changed state.words rule.flags bucket Free rule.words)
+          (λ b. still_detached rule.flags bucket b Free
+          (held_not_detached scene rule.flags rule.logs party log bucket rule.agree mine.1 held)),
       told scene flags rule.logs party log entry mine.1 agree,
     )
 

@@ -1,18 +1,20 @@
 -- What all parties of a pool have who met.
 use Rattle.std.proofs.Common.{◌≡◌, ◌≢◌, ℕ, zero, suc, ◌≤◌, ◌+◌, ◌<◌, List, [], ◌∷◌, length, refl, sym, ap, ◌∙◌, subst, arith}
 use Rattle.std.proofs.Common.{Some, true}
-use Rattle.std.specs.Prelude.{◌↔◌, Any, Contains, nat_lt, slice_get, Bool, false, if◌then◌else◌}
+use Rattle.std.specs.Prelude.{◌↔◌, Any, Contains, map, nat_lt, slice_get, Bool, false, if◌then◌else◌}
 use Rattle.std.specs.List.{All}
 use Rattle.std.proofs.lemmas.Option.{slice_get_within}
 use Rattle.std.proofs.lemmas.List.Elements.{All-append, All-cons, All-contains, All-contains_itself, All-nil, All-weaker}
 use Rattle.bb_memory_traits.specs.Chunk.{Chunk}
 use Rattle.bb_memory_traits.specs.PoolObject.{IsHeld}
 use Rattle.bb_memory_pool_machine.specs.PoolMachine.{IsDetached, PoolScene, left_by, opening_state, pool_step}
+use Rattle.bb_memory_pool_machine.specs.declared.steps.pool.Flag.{Flag}
 use Rattle.bb_memory_pool_machine.specs.PoolLogs.{IsPoolRun, PoolEntry, PoolLog, entry_of, history_of, is_by, log_of}
-use Rattle.bb_memory_pool_machine.specs.PoolLogs.{pool_history, AllAllowed, HasLog, IsHeldAfter, loss_at}
+use Rattle.bb_memory_pool_machine.specs.PoolLogs.{pool_history, AllAllowed, HasLog, IsHeldAfter, is_taken, loss_at}
 use Rattle.bb_memory_traits.specs.declared.layout.Layout.{Layout}
 use Rattle.bb_memory_pool_machine.specs.declared.steps.pool.PoolStep.{PoolStep}
 use Rattle.bb_memory_pool_machine.specs.declared.steps.pool.PoolStep.TheVariants.{Try, GiveBack, TryAt, Detach, Attach}
+use Rattle.bb_memory_pool_machine.specs.declared.steps.pool.PoolStep.TheVariants.{GiveBackDetached}
 use Rattle.bb_memory_pool_machine.specs.declared.steps.pool.PoolOutcome.{PoolOutcome}
 use Rattle.bb_memory_pool_machine.specs.declared.steps.pool.PoolOutcome.TheVariants.{Loses, RefusedAtLoss, Detaches}
 use Rattle.bb_memory_pool_machine.proofs.PoolLogFacts.{first_takes, logs_apart, nobody_else}
@@ -38,10 +40,10 @@ module _ (scene : PoolScene) (parties : List PoolParty) (met : HaveMet scene par
       (slice_get met.0 bucket ≡ Some true) ↔ IsHeld scene.geometry live bucket
   met_flags layouts live bucket shared run below =
       let same = taken_is_held scene steps layouts live bucket shared.geometry run below in
-      let state = left_by scene steps in (
-        λ (flag : slice_get met.0 bucket ≡ Some true).
-            same.0 (taken_from_flag state met.0 bucket met.1.agree.leaves flag),
-        λ held. flag_from_taken state met.0 bucket met.1.agree.leaves (same.1 held),
+      let state = left_by scene steps in
+      let leaves = ap (λ (flags : List Flag). map is_taken flags) met.1.agree.leaves ∙ met.1.taken in (
+        λ (flag : slice_get met.0 bucket ≡ Some true). same.0 (taken_from_flag state met.0 bucket leaves flag),
+        λ held. flag_from_taken state met.0 bucket leaves (same.1 held),
       )
 
   pub met_held : (layouts : List Layout) (live : List Chunk) (bucket : ℕ) → IsSharedScene scene →
@@ -63,7 +65,7 @@ module _ (scene : PoolScene) (parties : List PoolParty) (met : HaveMet scene par
       let its = All-contains HasIts parties one met.1.theirs (contains_at parties i one at) in
       let its_other = All-contains HasIts parties other met.1.theirs (contains_at parties j other at_other) in
       met.1.differ i j one other at at_other apart
-      (logs_apart scene met.0 met.1.logs one.number one.log other.number other.log bucket met.1.agree its its_other held
+      (logs_apart scene met.1.named met.1.logs one.number one.log other.number other.log bucket met.1.agree its its_other held
       other_held)
 
   -- an entry whose step is that of a number stands in the log of the party with this number
@@ -85,6 +87,8 @@ module _ (scene : PoolScene) (parties : List PoolParty) (met : HaveMet scene par
       numbered (entry_of (Detach party bucket) outcome) party all there (test_same party party refl)
   owned (Attach party bucket) outcome all there =
       numbered (entry_of (Attach party bucket) outcome) party all there (test_same party party refl)
+  owned (GiveBackDetached party bucket) outcome all there =
+      numbered (entry_of (GiveBackDetached party bucket) outcome) party all there (test_same party party refl)
 
   -- each step is in the log of one that met
   pub met_nobody_else : length parties ≡ scene.parties → All (λ entry. Any (λ party. Contains party.log entry) parties) history

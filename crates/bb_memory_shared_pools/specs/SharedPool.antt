@@ -6,15 +6,16 @@ use Rattle.atomic_table.specs.Seated.{TableId}
 use Rattle.bb_memory_traits.specs.Chunk.{Chunk, IsInside}
 use Rattle.bb_memory_traits.specs.PoolObject.{PoolGeometry, IsPoolGeometry, bucket_place, IsWithin}
 use Rattle.bb_memory_pool_machine.specs.PoolMachine.{IsDetached, PoolScene, left_by}
+use Rattle.bb_memory_pool_machine.specs.declared.steps.pool.Flag.{Flag}
 use Rattle.bb_memory_pool_machine.specs.PoolLogs.{PoolLog, entries_by, entry_of, history_of, FoundHeld, IsPoolRun, IsRefusedAt}
 use Rattle.bb_memory_pool_machine.specs.PoolLogs.{CommonInterleaving, WasDetached, HasLog, Interleaving, IsHeldAfter, LogsAgree}
-use Rattle.bb_memory_pool_machine.specs.PoolLogs.{loss_at, pass_in}
+use Rattle.bb_memory_pool_machine.specs.PoolLogs.{is_taken, loss_at, pass_in}
 use Rattle.bb_memory_traits.specs.declared.layout.Layout.{Layout}
 use Rattle.bb_memory_traits.specs.declared.allocator.AllocationError.{AllocationError}
 use Rattle.bb_memory_traits.specs.declared.allocator.AllocationError.TheVariants.{SizeIsZero, SizeTooLarge, AlignmentFailure}
 use Rattle.bb_memory_traits.specs.declared.allocator.AllocationError.TheVariants.{OutOfMemory}
 use Rattle.bb_memory_pool_machine.specs.declared.steps.pool.PoolStep.{PoolStep}
-use Rattle.bb_memory_pool_machine.specs.declared.steps.pool.PoolStep.TheVariants.{Try, GiveBack, Detach, Attach}
+use Rattle.bb_memory_pool_machine.specs.declared.steps.pool.PoolStep.TheVariants.{Try, GiveBack, Detach, Attach, GiveBackDetached}
 use Rattle.bb_memory_pool_machine.specs.declared.steps.pool.PoolOutcome.{PoolOutcome}
 use Rattle.bb_memory_pool_machine.specs.declared.steps.pool.PoolOutcome.TheVariants.{Takes, Gives, Detaches, Attaches}
 
@@ -100,6 +101,10 @@ detach_entry party bucket = entry_of (Detach party bucket) (Detaches bucket) ∷
 
 abbrev pub attach_entry : ℕ → ℕ → PoolLog
 attach_entry party bucket = entry_of (Attach party bucket) (Attaches bucket) ∷ []
+
+-- a step that gives back a detached bucket
+abbrev pub return_detached_entry : ℕ → ℕ → PoolLog
+return_detached_entry party bucket = entry_of (GiveBackDetached party bucket) (Gives bucket) ∷ []
 
 -- WHAT A REQUEST MAY BE ANSWERED
 
@@ -232,12 +237,14 @@ pub record HasTaker (scene : PoolScene) (parties : List PoolParty) : Type 0 wher
   pub there : Contains parties taker
   pub took : TookOne taker.log
 
--- There is a log for each of the pool's parties, with which these flags agree, and these parties' logs are among them. Where
--- these are all parties, each log is one of theirs, and a flag is taken exactly where one of them holds the bucket, or it is
--- detached.
+-- There is a log for each of the pool's parties, with which these flags agree, of which each is taken or not, and these
+-- parties' logs are among them. Where these are all parties, each log is one of theirs, and a flag is taken exactly where one of
+-- them holds the bucket, or it is detached.
 pub record AgreeWith (scene : PoolScene) (flags : List Bool) (parties : List PoolParty) : Type 0 where
+  pub named : List Flag
+  pub taken : map is_taken named ≡ flags
   pub logs : List PoolLog
-  pub agree : LogsAgree scene flags logs
+  pub agree : LogsAgree scene named logs
   pub one_a_party : length logs ≡ scene.parties
   pub theirs : All (λ party. HasLog logs party.number party.log) parties
   pub differ : (i j : ℕ) (one other : PoolParty) → slice_get parties i ≡ Some one → slice_get parties j ≡ Some other → i ≢ j →
@@ -284,3 +291,12 @@ pub record HasAttached (pool : SharedPool) (old : PoolParty) (detached : TakenBu
   pub held : IsHeldAfter new.log detached.number
   pub others_kept : (other : ℕ) → IsHeldAfter old.log other → IsHeldAfter new.log other
   pub others : (other : ℕ) → other ≢ detached.number → IsHeldAfter new.log other → IsHeldAfter old.log other
+
+-- the party, which didn't hold the bucket, has given it back: its log has the step, and it holds what it held
+pub record HasReturned (pool : SharedPool) (old : PoolParty) (detached : TakenBucket) (new : PoolParty) : Type 0 where
+  pub logged : new ≡ with_entries old (return_detached_entry old.number detached.number)
+  pub party : new.allocator ≡ pool
+  pub is_party : IsSameParty old new
+  pub not_held : ¬ IsHeldAfter old.log detached.number
+  pub others_kept : (other : ℕ) → IsHeldAfter old.log other → IsHeldAfter new.log other
+  pub others : (other : ℕ) → IsHeldAfter new.log other → IsHeldAfter old.log other

@@ -1,6 +1,6 @@
 -- The rule of a shared pool's words, what its seats and fields stand for, and what each step on a word tells the party that
 -- makes it.
-use Rattle.std.specs.Prelude.{◌≡◌, ℕ, ◌+◌, ◌-◌, Bool, true, false, List, map, replicate, ◌<◌, ◌≤◌, []}
+use Rattle.std.specs.Prelude.{◌≡◌, ℕ, ◌+◌, ◌-◌, ◌*◌, List, map, replicate, ◌<◌, ◌≤◌, ◌↔◌, []}
 use Rattle.std.specs.Prelude.{None, get_or, length, ◌≢◌, ◌∷◌, ◌++◌}
 use mathlib.Core.Path.{refl}
 use native.Mathlib.Nat.{zero-lt-suc}
@@ -9,11 +9,13 @@ use Rattle.atomic_table.specs.Table.{State, Me, Step}
 use Rattle.bb_memory_traits.specs.Chunk.{IsRegion, region_at}
 use Rattle.bb_memory_traits.specs.PoolObject.{pool_geometry}
 use Rattle.bb_memory_pool_machine.specs.PoolMachine.{PoolScene}
-use Rattle.bb_memory_pool_machine.specs.PoolLogs.{PoolEntry, PoolLog, Interleaving, IsHeldAfter, IsDetachedAfter, LogsAgree}
-use Rattle.bb_memory_pool_machine.specs.PoolLogs.{pass_in, entry_of, CommonInterleaving, loss_at}
+use Rattle.bb_memory_pool_machine.specs.declared.steps.pool.Flag.{Flag}
+use Rattle.bb_memory_pool_machine.specs.declared.steps.pool.Flag.TheVariants.{Free, HeldBy, DetachedBy}
+use Rattle.bb_memory_pool_machine.specs.PoolLogs.{PoolEntry, PoolLog, Interleaving, IsHeldAfter, IsDetachedIn, LogsAgree}
+use Rattle.bb_memory_pool_machine.specs.PoolLogs.{pass_in, entry_of, CommonInterleaving, MayBeFound, loss_at}
 use Rattle.bb_memory_traits.specs.declared.layout.Layout.{Layout}
 use Rattle.bb_memory_shared_pools.specs.SharedPool.{PoolParty, IsSharedScene, SharedPool, scene_at, AreAllHeldAfter, detach_entry}
-use Rattle.bb_memory_shared_pools.specs.SharedPool.{return_entry, attach_entry, taking_pass}
+use Rattle.bb_memory_shared_pools.specs.SharedPool.{return_entry, attach_entry, return_detached_entry, taking_pass}
 use Rattle.bb_memory_shared_pools.specs.declared.shared_pool.party.Hint.{Hint}
 use Rattle.bb_memory_shared_pools.specs.SharedPoolNextFit.{hint_in, probed, miss_at, misses, taking_at, taking_search}
 use Rattle.bb_memory_seats.specs.Seats.{AreSeated, IsAt, Numbered, Seat, alone, carrying, fresh_from, number_of}
@@ -33,13 +35,14 @@ bucket_of word = word - 8
 abbrev pub words_for : ℕ → ℕ
 words_for buckets = 8 + buckets
 
--- how a flag stands in its word
-abbrev pub as_word : Bool → ℕ
-as_word false = 0
-as_word true = 1
+-- how a flag stands in its word, which names the holder, or the party that has detached the bucket
+abbrev pub as_word : Flag → ℕ
+as_word Free = 0
+as_word (HeldBy party) = 2 * party + 1
+as_word (DetachedBy party) = 2 * party + 2
 
 -- All words of a table with these flags. The first 8, which are no flag, are zero, as they were made.
-abbrev pub words_of : List Bool → List ℕ
+abbrev pub words_of : List Flag → List ℕ
 words_of flags = replicate 8 0 ++ map as_word flags
 
 -- SEATS
@@ -105,21 +108,21 @@ pub record IsDetachedAt (pool : SharedPool) (here : TableId) (me : Me ℕ SeatVi
 
 -- THE RULE
 
--- Each bucket that is detached in some view is so after the logs. It stands in the one view, once.
-pub record AreDetached (flags : List Bool) (logs : List PoolLog) (views : List SeatView) : Type 0 where
-  pub each : (bucket : ℕ) → 0 < times_detached bucket views → IsDetachedAfter flags logs bucket
+-- Each bucket that is detached in some view is so by its flag. It stands in the one view, once.
+pub record AreDetached (flags : List Flag) (views : List SeatView) : Type 0 where
+  pub each : (bucket : ℕ) → 0 < times_detached bucket views → IsDetachedIn flags bucket
   pub once : (bucket : ℕ) → times_detached bucket views ≤ 1
 
 -- There is a log for each party, and the machine's logs agree with the flags that the words have. No word has anything else. Each
 -- party stands in exactly one view, with that log; a dropped party's view stays, and so does that of a detached bucket.
 pub record WordsAndLogsAgree (scene : PoolScene) (state : State ℕ SeatView) : Type 0 where
-  pub flags : List Bool
+  pub flags : List Flag
   pub logs : List PoolLog
   pub agree : LogsAgree scene flags logs
   pub words : state.words ≡ words_of flags
   pub one_a_party : length logs ≡ scene.parties
   pub seated : AreSeated scene.parties logs state.views
-  pub detached : AreDetached flags logs state.views
+  pub detached : AreDetached flags state.views
 
 pub record HasWords (table : TableId) (scene : PoolScene) : Type 0 where
   pub words : table.words ≡ words_for scene.geometry.buckets
@@ -170,7 +173,7 @@ TellsTry scene number log bucket found new =
 abbrev pub HasEnded : PoolScene → ℕ → PoolLog → PoolLog → Me ℕ SeatView → Type 0
 HasEnded scene number log added new = IsSeatOfIdle scene number (log ++ added) new
 
--- a step of an idle party, which added this entry, took or attached this bucket, which wasn't held after the party's log
+-- a step of an idle party, which added this entry, took, attached or gave back this bucket, not held after the party's log
 pub record HasGained (scene : PoolScene) (number : ℕ) (log step : PoolLog) (bucket : ℕ) (new : Me ℕ SeatView) : Type 0 where
   pub ended : HasEnded scene number log step new
   pub free : ¬ IsHeldAfter log bucket
@@ -190,6 +193,11 @@ abbrev pub TellsLookAt : PoolScene → ℕ → PoolLog → ℕ → ℕ → Me �
 TellsLookAt scene number log bucket found new =
     (found ≡ 0 → IsSeatOfIdle scene number log new) × (found ≢ 0 → HasMissedAt scene number log bucket new)
 
+-- A load of a flag, which changes nothing: the party holds the bucket exactly where the word names it as the holder.
+abbrev pub TellsHeld : PoolScene → ℕ → PoolLog → ℕ → ℕ → Me ℕ SeatView → Type 0
+TellsHeld scene number log bucket found new =
+    (new ≡ (alone scene number log, [])) × ((found ≡ as_word (HeldBy number)) ↔ IsHeldAfter log bucket)
+
 -- a store of free
 abbrev pub TellsReturn : PoolScene → ℕ → PoolLog → ℕ → Me ℕ SeatView → Type 0
 TellsReturn scene number log bucket new = IsSeatOf scene number (log ++ return_entry number bucket) new
@@ -206,7 +214,7 @@ HasDetachedAt scene number log bucket new = IsSeatOf scene number (log ++ detach
 -- A load by a seat that stands for these parties: there are flags, and a log for each of the pool's parties, which agree, and
 -- theirs are among them; no two are one.
 pub record TellsMeeting (scene : PoolScene) (parties : List NumberedLog) : Type 0 where
-  pub flags : List Bool
+  pub flags : List Flag
   pub logs : List PoolLog
   pub agree : LogsAgree scene flags logs
   pub one_a_party : length logs ≡ scene.parties
@@ -236,15 +244,25 @@ returns step old found new = TellsReturn old.0.scene (number_of old.0) (view_log
 abbrev pub meets : Step ℕ → Me ℕ SeatView → ℕ → Me ℕ SeatView → Type 0
 meets step old found new = (new ≡ old) × TellsMeeting old.0.scene old.0.parties
 
--- a load of its word by the party that detaches a bucket
+-- a load of a flag by a new seat, which stands for no party: the flag is found
+abbrev pub finds : Step ℕ → Me ℕ SeatView → ℕ → Me ℕ SeatView → Type 0
+finds step old found new = (flag : Flag) × (found ≡ as_word flag) × MayBeFound old.0.scene (bucket_of step.word) flag
+
+-- a store by the party that detaches a bucket
 abbrev pub detaches : Step ℕ → Me ℕ SeatView → ℕ → Me ℕ SeatView → Type 0
 detaches step old found new = TellsDetach old.0.scene (number_of old.0) (view_log old.0) (bucket_of step.word) new
 
--- a load of any word by an idle party at whose seat a bucket is detached, and which attaches that bucket
+-- a store by an idle party at whose seat a bucket is detached, and which attaches that bucket
 abbrev pub attaches : Step ℕ → Me ℕ SeatView → ℕ → Me ℕ SeatView → Type 0
 attaches step old found new =
-    let bucket = get_or old.0.detached 0 0 in
+    let bucket = bucket_of step.word in
     HasGained old.0.scene (number_of old.0) (view_log old.0) (attach_entry (number_of old.0) bucket) bucket new
+
+-- a store of free by an idle party at whose seat a bucket is detached, and which gives that bucket back
+abbrev pub returns_detached : Step ℕ → Me ℕ SeatView → ℕ → Me ℕ SeatView → Type 0
+returns_detached step old found new =
+    let bucket = bucket_of step.word in
+    HasGained old.0.scene (number_of old.0) (view_log old.0) (return_detached_entry (number_of old.0) bucket) bucket new
 
 -- REQUESTS
 

@@ -9,15 +9,15 @@ ghost use Rattle.bb_memory_pool_machine.specs.PoolMachine.{Detaches, Attaches};
 ghost use Rattle.bb_memory_pool_machine.specs.PoolLogs.{history_of, log_of, IsRefusedAt, LosesAt, MissesAt, AreAsked, FoundHeld};
 ghost use Rattle.bb_memory_pool_machine.specs.PoolLogs.{IsCallRun, IsHeldInRun, IsPoolRun, WasDetached, IsHeldAfter};
 
-/// The state of a bucket's flag. In memory a flag has two values: free, and taken for the other two.
-#[derive(Debug, Clone, Copy)]
+/// The state of a bucket's flag. A flag is taken where it isn't free.
+#[derive(Debug, Clone, Copy, PartialEq, Eq)]
 pub enum Flag {
     /// No party has the bucket, and each may take it.
     Free,
     /// This party holds the bucket.
     HeldBy(u32),
-    /// The bucket is on its way: a party has detached it, and no party has attached it since.
-    Detached,
+    /// The bucket is on its way: this party has detached it, and no party has attached it or given it back since.
+    DetachedBy(u32),
 }
 
 /// One atomic step over the pool's flags, of which each bucket has one.
@@ -35,6 +35,8 @@ pub enum PoolStep {
     Detach { party: u32, bucket: u32 },
     /// The party, which is in no pass, attaches a detached bucket, and holds it then.
     Attach { party: u32, bucket: u32 },
+    /// The party, which is in no pass, gives back a detached bucket.
+    GiveBackDetached { party: u32, bucket: u32 },
 }
 
 /// The outcome of a step: what the step found, and what it did.
@@ -46,7 +48,7 @@ pub enum PoolOutcome {
     Loses(u32),
     /// The last bucket's flag was taken, and with it the pass is refused and has ended.
     RefusedAtLoss(u32),
-    /// The bucket's holder gave it back, and its flag is free.
+    /// The bucket's holder gave it back, or it was detached and a party gave it back. Its flag is free.
     Gives(u32),
     /// The step isn't allowed, or names a party or a bucket that isn't there. It changed nothing.
     Passed,

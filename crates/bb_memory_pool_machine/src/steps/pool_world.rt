@@ -1,7 +1,7 @@
 //! A pool machine that can be run: of each bucket its flag, and of each party the bucket that its pass tries next.
 ghost use Rattle.std.specs.Prelude.{◌≡◌, ◌<◌, IsSome, IfOk, length, slice_get};
 ghost use Rattle.bb_memory_pool_machine.specs.PoolMachine.{holder_of, try_flag, try_next, give_flag, try_at, try_one};
-ghost use Rattle.bb_memory_pool_machine.specs.PoolMachine.{detach_flag, attach_flag, attach};
+ghost use Rattle.bb_memory_pool_machine.specs.PoolMachine.{detach_flag, attach_flag, attach, give_detached, give_detached_flag};
 ghost use Rattle.bb_memory_pool_machine.specs.PoolWorld.{Replays, Steps, opened};
 
 use super::{Flag, PoolOutcome, PoolStep};
@@ -53,6 +53,7 @@ impl PoolWorld {
             PoolStep::TryAt { party, bucket } => self.try_at(party, bucket),
             PoolStep::Detach { party, bucket } => self.detach(party, bucket),
             PoolStep::Attach { party, bucket } => self.attach(party, bucket),
+            PoolStep::GiveBackDetached { party, bucket } => self.give_detached(party, bucket),
         }
     }
 
@@ -83,7 +84,7 @@ impl PoolWorld {
     {
         match found_at(&self.flags, bucket as usize) {
             Some(Flag::HeldBy(party)) => Some(party),
-            Some(Flag::Free | Flag::Detached) | None => None,
+            Some(Flag::Free | Flag::DetachedBy(_)) | None => None,
         }
     }
 
@@ -114,7 +115,7 @@ impl PoolWorld {
                 self.calls[party as usize] = None;
                 PoolOutcome::Takes(bucket)
             }
-            Some(Flag::HeldBy(_) | Flag::Detached) => {
+            Some(Flag::HeldBy(_) | Flag::DetachedBy(_)) => {
                 if bucket as usize + 1 < self.flags.len() {
                     self.calls[party as usize] = Some(bucket + 1);
                     PoolOutcome::Loses(bucket)
@@ -143,7 +144,7 @@ impl PoolWorld {
                     PoolOutcome::Passed
                 }
             }
-            Some(Flag::Free | Flag::Detached) | None => PoolOutcome::Passed,
+            Some(Flag::Free | Flag::DetachedBy(_)) | None => PoolOutcome::Passed,
         }
     }
 
@@ -174,7 +175,7 @@ impl PoolWorld {
                 self.calls[party as usize] = None;
                 PoolOutcome::Takes(bucket)
             }
-            Some(Flag::HeldBy(_) | Flag::Detached) => PoolOutcome::Misses(bucket),
+            Some(Flag::HeldBy(_) | Flag::DetachedBy(_)) => PoolOutcome::Misses(bucket),
             None => PoolOutcome::Passed,
         }
     }
@@ -189,13 +190,13 @@ impl PoolWorld {
         match found_at(&self.flags, bucket as usize) {
             Some(Flag::HeldBy(holder)) => {
                 if holder == party && 1 < self.calls.len() {
-                    self.flags[bucket as usize] = Flag::Detached;
+                    self.flags[bucket as usize] = Flag::DetachedBy(party);
                     PoolOutcome::Detaches(bucket)
                 } else {
                     PoolOutcome::Passed
                 }
             }
-            Some(Flag::Free | Flag::Detached) | None => PoolOutcome::Passed,
+            Some(Flag::Free | Flag::DetachedBy(_)) | None => PoolOutcome::Passed,
         }
     }
 
@@ -220,9 +221,38 @@ impl PoolWorld {
             self.new ≡ (attach_flag self.old party bucket flag).state }
     {
         match found_at(&self.flags, bucket as usize) {
-            Some(Flag::Detached) => {
+            Some(Flag::DetachedBy(_)) => {
                 self.flags[bucket as usize] = Flag::HeldBy(party);
                 PoolOutcome::Attaches(bucket)
+            }
+            Some(Flag::Free | Flag::HeldBy(_)) | None => PoolOutcome::Passed,
+        }
+    }
+
+    /// A party gives back a detached bucket, as it may where it is in no pass.
+    fn give_detached(&mut self, party: u32, bucket: u32) -> PoolOutcome
+        ensures outcome { let pass = slice_get self.old.calls party in
+            result ≡ (give_detached self.old bucket pass).outcome }
+        ensures state { let pass = slice_get self.old.calls party in
+            self.new ≡ (give_detached self.old bucket pass).state }
+    {
+        match found_at(&self.calls, party as usize) {
+            Some(None) => self.give_detached_flag(bucket),
+            Some(Some(_)) | None => PoolOutcome::Passed,
+        }
+    }
+
+    /// Gives back a bucket that is detached.
+    fn give_detached_flag(&mut self, bucket: u32) -> PoolOutcome
+        ensures outcome { let flag = slice_get self.old.flags bucket in
+            result ≡ (give_detached_flag self.old bucket flag).outcome }
+        ensures state { let flag = slice_get self.old.flags bucket in
+            self.new ≡ (give_detached_flag self.old bucket flag).state }
+    {
+        match found_at(&self.flags, bucket as usize) {
+            Some(Flag::DetachedBy(_)) => {
+                self.flags[bucket as usize] = Flag::Free;
+                PoolOutcome::Gives(bucket)
             }
             Some(Flag::Free | Flag::HeldBy(_)) | None => PoolOutcome::Passed,
         }

@@ -89,8 +89,9 @@ impl<const CAPPED: usize, const MOST: usize> SharedBucketPool<CAPPED, MOST> {
     }
 
     /// One whole pass: an exchange on each flag from bucket 0 up, until one is taken.
-    fn pass(&self, seat: &mut Seat<u8, View>) -> Option<u32>
-        requires { IsIdleAt self.now seat.old.table_id seat.old.me }
+    fn pass(&self, party: u32, seat: &mut Seat<u8, View>) -> Option<u32>
+        requires party { number_of seat.old.me.0 ≡ party }
+        requires seat { IsIdleAt self.now seat.old.table_id seat.old.me }
         ensures told { Stays seat.old.table_id seat.new.table_id (MatchOption result
             (HasRefused self.now.scene (number_of seat.old.me.0) (view_log seat.old.me.0)
             (refused_pass self.now.scene.geometry.buckets (number_of seat.old.me.0)) seat.new.me)
@@ -99,7 +100,7 @@ impl<const CAPPED: usize, const MOST: usize> SharedBucketPool<CAPPED, MOST> {
         ensures fits { IfSome result (λ bucket. bucket + 1 < 2 ^ 32) }
     {
         for bucket in 0..self.number_of_buckets() {
-            if self.flags.try_flag(seat, bucket) {
+            if self.flags.try_flag(party, seat, bucket) {
                 return Some(bucket);
             }
         }
@@ -146,7 +147,7 @@ impl<const CAPPED: usize, const MOST: usize> SharedBucketPool<CAPPED, MOST> {
         if layout.align() > bucket.align() {
             return Err(AllocationError::AlignmentFailure);
         }
-        match self.pass(&mut party.seat) {
+        match self.pass(party.number, &mut party.seat) {
             Some(number) => {
                 party.hint.bucket = number + 1;
                 party.hint.came_back = false;
@@ -285,7 +286,7 @@ impl<const CAPPED: usize, const MOST: usize> SharedBucketPool<CAPPED, MOST> {
     pub fn number_of_parties(&self) -> u32
         ensures value { result ≡ self.now.scene.parties }
     {
-        self.flags.scene.parties
+        self.flags.parties()
     }
 
     /// The layout of each bucket, as it was asked for.

@@ -1,13 +1,14 @@
 //! Buckets by their numbers and places, for a user that keeps numbers where it can't keep a [`Bucket`], which borrows its pool.
-ghost use Rattle.std.specs.Prelude.{◌≡◌, ℕ, ◌<◌, ◌≤◌, ◌%◌, IfSome, IfNone};
+ghost use Rattle.std.specs.Prelude.{◌≡◌, ℕ, ◌<◌, ◌≤◌, ◌↔◌, ◌%◌, IfSome, IfNone, true};
 ghost use Rattle.bb_memory_traits.specs.PoolObject.{bucket_place};
-ghost use Rattle.bb_memory_pool_machine.specs.PoolLogs.{IsHeldAfter};
+ghost use Rattle.bb_memory_pool_machine.specs.PoolLogs.{IsHeldAfter, MayBeFound};
 ghost use Rattle.bb_memory_geometry.specs.Geometry.{IsPlaceOfBucket, TellsPlace};
 ghost use Rattle.bb_memory_shared_pools.specs.SharedPool.{chunk_of, taken_bucket};
 
 use super::bucket::Bucket;
 use super::buckets::SharedBucketPool;
 use super::party::PoolParty;
+pub use bb_memory_pool_machine::steps::Flag;
 
 impl<const CAPPED: usize, const MOST: usize> SharedBucketPool<CAPPED, MOST> {
     /// The number of the bucket at this place, or `None` where no bucket begins there.
@@ -27,6 +28,26 @@ impl<const CAPPED: usize, const MOST: usize> SharedBucketPool<CAPPED, MOST> {
         ensures { TellsPlace self.now.scene.geometry number result }
     {
         self.flags.geometry().place_at(number)
+    }
+
+    /// Tells whether the party holds the bucket of this number, by one load of its flag, which is in no log. The party has to be
+    /// this pool's.
+    pub fn is_held_by(&self, party: &mut PoolParty, number: u32) -> bool
+        requires party { party.old.allocator ≡ self.now }
+        requires below { number < self.now.scene.geometry.buckets }
+        ensures value { (result ≡ true) ↔ IsHeldAfter party.old.log number }
+        ensures unchanged { party.new ≡ party.old }
+    {
+        self.flags.is_held(party.number, &mut party.seat, number)
+    }
+
+    /// Tells who holds the bucket of this number, or has detached it, for any thread and while parties call: its flag, as one
+    /// load found it.
+    pub fn holder(&self, number: u32) -> Flag
+        requires { number < self.now.scene.geometry.buckets }
+        ensures found { MayBeFound self.now.scene number result }
+    {
+        self.flags.found(number)
     }
 }
 

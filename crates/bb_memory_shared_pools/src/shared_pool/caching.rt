@@ -1,9 +1,11 @@
 //! Parties that cache the buckets that they gave back last: a layer over the shared pools.
-ghost use Rattle.std.specs.Prelude.{◌≡◌, ◌≢◌, ◌<◌, ◌≤◌, ◌∷◌, ◌++◌, [], ℕ, List, Contains, IfErr, IfOk, Ok, length, vec_capacity};
+ghost use Rattle.std.specs.Prelude.{◌≡◌, ◌≢◌, ◌<◌, ◌≤◌, ◌↔◌, ◌∷◌, ◌++◌, [], ℕ, List, Contains, IfErr, IfOk, Ok, length};
+ghost use Rattle.std.specs.Prelude.{true, vec_capacity};
 ghost use Rattle.bb_memory_traits.specs.PoolObject.{IsWithin};
 ghost use Rattle.bb_memory_pool_machine.specs.PoolLogs.{IsHeldAfter};
 ghost use Rattle.bb_memory_shared_pools.specs.SharedPool.{AreBothOf, AreInterleaved, IsSameParty, Serves, attach_entry};
-ghost use Rattle.bb_memory_shared_pools.specs.SharedPool.{detach_entry, return_entry, taken_bucket, with_entries};
+ghost use Rattle.bb_memory_shared_pools.specs.SharedPool.{detach_entry, return_detached_entry, return_entry, taken_bucket};
+ghost use Rattle.bb_memory_shared_pools.specs.SharedPool.{with_entries};
 ghost use Rattle.bb_memory_shared_pools.specs.SharedPoolCaching.{AreCached, IsOut, ReturnsCaching, TakesCaching, returns_of};
 
 use super::bucket::Bucket;
@@ -89,11 +91,45 @@ impl CachingParty {
         self.cached.len() as u32
     }
 
+    /// Returns the numbers of the buckets that are cached, the one that was cached last behind the others.
+    pub fn cached(&self) -> &[u32]
+        ensures { result.now ≡ self.now.cached }
+    {
+        self.cached.as_slice()
+    }
+
     /// Returns the party. It holds the buckets that are out and those that are cached.
     pub fn party(&self) -> &PoolParty
         ensures { result.now ≡ self.now.party }
     {
         &self.party
+    }
+
+    /// Returns the party as it is, without a step: it holds the buckets that are out and those that were cached.
+    pub fn into_inner(self) -> PoolParty
+        ensures { result ≡ self.party }
+    {
+        let CachingParty {
+            party,
+            cached: _,
+            most: _,
+        } = self;
+        party
+    }
+
+    /// Tells whether the party holds the bucket of this number, out or cached, as
+    /// [`SharedPoolAllocator::is_held_by`](super::SharedPoolAllocator::is_held_by) does. The party has to be this pool's.
+    pub fn is_held<const CAPPED: usize, const MOST: usize>(
+        &mut self,
+        pool: &SharedBucketPool<CAPPED, MOST>,
+        number: u32,
+    ) -> bool
+        requires party { self.old.party.allocator ≡ pool.now }
+        requires below { number < pool.now.scene.geometry.buckets }
+        ensures value { (result ≡ true) ↔ IsHeldAfter self.old.party.log number }
+        ensures unchanged { self.new ≡ self.old }
+    {
+        pool.is_held_by(&mut self.party, number)
     }
 
     /// Takes a bucket, with a chunk of `layout.size()` bytes: the one that was cached last, without a step. Where none is cached,
@@ -211,6 +247,28 @@ impl CachingParty {
             → IsOut self.new other → IsOut self.old other }
     {
         pool.attach(&mut self.party, detached)
+    }
+
+    /// Gives back a detached bucket to the pool by one store, as
+    /// [`SharedPoolAllocator::return_detached`](super::SharedPoolAllocator::return_detached) does. It isn't cached. The party and
+    /// the bucket have to be this pool's.
+    #[tactic(auto, unfolding(crate::specs::SharedPoolCaching::IsOut))]
+    pub fn return_detached<const CAPPED: usize, const MOST: usize>(
+        &mut self,
+        pool: &SharedBucketPool<CAPPED, MOST>,
+        detached: DetachedBucket,
+    )
+        requires party { self.old.party.allocator ≡ pool.now }
+        requires bucket { detached.allocator ≡ pool.now }
+        ensures logged { self.new ≡ record self.old {
+          party = with_entries self.old.party
+              (return_detached_entry self.old.party.number detached.number);
+        } }
+        ensures not_out { ¬ IsOut self.old detached.number }
+        ensures others_kept { (other : ℕ) → IsOut self.old other → IsOut self.new other }
+        ensures others { (other : ℕ) → IsOut self.new other → IsOut self.old other }
+    {
+        pool.return_detached(&mut self.party, detached)
     }
 
     /// Gives all cached buckets back to the pool, as `flush` does, and caches at most `most` from then on. It takes memory for

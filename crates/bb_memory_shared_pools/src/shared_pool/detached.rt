@@ -1,6 +1,6 @@
 //! Buckets on their way from one party of a shared pool to another.
 ghost use Rattle.std.specs.Prelude.{◌≡◌, ◌<◌, ◌≤◌};
-ghost use Rattle.bb_memory_shared_pools.specs.SharedPool.{AreOf, HasDetached, HasAttached, MayDetach};
+ghost use Rattle.bb_memory_shared_pools.specs.SharedPool.{AreOf, HasDetached, HasAttached, HasReturned, MayDetach};
 
 use super::bucket::Bucket;
 use super::buckets::SharedBucketPool;
@@ -9,8 +9,8 @@ use super::rule::View;
 use atomic_table::Seat;
 use std::marker::Model;
 
-/// The token of a detached bucket, which [`SharedPoolAllocator::attach`](super::SharedPoolAllocator::attach) spends. It borrows
-/// nothing, so it can go to another thread with a message, or lie in a struct. Meanwhile no party holds the bucket, and its flag
+/// The token of a detached bucket, which [`SharedPoolAllocator::attach`](super::SharedPoolAllocator::attach) and
+/// [`SharedPoolAllocator::return_detached`](super::SharedPoolAllocator::return_detached) spend. It borrows nothing, so it can go to another thread with a message, or lie in a struct. Meanwhile no party holds the bucket, and its flag
 /// stays taken. There is one token for each detached bucket. Dropping the token leaks the bucket: its flag stays taken for good.
 #[derive(Drop)]
 pub struct DetachedBucket {
@@ -51,7 +51,7 @@ impl DetachedBucket {
 
 impl<const CAPPED: usize, const MOST: usize> SharedBucketPool<CAPPED, MOST> {
     /// Detaches a bucket from the party that holds it, so that another party can attach it, in any thread. The party's log gets
-    /// this step, and the flag stays taken. Detaching loads two words, changes none, takes no memory and waits for nothing.
+    /// this step, a store, and the flag stays taken. Detaching loads one word more, takes no memory and waits for nothing.
     /// Conditions: the pool was made for two parties at least, as `number_of_parties` tells; the party and the bucket are this
     /// pool's; and the party's log holds the bucket: this party took or attached it, and hasn't given it back or detached it
     /// since.
@@ -67,12 +67,14 @@ impl<const CAPPED: usize, const MOST: usize> SharedBucketPool<CAPPED, MOST> {
             number,
             len,
         } = bucket;
-        let seat = self.flags.detach(&mut party.seat, number);
+        let seat = self
+            .flags
+            .detach(party.number, &mut party.seat, number);
         DetachedBucket { number, len, seat }
     }
 
     /// Attaches a detached bucket: the party holds it from then on, with the number and the length that it had, and can give it
-    /// back. The party's log gets this step. Attaching loads two words, changes none, takes no memory and waits for nothing.
+    /// back. The party's log gets this step, a store. Attaching loads one word more, takes no memory and waits for nothing.
     /// Condition: the party and the bucket are this pool's. There is no refusal.
     pub fn attach(&self, party: &mut PoolParty, detached: DetachedBucket) -> Bucket<'_>
         requires own { AreOf self.now party.old detached }
@@ -80,11 +82,27 @@ impl<const CAPPED: usize, const MOST: usize> SharedBucketPool<CAPPED, MOST> {
         ensures party { HasAttached self.now party.old detached party.new }
     {
         let DetachedBucket { number, len, seat } = detached;
-        self.flags.attach(&mut party.seat, seat, number);
+        self.flags
+            .attach(party.number, &mut party.seat, seat, number);
         Bucket {
             flags: &self.flags,
             number,
             len,
         }
+    }
+
+    /// Gives back a detached bucket by one store, which makes its flag free, as a party may that needs the bucket no more. The
+    /// party's log gets this step. Condition: the party and the bucket are this pool's. There is no refusal.
+    pub fn return_detached(&self, party: &mut PoolParty, detached: DetachedBucket)
+        requires own { AreOf self.now party.old detached }
+        ensures { HasReturned self.now party.old detached party.new }
+    {
+        let DetachedBucket {
+            number,
+            len: _,
+            seat,
+        } = detached;
+        self.flags.return_detached(&mut party.seat, seat, number);
+        party.hint.follow_return(number);
     }
 }

@@ -1,37 +1,69 @@
 //! The flags that threads share, one a bucket: their words, and the only calls that touch them.
 //!
 //! `try_flag`, `try_at` and `give_back` make one logged step each, by the seat of the party whose step it is, and tell that its
-//! log then ends with that step and what it found. So do `detach`, whose step is a load of the bucket's word, and `attach`, whose
-//! step is a load of word 0; each loads a word more for the seat of what is detached. `deal`, `gather`, `find` and `meet` only
-//! load words, and are in no log; nor is the load with which `try_at` begins, where it finds the flag free. `open` is before all
-//! sharing, and `geometry` touches no word.
-ghost use Rattle.std.specs.Prelude.{◌≡◌, ◌<◌, ◌≤◌, [], IfOk, MatchBool};
+//! log then ends with that step and what it found. So do `detach`, `attach` and `return_detached`, each of which loads a word more
+//! for the seat of what is detached. `deal`, `gather`, `find`, `meet`, `is_held` and `found` only load words, and are in no log;
+//! nor is the load with which `try_at` begins, where it finds the flag free. `open` is before all sharing, and `geometry` touches
+//! no word.
+ghost use Rattle.std.specs.Prelude.{◌≡◌, ◌<◌, ◌≤◌, ◌↔◌, ◌^◌, [], IfOk, MatchBool, true};
 ghost use Rattle.bb_memory_traits.specs.Chunk.{IsRegion};
-ghost use Rattle.bb_memory_shared_pools.specs.SharedPool.{attach_entry};
+ghost use Rattle.bb_memory_shared_pools.specs.SharedPool.{attach_entry, return_detached_entry};
 ghost use Rattle.bb_memory_shared_pools.specs.SharedPoolNextFit.{taking_at};
 ghost use Rattle.bb_memory_traits.specs.PoolObject.{IsPoolGeometry};
-ghost use Rattle.bb_memory_pool_machine.specs.PoolLogs.{next_bucket};
+ghost use Rattle.bb_memory_pool_machine.specs.PoolMachine.{NamesMade};
+ghost use Rattle.bb_memory_pool_machine.specs.declared.steps.pool.Flag.{Flag};
+ghost use Rattle.bb_memory_pool_machine.specs.declared.steps.pool.Flag.TheVariants.{DetachedBy, HeldBy};
+ghost use Rattle.bb_memory_pool_machine.specs.PoolLogs.{IsHeldAfter, MayBeFound, next_bucket};
 ghost use Rattle.bb_memory_shared_pools.specs.SharedPoolRule.{word_of, StandsAt, IsHeldAt, IsIdleAt, IsDetachedAt, all_parties};
-ghost use Rattle.bb_memory_shared_pools.specs.SharedPoolRule.{IsSeatAt, HasDetachedAt, HasMissedAt, HasGained};
+ghost use Rattle.bb_memory_shared_pools.specs.SharedPoolRule.{IsSeatAt, HasDetachedAt, HasMissedAt, HasGained, as_word};
 ghost use Rattle.bb_memory_shared_pools.specs.SharedPoolRule.{TellsLoss, TellsMeeting, TellsReturn, TellsTaking, TellsTwo};
 ghost use Rattle.bb_memory_seats.specs.Seats.{IsDealt, MayGather, Stays, both_of, number_of, view_log};
 
 use super::rule::{
-    Agreement, Attaches, Detaches, Gather, GiveDetached, GiveFirst, LooksAt, Meets, Returns, Scene,
-    TakeIn, Tries, TriesAt, View,
+    Agreement, Attaches, Detaches, Finds, Gather, GiveDetached, GiveFirst, LooksAt, Meets,
+    Recognizes, Returns, ReturnsDetached, Scene, TakeIn, Tries, TriesAt, View,
 };
 use atomic_table::{Seat, Table};
 use bb_memory_geometry::geometry::Geometry;
+use bb_memory_pool_machine::steps::Flag;
 use std::alloc::{AllocError, Global};
 use std::marker::Model;
 use std::sync::atomic::AtomicU64;
 
+/// The word of a free flag.
 const FREE: u64 = 0;
 
-const TAKEN: u64 = 1;
+/// The word of the flag of a bucket that this party holds.
+fn held_by(party: u32) -> u64
+    ensures { result ≡ as_word (HeldBy party) }
+{
+    2 * party as u64 + 1
+}
 
-/// The word of the first flag. The eight words before it, a cache line of them, are no flag: word 0 is loaded by steps that are
-/// about no flag.
+/// The word of the flag of a bucket that this party has detached.
+fn detached_by(party: u32) -> u64
+    ensures { result ≡ as_word (DetachedBy party) }
+{
+    2 * party as u64 + 2
+}
+
+/// The flag of this word.
+fn flag_of(word: u64) -> Flag
+    requires { (flag : Flag) × (word ≡ as_word flag) × NamesMade (2 ^ 32) flag }
+    ensures { word ≡ as_word result }
+{
+    if word == FREE {
+        return Flag::Free;
+    }
+    let party = ((word - 1) / 2) as u32;
+    if word % 2 == 1 {
+        Flag::HeldBy(party)
+    } else {
+        Flag::DetachedBy(party)
+    }
+}
+
+/// The word of the first flag. The eight words before it, a cache line of them, are no flag: word 0 is loaded by meetings.
 const FIRST: usize = 8;
 
 /// The word of a bucket's flag. Flags stand in the order of their buckets: neighbours of one party's part of the pool share a
@@ -99,7 +131,8 @@ impl Flags {
     }
 
     /// One exchange on the flag of the bucket that the party tries next: whether it took the bucket.
-    pub(super) fn try_flag(&self, seat: &mut Seat<u8, View>, bucket: u32) -> bool
+    pub(super) fn try_flag(&self, party: u32, seat: &mut Seat<u8, View>, bucket: u32) -> bool
+        requires party { number_of seat.old.me.0 ≡ party }
         requires seat { IsSeatAt self.now seat.old.table_id seat.old.me }
         requires next { next_bucket (view_log seat.old.me.0) ≡ bucket }
         requires below { bucket < self.now.scene.geometry.buckets }
@@ -112,13 +145,14 @@ impl Flags {
         let found = self
             .table
             .shared
-            .compare_exchange::<Tries>(seat, word_of(bucket), FREE, TAKEN);
+            .compare_exchange::<Tries>(seat, word_of(bucket), FREE, held_by(party));
         found == FREE
     }
 
     /// Tries this bucket, by a party that is in no pass: whether it took the bucket. The exchange is made only where a load finds
     /// the flag free, since an exchange takes the flag's cache line from all other threads, also where it is lost.
-    pub(super) fn try_at(&self, seat: &mut Seat<u8, View>, bucket: u32) -> bool
+    pub(super) fn try_at(&self, party: u32, seat: &mut Seat<u8, View>, bucket: u32) -> bool
+        requires party { number_of seat.old.me.0 ≡ party }
         requires seat { IsIdleAt self.now seat.old.table_id seat.old.me }
         requires below { bucket < self.now.scene.geometry.buckets }
         ensures { Stays seat.old.table_id seat.new.table_id (MatchBool result
@@ -133,7 +167,7 @@ impl Flags {
         if seen != FREE {
             return false;
         }
-        let flag = shared.compare_exchange::<TriesAt>(seat, word, FREE, TAKEN);
+        let flag = shared.compare_exchange::<TriesAt>(seat, word, FREE, held_by(party));
         flag == FREE
     }
 
@@ -149,9 +183,42 @@ impl Flags {
             .store::<Returns>(seat, word_of(bucket), FREE);
     }
 
-    /// A load of its word, by the party after whose log this bucket is held, and which isn't the only one. What is returned has
-    /// the bucket detached.
-    pub(super) fn detach(&self, seat: &mut Seat<u8, View>, bucket: u32) -> Seat<u8, View>
+    /// A load of its word, which is in no log: whether the party holds this bucket.
+    pub(super) fn is_held(&self, party: u32, seat: &mut Seat<u8, View>, bucket: u32) -> bool
+        requires party { number_of seat.old.me.0 ≡ party }
+        requires seat { IsSeatAt self.now seat.old.table_id seat.old.me }
+        requires below { bucket < self.now.scene.geometry.buckets }
+        ensures seat { Stays seat.old.table_id seat.new.table_id (seat.new.me ≡ seat.old.me) }
+        ensures value { (result ≡ true) ↔ IsHeldAfter (view_log seat.old.me.0) bucket }
+    {
+        let shared = &self.table.shared;
+        let found = shared.load::<Recognizes>(seat, word_of(bucket));
+        found == held_by(party)
+    }
+
+    /// A load of its word, which is in no log, by a new seat: the bucket's flag.
+    pub(super) fn found(&self, bucket: u32) -> Flag
+        requires { bucket < self.now.scene.geometry.buckets }
+        ensures { MayBeFound self.now.scene bucket result }
+    {
+        // Proof hint: brings into scope that the numbers of parties fit into 32 bits.
+        let _ = self.parties();
+        let (word, _) = self
+            .table
+            .shared
+            .load_new_seat::<Finds>(word_of(bucket));
+        flag_of(word)
+    }
+
+    /// A store by the party after whose log this bucket is held, and which isn't the only one. What is returned has the bucket
+    /// detached.
+    pub(super) fn detach(
+        &self,
+        party: u32,
+        seat: &mut Seat<u8, View>,
+        bucket: u32,
+    ) -> Seat<u8, View>
+        requires party { number_of seat.old.me.0 ≡ party }
         requires others { 1 < self.now.scene.parties }
         requires seat { IsSeatAt self.now seat.old.table_id seat.old.me }
         requires held { IsHeldAt self.now seat.old.me bucket }
@@ -159,13 +226,20 @@ impl Flags {
             (number_of seat.old.me.0) (view_log seat.old.me.0) bucket seat.new.me) }
         ensures detached { IsDetachedAt self.now result.table_id result.me bucket }
     {
-        self.table.shared.load::<Detaches>(seat, word_of(bucket));
-        self.table.shared.split_seat::<GiveDetached>(seat)
+        let shared = &self.table.shared;
+        shared.store::<Detaches>(seat, word_of(bucket), detached_by(party));
+        shared.split_seat::<GiveDetached>(seat)
     }
 
-    /// A load of word 0, by an idle party to whose seat this bucket detached comes. So a party that attaches buckets takes no
-    /// line of flags from the party that takes the next ones.
-    pub(super) fn attach(&self, seat: &mut Seat<u8, View>, detached: Seat<u8, View>, bucket: u32)
+    /// A store by an idle party, to whose seat this bucket detached comes, and which holds it then.
+    pub(super) fn attach(
+        &self,
+        party: u32,
+        seat: &mut Seat<u8, View>,
+        detached: Seat<u8, View>,
+        bucket: u32,
+    )
+        requires party { number_of seat.old.me.0 ≡ party }
         requires seat { IsIdleAt self.now seat.old.table_id seat.old.me }
         requires detached { IsDetachedAt self.now detached.table_id detached.me bucket }
         ensures { Stays seat.old.table_id seat.new.table_id (HasGained self.now.scene
@@ -174,7 +248,25 @@ impl Flags {
     {
         let shared = &self.table.shared;
         shared.join_seat::<TakeIn>(seat, detached);
-        shared.load::<Attaches>(seat, 0);
+        shared.store::<Attaches>(seat, word_of(bucket), held_by(party));
+    }
+
+    /// A store of free by an idle party, to whose seat this bucket detached comes.
+    pub(super) fn return_detached(
+        &self,
+        seat: &mut Seat<u8, View>,
+        detached: Seat<u8, View>,
+        bucket: u32,
+    )
+        requires seat { IsIdleAt self.now seat.old.table_id seat.old.me }
+        requires detached { IsDetachedAt self.now detached.table_id detached.me bucket }
+        ensures { Stays seat.old.table_id seat.new.table_id (HasGained self.now.scene
+            (number_of seat.old.me.0) (view_log seat.old.me.0)
+            (return_detached_entry (number_of seat.old.me.0) bucket) bucket seat.new.me) }
+    {
+        let shared = &self.table.shared;
+        shared.join_seat::<TakeIn>(seat, detached);
+        shared.store::<ReturnsDetached>(seat, word_of(bucket), FREE);
     }
 
     /// A guest's parties go to this seat, before its own.
@@ -216,6 +308,13 @@ impl Flags {
     pub(super) fn count_taken(&self) -> u32 {
         let is_taken = |bucket: &u32| self.table.shared.peek(word_of(*bucket)) != FREE;
         (0..self.scene.geometry.count()).filter(is_taken).count() as u32
+    }
+
+    /// How many parties the flags were made for.
+    pub(super) fn parties(&self) -> u32
+        ensures value { result ≡ self.now.scene.parties }
+    {
+        self.scene.parties
     }
 
     /// The buckets that the flags are of.

@@ -40,8 +40,9 @@ impl<const CAPPED: usize, const MOST: usize> SharedBucketPool<CAPPED, MOST> {
     }
 
     /// One whole search: a probe of each bucket from bucket `first` up, and then of each below it, until one is taken.
-    fn next_fit(&self, seat: &mut Seat<u8, View>, first: u32) -> Option<u32>
-        requires { IsIdleAt self.now seat.old.table_id seat.old.me }
+    fn next_fit(&self, party: u32, seat: &mut Seat<u8, View>, first: u32) -> Option<u32>
+        requires party { number_of seat.old.me.0 ≡ party }
+        requires seat { IsIdleAt self.now seat.old.table_id seat.old.me }
         ensures told { Stays seat.old.table_id seat.new.table_id (MatchOption result
             (HasRefused self.now.scene (number_of seat.old.me.0) (view_log seat.old.me.0)
             (refused_search self.now.scene.geometry.buckets (number_of seat.old.me.0) first)
@@ -55,16 +56,17 @@ impl<const CAPPED: usize, const MOST: usize> SharedBucketPool<CAPPED, MOST> {
             return None;
         }
         let bucket = probed(count, first, 0);
-        if self.flags.try_at(seat, bucket) {
+        if self.flags.try_at(party, seat, bucket) {
             return Some(bucket);
         }
-        self.later_probes(seat, first)
+        self.later_probes(party, seat, first)
     }
 
     /// The probes of a search behind its first, which missed: the clause holds for each log with which the search may have begun.
     /// The loop stands apart, and isn't inlined, so that a search whose first probe takes a bucket is straight-line code.
     #[inline(never)]
-    fn later_probes(&self, seat: &mut Seat<u8, View>, first: u32) -> Option<u32>
+    fn later_probes(&self, party: u32, seat: &mut Seat<u8, View>, first: u32) -> Option<u32>
+        requires party { number_of seat.old.me.0 ≡ party }
         requires seat { IsIdleAt self.now seat.old.table_id seat.old.me }
         requires some { 0 < self.now.scene.geometry.buckets }
         ensures told { Stays seat.old.table_id seat.new.table_id ((number : ℕ) (log : PoolLog)
@@ -77,7 +79,7 @@ impl<const CAPPED: usize, const MOST: usize> SharedBucketPool<CAPPED, MOST> {
         let count = self.number_of_buckets();
         for probe in 1..count {
             let bucket = probed(count, first, probe);
-            if self.flags.try_at(seat, bucket) {
+            if self.flags.try_at(party, seat, bucket) {
                 return Some(bucket);
             }
         }
@@ -111,7 +113,7 @@ impl<const CAPPED: usize, const MOST: usize> SharedBucketPool<CAPPED, MOST> {
         if layout.align() > bucket.align() {
             return Err(AllocationError::AlignmentFailure);
         }
-        match self.next_fit(&mut party.seat, party.hint.bucket) {
+        match self.next_fit(party.number, &mut party.seat, party.hint.bucket) {
             Some(number) => {
                 party.hint.bucket = number + 1;
                 party.hint.came_back = false;

@@ -86,7 +86,25 @@ impl Play<u8, View> for Meets {
     ghost then = { meets };
 }
 
-/// A load by a party after whose log the bucket is held, which detaches it.
+/// A load of a flag by a party, which tells whether the party holds the bucket.
+pub(crate) struct Recognizes;
+
+impl Play<u8, View> for Recognizes {
+    ghost use Rattle.bb_memory_shared_pools.specs.SharedPoolRule.{TellsHeld, at_flag};
+
+    ghost then = { at_flag TellsHeld };
+}
+
+/// A load of a flag by a new seat.
+pub(crate) struct Finds;
+
+impl Play<u8, View> for Finds {
+    ghost use Rattle.bb_memory_shared_pools.specs.SharedPoolRule.{finds};
+
+    ghost then = { finds };
+}
+
+/// A store by a party after whose log the bucket is held, which detaches it.
 pub(crate) struct Detaches;
 
 impl Play<u8, View> for Detaches {
@@ -95,13 +113,22 @@ impl Play<u8, View> for Detaches {
     ghost then = { detaches };
 }
 
-/// A load by a party at whose seat the bucket is detached, which attaches it.
+/// A store by a party at whose seat the bucket is detached, which attaches it.
 pub(crate) struct Attaches;
 
 impl Play<u8, View> for Attaches {
     ghost use Rattle.bb_memory_shared_pools.specs.SharedPoolRule.{attaches};
 
     ghost then = { attaches };
+}
+
+/// A store of free by a party at whose seat the bucket is detached.
+pub(crate) struct ReturnsDetached;
+
+impl Play<u8, View> for ReturnsDetached {
+    ghost use Rattle.bb_memory_shared_pools.specs.SharedPoolRule.{returns_detached};
+
+    ghost then = { returns_detached };
 }
 
 /// The first bucket that is detached goes to the new seat.

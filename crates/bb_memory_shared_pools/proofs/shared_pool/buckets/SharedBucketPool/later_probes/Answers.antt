@@ -1,7 +1,9 @@
 use Rattle.std.proofs.Common.{◌≡◌, ℕ, ◌∙◌, arith, ap, subst}
 use Rattle.bb_memory_pool_machine.specs.PoolMachine.{PoolScene}
 use Rattle.bb_memory_shared_pools.specs.SharedPoolNextFit.{probed}
-use Rattle.bb_memory_shared_pools.specs.SharedPoolRule.{IsInSearch}
+use Rattle.atomic_table.specs.Table.{Me}
+use Rattle.bb_memory_seats.specs.Seats.{number_of}
+use Rattle.bb_memory_shared_pools.specs.SharedPoolRule.{IsInSearch, SeatView}
 use Rattle.bb_memory_shared_pools.proofs.SharedPoolNextFit.{idle_where, search_goes_on, search_refuses, search_takes}
 use Rattle.bb_memory_shared_pools.proofs.shared_pool.buckets.SharedBucketPool.later_probes.Goals as goal
 
@@ -23,6 +25,7 @@ loop-probe-preserved g c =
     let missed = rw c.if-try_at.false at (rw c.self.view_is at c.try_at.ensures.step) in
     record {
       table = c.try_at.ensures.table ∙ c.loop-probe.invariant.table;
+      own = ap (λ (m : Me ℕ SeatView). number_of m.0) missed.ended.seat.is ∙ c.loop-probe.invariant.own;
       idle = idle_where c.args.self.now.scene _ _ c.try_at.new.seat.me missed.ended;
       so_far = λ number log begun. search_goes_on c.args.self.now.scene number log c.args.first c.loop-probe.seat.me
           c.try_at.new.seat.me c.loop-probe.probe (c.loop-probe.invariant.so_far number log begun) c.probed-bucket.result is

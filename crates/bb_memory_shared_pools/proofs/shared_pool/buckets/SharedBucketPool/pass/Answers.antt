@@ -28,7 +28,7 @@ returns-clause-told g c =
     let me = c.args.seat.now.me in
     let all : c.loop-bucket.bucket ≡ scene.geometry.buckets = omega arith in record {
       table = c.loop-bucket.invariant.table;
-      step = refuses scene (number_of me.0) (view_log me.0) c.loop-bucket.seat.me c.requires.seat.idle
+      step = refuses scene (number_of me.0) (view_log me.0) c.loop-bucket.seat.me c.requires.seat.seat.idle
           (subst (λ (n : ℕ). IsPassing scene (number_of me.0) (view_log me.0) n c.loop-bucket.seat.me) all
           c.loop-bucket.invariant.passing);
     }

@@ -1,5 +1,7 @@
-use Rattle.std.proofs.Common.{[], sym, ap, ◌∙◌, arith}
+use Rattle.std.proofs.Common.{[], ℕ, sym, ap, ◌∙◌, arith}
 use Rattle.bb_memory_pool_machine.specs.PoolMachine.{PoolScene}
+use Rattle.bb_memory_pool_machine.specs.declared.steps.pool.Flag.TheVariants.{HeldBy}
+use Rattle.bb_memory_shared_pools.specs.SharedPoolRule.{as_word}
 use Rattle.bb_memory_seats.specs.Seats.{alone, both_detached, carrying, number_of, view_log}
 use Rattle.bb_memory_shared_pools.specs.SharedPool.{SharedPool}
 use Rattle.bb_memory_shared_pools.proofs.SharedPoolDetaching.{attaches_as}
@@ -16,8 +18,8 @@ join_seat-requires c =
       takes_in c.self.inside.table.shared.key c.args.seat.now.id c.args.detached.id c.args.seat.now.me.0 c.args.detached.me.0,
     )
 
-pub load-requires : goal.load-requires
-load-requires c =
+pub store-requires : goal.store-requires
+store-requires c =
     let me = c.args.seat.now.me in
     let key = c.self.invariant.0 ∙ ap (λ (p : SharedPool). p.scene) c.self.view_is in
     let own = c.requires.seat.seat.seat.is ∙ ap (λ (s : PoolScene). (alone s (number_of me.0) (view_log me.0), [])) (sym key) in
@@ -27,6 +29,7 @@ load-requires c =
     let counted = c.self.invariant.1.words in (
       c.join_seat.ensures.0 ∙ c.requires.seat.table ∙ sym (ap (λ (p : SharedPool). p.table) c.self.view_is),
       omega arith,
-      attaches_as c.self.inside.table.shared.key _ _ 0 (number_of me.0) c.args.bucket (view_log me.0)
-          c.join_seat.new.seat.me both c.requires.seat.seat.idle,
+      attaches_as c.self.inside.table.shared.key _ _ c.word_of.result (number_of me.0) c.args.bucket c.held_by.result
+          (view_log me.0) c.join_seat.new.seat.me c.word_of.ensures both c.requires.seat.seat.idle
+          (c.held_by.ensures ∙ ap (λ (party : ℕ). as_word (HeldBy party)) (sym c.requires.party)),
     )

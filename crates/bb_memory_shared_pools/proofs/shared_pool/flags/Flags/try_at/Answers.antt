@@ -1,9 +1,10 @@
 use Rattle.std.proofs.Common.{◌≡◌, ℕ, ◌<◌, [], sym, ap, ◌∙◌, arith, subst}
 use Rattle.atomic_table.specs.Table.{Me}
 use Rattle.bb_memory_pool_machine.specs.PoolMachine.{PoolScene}
+use Rattle.bb_memory_pool_machine.specs.declared.steps.pool.Flag.TheVariants.{HeldBy}
 use Rattle.bb_memory_seats.specs.Seats.{alone, number_of, view_log}
 use Rattle.bb_memory_shared_pools.specs.SharedPool.{SharedPool}
-use Rattle.bb_memory_shared_pools.specs.SharedPoolRule.{SeatView}
+use Rattle.bb_memory_shared_pools.specs.SharedPoolRule.{SeatView, as_word}
 use Rattle.bb_memory_shared_pools.proofs.SharedPoolKeeps.{looks_at_as, tries_at_as}
 use Rattle.bb_memory_shared_pools.proofs.shared_pool.flags.Flags.try_at.Goals as goal
 
@@ -36,5 +37,6 @@ compare_exchange-flag-requires c =
       tries_at_as c.self.inside.table.shared.key _ _ c.word_of-word.result (number_of me.0) c.args.bucket (view_log me.0)
           c.load-seen.new.seat.me c.word_of-word.ensures
           (as_was.seat.is ∙ ap (λ (s : PoolScene). (alone s (number_of me.0) (view_log me.0), [])) own)
-          (subst (λ (s : PoolScene). c.args.bucket < s.geometry.buckets) (sym key) c.requires.below) as_was.idle,
+          (subst (λ (s : PoolScene). c.args.bucket < s.geometry.buckets) (sym key) c.requires.below) c.held_by.result
+          (c.held_by.ensures ∙ ap (λ (party : ℕ). as_word (HeldBy party)) (sym c.requires.party)) as_was.idle,
     )

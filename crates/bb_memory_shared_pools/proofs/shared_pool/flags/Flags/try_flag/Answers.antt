@@ -1,5 +1,7 @@
-use Rattle.std.proofs.Common.{◌≡◌, ◌<◌, [], sym, ap, ◌∙◌, arith, subst}
+use Rattle.std.proofs.Common.{◌≡◌, ℕ, ◌<◌, [], sym, ap, ◌∙◌, arith, subst}
 use Rattle.bb_memory_pool_machine.specs.PoolMachine.{PoolScene}
+use Rattle.bb_memory_pool_machine.specs.declared.steps.pool.Flag.TheVariants.{HeldBy}
+use Rattle.bb_memory_shared_pools.specs.SharedPoolRule.{as_word}
 use Rattle.bb_memory_seats.specs.Seats.{alone, number_of, view_log}
 use Rattle.bb_memory_shared_pools.specs.SharedPool.{SharedPool}
 use Rattle.bb_memory_shared_pools.proofs.SharedPoolKeeps.{tries_as}
@@ -18,5 +20,6 @@ compare_exchange-found-requires c =
       tries_as c.self.inside.table.shared.key _ _ c.word_of.result (number_of me.0) c.args.bucket (view_log me.0) me
           c.word_of.ensures
           (c.requires.seat.seat.is ∙ ap (λ (s : PoolScene). (alone s (number_of me.0) (view_log me.0), [])) (sym key))
-          (subst (λ (s : PoolScene). c.args.bucket < s.geometry.buckets) (sym key) c.requires.below) c.requires.next,
+          (subst (λ (s : PoolScene). c.args.bucket < s.geometry.buckets) (sym key) c.requires.below) c.held_by.result
+          (c.held_by.ensures ∙ ap (λ (party : ℕ). as_word (HeldBy party)) (sym c.requires.party)) c.requires.next,
     )
