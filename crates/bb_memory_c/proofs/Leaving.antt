@@ -6,9 +6,10 @@ use Rattle.std.proofs.lemmas.Bool.{cases_Bool, cases_eq, cases_lt, false≢true}
 use Rattle.bb_memory_pool_machine.specs.PoolLogs.{IsHeldAfter, PoolLog}
 use Rattle.bb_memory_pool_machine.proofs.PoolHolders.{held_through}
 use Rattle.bb_memory_pool_machine.proofs.PoolSteps.{test_same, test_apart}
-use Rattle.bb_memory_shared_pools.specs.SharedPool.{PoolParty, return_entry, with_entries}
+use Rattle.bb_memory_shared_pools.specs.SharedPool.{IsParty, PoolParty, return_entry, with_entries}
+use Rattle.bb_memory_shared_pools.proofs.SharedPoolLaws.{held_below}
 use Rattle.bb_memory_shared_pools.proofs.SharedPoolTries.{held-append}
-use Rattle.bb_memory_c.specs.SharedPools.{AreFlagged, GivesAllBack, holds_bucket, return_of, returns_of}
+use Rattle.bb_memory_c.specs.SharedPools.{GivesAllBack, holds_bucket, return_of, returns_of}
 
 -- ONE RETURN
 
@@ -100,9 +101,9 @@ next-returned party number =
     ∙ ap (λ (n : ℕ). with_entries party (returns_of party n)) next
 
 -- with all returned, nothing is held
-pub all-returned : (party : PoolParty) (flags : List Bool) → AreFlagged party.allocator (IsHeldAfter party.log) flags →
+pub all-returned : (party : PoolParty) → IsParty party →
     GivesAllBack party (with_entries party (returns_of party party.allocator.scene.geometry.buckets))
-all-returned party flags are = let buckets = party.allocator.scene.geometry.buckets in record {
+all-returned party is = let buckets = party.allocator.scene.geometry.buckets in record {
   returned = refl;
   idle = λ some.
       let bucket = some.0 in
@@ -112,6 +113,6 @@ all-returned party flags are = let buckets = party.allocator.scene.geometry.buck
         | inr past ↦
             let held : holds_bucket party bucket ≡ true =
             sym (past-returns party buckets bucket (holds_bucket party bucket) past) ∙ after in
-            omega (arith, are.below bucket ((are.exact bucket).1 held))
+            omega (arith, held_below party is bucket held, past)
       ];
 }

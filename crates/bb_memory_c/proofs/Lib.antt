@@ -1,6 +1,7 @@
+mod Cached
+mod Counting
 mod Crossing
 mod Detaching
-mod Flags
 mod Layouts
 mod Leaving
 mod Made

@@ -1,6 +1,6 @@
 -- A shared pool, its parties, and detached buckets that go from party to party, behind handles: what their calls are answered.
 use Rattle.std.specs.Prelude.{◌≡◌, ◌≢◌, ◌-◌, ◌<◌, ◌≤◌, ◌↔◌, ◌++◌, [], ℕ, zero, suc, All, Bool, false, List, Result, Ok}
-use Rattle.std.specs.Prelude.{Option, Some, None, IfOk, IfSome, MatchOption, count_by, fold, length, min, if◌then◌else◌}
+use Rattle.std.specs.Prelude.{Option, Some, None, IfOk, IfSome, MatchOption, count_by, fold, length, min, if◌then◌else◌, slice_get}
 use Rattle.std.specs.Result.{result_map_both}
 use Rattle.bb_memory_traits.specs.Chunk.{Region, Chunk, IsInside, first_place}
 use Rattle.bb_memory_traits.specs.PoolObject.{IsCut, PoolGeometry, bucket_place}
@@ -72,15 +72,25 @@ pub record AreFlagged (pool : SharedPool) (are_so : ℕ → Type 0) (flags : Lis
   pub below : (bucket : ℕ) → Has flags bucket → bucket < pool.scene.geometry.buckets
   pub exact : (bucket : ℕ) → Has flags bucket ↔ are_so bucket
 
--- the party is this pool's, and the flags say which buckets are out: held, and not cached
-pub record IsJoinedAt (pool : SharedPool) (joined : CachingParty) (flags : List Bool) : Type 0 where
+-- the places are those of these buckets in their list
+abbrev pub ArePlaces : List ℕ → List ℕ → Type 0
+ArePlaces cached places = (k bucket : ℕ) → slice_get cached k ≡ Some bucket → slice_get places bucket ≡ Some k
+
+-- the party is this pool's, and the places are those of the buckets that it caches, with room for each bucket where it caches some
+pub record IsJoinedAt (pool : SharedPool) (joined : CachingParty) (places : List ℕ) : Type 0 where
   pub theirs : joined.party.allocator ≡ pool
-  pub out : AreFlagged pool (IsOut joined) flags
+  pub room : 0 < joined.most → pool.scene.geometry.buckets ≤ length places
+  pub listed : ArePlaces joined.cached places
 
 -- a pool over the region, cut into buckets of the layout, of so many parties, none of which has joined or made a step
 pub record AreFreshOver (region : Region) (bucket : Layout) (count : ℕ) (all : PoolParties) : Type 0 where
   pub cut : IsCut region bucket all.shared.scene.geometry
   pub parties : AreFresh all.shared count all.parties
+
+-- so many buckets are out
+abbrev pub CountsOut : CachingParty → ℕ → Type 0
+CountsOut joined count = (flags : List Bool) × AreFlagged joined.party.allocator (IsOut joined) flags
+    × (count ≡ count_by (λ flag. flag) flags)
 
 -- figures of a party: of its pool's buckets those that are out are counted, and no fewer are told as the most that were found
 abbrev pub ShowsParty : CachingParty → PoolInfo → CachingParty → Type 0
@@ -153,9 +163,9 @@ pub record GivesAllBack (party after : PoolParty) : Type 0 where
   pub returned : after ≡ with_entries party (returns_of party party.allocator.scene.geometry.buckets)
   pub idle : ¬ HoldsSome after
 
--- a party that leaves gives back first what it caches, and then what is out
+-- a party that leaves gives back what its pool's flags say that it holds, out or cached
 abbrev pub Leaves : CachingParty → CachingParty → Type 0
-Leaves joined after = GivesAllBack (flushed joined) after.party
+Leaves joined after = GivesAllBack joined.party after.party
 
 -- DETACHED BUCKETS
 

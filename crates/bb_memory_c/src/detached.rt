@@ -51,7 +51,6 @@ impl JoinedPool {
         }
         let bucket = by_number::bucket(&*self.pool, self.party.party(), number, len);
         let token = self.party.detach(&*self.pool, bucket);
-        self.out[number as usize] = false;
         detached.inside = Some(token);
         detached.start = self.pool.start_address();
         code::OK
@@ -75,10 +74,7 @@ impl JoinedPool {
             return Answer::refusal(code::DETACHED_EMPTY);
         };
         let bucket = self.party.attach(&*self.pool, token);
-        let number = bucket.number();
-        let chunk = bucket.chunk();
-        self.out[number as usize] = true;
-        Answer::of(Ok(chunk))
+        Answer::of(Ok(bucket.chunk()))
     }
 }
 

@@ -200,7 +200,7 @@ impl Keeps for OneChunkAllocator {
 
     ghost frees = { λ one place after. after ≡ record one { kept = None } };
 
-    fn is_held(&self, place: usize) -> bool {
+    fn is_held(&mut self, place: usize) -> bool {
         self.holds(place)
     }
 

@@ -141,7 +141,7 @@ impl Keeps for Pool {
 
     ghost frees = { FreesBucket };
 
-    fn is_held(&self, place: usize) -> bool {
+    fn is_held(&mut self, place: usize) -> bool {
         self.pool.holds(place)
     }
 

@@ -1,15 +1,15 @@
 //! A shared pool behind handles: one for the pool and the parties that haven't joined, and one for each party that has.
-ghost use Rattle.std.specs.Prelude.{◌≡◌, IfErr, IfNone, IfOk, IfSome, vec_capacity};
+ghost use Rattle.std.specs.Prelude.{◌≡◌, ◌<◌, ◌≤◌, ◌↔◌, Contains, IfErr, IfNone, IfOk, IfSome, IsTrue};
+ghost use Rattle.std.specs.Prelude.{slice_get, slice_set, vec_capacity};
 ghost use Rattle.std.specs.Arc.{arc_value};
 ghost use Rattle.bb_memory_traits.specs.Chunk.{region_at};
-ghost use Rattle.bb_memory_pool_machine.specs.PoolLogs.{IsHeldAfter};
 ghost use Rattle.bb_memory_shared_pools.specs.SharedPoolCaching.{CachingParty, IsOut, ReturnsCaching};
 ghost use Rattle.bb_memory_c.specs.Answers.{ok, uninitialized};
 ghost use Rattle.bb_memory_c.specs.Calls.{Answers, AnswersFree, AnswersInfo, AnswersJoin, AnswersLeave, AnswersNumber};
 ghost use Rattle.bb_memory_c.specs.Calls.{AnswersPlace, AnswersPoolMake, AnswersRequest, AnswersReturn, AnswersWhether, HasRoom};
 ghost use Rattle.bb_memory_c.specs.Calls.{IfBoth, IsThere, MayBeShared, left_at};
 ghost use Rattle.bb_memory_c.specs.OneOwner.{pool_info};
-ghost use Rattle.bb_memory_c.specs.SharedPools.{AreFlagged, AreFreshOver, AreUnjoined, GivesAllBack, GivesBack, GivesChunk};
+ghost use Rattle.bb_memory_c.specs.SharedPools.{AreFreshOver, AreUnjoined, CountsOut, GivesAllBack, GivesBack, GivesChunk};
 ghost use Rattle.bb_memory_c.specs.SharedPools.{HoldsAt, HoldsPlace, IsAt, IsIdleAt, IsJoinedAt, JoinsAt, Knows, Leaves};
 ghost use Rattle.bb_memory_c.specs.SharedPools.{PoolParties, ShowsParty, ShowsShared, TellsCache, as_joined, emptied};
 ghost use Rattle.bb_memory_c.specs.SharedPools.{geometry_of, with_left};
@@ -34,13 +34,13 @@ use std::sync::Arc;
 /// How many numbers of four bytes fill two cache lines.
 const GAP: usize = 32;
 
-/// One party. Where it caches buckets, `at` has for each cached one its place in their list. The flags of the pool say which
-/// buckets the party holds. Gaps keep what parties' calls write on lines apart.
+/// One party. The pool's flags say which buckets it holds. Where it caches some, `places` has the place of each cached bucket in
+/// their list. Gaps keep what parties' calls write on lines apart.
 #[derive(Drop)]
 pub struct JoinedPool {
     pub(crate) pool: Arc<SharedPoolAllocator, Global>,
     pub(crate) party: CachingParty,
-    pub(crate) at: Vec<u32>,
+    places: Vec<u32>,
     greatest: usize,
     gap: [u64; 16],
 }
@@ -50,7 +50,7 @@ impl Model for JoinedPool {
 
     ghost view = { λ s. s.party };
 
-    ghost invariant = { λ s. IsJoinedAt (arc_value s.pool) s.party s.at.items };
+    ghost invariant = { λ s. IsJoinedAt (arc_value s.pool) s.party s.places.items };
 }
 
 /// The figures of a shared pool, of which so many buckets are held, and so many were.
@@ -73,11 +73,37 @@ fn give_all_back(pool: &SharedPoolAllocator, party: &mut PoolParty)
     requires { party.old.allocator ≡ pool.now }
     ensures { GivesAllBack party.old party.new }
 {
+    // Proof hint: brings the party's invariant into scope.
+    let _ = party.number();
     for number in 0..pool.number_of_buckets() {
-        if pool.is_held_by(party, number) {
+        let is_held = pool.is_held_by(party, number);
+        if is_held {
             let bucket = by_number::bucket(pool, party, number, 0);
             pool.deallocate_bucket(party, bucket);
         }
+    }
+}
+
+/// How many places a party needs that caches at most `most` of so many buckets: none where it caches none.
+fn room_for(most: u32, buckets: u32) -> usize
+    ensures { 0 < most → buckets ≤ result }
+{
+    if most == 0 { 0 } else { buckets as usize + GAP }
+}
+
+/// Returns the entry of this number, if there is one.
+fn entry(all: &[u32], number: u32) -> Option<u32>
+    ensures { result ≡ slice_get all.now number }
+{
+    all.get(number as usize).copied()
+}
+
+/// Notes the place of a bucket, where there is room for it.
+fn put(places: &mut Vec<u32>, number: u32, place: u32)
+    ensures { places.new.items ≡ slice_set places.old.items number place }
+{
+    if (number as usize) < places.len() {
+        places[number as usize] = place;
     }
 }
 
@@ -99,7 +125,7 @@ impl JoinedPool {
         let joined = JoinedPool {
             pool,
             party,
-            at: Vec::new(alloc),
+            places: Vec::new(alloc),
             greatest: 0,
             gap: [0; 16],
         };
@@ -113,10 +139,13 @@ impl JoinedPool {
     fn is_cached(&self, number: u32) -> bool
         ensures { IsTrue result ↔ Contains self.now.cached number }
     {
-        let Some(at) = self.at.get(number as usize) else {
+        let Some(place) = entry(&self.places, number) else {
             return false;
         };
-        self.party.cached().get(*at as usize) == Some(&number)
+        match entry(self.party.cached(), place) {
+            Some(there) => there == number,
+            None => false,
+        }
     }
 
     /// Tells whether the bucket of this number is out: held, and not cached.
@@ -125,7 +154,10 @@ impl JoinedPool {
         ensures value { IsTrue result ↔ IsOut self.old number }
         ensures unchanged { self.new ≡ self.old }
     {
-        !self.is_cached(number) && self.party.is_held(&*self.pool, number)
+        if self.is_cached(number) {
+            return false;
+        }
+        self.party.is_held(&*self.pool, number)
     }
 
     /// The number of the bucket at this place, if it is out.
@@ -134,8 +166,30 @@ impl JoinedPool {
         ensures none { IfNone result (¬ HoldsPlace self.old place) }
         ensures unchanged { self.new ≡ self.old }
     {
-        let number = self.pool.number_at(place)?;
-        self.is_out(number).then_some(number)
+        // Proof hint: brings the party's invariant into scope.
+        let _ = self.party.party().number();
+        let Some(number) = self.pool.number_at(place) else {
+            return None;
+        };
+        if self.is_out(number) {
+            Some(number)
+        } else {
+            None
+        }
+    }
+
+    /// Has the party cache at most `most` buckets, with room for their places. What it caches already is given back first.
+    fn cache_at_most(&mut self, alloc: Global, most: u32) -> Result<(), AllocationError>
+        ensures done { IfOk result (λ done. self.new ≡ emptied self.old most) }
+        ensures refused { IfErr result (λ error. self.new ≡ self.old) }
+    {
+        let room = room_for(most, self.pool.number_of_buckets());
+        let Ok(places) = Vec::from_elem(alloc, 0, room) else {
+            return Err(AllocationError::OutOfMemory);
+        };
+        self.party.cache_at_most(alloc, &*self.pool, most)?;
+        self.places = places;
+        Ok(())
     }
 
     /// Counts the buckets that are out.
@@ -143,9 +197,12 @@ impl JoinedPool {
         ensures count { CountsOut self.old result }
         ensures unchanged { self.new ≡ self.old }
     {
+        // Proof hint: brings the party's invariant into scope.
+        let _ = self.party.party().number();
         let mut count = 0;
         for number in 0..self.pool.number_of_buckets() {
-            if self.is_out(number) {
+            let is_out = self.is_out(number);
+            if is_out {
                 count += 1;
             }
         }
@@ -158,11 +215,11 @@ impl JoinedPool {
         requires { IsOut self.old number }
         ensures { ReturnsCaching self.old number self.new }
     {
+        // Proof hint: brings the party's invariant into scope.
+        let _ = self.party.party().number();
         let pool = &*self.pool;
         let bucket = by_number::bucket(pool, self.party.party(), number, 0);
-        if let Some(at) = self.at.get_mut(number as usize) {
-            *at = self.party.number_of_cached();
-        }
+        put(&mut self.places, number, self.party.number_of_cached());
         self.party.deallocate(pool, bucket);
     }
 }

@@ -4,7 +4,7 @@ mod SharedPoolDetached
 mod SharedPoolDetaching
 mod SharedPoolGatherings
 mod SharedPoolKeeps
-mod SharedPoolLaws
+pub mod SharedPoolLaws
 mod SharedPoolMeetings
 mod SharedPoolNextFit
 mod SharedPoolParties

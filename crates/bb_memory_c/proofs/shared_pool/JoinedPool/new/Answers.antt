@@ -1,17 +1,10 @@
-use Rattle.std.proofs.Common.{◌∙◌, ap, arith, rules, subst, sym}
-use Rattle.bb_memory_pool_machine.specs.PoolLogs.{IsHeldAfter}
-use Rattle.bb_memory_shared_pools.specs.SharedPool.{SharedPool}
-use Rattle.bb_memory_shared_pools.specs.SharedPoolCaching.{CachingParty, IsOut}
-use Rattle.bb_memory_c.proofs.Flags.{none-flagged}
+use Rattle.std.proofs.Common.{◌∙◌, ap, sym}
+use Rattle.bb_memory_shared_pools.specs.SharedPoolCaching.{CachingParty}
+use Rattle.bb_memory_c.proofs.Cached.{joined-fresh}
 use Rattle.bb_memory_c.proofs.shared_pool.JoinedPool.new.Goals as goal
 
 pub invariant_of-joined : goal.invariant_of-joined
-unfolding IsOut
 invariant_of-joined c =
     let made = c.in_ok-party.ensures.empty in
-    record {
-      theirs = ap (λ (p : CachingParty). p.party.allocator) made ∙ c.requires.theirs ∙ sym c.in-Ok.ensures;
-      out = none-flagged (IsOut c.in_ok-party.party) (c.in-Ok-from_elem.ensures.items_if_clones_equal (λ y clones. search rules))
-          (omega (arith, c.number_of_buckets.ensures.value, ap (λ (p : SharedPool). p.scene.geometry.buckets) c.deref.ensures))
-          (λ bucket out. c.requires.idle (bucket, subst (λ (p : CachingParty). IsHeldAfter p.party.log bucket) made out.0));
-    }
+    joined-fresh (ap (λ (p : CachingParty). p.party.allocator) made ∙ c.requires.theirs ∙ sym c.in-Ok.ensures)
+    (ap (λ (p : CachingParty). p.most) made) (ap (λ (p : CachingParty). p.cached) made)

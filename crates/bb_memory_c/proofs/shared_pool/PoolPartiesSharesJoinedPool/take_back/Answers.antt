@@ -2,7 +2,7 @@ use Rattle.std.proofs.Common.{◌<◌, ◌∙◌, ap, arith, length, rules, subs
 use Rattle.std.specs.Arc.{arc_value}
 use Rattle.bb_memory_shared_pools.specs.SharedPool.{PoolParty}
 use Rattle.bb_memory_shared_pools.specs.SharedPoolCaching.{CachingParty}
-use Rattle.bb_memory_c.specs.SharedPools.{GivesAllBack, IsIdleAt, PoolParties, as_joined, flushed}
+use Rattle.bb_memory_c.specs.SharedPools.{GivesAllBack, IsIdleAt, PoolParties, as_joined}
 use Rattle.bb_memory_c.proofs.Unjoined.{one-more}
 use Rattle.bb_memory_c.proofs.shared_pool.PoolPartiesSharesJoinedPool.take_back.Goals as goal
 
@@ -14,7 +14,7 @@ invariant_of-self c =
     let out : length c.self.inside.parties.items < pool.scene.parties = omega (arith, parties, scene, c.requires.out) in
     let back : IsIdleAt pool c.give_all_back.new.party = record {
       theirs = ap (λ (p : PoolParty). p.allocator) c.give_all_back.ensures.returned
-          ∙ ap (λ (p : PoolParty). p.allocator) c.into_party-party.ensures.logged
+          ∙ ap (λ (p : PoolParty). p.allocator) c.into_inner-party.ensures
           ∙ ap (λ (p : CachingParty). p.party.allocator) c.joined.view_is ∙ c.requires.theirs
           ∙ ap (λ (s : PoolParties). s.shared) (sym c.self.view_is);
       idle = c.give_all_back.ensures.idle;
@@ -25,6 +25,6 @@ pub returns : goal.returns
 returns c = (
   as_joined c.give_all_back.new.party,
   subst (λ (p : PoolParty). GivesAllBack p c.give_all_back.new.party)
-      (c.into_party-party.ensures.logged ∙ ap flushed c.joined.view_is) c.give_all_back.ensures,
+      (c.into_inner-party.ensures ∙ ap (λ (p : CachingParty). p.party) c.joined.view_is) c.give_all_back.ensures,
   search rules,
 )

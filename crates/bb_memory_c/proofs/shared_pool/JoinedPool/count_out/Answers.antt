@@ -1,0 +1,40 @@
+use Rattle.std.proofs.Common.{◌≡◌, ◌+◌, ◌∙◌, ℕ, ap, arith, subst, sym}
+use Rattle.bb_memory_shared_pools.specs.SharedPool.{IsParty, SharedPool}
+use Rattle.bb_memory_shared_pools.specs.SharedPoolCaching.{CachingParty, IsOut}
+use Rattle.bb_memory_c.proofs.Counting.{CountsBelow, counts-all, counts-no-more, counts-one}
+use Rattle.bb_memory_c.proofs.shared_pool.JoinedPool.count_out.Goals as goal
+use Rattle.bb_memory_c.proofs.shared_pool.JoinedPool.count_out.Goals.{then-is_out, else-is_out}
+
+pub loop-number-preserved : goal.loop-number-preserved
+loop-number-preserved c =
+    let joined = c.args.self.now in
+    let number = c.loop-number.number in
+    let same = c.loop-number.invariant.unchanged in
+    let counted = c.loop-number.invariant.counted in
+    record {
+      unchanged = c.is_out-is_out.ensures.unchanged ∙ same;
+      counted = elim c.if-is_out.branch [
+        | then-is_out w ↦
+            let out = subst (λ (j : CachingParty). IsOut j number) same (c.is_out-is_out.ensures.value.0 w.if-is_out.true) in
+            subst (CountsBelow joined (number + 1)) (sym w.count-is)
+            (counts-one joined number c.loop-number.count counted out)
+        | else-is_out w ↦
+            subst (CountsBelow joined (number + 1)) (sym w.count-is)
+            (counts-no-more joined number c.loop-number.count counted (λ out.
+            let test = c.is_out-is_out.ensures.value.1 (subst (λ (j : CachingParty). IsOut j number) (sym same) out) in
+            let unset = w.if-is_out.false in absurd (cc)))
+      ];
+    }
+
+pub returns-clause-count : goal.returns-clause-count
+returns-clause-count c =
+    let joined = c.args.self.now in
+    let is_party = subst IsParty (c.party.ensures ∙ ap (λ (p : CachingParty). p.party) c.self.view_is) c.number.ensures.party in
+    let pool = sym (ap (λ (p : CachingParty). p.party.allocator) c.self.view_is) ∙ c.self.invariant.theirs
+    ∙ sym c.deref.ensures in
+    let end : c.loop-number.number ≡ c.number_of_buckets-number-end.result =
+    omega (arith, c.loop-number.auto.number-end, c.loop-number-test.false) in
+    let buckets = end ∙ c.number_of_buckets-number-end.ensures.value
+    ∙ ap (λ (p : SharedPool). p.scene.geometry.buckets) (sym pool) in
+    counts-all joined c.loop-number.count is_party
+    (subst (λ (n : ℕ). CountsBelow joined n c.loop-number.count) buckets c.loop-number.invariant.counted)
