@@ -10,6 +10,9 @@ use Rattle.bb_memory_traits.specs.declared.allocator.AllocationShrinkError.{Allo
 use Rattle.bb_memory_traits.specs.declared.allocator.AllocationShrinkError.TheVariants as shrink
 use Rattle.bb_memory_c.specs.declared.answer.Answer.{Answer}
 use Rattle.bb_memory_c.specs.declared.answer.Figure.{Figure}
+use Rattle.bb_memory_c.specs.declared.answer.Holder.{Holder}
+use Rattle.bb_memory_pool_machine.specs.declared.steps.pool.Flag.{Flag}
+use Rattle.bb_memory_pool_machine.specs.declared.steps.pool.Flag.TheVariants.{DetachedBy, Free, HeldBy}
 pub use Rattle.bb_memory_c.specs.declared.code.TheConstants.{OK as ok, SIZE_IS_ZERO as size_is_zero}
 pub use Rattle.bb_memory_c.specs.declared.code.TheConstants.{SIZE_TOO_LARGE as size_too_large}
 pub use Rattle.bb_memory_c.specs.declared.code.TheConstants.{ALIGNMENT_FAILURE as alignment_failure}
@@ -51,6 +54,14 @@ figure_of number = record { code = ok; number = number }
 -- no number, by this code
 abbrev pub no_figure : ℕ → Figure
 no_figure code = record { code = code; number = 0 }
+
+-- FLAGS
+
+-- a flag as C sees it
+abbrev pub shown_flag : Flag → Holder
+shown_flag Free = record { state = 0; party = 0 }
+shown_flag (HeldBy party) = record { state = 1; party = party }
+shown_flag (DetachedBy party) = record { state = 2; party = party }
 
 -- RESIZES
 

@@ -4,21 +4,24 @@ use Rattle.std.specs.Prelude.{Option, Some, None, IfOk, IfSome, MatchOption, cou
 use Rattle.std.specs.Result.{result_map_both}
 use Rattle.bb_memory_traits.specs.Chunk.{Region, Chunk, IsInside, first_place}
 use Rattle.bb_memory_traits.specs.PoolObject.{IsCut, PoolGeometry, bucket_place}
-use Rattle.bb_memory_pool_machine.specs.PoolLogs.{PoolLog, IsHeldAfter, held_after}
+use Rattle.bb_memory_pool_machine.specs.PoolLogs.{PoolLog, IsHeldAfter, MayBeFound, held_after}
+use Rattle.bb_memory_pool_machine.specs.declared.steps.pool.Flag.{Flag}
 use Rattle.bb_memory_traits.specs.declared.layout.Layout.{Layout}
 use Rattle.bb_memory_traits.specs.declared.allocator.AllocationError.{AllocationError}
 use Rattle.bb_memory_index_set.specs.IndexSets.{Has}
 use Rattle.bb_memory_shared_pools.specs.SharedPool.{AreFresh, PoolParty, Serves, SharedPool, TakenBucket, attach_entry, chunk_of}
-use Rattle.bb_memory_shared_pools.specs.SharedPool.{detach_entry, return_entry, taken_bucket, with_entries}
+use Rattle.bb_memory_shared_pools.specs.SharedPool.{detach_entry, return_detached_entry, return_entry, taken_bucket}
+use Rattle.bb_memory_shared_pools.specs.SharedPool.{with_entries}
 use Rattle.bb_memory_shared_pools.specs.SharedPoolCaching.{CachingParty, IsOut, ReturnsCaching, TakesCaching}
 use Rattle.bb_memory_shared_pools.specs.SharedPoolCaching as caching
 use Rattle.bb_memory_c.specs.Answers.{answer_of, refused, detached_empty, detached_full, ok, not_held, one_party, other_pool}
 use Rattle.bb_memory_c.specs.Answers.{figure_of, invalid_argument, malloc_refused, no_figure, no_reader, readers_left}
-use Rattle.bb_memory_c.specs.Answers.{size_too_large}
+use Rattle.bb_memory_c.specs.Answers.{not_a_bucket, shown_flag, size_too_large}
 use Rattle.bb_memory_c.specs.Calls.{AreKnown, IsOneOf, Parties, with_party}
 use Rattle.bb_memory_c.specs.declared.answer.Answer.{Answer}
 use Rattle.bb_memory_c.specs.OneOwner.{pool_info}
 use Rattle.bb_memory_c.specs.declared.answer.Figure.{Figure}
+use Rattle.bb_memory_c.specs.declared.answer.Holder.{Holder}
 use Rattle.bb_memory_c.specs.declared.answer.PoolInfo.{PoolInfo}
 use Rattle.bb_memory_c.specs.declared.answer.SharedPoolInfo.{SharedPoolInfo}
 
@@ -102,6 +105,12 @@ ShowsParty joined info after = (flags : List Bool) × AreFlagged joined.party.al
 abbrev pub ShowsShared : PoolParties → SharedPoolInfo → PoolParties → Type 0
 ShowsShared all info after = let geometry = all.shared.scene.geometry in (held : ℕ) × (greatest : ℕ)
     × (held ≤ greatest) × (greatest ≤ geometry.buckets) × (info.pool ≡ pool_info geometry held greatest) × (after ≡ all)
+
+-- What is answered who holds the bucket of a number: its flag, as it may be found, or that there is no such bucket.
+pub record TellsHolder (all : PoolParties) (number code : ℕ) (before told : Holder) : Type 0 where
+  pub found : number < all.shared.scene.geometry.buckets → (code ≡ ok)
+      × ((flag : Flag) × MayBeFound all.shared.scene number flag × (told ≡ shown_flag flag))
+  pub past : all.shared.scene.geometry.buckets ≤ number → (code ≡ not_a_bucket) × (told ≡ before)
 
 -- the bucket of this number is out, and is at this place
 pub record HoldsAt (joined : CachingParty) (place number : ℕ) : Type 0 where
@@ -245,6 +254,11 @@ pub record HasAttached (joined : CachingParty) (token : TakenBucket) (after : Ca
       ≡ record joined { party = with_entries joined.party (attach_entry joined.party.number token.number) }
   pub inside : IsInside (geometry_of joined).region (chunk_of token)
 
+-- the party gave back the detached bucket of this number, by one step
+abbrev pub HasReturned : CachingParty → ℕ → CachingParty → Type 0
+HasReturned joined number after =
+    after ≡ record joined { party = with_entries joined.party (return_detached_entry joined.party.number number) }
+
 -- What is answered where a party is to attach the detached bucket: the chunk in that bucket, and none is behind the handle then.
 -- Refused, where the bucket is of another pool or waits for a reader, all stays.
 pub record TellsAttach (joined : CachingParty) (before : Detached) (told : Answer) (after : CachingParty) (left : Detached)
@@ -256,3 +270,24 @@ pub record TellsAttach (joined : CachingParty) (before : Detached) (told : Answe
   pub attached : before.readers ≡ 0 → IfSome before.inside (λ token. token.allocator ≡ joined.party.allocator →
       (told ≡ answer_of (Ok (chunk_of token))) × HasAttached joined token after × (left ≡ nothing))
   pub unchanged : told.code ≢ ok → (after ≡ joined) × (left ≡ before)
+
+-- What is answered where a party is to give back the detached bucket, by one step: none is behind the handle then. It is refused
+-- as attaching is, and then all stays.
+pub record TellsReturnDetached (joined : CachingParty) (before : Detached) (code : ℕ) (after : CachingParty) (left : Detached)
+    : Type 0 where
+  pub empty : before.inside ≡ None → code ≡ detached_empty
+  pub others : IfSome before.inside (λ token. token.allocator ≢ joined.party.allocator → code ≡ other_pool)
+  pub read : 0 < before.readers →
+      IfSome before.inside (λ token. token.allocator ≡ joined.party.allocator → code ≡ readers_left)
+  pub returned : before.readers ≡ 0 → IfSome before.inside (λ token. token.allocator ≡ joined.party.allocator →
+      (code ≡ ok) × HasReturned joined token.number after × (left ≡ nothing))
+  pub unchanged : code ≢ ok → (after ≡ joined) × (left ≡ before)
+
+-- What is answered where a party is to give back a detached bucket by its number.
+pub record TellsRecover (joined : CachingParty) (number code : ℕ) (after : CachingParty) : Type 0 where
+  pub recovered : number < (geometry_of joined).buckets → (code ≡ ok) × HasReturned joined number after
+  pub past : (geometry_of joined).buckets ≤ number → (code ≡ not_a_bucket) × (after ≡ joined)
+
+-- the token is that of the bucket of this number, where the party's pool has one
+abbrev pub IsLostAt : CachingParty → ℕ → TakenBucket → Type 0
+IsLostAt joined number lost = number < (geometry_of joined).buckets → lost ≡ taken_bucket joined.party.allocator number 0

@@ -1,8 +1,10 @@
 //! Answers as C sees them.
 ghost use Rattle.std.specs.Prelude.{◌≡◌};
-ghost use Rattle.bb_memory_c.specs.Answers.{answer_by, answer_of, figure_of, grow_code, no_figure, refused, shrink_code};
+ghost use Rattle.bb_memory_c.specs.Answers.{answer_by, answer_of, figure_of, grow_code, no_figure, refused, shown_flag};
+ghost use Rattle.bb_memory_c.specs.Answers.{shrink_code};
 
 use crate::code;
+use bb_memory_shared_pools::shared_pool::by_number::Flag;
 use bb_memory_traits::allocator::{AllocationError, AllocationGrowError, AllocationShrinkError};
 use bb_memory_traits::layout::Chunk;
 
@@ -60,6 +62,40 @@ pub struct PoolInfo {
 pub struct SharedPoolInfo {
     pub pool: PoolInfo,
     pub refused: usize,
+}
+
+/// The flag of a bucket: one of `FREE`, `HELD` and `DETACHED`, and the party that holds it or has detached it, or 0.
+#[repr(C)]
+#[derive(Clone, Copy)]
+pub struct Holder {
+    pub state: u32,
+    pub party: u32,
+}
+
+/// The states of a bucket's flag.
+pub(crate) const FREE: u32 = 0;
+
+pub(crate) const HELD: u32 = 1;
+
+pub(crate) const DETACHED: u32 = 2;
+
+impl Holder {
+    /// Turns a flag into C's.
+    pub(crate) fn of(flag: Flag) -> Holder
+        ensures { result ≡ shown_flag flag }
+    {
+        match flag {
+            Flag::Free => Holder {
+                state: FREE,
+                party: 0,
+            },
+            Flag::HeldBy(party) => Holder { state: HELD, party },
+            Flag::DetachedBy(party) => Holder {
+                state: DETACHED,
+                party,
+            },
+        }
+    }
 }
 
 impl Answer {

@@ -2,15 +2,15 @@
 ghost use Rattle.std.specs.Prelude.{◌≡◌, MatchOption, Some};
 ghost use Rattle.bb_memory_c.specs.Answers.{no_figure, refused, uninitialized};
 ghost use Rattle.bb_memory_c.specs.Calls.{Answers, AnswersFree, AnswersMake, AnswersOfBoth, IfBoth};
-ghost use Rattle.bb_memory_c.specs.SharedPools.{Detached, KnowsInside, TellsAttach, TellsDetach, TellsLen, TellsRelease};
-ghost use Rattle.bb_memory_c.specs.SharedPools.{TellsShare, nothing, start_of};
+ghost use Rattle.bb_memory_c.specs.SharedPools.{Detached, IsLostAt, KnowsInside, TellsAttach, TellsDetach, TellsLen};
+ghost use Rattle.bb_memory_c.specs.SharedPools.{TellsRecover, TellsRelease, TellsReturnDetached, TellsShare, nothing, start_of};
 
 use crate::answer::{Answer, Figure};
 use crate::call::{free, is_made, keep};
 use crate::code;
-use crate::handle::{DetachedHandle, Handle, PoolPartyHandle};
+use crate::handle::{DetachedHandle, Handle, LostHandle, PoolPartyHandle};
 use crate::shared_pool::JoinedPool;
-use bb_memory_shared_pools::shared_pool::{DetachedBucket, by_number};
+use bb_memory_shared_pools::shared_pool::{DetachedBucket, LostBucket, by_number};
 use bb_memory_traits::layout::Chunk;
 use std::alloc::Global;
 use std::marker::Model;
@@ -75,6 +75,42 @@ impl JoinedPool {
         };
         let bucket = self.party.attach(&*self.pool, token);
         Answer::of(Ok(bucket.chunk()))
+    }
+
+    /// Gives back the bucket that is in `detached`, where it is of the party's pool. None is in it then.
+    fn return_detached(&mut self, detached: &mut Detached) -> u32
+        requires { KnowsInside self.old detached.old }
+        ensures { TellsReturnDetached self.old detached.old result self.new detached.new }
+    {
+        if detached.inside.is_none() {
+            return code::DETACHED_EMPTY;
+        }
+        if detached.start != self.pool.start_address() {
+            return code::OTHER_POOL;
+        }
+        if detached.readers > 0 {
+            return code::READERS_LEFT;
+        }
+        let Some(token) = detached.inside.take() else {
+            return code::DETACHED_EMPTY;
+        };
+        self.party.return_detached(&*self.pool, token);
+        code::OK
+    }
+
+    /// Gives back the detached bucket of this number, whose token was lost.
+    fn recover(&mut self, number: u32, lost: LostBucket) -> u32
+        requires { IsLostAt self.old number lost }
+        ensures { TellsRecover self.old number result self.new }
+    {
+        if number >= self.pool.number_of_buckets() {
+            return code::NOT_A_BUCKET;
+        }
+        if self.party.recover(&*self.pool, number, lost) {
+            code::OK
+        } else {
+            code::NOT_HELD
+        }
     }
 }
 
@@ -194,4 +230,46 @@ pub extern "C" fn bb_pool_party_attach(
         return Answer::refusal(code::UNINITIALIZED);
     };
     joined.attach(inside)
+}
+
+/// Gives back the bucket that is in the `bb_detached`, which has none then, by one store and without attaching it. It is refused
+/// as attaching is. It takes no memory, and waits for nothing.
+#[unsafe(no_mangle)]
+pub extern "C" fn bb_pool_party_return_detached(
+    handle: &mut PoolPartyHandle,
+    detached: &mut DetachedHandle,
+) -> u32
+    requires { IfBoth handle.old.value detached.old.value KnowsInside }
+    ensures { AnswersOfBoth handle.old.value handle.new.value detached.old.value detached.new.value (result ≡ uninitialized)
+        (λ party inside. TellsReturnDetached party inside result) }
+{
+    let Some(joined) = handle.made_mut() else {
+        return code::UNINITIALIZED;
+    };
+    let Some(inside) = detached.made_mut() else {
+        return code::UNINITIALIZED;
+    };
+    joined.return_detached(inside)
+}
+
+/// Gives back the detached bucket of this number, whose `bb_detached` was lost. The token of the bucket, which has no bytes, is
+/// behind the second handle, as nobody else has it. A number past the last is refused.
+#[unsafe(no_mangle)]
+pub extern "C" fn bb_pool_party_recover(
+    alloc: Global,
+    handle: &mut PoolPartyHandle,
+    number: u32,
+    lost: &mut LostHandle,
+) -> u32
+    requires { IfBoth handle.old.value lost.old.value (λ joined token. IsLostAt joined number token) }
+    ensures { Answers handle.old.value handle.new.value (result ≡ uninitialized) (λ joined after. MatchOption lost.old.value
+        ((result ≡ uninitialized) × (after ≡ joined)) (λ token. TellsRecover joined number result after)) }
+{
+    let Some(joined) = handle.made_mut() else {
+        return code::UNINITIALIZED;
+    };
+    let Some(token) = lost.take(alloc) else {
+        return code::UNINITIALIZED;
+    };
+    joined.recover(number, Box::into_inner(token))
 }

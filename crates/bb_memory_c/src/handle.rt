@@ -9,6 +9,7 @@ ghost use Rattle.bb_memory_c.specs.declared.held.Held.{Held as HeldOf};
 ghost use Rattle.bb_memory_bump.specs.contracts.bump_allocator.BumpAllocator.{the_row as bump_row};
 ghost use Rattle.bb_memory_owned.specs.contracts.one_chunk_allocator.OneChunkAllocator.{the_row as one_chunk_row};
 ghost use Rattle.bb_memory_c.specs.contracts.detached.Detached.{the_row as detached_row};
+ghost use Rattle.bb_memory_shared_pools.specs.contracts.shared_pool.detached.LostBucket.{the_row as lost_row};
 ghost use Rattle.bb_memory_c.specs.contracts.pool.Pool.{the_row as pool_row};
 ghost use Rattle.bb_memory_c.specs.contracts.shared_bump.BumpParties.{the_row as shared_bump_row};
 ghost use Rattle.bb_memory_c.specs.contracts.shared_bump.JoinedBump.{the_row as bump_party_row};
@@ -22,6 +23,7 @@ use crate::shared_bump::{BumpParties, JoinedBump};
 use crate::shared_pool::{JoinedPool, PoolParties};
 use bb_memory_bump::bump_allocator::BumpAllocator;
 use bb_memory_owned::one_chunk_allocator::OneChunkAllocator;
+use bb_memory_shared_pools::shared_pool::LostBucket;
 use std::alloc::Global;
 use std::marker::Model;
 use std::mem;
@@ -266,6 +268,29 @@ impl Handle<Detached> for DetachedHandle {
     }
 }
 
+/// Empty, or the owner of the token of a lost bucket, which has no bytes: its pointer is any that isn't null.
+#[repr(C)]
+#[derive(Drop)]
+pub struct LostHandle {
+    at: *mut u8,
+    made: bool,
+    pub ghost value: { Option lost_row.Denot },
+}
+
+impl Model for LostHandle {
+    ghost also_owns = { λ h. owns_if lost_row h.made h.at h.value };
+}
+
+impl Handle<LostBucket> for LostHandle {
+    ghost made = { λ h. h.value };
+
+    ghost of = { λ held. record { at = held.at; made = held.made; value = held.value } };
+
+    fn held(&mut self) -> &mut Held<LostBucket> {
+        unsafe { &mut *(self as *mut Self as *mut Held<LostBucket>) }
+    }
+}
+
 unsafe impl Send for BumpHandle {}
 
 unsafe impl Send for OneChunkHandle {}
@@ -281,3 +306,5 @@ unsafe impl Send for SharedPoolHandle {}
 unsafe impl Send for PoolPartyHandle {}
 
 unsafe impl Send for DetachedHandle {}
+
+unsafe impl Send for LostHandle {}

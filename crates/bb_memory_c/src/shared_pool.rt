@@ -4,17 +4,17 @@ ghost use Rattle.std.specs.Prelude.{slice_get, slice_set, vec_capacity};
 ghost use Rattle.std.specs.Arc.{arc_value};
 ghost use Rattle.bb_memory_traits.specs.Chunk.{region_at};
 ghost use Rattle.bb_memory_shared_pools.specs.SharedPoolCaching.{CachingParty, IsOut, ReturnsCaching};
-ghost use Rattle.bb_memory_c.specs.Answers.{ok, uninitialized};
+ghost use Rattle.bb_memory_c.specs.Answers.{figure_of, no_figure, ok, uninitialized};
 ghost use Rattle.bb_memory_c.specs.Calls.{Answers, AnswersFree, AnswersInfo, AnswersJoin, AnswersLeave, AnswersNumber};
 ghost use Rattle.bb_memory_c.specs.Calls.{AnswersPlace, AnswersPoolMake, AnswersRequest, AnswersReturn, AnswersWhether, HasRoom};
 ghost use Rattle.bb_memory_c.specs.Calls.{IfBoth, IsThere, MayBeShared, left_at};
 ghost use Rattle.bb_memory_c.specs.OneOwner.{pool_info};
 ghost use Rattle.bb_memory_c.specs.SharedPools.{AreFreshOver, AreUnjoined, CountsOut, GivesAllBack, GivesBack, GivesChunk};
 ghost use Rattle.bb_memory_c.specs.SharedPools.{HoldsAt, HoldsPlace, IsAt, IsIdleAt, IsJoinedAt, JoinsAt, Knows, Leaves};
-ghost use Rattle.bb_memory_c.specs.SharedPools.{PoolParties, ShowsParty, ShowsShared, TellsCache, as_joined, emptied};
-ghost use Rattle.bb_memory_c.specs.SharedPools.{geometry_of, with_left};
+ghost use Rattle.bb_memory_c.specs.SharedPools.{PoolParties, ShowsParty, ShowsShared, TellsCache, TellsHolder, as_joined};
+ghost use Rattle.bb_memory_c.specs.SharedPools.{emptied, geometry_of, with_left};
 
-use crate::answer::{Answer, Figure, PoolInfo, SharedPoolInfo};
+use crate::answer::{Answer, Figure, Holder, PoolInfo, SharedPoolInfo};
 use crate::call::{
     free, give_back, holds, info, is_made, join, keep, leave, number, place, request_bucket,
 };
@@ -389,6 +389,27 @@ pub extern "C" fn bb_shared_pool_info(handle: &mut SharedPoolHandle, to: &mut Sh
     code::OK
 }
 
+/// Fills the struct with the flag of the bucket of this number, as one load found it: free, or held or detached, and by which
+/// party. Parties may call meanwhile.
+#[unsafe(no_mangle)]
+pub extern "C" fn bb_shared_pool_holder(
+    handle: &mut SharedPoolHandle,
+    number: u32,
+    to: &mut Holder,
+) -> u32
+    ensures { Answers handle.old.value handle.new.value ((result ≡ uninitialized) × (to.new ≡ to.old))
+        (λ all after. TellsHolder all number result to.old to.new × (after ≡ all)) }
+{
+    let Some(all) = handle.made_mut() else {
+        return code::UNINITIALIZED;
+    };
+    if number >= all.pool.number_of_buckets() {
+        return code::NOT_A_BUCKET;
+    }
+    *to = Holder::of(all.pool.holder(number));
+    code::OK
+}
+
 /// Makes a party that hasn't joined join, behind a handle that has to be empty.
 #[unsafe(no_mangle)]
 pub extern "C" fn bb_shared_pool_join(
@@ -505,4 +526,16 @@ pub extern "C" fn bb_pool_party_number_at(handle: &mut PoolPartyHandle, place: u
     ensures { AnswersNumber handle.old.value handle.new.value result place geometry_of }
 {
     number(handle, place)
+}
+
+/// The number by which the pool's flags name this party.
+#[unsafe(no_mangle)]
+pub extern "C" fn bb_pool_party_number(handle: &mut PoolPartyHandle) -> Figure
+    ensures { Answers handle.old.value handle.new.value (result ≡ no_figure uninitialized)
+        (λ joined after. (result ≡ figure_of joined.party.number) × (after ≡ joined)) }
+{
+    match handle.made_mut() {
+        Some(joined) => Figure::of(joined.party.party().number() as usize),
+        None => Figure::refusal(code::UNINITIALIZED),
+    }
 }

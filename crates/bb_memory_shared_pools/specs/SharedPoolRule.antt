@@ -82,6 +82,10 @@ pub record IsPartySeat (number : ℕ) (hint : Hint) (me : Me ℕ SeatView) : Typ
   pub shared : IsSharedScene me.0.scene
   pub next_fit : hint ≡ hint_in me.0.scene number (view_log me.0)
 
+-- the bucket that is detached at a seat
+abbrev pub carried : Me ℕ SeatView → ℕ
+carried me = get_or me.0.detached 0 0
+
 -- the seat stands for no party, and this bucket is detached there, with a chunk of so many bytes
 pub record IsDetachedSeat (bucket len : ℕ) (me : Me ℕ SeatView) : Type 0 where
   pub is : me ≡ (carrying me.0.scene bucket, [])
@@ -247,6 +251,10 @@ meets step old found new = (new ≡ old) × TellsMeeting old.0.scene old.0.parti
 -- a load of a flag by a new seat, which stands for no party: the flag is found
 abbrev pub finds : Step ℕ → Me ℕ SeatView → ℕ → Me ℕ SeatView → Type 0
 finds step old found new = (flag : Flag) × (found ≡ as_word flag) × MayBeFound old.0.scene (bucket_of step.word) flag
+
+-- a load of the flag of what is detached at a seat, which changes nothing: some party has detached the bucket
+abbrev pub sees_detached : Step ℕ → Me ℕ SeatView → ℕ → Me ℕ SeatView → Type 0
+sees_detached step old found new = (new ≡ old) × ((sender : ℕ) × (found ≡ as_word (DetachedBy sender)))
 
 -- a store by the party that detaches a bucket
 abbrev pub detaches : Step ℕ → Me ℕ SeatView → ℕ → Me ℕ SeatView → Type 0

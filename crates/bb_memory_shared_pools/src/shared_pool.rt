@@ -32,7 +32,7 @@ use bb_memory_traits::layout::Layout;
 pub use bucket::Bucket;
 use buckets::SharedBucketPool;
 pub use caching::CachingParty;
-pub use detached::DetachedBucket;
+pub use detached::{DetachedBucket, LostBucket};
 pub use figures::SharedPoolFigures;
 pub use fixed_size::SharedFixedSizePoolAllocator;
 pub use party::PoolParty;

@@ -11,7 +11,7 @@ ghost use Rattle.bb_memory_shared_pools.specs.SharedPoolCaching.{AreCached, IsOu
 use super::bucket::Bucket;
 use super::buckets::SharedBucketPool;
 use super::by_number;
-use super::detached::DetachedBucket;
+use super::detached::{DetachedBucket, LostBucket};
 use super::party::PoolParty;
 use bb_memory_traits::allocator::AllocationError;
 use bb_memory_traits::layout::Layout;
@@ -269,6 +269,27 @@ impl CachingParty {
         ensures others { (other : ℕ) → IsOut self.new other → IsOut self.old other }
     {
         pool.return_detached(&mut self.party, detached)
+    }
+
+    /// Gives back the detached bucket of this number, whose token was lost, as
+    /// [`SharedPoolAllocator::recover`](super::SharedPoolAllocator::recover) does. It isn't cached. The party and the token have
+    /// to be this pool's.
+    #[tactic(auto, unfolding(crate::specs::SharedPoolCaching::IsOut))]
+    pub fn recover<const CAPPED: usize, const MOST: usize>(
+        &mut self,
+        pool: &SharedBucketPool<CAPPED, MOST>,
+        number: u32,
+        lost: LostBucket,
+    ) -> bool
+        requires party { self.old.party.allocator ≡ pool.now }
+        requires bucket { lost ≡ taken_bucket pool.now number 0 }
+        ensures recovered { result ≡ true }
+        ensures logged { self.new ≡ record self.old {
+          party = with_entries self.old.party
+              (return_detached_entry self.old.party.number number);
+        } }
+    {
+        pool.recover(&mut self.party, number, lost)
     }
 
     /// Gives all cached buckets back to the pool, as `flush` does, and caches at most `most` from then on. It takes memory for

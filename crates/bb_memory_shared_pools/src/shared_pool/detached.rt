@@ -1,5 +1,5 @@
 //! Buckets on their way from one party of a shared pool to another.
-ghost use Rattle.std.specs.Prelude.{◌≡◌, ◌<◌, ◌≤◌};
+ghost use Rattle.std.specs.Prelude.{◌≡◌, ◌<◌, ◌≤◌, true};
 ghost use Rattle.bb_memory_shared_pools.specs.SharedPool.{AreOf, HasDetached, HasAttached, HasReturned, MayDetach};
 
 use super::bucket::Bucket;
@@ -10,8 +10,9 @@ use atomic_table::Seat;
 use std::marker::Model;
 
 /// The token of a detached bucket, which [`SharedPoolAllocator::attach`](super::SharedPoolAllocator::attach) and
-/// [`SharedPoolAllocator::return_detached`](super::SharedPoolAllocator::return_detached) spend. It borrows nothing, so it can go to another thread with a message, or lie in a struct. Meanwhile no party holds the bucket, and its flag
-/// stays taken. There is one token for each detached bucket. Dropping the token leaks the bucket: its flag stays taken for good.
+/// [`SharedPoolAllocator::return_detached`](super::SharedPoolAllocator::return_detached) spend. It borrows nothing, so it can go
+/// to another thread with a message, or lie in a struct. Meanwhile no party holds the bucket, and its flag stays taken. There is
+/// one token for each detached bucket. Dropping the token leaks the bucket: its flag stays taken for good.
 #[derive(Drop)]
 pub struct DetachedBucket {
     number: u32,
@@ -29,6 +30,25 @@ impl Model for DetachedBucket {
     ghost view = { λ b. taken_bucket (pool_in b.seat.table_id b.seat.me.0) b.number b.len };
 
     ghost invariant = { λ b. IsDetachedSeat b.number b.len b.seat.me };
+}
+
+/// The token of a detached bucket without the number and the length, and so of no bytes. Nothing here makes one. A host whose
+/// process died with a [`DetachedBucket`] has the bucket's number from its flag, and knows that nobody else has the token: so it
+/// may hand this one over, at an interface for C.
+#[derive(Drop)]
+pub struct LostBucket {
+    seat: Seat<u8, View>,
+}
+
+impl Model for LostBucket {
+    ghost use Rattle.bb_memory_shared_pools.specs.SharedPool.{TakenBucket, taken_bucket};
+    ghost use Rattle.bb_memory_shared_pools.specs.SharedPoolRule.{IsDetachedSeat, carried, pool_in};
+
+    ghost Value = { TakenBucket };
+
+    ghost view = { λ b. taken_bucket (pool_in b.seat.table_id b.seat.me.0) (carried b.seat.me) 0 };
+
+    ghost invariant = { λ b. IsDetachedSeat (carried b.seat.me) 0 b.seat.me };
 }
 
 impl DetachedBucket {
@@ -104,5 +124,22 @@ impl<const CAPPED: usize, const MOST: usize> SharedBucketPool<CAPPED, MOST> {
         } = detached;
         self.flags.return_detached(&mut party.seat, seat, number);
         party.hint.follow_return(number);
+    }
+
+    /// Gives back the detached bucket of this number, whose token was lost, by one store. It is refused where the bucket's flag
+    /// doesn't say that it is detached, which the token rules out. The party and the token have to be this pool's.
+    pub fn recover(&self, party: &mut PoolParty, number: u32, lost: LostBucket) -> bool
+        requires own { AreOf self.now party.old lost }
+        requires number { lost.number ≡ number }
+        ensures recovered { result ≡ true }
+        ensures party { HasReturned self.now party.old lost party.new }
+    {
+        let LostBucket { mut seat } = lost;
+        if !self.flags.is_detached(&mut seat, number) {
+            return false;
+        }
+        self.flags.return_detached(&mut party.seat, seat, number);
+        party.hint.follow_return(number);
+        true
     }
 }

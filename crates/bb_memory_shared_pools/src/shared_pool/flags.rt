@@ -21,7 +21,7 @@ ghost use Rattle.bb_memory_seats.specs.Seats.{IsDealt, MayGather, Stays, both_of
 
 use super::rule::{
     Agreement, Attaches, Detaches, Finds, Gather, GiveDetached, GiveFirst, LooksAt, Meets,
-    Recognizes, Returns, ReturnsDetached, Scene, TakeIn, Tries, TriesAt, View,
+    Recognizes, Returns, ReturnsDetached, Scene, SeesDetached, TakeIn, Tries, TriesAt, View,
 };
 use atomic_table::{Seat, Table};
 use bb_memory_geometry::geometry::Geometry;
@@ -208,6 +208,17 @@ impl Flags {
             .shared
             .load_new_seat::<Finds>(word_of(bucket));
         flag_of(word)
+    }
+
+    /// A load of its word, which is in no log, by a seat at which this bucket is detached: whether its flag says so.
+    pub(super) fn is_detached(&self, seat: &mut Seat<u8, View>, bucket: u32) -> bool
+        requires { IsDetachedAt self.now seat.old.table_id seat.old.me bucket }
+        ensures seat { Stays seat.old.table_id seat.new.table_id (seat.new.me ≡ seat.old.me) }
+        ensures value { result ≡ true }
+    {
+        let shared = &self.table.shared;
+        let found = shared.load::<SeesDetached>(seat, word_of(bucket));
+        found != FREE && found % 2 == 0
     }
 
     /// A store by the party after whose log this bucket is held, and which isn't the only one. What is returned has the bucket

@@ -104,6 +104,15 @@ impl Play<u8, View> for Finds {
     ghost then = { finds };
 }
 
+/// A load of a flag by a seat at which the bucket is detached.
+pub(crate) struct SeesDetached;
+
+impl Play<u8, View> for SeesDetached {
+    ghost use Rattle.bb_memory_shared_pools.specs.SharedPoolRule.{sees_detached};
+
+    ghost then = { sees_detached };
+}
+
 /// A store by a party after whose log the bucket is held, which detaches it.
 pub(crate) struct Detaches;
 
