@@ -90,7 +90,7 @@ pub record AreFreshOver (region : Region) (bucket : Layout) (count : ℕ) (all :
   pub cut : IsCut region bucket all.shared.scene.geometry
   pub parties : AreFresh all.shared count all.parties
 
--- so many buckets are out
+-- the buckets that are out are this many
 abbrev pub CountsOut : CachingParty → ℕ → Type 0
 CountsOut joined count = (flags : List Bool) × AreFlagged joined.party.allocator (IsOut joined) flags
     × (count ≡ count_by (λ flag. flag) flags)

@@ -1,7 +1,7 @@
 -- Which steps of the pool machine leave a detached bucket.
 use Rattle.std.proofs.Common.{◌≡◌, ℕ, zero, suc, ◌<◌, ◌≤◌, List, [], ◌∷◌, length, refl, sym, ap, ◌∙◌, arith, Option}
-use Rattle.std.proofs.Common.{Some, None, inl, inr}
-use Rattle.std.specs.Prelude.{◌⊎◌, Any, slice_get, slice_set}
+use Rattle.std.proofs.Common.{None, inl, inr}
+use Rattle.std.specs.Prelude.{◌⊎◌, Any, slice_set}
 use Rattle.std.proofs.lemmas.Bool.{cases_eq}
 use Rattle.std.proofs.lemmas.Option.{same_Some}
 use Rattle.std.proofs.lemmas.List.{length-replicate}

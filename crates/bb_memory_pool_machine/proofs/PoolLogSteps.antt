@@ -1,18 +1,18 @@
 -- Each step that a party's log allows leaves flags and logs that agree.
 use Rattle.std.proofs.Common.{◌≡◌, ℕ, ◌+◌, ◌<◌, List, length, replicate, refl, sym, ap, ◌∙◌, subst}
 use Rattle.std.proofs.Common.{arith, Bool, true, false, Option, Some, None}
-use Rattle.std.specs.Prelude.{◌==◌, slice_get, slice_set, nat_lt, if◌then◌else◌, All, []}
+use Rattle.std.specs.Prelude.{slice_get, slice_set, nat_lt, if◌then◌else◌, All, []}
 use Rattle.std.proofs.lemmas.Bool.{lt-ltb}
 use Rattle.std.proofs.lemmas.Option.{slice_get_within, get_or_from_slice_get}
 use Rattle.std.proofs.lemmas.List.Elements.{All-nil}
 use Rattle.bb_memory_pool_machine.specs.PoolMachine.{move_of, PoolScene, PoolState, with_pass, taking, loss, return_of}
 use Rattle.bb_memory_pool_machine.specs.PoolMachine.{passed, try_flag, try_next, give_flag, try_at, try_one, detach_flag, detach}
 use Rattle.bb_memory_pool_machine.specs.PoolMachine.{detaching, attach_flag, attach, attaching, give_detached, give_detached_flag}
-use Rattle.bb_memory_pool_machine.specs.PoolMachine.{pool_step, left_by, Flag, Free, HeldBy, DetachedBy, PoolStep, Try, GiveBack}
+use Rattle.bb_memory_pool_machine.specs.PoolMachine.{pool_step, left_by, Flag, Free, HeldBy, DetachedBy, Try, GiveBack}
 use Rattle.bb_memory_pool_machine.specs.PoolMachine.{TryAt, Detach, Attach, GiveBackDetached, Takes, Loses, RefusedAtLoss, Gives}
 use Rattle.bb_memory_pool_machine.specs.PoolMachine.{Misses, Detaches, Attaches}
 use Rattle.bb_memory_pool_machine.specs.PoolLogs.{entry_of, PoolLog, PoolEntry, HasLog, pass_in, next_bucket, loss_at, is_taken}
-use Rattle.bb_memory_pool_machine.specs.PoolLogs.{IsAllowed, IsHeldAfter, IsDetachedIn, LogsAgree, with_entry, is_by}
+use Rattle.bb_memory_pool_machine.specs.PoolLogs.{IsAllowed, IsHeldAfter, IsDetachedIn, LogsAgree, with_entry}
 use Rattle.bb_memory_pool_machine.proofs.PoolSteps.{calls-left_by, length-left_by, test_same}
 use Rattle.bb_memory_pool_machine.proofs.PoolLogFacts.{machine_flag, named_from_log}
 use Rattle.bb_memory_pool_machine.proofs.PoolLogEntries.{log_pass, agree_on}

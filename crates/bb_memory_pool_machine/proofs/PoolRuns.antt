@@ -12,7 +12,7 @@ use Rattle.bb_memory_traits.specs.declared.layout.Layout.{Layout}
 use Rattle.bb_memory_traits.specs.Object.{IsRun}
 use Rattle.bb_memory_traits.specs.PoolObject.{PoolGeometry, bucket_place, IsPoolGeometry, IsAt, IsHeld, IsWithin}
 use Rattle.bb_memory_traits.specs.PoolObject.{MayGive, chunk_in}
-use Rattle.bb_memory_pool_machine.specs.PoolMachine.{PoolScene, PoolState, PoolMove, IsFlag, IsHolder, IsTaken, pool_step}
+use Rattle.bb_memory_pool_machine.specs.PoolMachine.{PoolScene, PoolState, PoolMove, IsFlag, IsTaken, pool_step}
 use Rattle.bb_memory_pool_machine.specs.PoolMachine.{pool_after, opening_state, left_by, Flag, Free, HeldBy, DetachedBy}
 use Rattle.bb_memory_pool_machine.specs.PoolMachine.{PoolStep, PoolOutcome}
 use Rattle.bb_memory_pool_machine.specs.PoolLogs.{PoolLog, PoolEntry, history_of, pool_history, outcomes_of, is_taken, IsCallRun}

@@ -220,6 +220,22 @@ pub fn shared_pool_detached(
     Ok(())
 }
 
+pub fn shared_pool_holder(
+    pool: &SharedPoolAllocator,
+    party: &mut PoolParty,
+) -> Result<(), AllocationError>
+    requires { party.old.allocator ≡ pool.now }
+{
+    let taken = pool.allocate(party, Layout::from_size_align(48, 4).unwrap())?;
+    let number = taken.number();
+    let held = pool.is_held_by(party, number);
+    prove!(held);
+    pool.deallocate_bucket(party, taken);
+    let still_held = pool.is_held_by(party, number);
+    prove!(!still_held);
+    Ok(())
+}
+
 pub fn shared_pool_caching(
     alloc: Global,
     pool: SharedPoolAllocator,

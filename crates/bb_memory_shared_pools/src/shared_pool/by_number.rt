@@ -32,6 +32,8 @@ impl<const CAPPED: usize, const MOST: usize> SharedBucketPool<CAPPED, MOST> {
 
     /// Tells whether the party holds the bucket of this number, by one load of its flag, which is in no log. The party has to be
     /// this pool's.
+    ///
+    /// Example: `comments::shared_pool_holder` of `crates/examples`.
     pub fn is_held_by(&self, party: &mut PoolParty, number: u32) -> bool
         requires party { party.old.allocator ≡ self.now }
         requires below { number < self.now.scene.geometry.buckets }

@@ -87,9 +87,7 @@ impl<const CAPPED: usize, const MOST: usize> SharedBucketPool<CAPPED, MOST> {
             number,
             len,
         } = bucket;
-        let seat = self
-            .flags
-            .detach(party.number, &mut party.seat, number);
+        let seat = self.flags.detach(party.number, &mut party.seat, number);
         DetachedBucket { number, len, seat }
     }
 
@@ -138,8 +136,12 @@ impl<const CAPPED: usize, const MOST: usize> SharedBucketPool<CAPPED, MOST> {
         if !self.flags.is_detached(&mut seat, number) {
             return false;
         }
-        self.flags.return_detached(&mut party.seat, seat, number);
-        party.hint.follow_return(number);
+        let detached = DetachedBucket {
+            number,
+            len: 0,
+            seat,
+        };
+        self.return_detached(party, detached);
         true
     }
 }

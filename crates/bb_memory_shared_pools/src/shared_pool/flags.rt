@@ -203,10 +203,7 @@ impl Flags {
     {
         // Proof hint: brings into scope that the numbers of parties fit into 32 bits.
         let _ = self.parties();
-        let (word, _) = self
-            .table
-            .shared
-            .load_new_seat::<Finds>(word_of(bucket));
+        let (word, _) = self.table.shared.load_new_seat::<Finds>(word_of(bucket));
         flag_of(word)
     }
 

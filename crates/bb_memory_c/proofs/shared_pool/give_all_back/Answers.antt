@@ -28,8 +28,11 @@ bucket-bucket-requires c = (
   omega arith,
   (
     ap (λ (p : PoolParty). p.allocator) (c.is_held_by-is_held.ensures.unchanged ∙ c.loop-number.invariant.returned) ∙ c.requires,
-    (subst (λ (p : PoolParty). IsHeldAfter p.log c.loop-number.number) (sym c.is_held_by-is_held.ensures.unchanged)
-    (c.is_held_by-is_held.ensures.value.0 c.if-is_held.true), omega arith),
+    (
+      subst (λ (p : PoolParty). IsHeldAfter p.log c.loop-number.number) (sym c.is_held_by-is_held.ensures.unchanged)
+          (c.is_held_by-is_held.ensures.value.0 c.if-is_held.true),
+      omega arith,
+    ),
   ),
 )
 

@@ -3,6 +3,7 @@ ghost use Rattle.std.specs.Prelude.{◌≡◌};
 
 use crate::tests::buckets::{counts, fit, found, give, hold, last_of, pool_at_last, take, two};
 use crate::tests::checks::{chunk, layout, none_asked, same};
+use bb_memory_shared_pools::shared_pool::by_number::Flag;
 use bb_memory_shared_pools::shared_pool::{
     AllocationShrinkError, Bucket, SharedPoolAllocator, by_number,
 };
@@ -61,14 +62,26 @@ fn as_many_parties_as_buckets(rt: HostRuntime) {
 #[test]
 fn a_detached_bucket_is_nobodys(rt: HostRuntime) {
     let (small, (pool, mut a, mut b)) = (layout(&rt, 48, 4), two(&rt, rt.alloc(), 128));
+    let (own, other) = (a.number(), b.number());
     let held = hold(&rt, &pool, &mut a, small);
+    let number = held.number();
+    same(&rt, pool.holder(number), Flag::HeldBy(own));
+    same(&rt, pool.is_held_by(&mut a, number), true);
+    same(&rt, pool.is_held_by(&mut b, number), false);
     let detached = pool.detach(&mut a, held);
     same(&rt, (detached.number(), detached.len()), (0, 48));
+    same(&rt, pool.holder(number), Flag::DetachedBy(own));
     same(&rt, take(&pool, &mut a, small), Err(OutOfMemory));
     same(&rt, fit(&pool, &mut b, small), Err(OutOfMemory));
     let attached = pool.attach(&mut b, detached);
+    same(&rt, pool.holder(number), Flag::HeldBy(other));
     same(&rt, found(&attached), (0, 4096, 48));
     give(&pool, &mut b, attached);
+    same(&rt, pool.holder(number), Flag::Free);
+    let held = hold(&rt, &pool, &mut a, small);
+    let detached = pool.detach(&mut a, held);
+    pool.return_detached(&mut b, detached);
+    same(&rt, pool.holder(number), Flag::Free);
     let held = hold(&rt, &pool, &mut a, small);
     drop(pool.detach(&mut a, held));
     same(&rt, take(&pool, &mut b, small), Err(OutOfMemory));
