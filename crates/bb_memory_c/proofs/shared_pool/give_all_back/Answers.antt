@@ -1,9 +1,9 @@
-use Rattle.std.proofs.Common.{◌≡◌, ◌∙◌, ◌+◌, ◌<◌, Bool, [], ℕ, ap, arith, subst, sym}
+use Rattle.std.proofs.Common.{◌≡◌, ◌∙◌, ◌+◌, Bool, [], ℕ, ap, arith, subst, sym}
 use Rattle.std.specs.Prelude.{if◌then◌else◌}
 use Rattle.std.proofs.lemmas.Bool.{false≢true}
 use Rattle.bb_memory_pool_machine.specs.PoolLogs.{IsHeldAfter}
 use Rattle.bb_memory_shared_pools.specs.SharedPool.{PoolParty, SharedPool, TakenBucket, return_entry, with_entries}
-use Rattle.bb_memory_c.specs.SharedPools.{GivesAllBack, holds_bucket, return_of, returns_of}
+use Rattle.bb_memory_c.specs.SharedPools.{GivesAllBack, return_of, returns_of}
 use Rattle.bb_memory_c.proofs.Leaving.{all-returned, next-returned, none-returned}
 use Rattle.bb_memory_c.proofs.shared_pool.give_all_back.Goals as goal
 use Rattle.bb_memory_c.proofs.shared_pool.give_all_back.Goals.{then-is_held, else-is_held}

@@ -1,4 +1,4 @@
-use Rattle.std.proofs.Common.{List, ℕ, subst, sym}
+use Rattle.std.proofs.Common.{subst, sym}
 use Rattle.std.specs.Arc.{arc_value}
 use Rattle.bb_memory_shared_pools.specs.SharedPoolCaching.{CachingParty}
 use Rattle.bb_memory_c.specs.SharedPools.{IsJoinedAt}

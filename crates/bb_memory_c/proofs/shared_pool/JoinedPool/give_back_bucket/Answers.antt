@@ -1,4 +1,4 @@
-use Rattle.std.proofs.Common.{◌∙◌, ◌<◌, List, ℕ, ap, length, set, subst, sym}
+use Rattle.std.proofs.Common.{◌∙◌, ◌<◌, ℕ, ap, set, subst, sym}
 use Rattle.std.specs.Arc.{arc_value}
 use Rattle.bb_memory_shared_pools.specs.SharedPool.{IsParty, SharedPool, TakenBucket}
 use Rattle.bb_memory_shared_pools.specs.SharedPoolCaching.{IsOut, ReturnsCaching}

@@ -1,4 +1,4 @@
-use Rattle.std.proofs.Common.{◌<◌, ◌≡◌, ◌∙◌, ap, subst, sym}
+use Rattle.std.proofs.Common.{◌∙◌, ap, subst, sym}
 use Rattle.bb_memory_geometry.specs.Geometry.{IsPlaceOfBucket}
 use Rattle.bb_memory_shared_pools.specs.SharedPool.{IsParty, SharedPool}
 use Rattle.bb_memory_shared_pools.specs.SharedPoolCaching.{CachingParty, IsOut}
