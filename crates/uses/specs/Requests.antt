@@ -1,5 +1,5 @@
 -- What a layer's request is answered, and limits over an allocator: in chunks, and in bytes for each of its tenants.
-use Rattle.std.specs.Prelude.{◌≡◌, ◌∷◌, ◌++◌, ◌<◌, [], ℕ, List, Result, Ok, Err, IfErr, OnErr, OnOk, length, map, ◌+◌, ◌≤◌, ◌⊎◌}
+use Rattle.std.specs.Prelude.{◌≡◌, ◌∷◌, ◌++◌, ◌<◌, [], ℕ, List, Result, Ok, Err, IfErr, OnErr, OnOk, length, map, ◌+◌, ◌≤◌}
 use Rattle.std.specs.Prelude.{◌==◌, ◌&&◌, if◌then◌else◌, Option, nat_eq, position, remove, slice_index_or, sum, sum_by}
 use Rattle.std.specs.Align.{IsLayout}
 use Rattle.bb_memory_traits.specs.Chunk.{Chunk}
@@ -7,7 +7,6 @@ use Rattle.bb_memory_traits.specs.HeldBytes.{HeldBytes, bytes_in, held_region}
 use Rattle.bb_memory_traits.specs.declared.layout.Layout.{Layout}
 use Rattle.bb_memory_traits.specs.declared.allocator.AllocationError.{AllocationError}
 use Rattle.uses.specs.declared.slab.InsertError.{InsertError}
-use Rattle.bb_memory_traits.specs.declared.allocator.AllocationError.TheVariants.{OutOfMemory}
 use Rattle.uses.specs.declared.tenants.Lease.{Lease}
 use Rattle.uses.specs.declared.tenants.AdmitError.{AdmitError}
 use Rattle.uses.specs.declared.tenants.LeaseError.{LeaseError}
@@ -106,11 +105,6 @@ pub record Budgeted (A : Type 0) : Type 0 where
 pub record Limited (G : Type 0) : Type 0 where
   pub inner : G
   pub budget : ℕ
-
--- where fewer chunks are out it answers as the allocator below, and where so many are out it refuses
-abbrev pub MayAnswerChunks : Type 0 → ℕ → List Chunk → Result Chunk AllocationError → Type 0
-MayAnswerChunks Below budget live answer =
-    ((length live < budget) × Below) ⊎ ((budget ≤ length live) × (answer ≡ Err OutOfMemory))
 
 -- A request by the value, where the allocator below promises so: a spent budget is as it was, and else the allocator below was
 -- asked.

@@ -1,5 +1,5 @@
 //! Shared bumps, and calls that promise no more than a further call needs.
-ghost use Rattle.std.specs.Prelude.{◌≡◌, All, IfOk, IfSome};
+ghost use Rattle.std.specs.Prelude.{◌≡◌, All, IfOk};
 
 use super::checks::{check, refused, same};
 use bb_memory_bump::bump_allocator::{AllocationError, BaseAllocator, BumpAllocator};

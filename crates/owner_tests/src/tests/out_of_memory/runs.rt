@@ -9,7 +9,7 @@ use bb_memory_owned::pool_allocator::{FixedSizePoolAllocator, PoolAllocator};
 use bb_memory_traits::allocator::AllocationError::OutOfMemory;
 use bb_memory_traits::allocator::AllocationGrowError::{self, AlignmentFailure, GrowWouldShrink};
 use bb_memory_traits::allocator::Command::{self, Allocate, Grow, Release, Shrink};
-use bb_memory_traits::allocator::Reply::{self, GrowRefused, Passed, Refused, Released};
+use bb_memory_traits::allocator::Reply::{self, GrowRefused, Passed, Refused};
 use bb_memory_traits::layout::Layout;
 use std::alloc::Global;
 use std::process::Abort;
