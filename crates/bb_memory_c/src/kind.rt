@@ -53,7 +53,7 @@ pub(crate) trait Bucketed: Drop {
     /// How its region is cut.
     ghost geometry: { Self → PoolGeometry };
 
-    /// The layout within which a request can be answered quickly now, if there is one. It spares tests, and any is right.
+    /// Returns a layout within which a request skips `layout_of`, if there is one now. Any answer is right.
     fn limit(&self) -> Option<Layout>;
 
     /// Returns where the bucket of this number begins, if there is one.
@@ -79,7 +79,7 @@ pub(crate) trait Shares<S: Drop>: Drop {
     /// The party is one of its own that has joined.
     ghost is_at: { Self → S → Type 0 };
 
-    /// Where the party is of what begins at the same place, it is of this.
+    /// If the party's shared value begins where this one does, it is this one.
     ghost knows: { Self → S → Type 0 };
 
     /// A party before and after it has left: the same, where a kind says no more.

@@ -221,7 +221,7 @@ pub trait Allocator: BaseAllocator {
     ghost use Rattle.bb_memory_traits.specs.declared.allocator.AllocationGrowError.{AllocationGrowError};
     ghost use Rattle.bb_memory_traits.specs.declared.allocator.AllocationShrinkError.{AllocationShrinkError};
 
-    /// The figures that the answers to resizes depend on. The geometry fixes it, by the law below.
+    /// The figures that the answers to resizes depend on. The geometry fixes them, by the law `fixed`.
     ghost Figures: { Type 0 };
 
     ghost figures: { Self → Figures };

@@ -7,7 +7,7 @@
 //! - `allocator`: the traits that an allocator meets, why one refuses, and commands with their replies. In `allocator/run` runs
 //!   of commands over any allocator.
 //!
-//! Crate `bb_memory_base` passes all of it on, and adds the machines of atomic steps.
+//! Crate `bb_memory_base` passes all of it on, with the machines of atomic steps.
 #![tactic(auto)]
 
 pub mod allocator;

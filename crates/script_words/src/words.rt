@@ -185,10 +185,7 @@ fn write_figure(label: &[u8], value: usize, line: &mut Vec<u8>) -> Result<(), Al
     ensures { OnOk result (line.new.items ≡ line.old.items ++ (label.now ++ decimal value)) }
 {
     line.extend_from_slice(label)?;
-    match write!(line, "{value}") {
-        Ok(()) => Ok(()),
-        Err(_) => Err(AllocError),
-    }
+    write!(line, "{value}").map_err(|_| AllocError)
 }
 
 /// Tests that a name is this text.

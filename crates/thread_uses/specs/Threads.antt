@@ -19,12 +19,6 @@ use Rattle.bb_memory_shared_pools.specs.SharedPoolNextFit.{MayTakeFrom, hint_of}
 abbrev pub KeepsBuckets : PoolParty → PoolParty → Type 0
 KeepsBuckets old new = (bucket : ℕ) → IsHeldAfter old.log bucket → IsHeldAfter new.log bucket
 
--- a party of the pool comes back under its number, with all buckets that it had
-pub record ComesBack (pool : SharedPool) (old new : PoolParty) : Type 0 where
-  pub theirs : new.allocator ≡ pool
-  pub number : new.number ≡ old.number
-  pub keeps : KeepsBuckets old new
-
 -- A party, of a bump or of a pool, has asked for this layout once. Such a request may be answered so, and the party is this then.
 pub record Asks {P A : Type 0} (may_take : P → Layout → A → P → Type 0) (layout : Layout) (old new : P) : Type 0 where
   pub answer : A
@@ -34,10 +28,6 @@ pub record Asks {P A : Type 0} (may_take : P → Layout → A → P → Type 0) 
 pub record MayTakeNextFit (old : PoolParty) (layout : Layout) (answer : Result TakenBucket AllocationError) (new : PoolParty)
     : Type 0 where
   pub taken : MayTakeFrom (hint_of old) old layout answer new
-
--- the party has asked so once
-abbrev pub AsksNextFit : Layout → PoolParty → PoolParty → Type 0
-AsksNextFit = Asks MayTakeNextFit
 
 -- the party's steps are one request by next fit
 pub record HasAskedNextFit (layout : Layout) (party : PoolParty) : Type 0 where
@@ -78,13 +68,10 @@ pub record Sends (old : PoolParty) (layout : Layout) (message : TakenBucket) (ne
   pub one : ¬ ((holding : PoolParty) → MayTakeFrom (hint_of old) old layout (Ok message) holding
       → ¬ (new ≡ with_entries holding (detach_entry holding.number message.number)))
 
--- the party has given this bucket back: its log has that
-abbrev pub without : ℕ → PoolParty → PoolParty
-without bucket party = with_entries party (return_entry party.number bucket)
-
 -- the receiver once it attached this bucket and gave it back
 abbrev pub having_received : ℕ → PoolParty → PoolParty
-having_received bucket receiver = without bucket (with_entries receiver (attach_entry receiver.number bucket))
+having_received bucket receiver =
+    with_entries (with_entries receiver (attach_entry receiver.number bucket)) (return_entry receiver.number bucket)
 
 -- ARENAS, each a bump over a chunk of a shared bump
 

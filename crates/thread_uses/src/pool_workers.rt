@@ -1,8 +1,7 @@
 //! Threads that take buckets of one pool, and what is known once all of them are back.
 ghost use Rattle.std.specs.Prelude.{◌≡◌, [], All, IfOk, length};
-ghost use Rattle.bb_memory_traits.specs.declared.layout.Layout.{Layout};
 ghost use Rattle.bb_memory_shared_pools.specs.SharedPool.{AreFresh, HaveMet, HoldApart, PoolParty};
-ghost use Rattle.thread_uses.specs.Threads.{AllComeBack, AsksNextFit, ComesBack, HasAskedNextFit};
+ghost use Rattle.thread_uses.specs.Threads.{AllComeBack, Asks, HasAskedNextFit, KeepsBuckets, MayTakeNextFit};
 
 use bb_memory_owned::pool_allocator::pool_count_law;
 use bb_memory_shared_pools::shared_pool::{PoolParty, SharedPoolAllocator};
@@ -15,8 +14,10 @@ use std::thread::Threads;
 /// with those that it had.
 pub fn take_one(pool: &SharedPoolAllocator, party: PoolParty, layout: Layout) -> PoolParty
     requires { party.allocator ≡ pool.now }
-    ensures back { ComesBack pool.entry.now party result }
-    ensures once { AsksNextFit layout party result }
+    ensures party { result.allocator ≡ pool.entry.now }
+    ensures number { result.number ≡ party.number }
+    ensures keeps { KeepsBuckets party result }
+    ensures once { Asks MayTakeNextFit layout party result }
     ensures asked { party.log ≡ [] → HasAskedNextFit layout result }
 {
     let mut party = party;
@@ -27,8 +28,10 @@ pub fn take_one(pool: &SharedPoolAllocator, party: PoolParty, layout: Layout) ->
 /// Asks for a bucket by next fit.
 fn ask_next_fit(pool: &SharedPoolAllocator, worker: &mut PoolParty, layout: Layout)
     requires { worker.old.allocator ≡ pool.now }
-    ensures back { ComesBack pool.now worker.old worker.new }
-    ensures asked { AsksNextFit layout worker.old worker.new }
+    ensures party { worker.new.allocator ≡ pool.now }
+    ensures number { worker.new.number ≡ worker.old.number }
+    ensures keeps { KeepsBuckets worker.old worker.new }
+    ensures asked { Asks MayTakeNextFit layout worker.old worker.new }
 {
     let _ = pool.allocate_next_fit(worker, layout);
 }
@@ -51,21 +54,8 @@ pub fn four_workers<R: Threads + Sync>(
 {
     let (pool, parties) = pool_of_four(alloc)?;
     let mut back = take_one_each(rt, &pool, parties, layout)?;
-    meet(&pool, &mut back);
+    pool.meet_all(&mut back);
     Ok((pool, back))
-}
-
-/// Has the parties meet, which stay as they are.
-fn meet(pool: &SharedPoolAllocator, parties: &mut Vec<PoolParty>)
-    requires { All (λ party. party.allocator ≡ pool.now) parties.old.items }
-    ensures theirs { All (λ party. party.allocator ≡ pool.now) parties.new.items }
-    ensures met { HaveMet pool.now.scene parties.new.items }
-    ensures apart { HoldApart parties.new.items }
-    ensures all { length parties.new.items ≡ length parties.old.items }
-    ensures asked { (layout : Layout) → All (HasAskedNextFit layout) parties.old.items
-        → All (HasAskedNextFit layout) parties.new.items }
-{
-    pool.meet_all(parties);
 }
 
 /// Runs a thread for each party, which takes a bucket, and joins them all.

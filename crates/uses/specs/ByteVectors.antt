@@ -31,14 +31,11 @@ pub record IsPushed (here there : HeldBytes) (old : ByteVector) (byte : ℕ) (ne
   pub behind : contents there new ≡ contents here old ++ byte ∷ []
   pub region : held_region there ≡ held_region here
 
--- where the byte behind its last one lies
-abbrev pub next_byte : HeldBytes → ByteVector → Chunk
-next_byte held vector = record { place = held.start + vector.offset + vector.len; len = 1 }
-
--- what lies in the region apart from that byte stays
+-- what lies in the region apart from the byte behind the vector's last one stays
 abbrev pub KeepsOthers : HeldBytes → ByteVector → HeldBytes → Type 0
 KeepsOthers here vector there = (another : Chunk) → IsInside (held_region here) another
-    → AreApart (next_byte here vector) another → bytes_in there another ≡ bytes_in here another
+    → AreApart (record { place = here.start + vector.offset + vector.len; len = 1 }) another
+    → bytes_in there another ≡ bytes_in here another
 
 -- the answer may be given where a chunk of so many bytes is to grow by one: not every two layouts rule it out
 pub record MayGrowByOne (may_grow : Layout → Layout → Result Chunk AllocationGrowError → Type 0)
@@ -57,13 +54,10 @@ pub record IsGrown (may_grow : Layout → Layout → Result Chunk AllocationGrow
   pub longer : old_size < new_size
   pub grown : MayGrowByOne may_grow old_size (Ok (record { place = place; len = new_size }))
 
--- what may be answered to a request to grow the chunk at a place, by the live list
-abbrev pub Grows : Type 1
-Grows = List Chunk → ℕ → Layout → Layout → Result Chunk AllocationGrowError → Type 0
-
 -- Room is made for one more byte, in a region that starts here: at once where there is room, and else as the allocator may grow
 -- the chunk on each live list for which it stands. A refusal has its cause.
-pub record MakesRoom (stands_for : List Chunk → Type 0) (may_grow : Grows) (start : ℕ)
+pub record MakesRoom (stands_for : List Chunk → Type 0)
+    (may_grow : List Chunk → ℕ → Layout → Layout → Result Chunk AllocationGrowError → Type 0) (start : ℕ)
     (old : ByteVector) (result : Result (Unit {0}) PushError) (new : ByteVector) : Type 0 where
   pub at_once : old.len < old.capacity → IsOk result × (new.capacity ≡ old.capacity)
   pub grown : OnOk result ((live : List Chunk) (position : ℕ) (chunk : Chunk)

@@ -1,13 +1,12 @@
 -- What a layer's request is answered, and limits over an allocator: in chunks, and in bytes for each of its tenants.
-use Rattle.std.specs.Prelude.{◌≡◌, ◌∷◌, ◌++◌, ◌<◌, [], ℕ, List, Result, Ok, Err, IfErr, OnErr, OnOk, length, map, ◌+◌, ◌≤◌, ◌⊎◌}
-use Rattle.std.specs.Prelude.{◌==◌, ◌&&◌, if◌then◌else◌, Bool, Option, nat_eq, position, remove, slice_index_or, sum, sum_by}
+use Rattle.std.specs.Prelude.{◌≡◌, ◌∷◌, ◌++◌, ◌<◌, [], ℕ, List, Result, Ok, Err, IfErr, OnErr, OnOk, length, map, ◌+◌, ◌≤◌}
+use Rattle.std.specs.Prelude.{◌==◌, ◌&&◌, if◌then◌else◌, Option, nat_eq, position, remove, slice_index_or, sum, sum_by}
 use Rattle.std.specs.Align.{IsLayout}
 use Rattle.bb_memory_traits.specs.Chunk.{Chunk}
 use Rattle.bb_memory_traits.specs.HeldBytes.{HeldBytes, bytes_in, held_region}
 use Rattle.bb_memory_traits.specs.declared.layout.Layout.{Layout}
 use Rattle.bb_memory_traits.specs.declared.allocator.AllocationError.{AllocationError}
 use Rattle.uses.specs.declared.slab.InsertError.{InsertError}
-use Rattle.bb_memory_traits.specs.declared.allocator.AllocationError.TheVariants.{OutOfMemory}
 use Rattle.uses.specs.declared.tenants.Lease.{Lease}
 use Rattle.uses.specs.declared.tenants.AdmitError.{AdmitError}
 use Rattle.uses.specs.declared.tenants.LeaseError.{LeaseError}
@@ -94,12 +93,6 @@ pub record Stores {A G : Type 0} (geometry_of : A → G) (may_allocate : G → L
   pub unchanged : OnErr result (new ≡ record old { allocator = new.allocator })
   pub geometry : geometry_of new.allocator ≡ geometry_of old.allocator
 
--- just these records are left, in these chunks
-pub record Leaves {A G : Type 0} (geometry_of : A → G) (old : Records A) (chunks : List Chunk)
-    (records : List (List ℕ)) (new : Records A) : Type 0 where
-  pub left : new ≡ record { allocator = new.allocator; chunks = chunks; records = records }
-  pub geometry : geometry_of new.allocator ≡ geometry_of old.allocator
-
 -- A BUDGET OF CHUNKS
 
 -- the allocator below, how many chunks may be out, and how many are
@@ -112,11 +105,6 @@ pub record Budgeted (A : Type 0) : Type 0 where
 pub record Limited (G : Type 0) : Type 0 where
   pub inner : G
   pub budget : ℕ
-
--- where fewer chunks are out it answers as the allocator below, and where so many are out it refuses
-abbrev pub MayAnswerChunks : Type 0 → ℕ → List Chunk → Result Chunk AllocationError → Type 0
-MayAnswerChunks Below budget live answer =
-    ((length live < budget) × Below) ⊎ ((budget ≤ length live) × (answer ≡ Err OutOfMemory))
 
 -- A request by the value, where the allocator below promises so: a spent budget is as it was, and else the allocator below was
 -- asked.
@@ -152,22 +140,11 @@ used_by tenant leases = sum_by (bytes_for tenant) leases
 abbrev pub limit_of : List ℕ → ℕ → ℕ
 limit_of limits tenant = slice_index_or limits tenant 0
 
--- a tenant holds the chunk at a place
-abbrev pub is_lease_of : ℕ → ℕ → Lease → Bool
-is_lease_of tenant place lease = nat_eq lease.tenant tenant && nat_eq lease.chunk.place place
-
--- the position of that lease
+-- the position of the tenant's lease of the chunk at a place
 abbrev pub lease_at : ℕ → ℕ → List Lease → Option ℕ
-lease_at tenant place leases = position (is_lease_of tenant place) leases
+lease_at tenant place leases = position (λ lease. nat_eq lease.tenant tenant && nat_eq lease.chunk.place place) leases
 
--- a further tenant, which uses nothing
-abbrev pub with_tenant : {A : Type 0} → Tenancy A → ℕ → Tenancy A
-with_tenant old limit = record old { limits = old.limits ++ limit ∷ [] }
-
--- a lease more, and a lease less, with the allocator that gave the chunk or took it back
-abbrev pub with_lease : {A : Type 0} → Tenancy A → A → Lease → Tenancy A
-with_lease old allocator lease = record old { allocator = allocator; leases = old.leases ++ lease ∷ [] }
-
+-- a lease less, with the allocator that took the chunk back
 abbrev pub without_lease : {A : Type 0} → Tenancy A → A → ℕ → Tenancy A
 without_lease old allocator position = record old { allocator = allocator; leases = remove old.leases position }
 

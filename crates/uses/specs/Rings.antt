@@ -2,14 +2,13 @@
 use Rattle.std.specs.Prelude.{◌≡◌, ◌-◌, ◌<◌, ◌≤◌, ◌^◌, ◌↔◌, ⊤, ℕ, Bool, true, false, List, Result, Ok, Err}
 use Rattle.std.specs.Prelude.{IsTrue, drop, get_or, map, slice_set}
 use Rattle.bb_memory_traits.specs.Chunk.{Chunk}
-use Rattle.bb_memory_traits.specs.HeldBytes.{HeldBytes}
 use Rattle.bb_memory_traits.specs.declared.layout.Layout.{Layout}
 use Rattle.bb_memory_traits.specs.declared.allocator.AllocationError.{AllocationError}
-use Rattle.loan_book.specs.Book.{Book, LoanBook, Sample, chunks_of, chunks_out, returns_to_come}
+use Rattle.loan_book.specs.Book.{LoanBook, Sample, chunks_of, returns_to_come}
 use Rattle.loan_book.specs.declared.error.LoanError.TheVariants.{Size, IdsExhausted, Memory, Allocation}
 use Rattle.uses.specs.declared.ring.SendError.{SendError}
 use Rattle.uses.specs.declared.ring.SendError.TheVariants as send
-use Rattle.uses.specs.Requests.{Answers, MayAnswer, records_in}
+use Rattle.uses.specs.Requests.{Answers, MayAnswer}
 
 -- the allocator below, how many readers each message has, how many messages were sent, the chunks and the bytes of those that
 -- wait, the oldest first, and how many readers of each are to come
@@ -26,16 +25,6 @@ ids_of samples = map (λ sample. sample.id) samples
 
 abbrev pub readers_of : List Sample → List ℕ
 readers_of samples = map (λ sample. returns_to_come sample.returns) samples
-
-abbrev pub ring_of : {A : Type 0} → A → ℕ → HeldBytes → Book → Ring A
-ring_of allocator readers held book = record {
-  allocator = allocator;
-  readers = readers;
-  sent = book.loaned;
-  chunks = chunks_out book;
-  messages = records_in held (chunks_out book);
-  to_come = readers_of book.out;
-}
 
 -- why a message of so many bytes wasn't sent, where so many were sent before
 abbrev pub IsWhyNotSent : Answers → ℕ → ℕ → SendError → Type 0

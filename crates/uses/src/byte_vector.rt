@@ -93,13 +93,8 @@ impl ByteVec {
             return Ok(());
         }
         let place = region.start_address() + self.offset;
-        match grow_by_one(allocator, place, self.capacity) {
-            Ok(grown) => {
-                self.capacity = grown;
-                Ok(())
-            }
-            Err(error) => Err(error),
-        }
+        self.capacity = grow_by_one(allocator, place, self.capacity)?;
+        Ok(())
     }
 
     /// Appends a byte, for which a full chunk is grown. A refusal keeps all, and comes only where the chunk is full,
@@ -123,14 +118,10 @@ impl ByteVec {
         ensures region { held_region region.new ≡ held_region region.old }
         ensures allocator { allocator.new ≡ allocator.old }
     {
-        match self.reserve(allocator, &*region) {
-            Ok(()) => {
-                self.write_behind(region, byte);
-                self.len += 1;
-                Ok(())
-            }
-            Err(error) => Err(error),
-        }
+        self.reserve(allocator, &*region)?;
+        self.write_behind(region, byte);
+        self.len += 1;
+        Ok(())
     }
 
     /// Writes a byte behind the last one.
@@ -194,8 +185,6 @@ fn grow_by_one<A: Allocator>(
 {
     let old = Layout::from_size_align(size, 1).map_err(PushError::TooLong)?;
     let new = Layout::from_size_align(size + 1, 1).map_err(PushError::TooLong)?;
-    match allocator.grow(place, old, new) {
-        Ok(grown) => Ok(grown.len()),
-        Err(error) => Err(PushError::Full(error)),
-    }
+    let grown = allocator.grow(place, old, new);
+    Ok(grown.map_err(PushError::Full)?.len())
 }

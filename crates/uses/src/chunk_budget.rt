@@ -57,9 +57,10 @@ impl<A: BaseAllocator + Drop> ChunkBudget<A> {
 }
 
 impl<A: BaseAllocator + Drop> BaseAllocator for ChunkBudget<A> {
-    ghost use Rattle.std.specs.Prelude.{◌≡◌, ℕ, List, Some, length, slice_get, refl};
+    ghost use Rattle.std.specs.Prelude.{◌≡◌, ◌<◌, ◌≤◌, ◌⊎◌, ℕ, List, Some, Err, length, slice_get, refl};
     ghost use Rattle.bb_memory_traits.specs.Chunk.{Chunk};
-    ghost use Rattle.uses.specs.Requests.{Limited, MayAnswerChunks, TakesWithin};
+    ghost use Rattle.bb_memory_traits.specs.declared.allocator.AllocationError.TheVariants.{OutOfMemory};
+    ghost use Rattle.uses.specs.Requests.{Limited, TakesWithin};
 
     const RELEASE_EMPTIES: bool = A::RELEASE_EMPTIES;
 
@@ -71,8 +72,10 @@ impl<A: BaseAllocator + Drop> BaseAllocator for ChunkBudget<A> {
 
     ghost region_of = { λ g. A.region_of g.inner };
 
+    // Where fewer chunks are out it answers as the allocator below, and where so many are out it refuses.
     ghost may_allocate = { λ g live layout answer.
-        MayAnswerChunks (A.may_allocate g.inner live layout answer) g.budget live answer };
+        ((length live < g.budget) × A.may_allocate g.inner live layout answer)
+        ⊎ ((g.budget ≤ length live) × (answer ≡ Err OutOfMemory)) };
 
     ghost stands_for = { λ b live. A.stands_for b.inner live × (length live ≡ b.out) };
 

@@ -44,11 +44,19 @@ impl<A: Allocator + Drop> Model for MessageRing<A> {
     ghost use Rattle.std.specs.Prelude.{◌≡◌, ◌<◌};
     ghost use Rattle.bb_memory_traits.specs.HeldBytes.{held_region};
     ghost use Rattle.loan_book.specs.Book.{chunks_out};
-    ghost use Rattle.uses.specs.Rings.{GivesExactly, Ring, ids_of, ring_of};
+    ghost use Rattle.uses.specs.Requests.{records_in};
+    ghost use Rattle.uses.specs.Rings.{GivesExactly, Ring, ids_of, readers_of};
 
     ghost Value = { Ring A };
 
-    ghost view = { λ r. ring_of r.book.allocator r.readers r.region r.book.book };
+    ghost view = { λ r. record {
+      allocator = r.book.allocator;
+      readers = r.readers;
+      sent = r.book.book.loaned;
+      chunks = chunks_out r.book.book;
+      messages = records_in r.region (chunks_out r.book.book);
+      to_come = readers_of r.book.book.out;
+    } };
 
     ghost invariant = { λ r. (0 < r.readers) × (r.ids.items ≡ ids_of r.book.book.out)
         × (r.chunks.items ≡ chunks_out r.book.book) × GivesExactly A.may_allocate
@@ -208,8 +216,5 @@ fn publish_newest<A: Allocator>(book: &mut LoanBook<A>, id: u64, readers: u32)
     newest_law();
     newest_state_law();
     seam_law();
-    match book.publish(id, readers) {
-        Ok(()) => {}
-        Err(_) => unreachable!(),
-    }
+    book.publish(id, readers).unwrap();
 }

@@ -3,7 +3,7 @@ ghost use Rattle.std.specs.Prelude.{◌≡◌, ◌∷◌, ◌++◌, ◌<◌, [],
 ghost use Rattle.bb_memory_traits.specs.Chunk.{Chunk, IsSound};
 ghost use Rattle.bb_memory_traits.specs.declared.layout.Layout.{Layout};
 ghost use Rattle.bb_memory_traits.specs.HeldBytes.{HeldBytes, held_region};
-ghost use Rattle.uses.specs.Requests.{HoldsThen, IsOfBytes, Leaves, MayGiveLonger, NotesRequest, Stores, records_in};
+ghost use Rattle.uses.specs.Requests.{HoldsThen, IsOfBytes, MayGiveLonger, NotesRequest, Stores, records_in};
 
 use bb_memory_lists::lists::append_law;
 use bb_memory_traits::allocator::{AllocationError, Allocator, BaseAllocator};
@@ -122,8 +122,12 @@ impl<A: Allocator + Drop> Slab<A> {
     /// Takes a record out, and gives its chunk back. Those behind it move up. The allocator is asked for nothing.
     pub fn remove(&mut self, position: usize)
         requires { position < length self.old.records }
-        ensures leaves { Leaves A.geometry self.old (remove self.old.chunks position)
-            (remove self.old.records position) self.new }
+        ensures leaves { self.new ≡ record {
+          allocator = self.new.allocator;
+          chunks = remove self.old.chunks position;
+          records = remove self.old.records position;
+        } }
+        ensures geometry { A.geometry self.new.allocator ≡ A.geometry self.old.allocator }
         ensures unasked { A.note self.new.allocator ≡ A.note self.old.allocator }
     {
         give_back(&mut self.allocator, chunk_at(&self.chunks, position));

@@ -4,7 +4,7 @@ ghost use Rattle.std.specs.Prelude.{IsOk, IsSome, IsTrue, OnOk, OnErr, length, r
 ghost use Rattle.bb_memory_traits.specs.Chunk.{IsInside, IsSound};
 ghost use Rattle.uses.specs.declared.tenants.Lease.{Lease};
 ghost use Rattle.uses.specs.Requests.{HasLeft, IsRefusedUnasked, IsWhyNotAdmitted, IsWhyNotLeased, bytes_for, bytes_out};
-ghost use Rattle.uses.specs.Requests.{chunks_of, lease_at, limit_of, used_by, with_lease, with_tenant, without_lease};
+ghost use Rattle.uses.specs.Requests.{chunks_of, lease_at, limit_of, used_by, without_lease};
 
 use crate::slab::{self, return_last};
 use bb_memory_lists::lists::{Grouped, append_law, group_law, map_law, position_law, sum_law};
@@ -122,7 +122,8 @@ impl<A: Allocator + Drop> Tenants<A> {
     pub fn admit(&mut self, limit: usize) -> Result<usize, AdmitError>
         ensures number { IfOk result (λ number. number ≡ length self.old.limits) }
         ensures within { OnOk result (sum self.old.limits + limit ≤ self.old.whole) }
-        ensures admitted { OnOk result (self.new ≡ with_tenant self.old limit) }
+        ensures admitted { OnOk result
+            (self.new ≡ record self.old { limits = self.old.limits ++ limit ∷ [] }) }
         ensures refused { IfErr result (IsWhyNotAdmitted self.old limit) }
         ensures unchanged { OnErr result (self.new ≡ self.old) }
     {
@@ -150,10 +151,7 @@ impl<A: Allocator + Drop> Tenants<A> {
     pub fn limit(&self, tenant: usize) -> usize
         ensures { result ≡ limit_of self.now.limits tenant }
     {
-        match self.limits.get(tenant) {
-            Some(limit) => *limit,
-            None => 0,
-        }
+        self.limits.get(tenant).copied().unwrap_or(0)
     }
 
     /// Returns how many bytes a tenant uses: those of the chunks that it holds, which are within its limit.
@@ -202,8 +200,10 @@ impl<A: Allocator + Drop> Tenants<A> {
         ensures aligned { IfOk result (λ chunk. chunk.place % layout.align ≡ 0) }
         ensures long_enough { IfOk result (λ chunk. layout.size ≤ chunk.len) }
         ensures within { IfOk result (λ chunk. HasLeft self.old tenant chunk.len) }
-        ensures leased { IfOk result (λ chunk. self.new ≡ with_lease self.old self.new.allocator
-            (record { tenant = tenant; chunk = chunk })) }
+        ensures leased { IfOk result (λ chunk. self.new ≡ record self.old {
+          allocator = self.new.allocator;
+          leases = self.old.leases ++ record { tenant = tenant; chunk = chunk } ∷ [];
+        }) }
         ensures refused { IfErr result (IsWhyNotLeased
             (A.may_allocate (A.geometry self.old.allocator) (chunks_of self.old.leases))
             self.old tenant layout) }
@@ -217,10 +217,8 @@ impl<A: Allocator + Drop> Tenants<A> {
     {
         let left = self.left_for(tenant, layout)?;
         self.leases.reserve(1).map_err(LeaseError::List)?;
-        let chunk = match self.allocator.allocate(layout) {
-            Ok(chunk) => chunk,
-            Err(error) => return Err(LeaseError::Refused(error)),
-        };
+        let given = self.allocator.allocate(layout);
+        let chunk = given.map_err(LeaseError::Refused)?;
         if chunk.len() > left {
             return_last(&mut self.allocator, chunk, layout);
             return Err(LeaseError::TooLong);

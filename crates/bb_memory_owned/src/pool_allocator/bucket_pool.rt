@@ -42,7 +42,7 @@ impl<S: IndexSet> Model for BucketPool<S> {
 }
 
 impl<S: IndexSet> BucketPool<S> {
-    /// How many buckets there are. Beside it, what holds of every pool is told.
+    /// Returns the number of buckets. Its clause `is_pool` says what holds of every pool.
     #[inline]
     pub fn number_of_buckets(&self) -> u32
         ensures value { result ≡ self.now.pool.geometry.buckets }

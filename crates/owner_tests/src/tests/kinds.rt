@@ -111,19 +111,17 @@ pub(super) fn fixed_over<const N: usize>(
 }
 
 /// Makes a fresh allocator with its region, a second time where memory was refused.
-pub(super) fn made<A: Kind>(rt: &impl Abort, alloc: Global, of: Of) -> Owner<A> {
-    match A::owner(alloc, of) {
-        Some(owner) => owner,
-        None => {
-            refused(rt, alloc);
-            A::owner(alloc, of).expect(rt, "there is memory for an owner")
-        }
+pub(super) fn made<A: Kind>(rt: &(impl Abort + AllocGlobal), of: Of) -> Owner<A> {
+    if let Some(owner) = A::owner(rt.alloc(), of) {
+        return owner;
     }
+    refused(rt);
+    A::owner(rt.alloc(), of).expect(rt, "there is memory for an owner")
 }
 
 /// Makes a fresh allocator with its region. Memory may be refused from here on.
-pub(super) fn fresh<A: Kind>(rt: &impl Abort, alloc: Global, of: Of) -> Owner<A> {
-    let owner = made::<A>(rt, alloc, of);
-    refuse_memory(alloc);
+pub(super) fn fresh<A: Kind>(rt: &(impl Abort + AllocGlobal), of: Of) -> Owner<A> {
+    let owner = made::<A>(rt, of);
+    refuse_memory(rt.alloc());
     owner
 }

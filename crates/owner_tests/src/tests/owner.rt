@@ -16,10 +16,8 @@ pub(super) fn region_of(alloc: Global, start: usize, size: usize, byte: u8) -> O
     if !Region::can_make(start, size) {
         return None;
     }
-    match vec![in alloc; byte; size] {
-        Ok(bytes) => Some(Region::new(start, bytes)),
-        Err(_) => None,
-    }
+    let bytes = vec![in alloc; byte; size].ok()?;
+    Some(Region::new(start, bytes))
 }
 
 /// An allocator, its region, whose bytes are 7 at first, and its live chunks.
@@ -172,10 +170,8 @@ impl<A: Allocator + Drop> Owner<A> {
 
     /// Returns how many bytes are reserved for the chunk at a position.
     pub(super) fn reserved(&self, position: usize) -> Option<usize> {
-        match chunk_at(&self.live, position) {
-            Some(chunk) => Some(self.allocator.reserved(chunk.place())),
-            None => None,
-        }
+        let chunk = chunk_at(&self.live, position)?;
+        Some(self.allocator.reserved(chunk.place()))
     }
 
     pub(super) fn run_full(&mut self, commands: &[Command]) -> Result<Vec<Reply>, AllocError> {
@@ -196,8 +192,5 @@ fn resized_at(live: &Vec<Chunk>, position: usize, old: Layout) -> Option<Chunk>
     ensures aligned { IfSome result (λ chunk. chunk.place % old.align ≡ 0) }
 {
     let chunk = chunk_at(live, position)?;
-    if chunk.place() % old.align() != 0 {
-        return None;
-    }
-    Some(chunk)
+    (chunk.place() % old.align() == 0).then_some(chunk)
 }

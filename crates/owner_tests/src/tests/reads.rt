@@ -53,10 +53,6 @@ impl<A: Reads + Drop> BaseAllocator for Counted<A> {
 
     ghost note_after = { A.note_after };
 
-    ghost takes = { λ old layout answer new. A.takes old.inner layout answer new.inner };
-
-    ghost frees = { λ old place layout new. A.frees old.inner place layout new.inner };
-
     fn allocate(&mut self, layout: Layout) -> Result<Chunk, AllocationError> {
         let answer = self.inner.allocate(layout);
         let reads = self.reads.get().saturating_add(self.inner.last_reads());
@@ -91,12 +87,6 @@ impl<A: Reads + Drop> Allocator for Counted<A> {
     ghost may_grow = { A.may_grow };
 
     ghost may_shrink = { A.may_shrink };
-
-    ghost grows = { λ one place old new answer after.
-        A.grows one.inner place old new answer after.inner };
-
-    ghost shrinks = { λ one place old new answer after.
-        A.shrinks one.inner place old new answer after.inner };
 
     fn reserved(&self, place: usize) -> usize {
         self.inner.reserved(place)

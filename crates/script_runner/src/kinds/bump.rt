@@ -31,9 +31,7 @@ impl Scripted for BumpAllocator {
     }
 
     fn write_state(&self, _live: usize, line: &mut Vec<u8>) -> Result<(), AllocError> {
-        let Ok(()) = writeln!(line, "{self}") else {
-            return Err(AllocError);
-        };
+        writeln!(line, "{self}").map_err(|_| AllocError)?;
         let figures = [
             Figure(b"used ", self.used_space()),
             Figure(b" free ", self.free_space()),

@@ -1,6 +1,5 @@
 //! Checks, proved once: a test's own proof carries no more of a check than its call.
 use bb_memory_base::layout::{Chunk, Layout};
-use std::alloc::Global;
 use std::fmt::{Debug, Display};
 use std::process::Abort;
 use test_marks::{none_was_asked, some_was_refused};
@@ -21,13 +20,13 @@ pub(super) fn check_at<D: Display + Drop>(rt: &impl Abort, found: bool, at: D) {
 }
 
 /// Checks that memory was refused.
-pub(super) fn refused(rt: &impl Abort, alloc: Global) {
-    assert!(rt; some_was_refused(alloc), "no memory was refused");
+pub(super) fn refused(rt: &(impl Abort + AllocGlobal)) {
+    assert!(rt; some_was_refused(rt.alloc()), "no memory was refused");
 }
 
 /// Checks that no call asked for memory since the making, and ends the time in which it may be refused.
-pub(super) fn none_asked(rt: &impl Abort, alloc: Global) {
-    assert!(rt; none_was_asked(alloc), "a call asked for memory");
+pub(super) fn none_asked(rt: &(impl Abort + AllocGlobal)) {
+    assert!(rt; none_was_asked(rt.alloc()), "a call asked for memory");
 }
 
 /// Makes a layout, which has to be there.

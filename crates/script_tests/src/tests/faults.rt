@@ -3,7 +3,6 @@ use super::checks::check_at;
 use super::table::ends;
 use script_runner::Status::{self, Done, Unreadable};
 use script_runner::run;
-use std::alloc::Global;
 use std::io;
 use std::io::{ErrorKind, Read, Write};
 use std::process::Abort;
@@ -82,49 +81,47 @@ impl Write for CountingWriter<'_> {
 
 /// Runs the script of row `bump-first-path` over a failing reader, and checks status and output.
 fn reads(
-    rt: &impl Abort,
-    alloc: Global,
+    rt: &(impl Abort + AllocGlobal),
     fails_read: (usize, ErrorKind),
     ends: Status,
     lines: &[u8],
 ) {
-    let mut told = Vec::new(alloc);
+    let mut told = Vec::new(rt.alloc());
     let reader = FailingReader {
         left: FIRST_PATH,
         reads: 0,
         fails_read,
     };
-    let ended = run(alloc, reader, &mut told);
+    let ended = run(rt.alloc(), reader, &mut told);
     check_at(rt, ended == ends && told.as_slice() == lines, fails_read.0);
 }
 
 /// Fails each read in turn. The script has 70 bytes: ten reads, and one that finds its end.
-fn each_read_fails(rt: &impl Abort, alloc: Global, fault: ErrorKind, ends: Status) {
+fn each_read_fails(rt: &(impl Abort + AllocGlobal), fault: ErrorKind, ends: Status) {
     for at in 1..12 {
-        reads(rt, alloc, (at, fault), ends, b"");
+        reads(rt, (at, fault), ends, b"");
     }
-    reads(rt, alloc, (12, fault), Done, FIRST_PATH_LINES);
+    reads(rt, (12, fault), Done, FIRST_PATH_LINES);
 }
 
 // row: reader-fails-in-turn
 #[test]
 fn reader_fails_in_turn(rt: HostRuntime) {
-    each_read_fails(&rt, rt.alloc(), ErrorKind::Other, Status::InputFailed);
-    each_read_fails(&rt, rt.alloc(), ErrorKind::OutOfMemory, Status::OutOfMemory);
+    each_read_fails(&rt, ErrorKind::Other, Status::InputFailed);
+    each_read_fails(&rt, ErrorKind::OutOfMemory, Status::OutOfMemory);
     let interrupted = (3, ErrorKind::Interrupted);
-    reads(&rt, rt.alloc(), interrupted, Done, FIRST_PATH_LINES);
+    reads(&rt, interrupted, Done, FIRST_PATH_LINES);
 }
 
 /// Runs a script over a writer. Checks that it ends with this status after so many writes and flushes, and that the output begins
 /// the row's lines, and is these lines before a flush.
 fn writes(
-    rt: &impl Abort,
-    alloc: Global,
+    rt: &(impl Abort + AllocGlobal),
     row: &Row,
     (fails_write, fails_flush): ((usize, ErrorKind), bool),
     ends: (Status, usize, usize),
 ) {
-    let mut kept = Vec::new(alloc);
+    let mut kept = Vec::new(rt.alloc());
     let mut writer = CountingWriter {
         kept: &mut kept,
         writes: 0,
@@ -132,7 +129,7 @@ fn writes(
         fails_write,
         fails_flush,
     };
-    let status = run(alloc, row.0, &mut writer);
+    let status = run(rt.alloc(), row.0, &mut writer);
     let found = (status, writer.writes, writer.flushes);
     let is_whole = kept.len() == row.1.len();
     let begins = row.1.starts_with(kept.as_slice()) && (is_whole || found.2 == 0);
@@ -140,11 +137,11 @@ fn writes(
 }
 
 /// Fails the write of this number, and interrupts it.
-fn write_fails(rt: &impl Abort, alloc: Global, at: usize, row: &Row) {
+fn write_fails(rt: &(impl Abort + AllocGlobal), at: usize, row: &Row) {
     let failed = (Status::OutputFailed, at, 0);
-    writes(rt, alloc, row, ((at, ErrorKind::Other), false), failed);
+    writes(rt, row, ((at, ErrorKind::Other), false), failed);
     let done = (row.3, row.2.saturating_add(1), 1);
-    writes(rt, alloc, row, ((at, ErrorKind::Interrupted), false), done);
+    writes(rt, row, ((at, ErrorKind::Interrupted), false), done);
 }
 
 /// A failed write is the last call, and an interrupted write is tried again.
@@ -154,11 +151,11 @@ fn writer_fails_in_turn(rt: HostRuntime) {
     let none = (0, ErrorKind::Other);
     for row in &SCRIPTS {
         for at in 0..row.2 {
-            write_fails(&rt, rt.alloc(), at.saturating_add(1), row);
+            write_fails(&rt, at.saturating_add(1), row);
         }
-        writes(&rt, rt.alloc(), row, (none, false), (row.3, row.2, 1));
+        writes(&rt, row, (none, false), (row.3, row.2, 1));
         let failed = (Status::OutputFailed, row.2, 1);
-        writes(&rt, rt.alloc(), row, (none, true), failed);
+        writes(&rt, row, (none, true), failed);
     }
 }
 
@@ -187,10 +184,10 @@ const DONE_CUTS: [(usize, usize, usize); 7] = [
 ];
 
 /// Checks that the script, cut in front of each byte from `from` up to `to`, ends so.
-fn cuts(rt: &impl Abort, alloc: Global, from: usize, to: usize, (status, lines): (Status, &[u8])) {
+fn cuts(rt: &(impl Abort + AllocGlobal), from: usize, to: usize, (status, lines): (Status, &[u8])) {
     for cut in from..to {
         let script = FIRST_PATH.get(..cut).unwrap_or(b"");
-        check_at(rt, ends(alloc, script, status, lines), cut);
+        check_at(rt, ends(rt.alloc(), script, status, lines), cut);
     }
 }
 
@@ -198,10 +195,10 @@ fn cuts(rt: &impl Abort, alloc: Global, from: usize, to: usize, (status, lines):
 #[test]
 fn script_cut_at_every_byte(rt: HostRuntime) {
     for row in &UNREADABLE_CUTS {
-        cuts(&rt, rt.alloc(), row.0, row.1, (Unreadable, row.2));
+        cuts(&rt, row.0, row.1, (Unreadable, row.2));
     }
     for row in &DONE_CUTS {
         let lines = FIRST_PATH_LINES.get(..row.2).unwrap_or(b"no such lines");
-        cuts(&rt, rt.alloc(), row.0, row.1, (Done, lines));
+        cuts(&rt, row.0, row.1, (Done, lines));
     }
 }

@@ -89,17 +89,16 @@ an allocator's line | loan-pool 4096 128 128 8; alloc 1 1 | line 2: refused";
 
 #[test]
 fn scripts_that_are_done(rt: HostRuntime) {
-    let alloc = rt.alloc();
-    check_rows(&rt, alloc, Done, BUMP);
-    check_rows(&rt, alloc, Done, ONE_CHUNK);
-    check_rows(&rt, alloc, Done, POOLS);
-    check_rows(&rt, alloc, Done, STEPS);
-    check_rows(&rt, alloc, Done, LOANS);
+    check_rows(&rt, Done, BUMP);
+    check_rows(&rt, Done, ONE_CHUNK);
+    check_rows(&rt, Done, POOLS);
+    check_rows(&rt, Done, STEPS);
+    check_rows(&rt, Done, LOANS);
 }
 
 #[test]
 fn unreadable_scripts(rt: HostRuntime) {
-    check_rows(&rt, rt.alloc(), Unreadable, UNREADABLE);
+    check_rows(&rt, Unreadable, UNREADABLE);
 }
 
 /// Scripts that no row of a table can have, each with its status and its output.

@@ -18,34 +18,25 @@ pub(super) fn lines(alloc: Global, text: &str) -> Result<String, AllocError> {
     Ok(lines)
 }
 
-/// Runs a script, and adds its output. Returns its status.
-pub(super) fn add_answer(alloc: Global, script: &[u8], told: &mut Vec<u8>) -> Status {
-    run(alloc, script, told)
-}
-
 /// Returns whether a script ends with this status and writes just these lines.
 pub(super) fn ends(alloc: Global, script: &[u8], status: Status, lines: &[u8]) -> bool {
     let mut told = Vec::new(alloc);
-    let ended = add_answer(alloc, script, &mut told);
-    ended == status && told.as_slice() == lines
+    run(alloc, script, &mut told) == status && told.as_slice() == lines
 }
 
 /// Returns whether a row's script ends with this status and writes just the row's output.
 fn keeps_row(alloc: Global, status: Status, row: &str) -> bool {
     let (script, wrote) = field_and_rest(row);
-    let Ok(script) = lines(alloc, script) else {
+    let (Ok(script), Ok(wrote)) = (lines(alloc, script), lines(alloc, wrote)) else {
         return false;
     };
-    match lines(alloc, wrote) {
-        Ok(wrote) => ends(alloc, script.as_bytes(), status, wrote.as_bytes()),
-        Err(_) => false,
-    }
+    ends(alloc, script.as_bytes(), status, wrote.as_bytes())
 }
 
 /// Runs the script of each row, and checks its status and its output.
-pub(super) fn check_rows(rt: &impl Abort, alloc: Global, ends: Status, table: &str) {
+pub(super) fn check_rows(rt: &(impl Abort + AllocGlobal), ends: Status, table: &str) {
     for row in table.lines() {
         let (name, row) = field_and_rest(row);
-        check_at(rt, keeps_row(alloc, ends, row), name);
+        check_at(rt, keeps_row(rt.alloc(), ends, row), name);
     }
 }

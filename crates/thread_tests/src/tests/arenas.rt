@@ -39,7 +39,7 @@ fn take(
 /// One arena is filled, reset and filled at once. The rest of the bump is an arena, too, and a byte more is refused.
 #[test]
 fn arenas_of_two_parties(rt: HostRuntime) {
-    let (shared, one, other) = two(&rt, rt.alloc(), (4096, 1024, 0));
+    let (shared, one, other) = two(&rt, (4096, 1024, 0));
     let mut one = arena(&rt, &shared, one, 100, 1);
     let mut other = arena(&rt, &shared, other, 200, 64);
     same(&rt, one.whole(), chunk(&rt, 4096, 100));

@@ -36,20 +36,19 @@ fn pool_of(
 
 /// Makes a pool over so many bytes, a second time where memory was refused. It may be refused from here on.
 pub(super) fn pool_at_last(
-    rt: &impl Abort,
-    alloc: Global,
+    rt: &(impl Abort + AllocGlobal),
     size: usize,
     parties: u32,
 ) -> (SharedPoolAllocator, Vec<PoolParty>)
     ensures count { result.0.scene.parties ≡ parties }
     ensures parties { All (λ party. party.allocator ≡ result.0) result.1.items }
 {
-    if let Some(made) = pool_of(alloc, size, parties) {
-        refuse_memory(alloc);
+    if let Some(made) = pool_of(rt.alloc(), size, parties) {
+        refuse_memory(rt.alloc());
         return made;
     }
-    refused(rt, alloc);
-    pool_of(alloc, size, parties).expect(rt, "there is memory for a pool")
+    refused(rt);
+    pool_of(rt.alloc(), size, parties).expect(rt, "there is memory for a pool")
 }
 
 /// Takes the last of these parties out.
@@ -68,15 +67,14 @@ pub(super) fn last_of(
 
 /// Makes a pool over so many bytes, with its two parties.
 pub(super) fn two(
-    rt: &impl Abort,
-    alloc: Global,
+    rt: &(impl Abort + AllocGlobal),
     size: usize,
 ) -> (SharedPoolAllocator, PoolParty, PoolParty)
     ensures others { 1 < result.0.scene.parties }
     ensures first { result.1.allocator ≡ result.0 }
     ensures second { result.2.allocator ≡ result.0 }
 {
-    let (pool, mut parties) = pool_at_last(rt, alloc, size, 2);
+    let (pool, mut parties) = pool_at_last(rt, size, 2);
     let second = last_of(rt, &pool, &mut parties);
     let first = last_of(rt, &pool, &mut parties);
     (pool, first, second)
@@ -146,15 +144,6 @@ pub(super) fn fit(
     ensures { party.new.allocator ≡ pool.now }
 {
     Ok(found(&ask(pool, party, layout, true)?))
-}
-
-pub(super) fn give(pool: &SharedPoolAllocator, party: &mut PoolParty, bucket: Bucket<'_>)
-    requires party { party.old.allocator ≡ pool.now }
-    requires bucket { bucket.allocator ≡ pool.now }
-    requires held { IsHeldAfter party.old.log bucket.number }
-    ensures { party.new.allocator ≡ pool.now }
-{
-    pool.deallocate_bucket(party, bucket);
 }
 
 /// Returns how many buckets are held, how many were found held at most, and how many requests were refused for want of one.

@@ -1,5 +1,5 @@
 //! Shared bumps, and calls that promise no more than a further call needs.
-ghost use Rattle.std.specs.Prelude.{◌≡◌, All, IfOk, IfSome};
+ghost use Rattle.std.specs.Prelude.{◌≡◌, All, IfOk};
 
 use super::checks::{check, refused, same};
 use bb_memory_bump::bump_allocator::{AllocationError, BaseAllocator, BumpAllocator};
@@ -28,35 +28,34 @@ fn figures_of(bump: &BumpAllocator) -> Of {
 }
 
 /// Checks that a bump is the one that was made, by its figures and by its text.
-fn is_unchanged(rt: &impl Abort, alloc: Global, bump: &BumpAllocator, of: Of) {
+fn is_unchanged(rt: &(impl Abort + AllocGlobal), bump: &BumpAllocator, of: Of) {
     same(rt, figures_of(bump), of);
     let (start, size, used) = of;
-    let text = format!(in alloc;
+    let text = format!(in rt.alloc();
         "BumpAllocator {{ start: {start}, size: {size}, current_position: {used} }}"
     );
-    let told = format!(in alloc; "{bump}").expect(rt, "there is memory for a text");
+    let told = format!(in rt.alloc(); "{bump}").expect(rt, "there is memory for a text");
     check(rt, told == text.expect(rt, "there is memory for a text"));
 }
 
 /// Shares a bump, a second time where memory was refused: then it comes back unchanged. Memory may be refused from here on.
 pub(super) fn share(
-    rt: &impl Abort,
-    alloc: Global,
+    rt: &(impl Abort + AllocGlobal),
     of: Of,
     parties: u32,
 ) -> (SharedBumpAllocator, Vec<BumpParty>)
     ensures { All (λ party. party.allocator ≡ result.0) result.1.items }
 {
     let bump = bump_of(of).expect(rt, "there is such a bump");
-    match shared(alloc, bump, parties) {
+    match shared(rt.alloc(), bump, parties) {
         Ok(made) => {
-            refuse_memory(alloc);
+            refuse_memory(rt.alloc());
             made
         }
         Err(bump) => {
-            refused(rt, alloc);
-            is_unchanged(rt, alloc, &bump, of);
-            let made = shared(alloc, bump, parties).ok();
+            refused(rt);
+            is_unchanged(rt, &bump, of);
+            let made = shared(rt.alloc(), bump, parties).ok();
             made.expect(rt, "there is memory to share a bump")
         }
     }
@@ -92,14 +91,13 @@ pub(super) fn last_of(
 
 /// Shares a bump between two parties.
 pub(super) fn two(
-    rt: &impl Abort,
-    alloc: Global,
+    rt: &(impl Abort + AllocGlobal),
     of: Of,
 ) -> (SharedBumpAllocator, BumpParty, BumpParty)
     ensures first { result.1.allocator ≡ result.0 }
     ensures second { result.2.allocator ≡ result.0 }
 {
-    let (shared, mut parties) = share(rt, alloc, of, 2);
+    let (shared, mut parties) = share(rt, of, 2);
     let second = last_of(rt, &shared, &mut parties);
     let first = last_of(rt, &shared, &mut parties);
     (shared, first, second)
@@ -128,15 +126,6 @@ pub(super) fn spaces(shared: &SharedBumpAllocator, party: &mut BumpParty) -> (us
     ensures { party.new.allocator ≡ shared.now }
 {
     (shared.used_space(party), shared.free_space(party))
-}
-
-pub(super) fn meet(shared: &SharedBumpAllocator, a: &mut BumpParty, b: &mut BumpParty)
-    requires a { a.old.allocator ≡ shared.now }
-    requires b { b.old.allocator ≡ shared.now }
-    ensures a { a.new.allocator ≡ shared.now }
-    ensures b { b.new.allocator ≡ shared.now }
-{
-    shared.meet(a, b);
 }
 
 /// Hands the bump back by one party.

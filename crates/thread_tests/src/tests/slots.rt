@@ -1,5 +1,4 @@
 //! A word for each of several things that threads take: 1 from a taking to its return.
-use std::alloc::Global;
 use std::process::Abort;
 use std::sync::atomic::{AtomicU64, Ordering};
 
@@ -10,32 +9,25 @@ pub(super) struct Slots {
 
 impl Slots {
     /// Makes so many words, all 0.
-    pub(super) fn new(rt: &impl Abort, alloc: Global, count: usize) -> Slots {
-        let mut words = Vec::new(alloc);
+    pub(super) fn new(rt: &(impl Abort + AllocGlobal), count: usize) -> Slots {
+        let mut words = Vec::new(rt.alloc());
         for _ in 0..count {
-            if words.push(AtomicU64::new(0)).is_err() {
-                panic!(rt; "there is no memory for a word");
-            }
+            let pushed = words.push(AtomicU64::new(0));
+            pushed.expect(rt, "there is memory for a word");
         }
         Slots { words }
     }
 
     /// Marks this word. Returns whether it is there and wasn't marked.
     pub(super) fn mark(&self, at: usize) -> bool {
-        match self.words.get(at) {
-            Some(word) => word.swap(1, Ordering::SeqCst) == 0,
-            None => false,
-        }
+        self.words
+            .get(at)
+            .is_some_and(|word| word.swap(1, Ordering::SeqCst) == 0)
     }
 
     /// Marks so many words, from this one on. Returns whether all of them are there and weren't marked.
     pub(super) fn mark_all(&self, from: usize, count: usize) -> bool {
-        for at in from..from.saturating_add(count) {
-            if !self.mark(at) {
-                return false;
-            }
-        }
-        true
+        (from..from.saturating_add(count)).all(|at| self.mark(at))
     }
 
     /// Watches a marked word for a while, and takes the mark back. Returns whether nobody else did meanwhile.
@@ -53,12 +45,9 @@ impl Slots {
 
     /// Returns how many words are marked.
     pub(super) fn count(&self) -> usize {
-        let mut count: usize = 0;
-        for word in &self.words {
-            if word.load(Ordering::SeqCst) == 1 {
-                count = count.saturating_add(1);
-            }
-        }
-        count
+        self.words
+            .iter()
+            .filter(|word| word.load(Ordering::SeqCst) == 1)
+            .count()
     }
 }

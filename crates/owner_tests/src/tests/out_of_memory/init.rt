@@ -6,16 +6,16 @@ use std::alloc::Global;
 use std::process::Abort;
 
 /// Makes a pool over 1,024 bytes at 4097. Where memory was refused, `init` hands back what it was called on, and is called again.
-fn initialised(rt: &impl Abort, alloc: Global, bucket: Layout) -> Option<PoolAllocator<Global>> {
+fn initialised(rt: &(impl Abort + AllocGlobal), bucket: Layout) -> Option<PoolAllocator<Global>> {
     if !PoolAllocator::can_make(bucket, 4097, 1024) {
         return None;
     }
-    match PoolAllocator::new_uninit(bucket, 4097, 1024).init(alloc) {
+    match PoolAllocator::new_uninit(bucket, 4097, 1024).init(rt.alloc()) {
         Ok(pool) => Some(pool),
         Err((handed_back, error)) => {
             same(rt, error, AllocationError::OutOfMemory);
-            refused(rt, alloc);
-            handed_back.init(alloc).ok()
+            refused(rt);
+            handed_back.init(rt.alloc()).ok()
         }
     }
 }
@@ -23,7 +23,7 @@ fn initialised(rt: &impl Abort, alloc: Global, bucket: Layout) -> Option<PoolAll
 // row: pool-odd-start-getters, refused-init
 #[test]
 fn a_pool_at_an_odd_start(rt: HostRuntime) {
-    let made = initialised(&rt, rt.alloc(), layout(&rt, 128, 8));
+    let made = initialised(&rt, layout(&rt, 128, 8));
     let pool = made.expect(&rt, "there is memory for a pool");
     same(&rt, pool.start_address(), 4104);
     same(&rt, pool.number_of_buckets(), 7);

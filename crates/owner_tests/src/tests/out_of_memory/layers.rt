@@ -33,10 +33,10 @@ fn slab(alloc: Global) -> Option<Slab<TestPool>> {
 }
 
 /// Keeps a record, a second time where memory was refused: then the slab has as many records as before.
-fn keeps(rt: &impl Abort, alloc: Global, slab: &mut Slab<TestPool>, record: &[u8]) {
+fn keeps(rt: &(impl Abort + AllocGlobal), slab: &mut Slab<TestPool>, record: &[u8]) {
     let len = slab.len();
     if slab.insert(record).is_err() {
-        refused(rt, alloc);
+        refused(rt);
         same(rt, slab.len(), len);
         check(rt, slab.insert(record).is_ok());
     }
@@ -46,10 +46,10 @@ fn keeps(rt: &impl Abort, alloc: Global, slab: &mut Slab<TestPool>, record: &[u8
 #[test]
 fn a_slab(rt: HostRuntime) {
     let Some(mut slab) = slab(rt.alloc()) else {
-        return refused(&rt, rt.alloc());
+        return refused(&rt);
     };
-    keeps(&rt, rt.alloc(), &mut slab, b"123");
-    keeps(&rt, rt.alloc(), &mut slab, b"45");
+    keeps(&rt, &mut slab, b"123");
+    keeps(&rt, &mut slab, b"45");
     check(&rt, slab.len() == 2 && slab.read(0) == b"123".as_slice());
 }
 
@@ -61,10 +61,10 @@ fn ring(alloc: Global) -> Option<MessageRing<TestPool>> {
 }
 
 /// Sends a message, a second time where memory was refused: then as many messages wait as before.
-fn sends(rt: &impl Abort, alloc: Global, ring: &mut MessageRing<TestPool>, message: &[u8]) {
+fn sends(rt: &(impl Abort + AllocGlobal), ring: &mut MessageRing<TestPool>, message: &[u8]) {
     let waiting = ring.waiting();
     if ring.send(message).is_err() {
-        refused(rt, alloc);
+        refused(rt);
         same(rt, ring.waiting(), waiting);
         check(rt, ring.send(message).is_ok());
     }
@@ -81,23 +81,23 @@ fn receives(rt: &impl Abort, ring: &mut MessageRing<TestPool>, message: &[u8]) {
 #[test]
 fn a_ring(rt: HostRuntime) {
     let Some(mut ring) = ring(rt.alloc()) else {
-        return refused(&rt, rt.alloc());
+        return refused(&rt);
     };
-    sends(&rt, rt.alloc(), &mut ring, b"12");
-    sends(&rt, rt.alloc(), &mut ring, b"3");
+    sends(&rt, &mut ring, b"12");
+    sends(&rt, &mut ring, b"3");
     receives(&rt, &mut ring, b"12");
     receives(&rt, &mut ring, b"3");
 }
 
 /// Admits a tenant with a limit, and allocates 100 bytes for it, each a second time where memory was refused.
-fn admits(rt: &impl Abort, alloc: Global, tenants: &mut Tenants<TestPool>, tenant: usize) {
+fn admits(rt: &(impl Abort + AllocGlobal), tenants: &mut Tenants<TestPool>, tenant: usize) {
     if tenants.admit(100).is_err() {
-        refused(rt, alloc);
+        refused(rt);
         check(rt, tenants.admit(100).is_ok());
     }
     let (out, hundred) = (tenants.out(), layout(rt, 100, 1));
     if tenants.allocate(tenant, hundred).is_err() {
-        refused(rt, alloc);
+        refused(rt);
         same(rt, tenants.out(), out);
         check(rt, tenants.allocate(tenant, hundred).is_ok());
     }
@@ -109,7 +109,7 @@ fn tenants_of_a_pool(rt: HostRuntime) {
         return check(&rt, false);
     };
     let mut tenants = Tenants::new(rt.alloc(), pool, 200);
-    admits(&rt, rt.alloc(), &mut tenants, 0);
-    admits(&rt, rt.alloc(), &mut tenants, 1);
+    admits(&rt, &mut tenants, 0);
+    admits(&rt, &mut tenants, 1);
     same(&rt, (tenants.used(1), tenants.out()), (100, 200));
 }

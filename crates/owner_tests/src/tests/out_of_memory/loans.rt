@@ -45,8 +45,7 @@ pub(super) const FULL: LoanReply = Refused(LoanError::Allocation(AllocationError
 
 /// Loans so many bytes, a second time where memory was refused: then the samples of before are out, and the next one isn't.
 fn loan<A: Allocator + Drop>(
-    rt: &impl Abort,
-    alloc: Global,
+    rt: &(impl Abort + AllocGlobal),
     book: &mut LoanBook<A>,
     size: usize,
     next: u64,
@@ -55,7 +54,7 @@ fn loan<A: Allocator + Drop>(
     if told != NO_MEMORY {
         return told;
     }
-    refused(rt, alloc);
+    refused(rt);
     same(rt, reply(book, IsOut(0)), Out(next > 0));
     same(rt, reply(book, IsOut(next)), Out(false));
     reply(book, Loan(size))
@@ -64,11 +63,9 @@ fn loan<A: Allocator + Drop>(
 // row: loan-over-one-chunk, refused-loan
 #[test]
 fn loan_over_one_chunk(rt: HostRuntime) {
-    let (alloc, whole) = (rt.alloc(), chunk(&rt, 4096, 64));
-    let mut book = one_book(alloc);
-    let first = loan(&rt, alloc, &mut book, 64, 0);
-    same(&rt, first, Loaned(0, whole));
-    same(&rt, loan(&rt, alloc, &mut book, 1, 1), FULL);
+    let (mut book, whole) = (one_book(rt.alloc()), chunk(&rt, 4096, 64));
+    same(&rt, loan(&rt, &mut book, 64, 0), Loaned(0, whole));
+    same(&rt, loan(&rt, &mut book, 1, 1), FULL);
     same(&rt, reply(&mut book, GiveBack(0)), Returned);
     same(&rt, reply(&mut book, Loan(1)), Loaned(1, whole));
 }
@@ -88,14 +85,13 @@ fn is_made(alloc: Global, book: &mut LoanBook<OneChunkAllocator>, whole: Chunk) 
 /// A list of calls is made, a second time where memory was refused.
 #[test]
 fn a_list_of_loans_keeps_the_book(rt: HostRuntime) {
-    let alloc = rt.alloc();
-    let (mut book, whole) = (one_book(alloc), chunk(&rt, 4096, 64));
-    if let Some(is_made) = is_made(alloc, &mut book, whole) {
+    let (mut book, whole) = (one_book(rt.alloc()), chunk(&rt, 4096, 64));
+    if let Some(is_made) = is_made(rt.alloc(), &mut book, whole) {
         return check(&rt, is_made);
     }
-    refused(&rt, alloc);
+    refused(&rt);
     same(&rt, reply(&mut book, IsOut(0)), Out(false));
-    same(&rt, is_made(alloc, &mut book, whole), Some(true));
+    same(&rt, is_made(rt.alloc(), &mut book, whole), Some(true));
 }
 
 /// Checks that a loan gave a chunk of 64 bytes under this number.
@@ -117,13 +113,12 @@ fn leave<A: Allocator + Drop>(rt: &impl Abort, book: &mut LoanBook<A>, ids: &[u6
 /// Of sixteen samples some go back, and the others are published. Then six more are loaned.
 #[test]
 fn samples_go_back_in_any_order(rt: HostRuntime) {
-    let (alloc, bucket) = (rt.alloc(), layout(&rt, 64, 8));
-    let Some(pool) = pool_over(alloc, bucket, 4096, 1024) else {
-        return refused(&rt, alloc);
+    let Some(pool) = pool_over(rt.alloc(), layout(&rt, 64, 8), 4096, 1024) else {
+        return refused(&rt);
     };
-    let mut book = LoanBook::new(alloc, pool);
+    let mut book = LoanBook::new(rt.alloc(), pool);
     for id in 0..16 {
-        is_loaned(&rt, loan(&rt, alloc, &mut book, 64, id), id);
+        is_loaned(&rt, loan(&rt, &mut book, 64, id), id);
     }
     leave(&rt, &mut book, &[7, 0, 15, 8, 1, 14]);
     for id in [2, 3, 4, 5, 6, 9, 10, 11, 12, 13] {

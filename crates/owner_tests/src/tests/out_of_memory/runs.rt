@@ -9,15 +9,14 @@ use bb_memory_owned::pool_allocator::{FixedSizePoolAllocator, PoolAllocator};
 use bb_memory_traits::allocator::AllocationError::OutOfMemory;
 use bb_memory_traits::allocator::AllocationGrowError::{self, AlignmentFailure, GrowWouldShrink};
 use bb_memory_traits::allocator::Command::{self, Allocate, Grow, Release, Shrink};
-use bb_memory_traits::allocator::Reply::{self, GrowRefused, Passed, Refused, Released};
+use bb_memory_traits::allocator::Reply::{self, GrowRefused, Passed, Refused};
 use bb_memory_traits::layout::Layout;
 use std::alloc::Global;
 use std::process::Abort;
 
 /// Runs commands, a second time where memory was refused: then as many chunks are live as before.
 fn replies<A: Kind>(
-    rt: &impl Abort,
-    alloc: Global,
+    rt: &(impl Abort + AllocGlobal),
     owner: &mut Owner<A>,
     commands: &[Command],
 ) -> Vec<Reply> {
@@ -25,21 +24,20 @@ fn replies<A: Kind>(
     if let Ok(replies) = A::run(owner, commands) {
         return replies;
     }
-    refused(rt, alloc);
+    refused(rt);
     same(rt, owner.number_of_live(), live);
     A::run(owner, commands).expect(rt, "there is memory for a run")
 }
 
 /// Runs commands by a fresh allocator of 1024 bytes at `start`, and checks the replies.
 fn replied<A: Kind>(
-    rt: &impl Abort,
-    alloc: Global,
+    rt: &(impl Abort + AllocGlobal),
     start: usize,
     commands: &[Command],
     wanted: &[Reply],
 ) {
-    let mut owner = made::<A>(rt, alloc, [start, 1024, 0, 0]);
-    let told = replies(rt, alloc, &mut owner, commands);
+    let mut owner = made::<A>(rt, [start, 1024, 0, 0]);
+    let told = replies(rt, &mut owner, commands);
     check(rt, told.as_slice() == wanted);
 }
 
@@ -65,7 +63,7 @@ fn a_bump_is_filled(rt: HostRuntime) {
         given(&rt, 4170, 950),
         Refused(OutOfMemory),
     ];
-    replied::<BumpAllocator>(&rt, rt.alloc(), 4096, &commands, &wanted);
+    replied::<BumpAllocator>(&rt, 4096, &commands, &wanted);
 }
 
 // row: one-resizes, refused-run
@@ -92,29 +90,28 @@ fn one_chunk_is_resized(rt: HostRuntime) {
         given(&rt, 4100, 1021),
         Passed,
     ];
-    replied::<OneChunkAllocator>(&rt, rt.alloc(), 4097, &commands, &wanted);
+    replied::<OneChunkAllocator>(&rt, 4097, &commands, &wanted);
 }
 
 /// Takes two buckets, gives one back, and takes one more. Checks how many are held then, and how many were at most.
 fn takes<A: Buckets>(
-    rt: &impl Abort,
-    alloc: Global,
+    rt: &(impl Abort + AllocGlobal),
     pool: &mut Owner<A>,
     counts: (u32, u32, bool),
 ) -> Vec<Reply> {
     let take = Allocate(Layout::empty());
     let commands = [take, take, Release(0), take];
-    let told = replies(rt, alloc, pool, &commands);
+    let told = replies(rt, pool, &commands);
     same(rt, pool.allocator().told(0, 0).0, counts);
     told
 }
 
 /// Takes all buckets of a pool of four by two runs. A third one is refused a bucket.
-fn fills<A: Buckets>(rt: &impl Abort, alloc: Global, of: Of) {
-    let mut pool = made::<A>(rt, alloc, of);
-    same(rt, takes(rt, alloc, &mut pool, (2, 2, true)).len(), 4);
-    same(rt, takes(rt, alloc, &mut pool, (4, 4, false)).len(), 4);
-    let told = takes(rt, alloc, &mut pool, (4, 4, false));
+fn fills<A: Buckets>(rt: &(impl Abort + AllocGlobal), of: Of) {
+    let mut pool = made::<A>(rt, of);
+    same(rt, takes(rt, &mut pool, (2, 2, true)).len(), 4);
+    same(rt, takes(rt, &mut pool, (4, 4, false)).len(), 4);
+    let told = takes(rt, &mut pool, (4, 4, false));
     same(rt, told.first().copied(), Some(Refused(OutOfMemory)));
 }
 
@@ -122,6 +119,6 @@ fn fills<A: Buckets>(rt: &impl Abort, alloc: Global, of: Of) {
 // row: fixed-constant-four, refused-run
 #[test]
 fn pools_of_four_buckets(rt: HostRuntime) {
-    fills::<PoolAllocator<Global>>(&rt, rt.alloc(), [4096, 64, 16, 8]);
-    fills::<FixedSizePoolAllocator<4>>(&rt, rt.alloc(), [4096, 1024, 128, 8]);
+    fills::<PoolAllocator<Global>>(&rt, [4096, 64, 16, 8]);
+    fills::<FixedSizePoolAllocator<4>>(&rt, [4096, 1024, 128, 8]);
 }

@@ -9,11 +9,10 @@ use test_marks::refuse_memory;
 /// The last of 1,000 parties takes a chunk.
 #[test]
 fn a_bump_of_a_thousand_parties(rt: HostRuntime) {
-    let alloc = rt.alloc();
-    let Some(mut world) = made(&rt, alloc, BumpWorld::new(alloc, 4096, 64, 1000)) else {
+    let Some(mut world) = made(&rt, BumpWorld::new(rt.alloc(), 4096, 64, 1000)) else {
         return;
     };
-    refuse_memory(alloc);
+    refuse_memory(rt.alloc());
     let (party, layout) = (999, layout(&rt, 40, 1));
     let passed = world.step(BumpStep::Load { party: 1000 });
     same(&rt, passed, BumpOutcome::Passed);
@@ -22,17 +21,16 @@ fn a_bump_of_a_thousand_parties(rt: HostRuntime) {
     let wins = world.step(BumpStep::Exchange { party });
     same(&rt, wins, BumpOutcome::Wins(chunk(&rt, 4096, 40)));
     same(&rt, world.used_space(), 40);
-    none_asked(&rt, alloc);
+    none_asked(&rt);
 }
 
 /// A held bucket is missed, and nobody holds a detached one.
 #[test]
 fn a_bucket_is_detached_and_attached(rt: HostRuntime) {
-    let alloc = rt.alloc();
-    let Some(mut world) = made(&rt, alloc, PoolWorld::new(alloc, 2, 1000)) else {
+    let Some(mut world) = made(&rt, PoolWorld::new(rt.alloc(), 2, 1000)) else {
         return;
     };
-    refuse_memory(alloc);
+    refuse_memory(rt.alloc());
     let (bucket, party) = (1, 0);
     same(&rt, world.step(Detach { party, bucket }), Passed);
     same(&rt, world.step(TryAt { party, bucket }), Takes(1));
@@ -47,5 +45,5 @@ fn a_bucket_is_detached_and_attached(rt: HostRuntime) {
     same(&rt, world.step(Attach { party, bucket }), Passed);
     same(&rt, world.step(GiveBack { party, bucket }), Gives(1));
     same(&rt, world.step(Try { party: 1000 }), Passed);
-    none_asked(&rt, alloc);
+    none_asked(&rt);
 }

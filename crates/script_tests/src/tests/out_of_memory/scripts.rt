@@ -1,35 +1,32 @@
 //! Scripts that hold with any one request for memory refused: a run ends with status 4, and what it wrote begins what
 //! it writes where none is refused.
 use crate::tests::checks::{check, refused, same};
-use crate::tests::table::{add_answer, field_and_rest, lines};
-use script_runner::Status;
-use std::alloc::Global;
+use crate::tests::table::{field_and_rest, lines};
+use script_runner::{Status, run};
 use std::process::Abort;
 
 /// Runs a script, a second time where memory was refused, and checks its status and its output.
-fn ends_with_status_4(rt: &impl Abort, alloc: Global, ends: Status, script: &[u8], lines: &[u8]) {
-    let mut told = Vec::new(alloc);
+fn ends_with_status_4(rt: &(impl Abort + AllocGlobal), ends: Status, script: &[u8], lines: &[u8]) {
+    let mut told = Vec::new(rt.alloc());
     if told.reserve(lines.len()).is_err() {
         return;
     }
-    let status = add_answer(alloc, script, &mut told);
+    let status = run(rt.alloc(), script, &mut told);
     if status != ends {
-        refused(rt, alloc);
+        refused(rt);
         same(rt, (status, status.code()), (Status::OutOfMemory, 4));
         check(rt, lines.starts_with(told.as_slice()));
         told.clear();
-        check(rt, add_answer(alloc, script, &mut told) == ends);
+        check(rt, run(rt.alloc(), script, &mut told) == ends);
     }
     check(rt, told.as_slice() == lines);
 }
 
 /// Runs a row's script. Where memory for the test itself is refused, passes over the row.
-fn keeps(rt: &impl Abort, alloc: Global, ends: Status, row: &str) {
+fn keeps(rt: &(impl Abort + AllocGlobal), ends: Status, row: &str) {
     let (script, wrote) = field_and_rest(row);
-    if let Ok(script) = lines(alloc, script) {
-        if let Ok(wrote) = lines(alloc, wrote) {
-            ends_with_status_4(rt, alloc, ends, script.as_bytes(), wrote.as_bytes());
-        }
+    if let (Ok(script), Ok(wrote)) = (lines(rt.alloc(), script), lines(rt.alloc(), wrote)) {
+        ends_with_status_4(rt, ends, script.as_bytes(), wrote.as_bytes());
     }
 }
 
@@ -51,8 +48,8 @@ loan-pool 4096 128 128 8; out 0; loan 48; loan 1; publish 0 2; back 0; back 0; l
 #[test]
 fn a_script_of_each_kind(rt: HostRuntime) {
     for row in SCRIPTS.lines() {
-        keeps(&rt, rt.alloc(), Status::Done, row);
+        keeps(&rt, Status::Done, row);
     }
     let unreadable = "bump 4096 8; bad | line 2: refused";
-    keeps(&rt, rt.alloc(), Status::Unreadable, unreadable);
+    keeps(&rt, Status::Unreadable, unreadable);
 }

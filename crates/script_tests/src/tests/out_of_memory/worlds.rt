@@ -3,32 +3,30 @@ use crate::tests::checks::{check, chunk, layout, refused, same};
 use bb_memory_base::steps::PoolOutcome::{Gives, Loses, RefusedAtLoss, Takes};
 use bb_memory_base::steps::PoolStep::{GiveBack, Try};
 use bb_memory_base::steps::{BumpOutcome, BumpStep, BumpWorld, PoolOutcome, PoolStep, PoolWorld};
-use std::alloc::{AllocError, Global};
+use std::alloc::AllocError;
 use std::process::Abort;
 
 /// Returns a world, or `None` where memory was refused.
 pub(super) fn made<W: Drop>(
-    rt: &impl Abort,
-    alloc: Global,
+    rt: &(impl Abort + AllocGlobal),
     world: Result<W, AllocError>,
 ) -> Option<W> {
     if world.is_err() {
-        refused(rt, alloc);
+        refused(rt);
     }
     world.ok()
 }
 
 /// Replays steps, at a second trial where memory was refused: then the bump is still fresh.
 fn replayed_by_bump(
-    rt: &impl Abort,
-    alloc: Global,
+    rt: &(impl Abort + AllocGlobal),
     world: &mut BumpWorld,
     steps: &[BumpStep],
 ) -> Vec<BumpOutcome> {
     if let Ok(told) = world.replay(steps) {
         return told;
     }
-    refused(rt, alloc);
+    refused(rt);
     let loaded = world.step(BumpStep::Load { party: 0 });
     same(rt, loaded, BumpOutcome::Loaded(0));
     world.replay(steps).expect(rt, "there is memory again")
@@ -37,7 +35,6 @@ fn replayed_by_bump(
 // row: steps-bump-race, refused-worlds, refused-replay
 #[test]
 fn a_bump_is_raced_for(rt: HostRuntime) {
-    let alloc = rt.alloc();
     let layout = layout(&rt, 40, 1);
     let steps = [
         BumpStep::Read { party: 0, layout },
@@ -51,10 +48,10 @@ fn a_bump_is_raced_for(rt: HostRuntime) {
         BumpOutcome::Wins(chunk(&rt, 4096, 40)),
         BumpOutcome::RefusedAtLoss(40),
     ];
-    let Some(mut world) = made(&rt, alloc, BumpWorld::new(alloc, 4096, 64, 64)) else {
+    let Some(mut world) = made(&rt, BumpWorld::new(rt.alloc(), 4096, 64, 64)) else {
         return;
     };
-    let told = replayed_by_bump(&rt, alloc, &mut world, &steps);
+    let told = replayed_by_bump(&rt, &mut world, &steps);
     check(&rt, told.as_slice() == outcomes.as_slice());
     same(&rt, world.used_space(), 40);
 }
@@ -83,11 +80,11 @@ const OUTCOMES: [PoolOutcome; 6] = [
 ];
 
 /// Replays the steps, at a second trial where memory was refused: then the pool is still fresh.
-fn replayed_by_pool(rt: &impl Abort, alloc: Global, world: &mut PoolWorld) -> Vec<PoolOutcome> {
+fn replayed_by_pool(rt: &(impl Abort + AllocGlobal), world: &mut PoolWorld) -> Vec<PoolOutcome> {
     if let Ok(told) = world.replay(&STEPS) {
         return told;
     }
-    refused(rt, alloc);
+    refused(rt);
     same(rt, (world.holder(0), world.holder(1)), (None, None));
     same(rt, world.step(GIVE), PoolOutcome::Passed);
     world.replay(&STEPS).expect(rt, "there is memory again")
@@ -96,11 +93,10 @@ fn replayed_by_pool(rt: &impl Abort, alloc: Global, world: &mut PoolWorld) -> Ve
 // row: steps-pool-never-full, refused-worlds, refused-replay
 #[test]
 fn a_pool_is_never_full(rt: HostRuntime) {
-    let alloc = rt.alloc();
-    let Some(mut world) = made(&rt, alloc, PoolWorld::new(alloc, 2, 64)) else {
+    let Some(mut world) = made(&rt, PoolWorld::new(rt.alloc(), 2, 64)) else {
         return;
     };
-    let told = replayed_by_pool(&rt, alloc, &mut world);
+    let told = replayed_by_pool(&rt, &mut world);
     check(&rt, told.as_slice() == OUTCOMES.as_slice());
     same(&rt, (world.holder(0), world.holder(1)), (None, Some(1)));
 }

@@ -21,12 +21,12 @@ fn allocate(alloc: Global, asked: Layout, zeroed: bool) -> Result<HeapBlock, All
 }
 
 /// Makes a block, at a second trial where memory was refused.
-pub(super) fn made(rt: &impl Abort, alloc: Global, size: usize, zeroed: bool) -> HeapBlock {
+pub(super) fn made(rt: &(impl Abort + AllocGlobal), size: usize, zeroed: bool) -> HeapBlock {
     let asked = layout(rt, size, 4096);
-    match allocate(alloc, asked, zeroed) {
+    match allocate(rt.alloc(), asked, zeroed) {
         Err(AllocationError::OutOfMemory) => {
-            refused(rt, alloc);
-            allocate(alloc, asked, zeroed).expect(rt, "there is memory for a block")
+            refused(rt);
+            allocate(rt.alloc(), asked, zeroed).expect(rt, "there is memory for a block")
         }
         other => other.expect(rt, "the block isn't empty"),
     }
@@ -51,65 +51,55 @@ pub(super) fn counted(mut block: HeapBlock, first: u8) -> HeapBlock {
     block
 }
 
-fn grow(
-    alloc: Global,
-    block: HeapBlock,
-    new: Layout,
-    zeroed: bool,
-) -> Resized<AllocationGrowError> {
-    let Ok(old) = Layout::from_size_align(block.len(), 1) else {
+fn grow(alloc: Global, block: HeapBlock, to: Layout, zeroed: bool) -> Resized<AllocationGrowError> {
+    let Ok(from) = Layout::from_size_align(block.len(), 1) else {
         return Err((block, AllocationGrowError::GrowWouldShrink));
     };
     let heap = HeapAllocator::new(alloc);
     if zeroed {
-        heap.grow_zeroed(block, old, new)
+        heap.grow_zeroed(block, from, to)
     } else {
-        heap.grow(block, old, new)
+        heap.grow(block, from, to)
     }
 }
 
 /// Grows a block, at a second trial where memory was refused: then the block is as before.
-fn grown(rt: &impl Abort, alloc: Global, block: HeapBlock, size: usize, zeroed: bool) -> HeapBlock {
-    let (new, before) = (layout(rt, size, 4096), digits(&block));
-    match grow(alloc, block, new, zeroed) {
+fn grown(rt: &(impl Abort + AllocGlobal), block: HeapBlock, len: usize, zeroed: bool) -> HeapBlock {
+    let (new, before) = (layout(rt, len, 4096), digits(&block));
+    match grow(rt.alloc(), block, new, zeroed) {
         Ok(block) => block,
         Err((block, error)) => {
             same(rt, error, AllocationGrowError::OutOfMemory);
-            refused(rt, alloc);
+            refused(rt);
             same(rt, digits(&block), before);
-            let again = grow(alloc, block, new, zeroed).ok();
+            let again = grow(rt.alloc(), block, new, zeroed).ok();
             again.expect(rt, "there is memory for a block")
         }
     }
 }
 
-pub(super) fn shrink(
-    alloc: Global,
-    block: HeapBlock,
-    new: Layout,
-) -> Resized<AllocationShrinkError> {
+fn shrink(alloc: Global, block: HeapBlock, to: Layout) -> Resized<AllocationShrinkError> {
     match Layout::from_size_align(block.len(), 1) {
-        Ok(old) => HeapAllocator::new(alloc).shrink(block, old, new),
+        Ok(from) => HeapAllocator::new(alloc).shrink(block, from, to),
         Err(_) => Err((block, AllocationShrinkError::AlignmentFailure)),
     }
 }
 
 /// Shrinks a block.
-pub(super) fn shrunk(rt: &impl Abort, alloc: Global, block: HeapBlock, size: usize) -> HeapBlock {
-    let shrunk = shrink(alloc, block, layout(rt, size, 4096)).ok();
+pub(super) fn shrunk(rt: &(impl Abort + AllocGlobal), block: HeapBlock, size: usize) -> HeapBlock {
+    let shrunk = shrink(rt.alloc(), block, layout(rt, size, 4096)).ok();
     shrunk.expect(rt, "the block is shrunk")
 }
 
 /// Checks that a shrink is refused, and hands the block back unchanged.
 fn not_shrunk(
-    rt: &impl Abort,
-    alloc: Global,
+    rt: &(impl Abort + AllocGlobal),
     block: HeapBlock,
     size: usize,
     wanted: AllocationShrinkError,
 ) -> HeapBlock {
     let before = digits(&block);
-    let refused = shrink(alloc, block, layout(rt, size, 1)).err();
+    let refused = shrink(rt.alloc(), block, layout(rt, size, 1)).err();
     let (block, error) = refused.expect(rt, "the block isn't shrunk");
     same(rt, (digits(&block), error), (before, wanted));
     block
@@ -118,46 +108,43 @@ fn not_shrunk(
 // row: heap-grow-and-shrink, refused-heap-allocate, refused-heap-grow
 #[test]
 fn a_block_is_grown_and_shrunk(rt: HostRuntime) {
-    let alloc = rt.alloc();
-    let empty = allocate(alloc, layout(&rt, 0, 1), false);
+    let empty = allocate(rt.alloc(), layout(&rt, 0, 1), false);
     same(&rt, empty.err(), Some(AllocationError::SizeIsZero));
-    let block = counted(made(&rt, alloc, 4, false), 1);
+    let block = counted(made(&rt, 4, false), 1);
     same(&rt, digits(&block), (4, 1234));
-    let block = grown(&rt, alloc, block, 6, false);
+    let block = grown(&rt, block, 6, false);
     same(&rt, digits(&block), (6, 123_400));
-    let block = shrunk(&rt, alloc, block, 2);
+    let block = shrunk(&rt, block, 2);
     same(&rt, digits(&block), (2, 12));
-    let block = not_shrunk(&rt, alloc, block, 0, AllocationShrinkError::SizeIsZero);
+    let block = not_shrunk(&rt, block, 0, AllocationShrinkError::SizeIsZero);
     same(&rt, digits(&block), (2, 12));
 }
 
 // row: heap-zeroed-and-refused, refused-heap-allocate, refused-heap-grow
 #[test]
 fn a_block_is_zeroed_and_refused(rt: HostRuntime) {
-    let alloc = rt.alloc();
-    let block = counted(made(&rt, alloc, 3, true), 5);
-    let refused = grow(alloc, block, layout(&rt, 3, 1), false).err();
+    let block = counted(made(&rt, 3, true), 5);
+    let refused = grow(rt.alloc(), block, layout(&rt, 3, 1), false).err();
     let (block, error) = refused.expect(&rt, "the block isn't grown");
     same(&rt, error, AllocationGrowError::GrowWouldShrink);
     same(&rt, digits(&block), (3, 567));
-    let block = grown(&rt, alloc, block, 5, true);
+    let block = grown(&rt, block, 5, true);
     same(&rt, digits(&block), (5, 56_700));
-    let block = not_shrunk(&rt, alloc, block, 5, AllocationShrinkError::ShrinkWouldGrow);
-    let block = shrunk(&rt, alloc, block, 1);
+    let block = not_shrunk(&rt, block, 5, AllocationShrinkError::ShrinkWouldGrow);
+    let block = shrunk(&rt, block, 1);
     same(&rt, digits(&block), (1, 5));
 }
 
 /// Blocks of many sizes are made, or grown from a byte, and their bytes are zero.
 #[test]
 fn heap_of_many_sizes(rt: HostRuntime) {
-    let alloc = rt.alloc();
     for size in [5, 6, 7, 64, 1024, 4096, 65_536, 1_048_575, 1_048_576] {
         for zeroed in [false, true] {
-            let block = made(&rt, alloc, size, zeroed);
+            let block = made(&rt, size, zeroed);
             same(&rt, digits(&block), (size, 0));
-            let block = grown(&rt, alloc, made(&rt, alloc, 1, zeroed), size, zeroed);
+            let block = grown(&rt, made(&rt, 1, zeroed), size, zeroed);
             same(&rt, digits(&block), (size, 0));
-            same(&rt, digits(&shrunk(&rt, alloc, block, 4)), (4, 0));
+            same(&rt, digits(&shrunk(&rt, block, 4)), (4, 0));
         }
     }
 }

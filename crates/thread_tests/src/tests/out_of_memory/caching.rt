@@ -6,7 +6,6 @@ use crate::tests::checks::{check, layout, refused, same};
 use bb_memory_shared_pools::shared_pool::{CachingParty, PoolParty, SharedPoolAllocator};
 use bb_memory_traits::allocator::AllocationError;
 use bb_memory_traits::layout::Layout;
-use std::alloc::Global;
 use std::process::Abort;
 
 /// Takes two buckets and gives them back. The other party finds the cached one held until it is flushed.
@@ -40,12 +39,11 @@ fn fills(
 
 #[test]
 fn one_of_two_buckets_is_cached(rt: HostRuntime) {
-    let (alloc, small) = (rt.alloc(), layout(&rt, 48, 4));
-    let (pool, mut other, party) = two(&rt, alloc, 256);
-    match CachingParty::new(alloc, party, 1) {
+    let (small, (pool, mut other, party)) = (layout(&rt, 48, 4), two(&rt, 256));
+    match CachingParty::new(rt.alloc(), party, 1) {
         Ok(mut made) => check(&rt, fills(&rt, &pool, &mut made, &mut other, small).is_ok()),
         Err(party) => {
-            refused(&rt, alloc);
+            refused(&rt);
             check(&rt, party.number() == 1);
         }
     }
@@ -69,8 +67,7 @@ fn keeps_two(
 
 /// Has a party that caches one bucket cache at most two from then on: the one is back then. A refusal changes nothing.
 fn caches_two(
-    rt: &impl Abort,
-    alloc: Global,
+    rt: &(impl Abort + AllocGlobal),
     pool: &SharedPoolAllocator,
     caching: &mut CachingParty,
     small: Layout,
@@ -80,8 +77,8 @@ fn caches_two(
 {
     let taken = caching.allocate(pool, small)?;
     caching.deallocate(pool, taken);
-    if caching.cache_at_most(alloc, pool, 2).is_err() {
-        refused(rt, alloc);
+    if caching.cache_at_most(rt.alloc(), pool, 2).is_err() {
+        refused(rt);
         check(rt, caching.number_of_cached() == 1);
         return Ok(());
     }
@@ -93,15 +90,14 @@ fn caches_two(
 
 #[test]
 fn two_of_two_buckets_are_cached(rt: HostRuntime) {
-    let (alloc, small) = (rt.alloc(), layout(&rt, 48, 4));
-    let (pool, other, party) = two(&rt, alloc, 256);
+    let (small, (pool, other, party)) = (layout(&rt, 48, 4), two(&rt, 256));
     let (Ok(mut one), Ok(mut other)) = (
-        CachingParty::new(alloc, party, 1),
-        CachingParty::new(alloc, other, 0),
+        CachingParty::new(rt.alloc(), party, 1),
+        CachingParty::new(rt.alloc(), other, 0),
     ) else {
-        return refused(&rt, alloc);
+        return refused(&rt);
     };
-    check(&rt, caches_two(&rt, alloc, &pool, &mut one, small).is_ok());
+    check(&rt, caches_two(&rt, &pool, &mut one, small).is_ok());
     one.meet(&pool, &mut other);
     let numbers = (one.party().number(), other.party().number());
     same(&rt, numbers, (1, 0));

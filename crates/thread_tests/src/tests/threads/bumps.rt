@@ -1,7 +1,7 @@
 //! Threads over one shared bump.
 ghost use Rattle.std.specs.Prelude.{◌≡◌, All};
 
-use crate::tests::bumps::{last_of, meet, share, spaces, take as ask};
+use crate::tests::bumps::{last_of, share, spaces, take as ask};
 use crate::tests::checks::{check, layout, same};
 use crate::tests::slots::Slots;
 use bb_memory_bump::bump_allocator::AllocationError::OutOfMemory;
@@ -111,10 +111,10 @@ fn four_take_ten_bytes(rt: HostRuntime) {
     let work = Work {
         layouts: [layout(&rt, 10, 1); 3],
         times: 100,
-        bytes: Slots::new(&rt, rt.alloc(), 4096),
+        bytes: Slots::new(&rt, 4096),
         until: None,
     };
-    let (shared, parties) = share(&rt, rt.alloc(), (4096, 4096, 0), 4);
+    let (shared, parties) = share(&rt, (4096, 4096, 0), 4);
     let mut back = in_threads(&rt, &shared, &work, parties);
     same(&rt, work.bytes.count(), 4000);
     let mut last = last_of(&rt, &shared, &mut back);
@@ -130,10 +130,10 @@ fn three_take_all(rt: HostRuntime) {
     let work = Work {
         layouts: [layout(&rt, 24, 16), layout(&rt, 5, 1), layout(&rt, 8, 8)],
         times: 1000,
-        bytes: Slots::new(&rt, rt.alloc(), 1000),
+        bytes: Slots::new(&rt, 1000),
         until: None,
     };
-    let (shared, parties) = share(&rt, rt.alloc(), (4097, 1000, 0), 3);
+    let (shared, parties) = share(&rt, (4097, 1000, 0), 3);
     let mut back = in_threads(&rt, &shared, &work, parties);
     let mut a = last_of(&rt, &shared, &mut back);
     let mut b = last_of(&rt, &shared, &mut back);
@@ -141,9 +141,9 @@ fn three_take_all(rt: HostRuntime) {
     same(&rt, ask(&shared, &mut a, 24, 16), Err(OutOfMemory));
     same(&rt, ask(&shared, &mut b, 5, 1), Err(OutOfMemory));
     same(&rt, ask(&shared, &mut c, 8, 8), Err(OutOfMemory));
-    meet(&shared, &mut a, &mut b);
-    meet(&shared, &mut b, &mut c);
-    meet(&shared, &mut a, &mut c);
+    shared.meet(&mut a, &mut b);
+    shared.meet(&mut b, &mut c);
+    shared.meet(&mut a, &mut c);
 }
 
 /// Each of two threads takes a chunk and watches for what the other takes, so threads that ran one after the other would fail.
@@ -153,10 +153,10 @@ fn two_at_once(rt: HostRuntime) {
     let work = Work {
         layouts: [layout(&rt, 8, 1); 3],
         times: 1,
-        bytes: Slots::new(&rt, rt.alloc(), 64),
+        bytes: Slots::new(&rt, 64),
         until: Some(16),
     };
-    let (shared, parties) = share(&rt, rt.alloc(), (4096, 64, 0), 2);
+    let (shared, parties) = share(&rt, (4096, 64, 0), 2);
     same(&rt, in_threads(&rt, &shared, &work, parties).len(), 2);
     same(&rt, work.bytes.count(), 16);
 }

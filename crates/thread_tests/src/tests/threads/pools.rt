@@ -1,13 +1,12 @@
 //! Threads over one shared pool of at most eight buckets.
 ghost use Rattle.std.specs.Prelude.{◌≡◌, All};
 
-use crate::tests::buckets::{ask, give, last_of, pool_at_last, take as found};
+use crate::tests::buckets::{ask, last_of, pool_at_last, take as found};
 use crate::tests::checks::{check, layout, same};
 use crate::tests::slots::Slots;
 use bb_memory_shared_pools::shared_pool::AllocationError::OutOfMemory;
 use bb_memory_shared_pools::shared_pool::{PoolParty, SharedPoolAllocator};
 use bb_memory_traits::layout::Layout;
-use std::alloc::Global;
 use std::process::Abort;
 use std::thread;
 use std::thread::Threads;
@@ -34,7 +33,7 @@ fn take_one(rt: &impl Abort, pool: &SharedPoolAllocator, work: &Work, party: &mu
         check(rt, work.buckets.mark(at));
         if work.returns {
             check(rt, work.buckets.unmark(at));
-            give(pool, party, bucket);
+            pool.deallocate_bucket(party, bucket);
         }
     }
 }
@@ -69,37 +68,33 @@ fn in_threads(
 /// Makes a pool of this size for so many parties. Threads do the work, and then all parties meet, and one takes all buckets that
 /// are left: those from `left` on.
 fn all_take(
-    rt: &(impl Threads + Sync + Abort),
-    alloc: Global,
+    rt: &(impl Threads + Sync + Abort + AllocGlobal),
     (size, parties): (usize, u32),
     work: &Work,
     left: u32,
 ) {
-    let (pool, parties) = pool_at_last(rt, alloc, size, parties);
+    let (pool, parties) = pool_at_last(rt, size, parties);
     let mut back = in_threads(rt, &pool, work, parties);
     pool.meet_all(&mut back);
     let mut party = last_of(rt, &pool, &mut back);
     for number in left..pool.number_of_buckets() {
         let place = (number as usize).saturating_mul(128).saturating_add(4096);
-        same(
-            rt,
-            found(&pool, &mut party, work.layout),
-            Ok((number, place, 48)),
-        );
+        let told = found(&pool, &mut party, work.layout);
+        same(rt, told, Ok((number, place, 48)));
     }
     same(rt, found(&pool, &mut party, work.layout), Err(OutOfMemory));
 }
 
 /// Takes a bucket 1,000 times and gives it back, in each of four threads.
-fn take_and_return(rt: &(impl Threads + Sync + Abort), alloc: Global, size: usize, next_fit: bool) {
+fn take_and_return(rt: &(impl Threads + Sync + Abort + AllocGlobal), size: usize, next_fit: bool) {
     let work = Work {
-        buckets: Slots::new(rt, alloc, 8),
+        buckets: Slots::new(rt, 8),
         next_fit,
         layout: layout(rt, 48, 4),
         times: 1000,
         returns: true,
     };
-    all_take(rt, alloc, (size, 4), &work, 0);
+    all_take(rt, (size, 4), &work, 0);
     same(rt, work.buckets.count(), 0);
 }
 
@@ -107,9 +102,9 @@ fn take_and_return(rt: &(impl Threads + Sync + Abort), alloc: Global, size: usiz
 // row: threads-pool-take-and-return
 #[test]
 fn four_take_and_return(rt: HostRuntime) {
-    take_and_return(&rt, rt.alloc(), 1024, false);
-    take_and_return(&rt, rt.alloc(), 1024, true);
-    take_and_return(&rt, rt.alloc(), 384, true);
+    take_and_return(&rt, 1024, false);
+    take_and_return(&rt, 1024, true);
+    take_and_return(&rt, 384, true);
 }
 
 /// Each of two threads takes a bucket and drops the token.
@@ -117,12 +112,12 @@ fn four_take_and_return(rt: HostRuntime) {
 #[test]
 fn two_drop_their_tokens(rt: HostRuntime) {
     let work = Work {
-        buckets: Slots::new(&rt, rt.alloc(), 8),
+        buckets: Slots::new(&rt, 8),
         next_fit: false,
         layout: layout(&rt, 48, 4),
         times: 1,
         returns: false,
     };
-    all_take(&rt, rt.alloc(), (1024, 2), &work, 2);
+    all_take(&rt, (1024, 2), &work, 2);
     same(&rt, work.buckets.count(), 2);
 }

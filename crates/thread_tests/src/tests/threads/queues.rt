@@ -122,9 +122,8 @@ fn receive_all<P: MessagePool>(
 }
 
 /// One thread sends, while another receives. How many messages each counted, and the receiver's party.
-fn send_and_receive<P: MessagePool + Send, R: Threads + Sync>(
+fn send_and_receive<P: MessagePool + Send, R: Threads + Sync + AllocGlobal>(
     rt: &R,
-    alloc: Global,
     pool: &SharedPoolAllocator,
     sender: PoolParty,
     receiver: PoolParty,
@@ -136,7 +135,7 @@ fn send_and_receive<P: MessagePool + Send, R: Threads + Sync>(
     requires receiver { receiver.allocator ≡ pool.now }
     ensures { IfOk result (λ told. told.0.allocator ≡ pool.entry.now) }
 {
-    let (producer, consumer) = RingBuffer::with_protocol::<Global, OfPool<P>>(alloc, 4)?;
+    let (producer, consumer) = RingBuffer::with_protocol::<Global, OfPool<P>>(rt.alloc(), 4)?;
     let ((_, sent), (receiver, received)) = thread::join(
         rt,
         move || -> (PoolParty, u32)
@@ -151,28 +150,12 @@ fn send_and_receive<P: MessagePool + Send, R: Threads + Sync>(
     Ok((receiver, sent, received))
 }
 
-/// The same over any pool, which the call's brand names.
-fn through_a_queue<R: Threads + Sync>(
-    rt: &R,
-    alloc: Global,
-    pool: &SharedPoolAllocator,
-    sender: PoolParty,
-    receiver: PoolParty,
-    asked: Layout,
-) -> Result<(PoolParty, u32, u32), AllocError>
-    requires others { 1 < pool.now.scene.parties }
-    requires sender { sender.allocator ≡ pool.now }
-    requires receiver { receiver.allocator ≡ pool.now }
-    ensures { IfOk result (λ told. told.0.allocator ≡ pool.entry.now) }
-{
-    send_and_receive::<Brand, R>(rt, alloc, pool, sender, receiver, asked)
-}
-
-/// Sends a thousand messages in two buckets: each arrives, both buckets are free in the end, and there is no third.
+/// Sends a thousand messages in two buckets: each arrives, both buckets are free in the end, and there is no third. The call's
+/// brand names the pool.
 #[test]
 fn threads_pool_queue(rt: HostRuntime) {
-    let (small, (pool, sender, receiver)) = (layout(&rt, 48, 4), two(&rt, rt.alloc(), 256));
-    let told = through_a_queue(&rt, rt.alloc(), &pool, sender, receiver, small);
+    let (small, (pool, sender, receiver)) = (layout(&rt, 48, 4), two(&rt, 256));
+    let told = send_and_receive::<Brand, HostRuntime>(&rt, &pool, sender, receiver, small);
     let (mut receiver, sent, received) = told.expect(&rt, "there is memory for a queue");
     same(&rt, (sent, received), (MESSAGES, MESSAGES));
     same(&rt, take(&pool, &mut receiver, small), Ok((0, 4096, 48)));

@@ -1,4 +1,4 @@
-//! The workers of `uses`, and the room that is left when all of them are back.
+//! The workers of `thread_uses`, and the room that is left when all of them are back.
 use crate::tests::checks::same;
 use bb_memory_bump::bump_allocator::BumpAllocator;
 use bb_memory_traits::layout::Layout;

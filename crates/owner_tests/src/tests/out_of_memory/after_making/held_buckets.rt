@@ -85,11 +85,11 @@ fn has_none_between(rt: &impl Abort, pool: &mut impl Buckets, buckets: u32) {
 }
 
 /// Takes all buckets of 16 bytes, gives them back, and takes one. Neither a return nor a refusal changes the greatest number.
-fn goes_round(rt: &impl Abort, alloc: Global, made: Option<impl Buckets>, buckets: u32) {
+fn goes_round(rt: &(impl Abort + AllocGlobal), made: Option<impl Buckets>, buckets: u32) {
     let Some(mut pool) = made else {
-        return refused(rt, alloc);
+        return refused(rt);
     };
-    refuse_memory(alloc);
+    refuse_memory(rt.alloc());
     for held in 0..buckets {
         counts(rt, &pool, held, held, buckets);
         takes(rt, &mut pool, 16);
@@ -107,17 +107,16 @@ fn goes_round(rt: &impl Abort, alloc: Global, made: Option<impl Buckets>, bucket
         takes(rt, &mut pool, 16);
         counts(rt, &pool, 1, buckets, buckets);
     }
-    none_asked(rt, alloc);
+    none_asked(rt);
 }
 
 /// More buckets than a word has bits; one; and none.
 #[test]
 fn a_pool_counts_what_it_holds(rt: HostRuntime) {
-    let (alloc, bucket) = (rt.alloc(), layout(&rt, 16, 16));
     for buckets in [70u32, 64, 1, 0] {
         let size = (buckets as usize).saturating_mul(16);
-        let pool = pool_over(alloc, bucket, 4096, size);
-        goes_round(&rt, alloc, pool, buckets);
+        let pool = pool_over(rt.alloc(), layout(&rt, 16, 16), 4096, size);
+        goes_round(&rt, pool, buckets);
     }
 }
 
@@ -126,7 +125,7 @@ fn a_pool_counts_what_it_holds(rt: HostRuntime) {
 fn fixed_counts_what_it_holds(rt: HostRuntime) {
     for (size, buckets) in [(1120, 66u32), (1056, 66), (48, 3), (0, 0)] {
         let pool = fixed_over::<66>(layout(&rt, 16, 16), 4096, size);
-        goes_round(&rt, rt.alloc(), pool, buckets);
+        goes_round(&rt, pool, buckets);
     }
 }
 
@@ -141,11 +140,11 @@ fn by_one_read(rt: &impl Abort, pool: &mut PoolAllocator<Global>, place: Option<
 }
 
 /// Takes all buckets of one byte, by one read each. Then the bucket at `place` goes back, and is the one that is given next.
-fn fills(rt: &impl Abort, alloc: Global, buckets: u32, place: usize) {
-    let Some(mut pool) = pool_over(alloc, layout(rt, 1, 1), 4096, buckets as usize) else {
-        return refused(rt, alloc);
+fn fills(rt: &(impl Abort + AllocGlobal), buckets: u32, place: usize) {
+    let Some(mut pool) = pool_over(rt.alloc(), layout(rt, 1, 1), 4096, buckets as usize) else {
+        return refused(rt);
     };
-    refuse_memory(alloc);
+    refuse_memory(rt.alloc());
     for _ in 0..buckets {
         takes(rt, &mut pool, 1);
         same(rt, pool.last_reads(), 1);
@@ -157,14 +156,14 @@ fn fills(rt: &impl Abort, alloc: Global, buckets: u32, place: usize) {
     pool.deallocate_bucket(place);
     by_one_read(rt, &mut pool, Some(place));
     by_one_read(rt, &mut pool, None);
-    none_asked(rt, alloc);
+    none_asked(rt);
 }
 
 /// One read finds that all buckets are held, or finds the only free one, in words that are full or not.
 // row: pool-sixty-five-buckets, pool-two-full-words
 #[test]
 fn one_read_where_all_are_held(rt: HostRuntime) {
-    fills(&rt, rt.alloc(), 65, 4160);
-    fills(&rt, rt.alloc(), 128, 4100);
-    fills(&rt, rt.alloc(), 320, 4300);
+    fills(&rt, 65, 4160);
+    fills(&rt, 128, 4100);
+    fills(&rt, 320, 4300);
 }

@@ -10,12 +10,11 @@ use test_marks::{none_was_asked, refuse_memory, some_was_refused};
 /// Publishes and gives back a sample, and makes a book.
 #[test]
 fn a_loan_book(rt: HostRuntime) {
-    let alloc = rt.alloc();
-    let mut book = one_book(alloc);
+    let mut book = one_book(rt.alloc());
     if reply(&mut book, Loan(64)) == NO_MEMORY {
-        return refused(&rt, alloc);
+        return refused(&rt);
     }
-    refuse_memory(alloc);
+    refuse_memory(rt.alloc());
     for (call, told) in [
         (Publish(1, 2), Refused(LoanError::UnknownSample)),
         (Publish(0, 2), Published),
@@ -25,8 +24,8 @@ fn a_loan_book(rt: HostRuntime) {
     ] {
         same(&rt, reply(&mut book, call), told);
     }
-    same(&rt, reply(&mut one_book(alloc), IsOut(0)), Out(false));
-    none_asked(&rt, alloc);
+    same(&rt, reply(&mut one_book(rt.alloc()), IsOut(0)), Out(false));
+    none_asked(&rt);
 }
 
 /// Fills a pool of sixteen chunks and the book's room for records. Without memory a further loan is refused for its record's,
@@ -35,12 +34,12 @@ fn a_loan_book(rt: HostRuntime) {
 fn a_loan_of_a_full_pool(rt: HostRuntime) {
     let alloc = rt.alloc();
     let Some(pool) = pool_over(alloc, layout(&rt, 64, 8), 4096, 1024) else {
-        return refused(&rt, alloc);
+        return refused(&rt);
     };
     let mut book = LoanBook::new(alloc, pool);
     for _ in 0..16 {
         if reply(&mut book, Loan(64)) == NO_MEMORY {
-            return refused(&rt, alloc);
+            return refused(&rt);
         }
     }
     let is_refused = refuse_memory(alloc);

@@ -34,7 +34,7 @@ fn layouts_and_roundings(rt: HostRuntime) {
     same(&rt, round_up(4097, eight), Some(4104));
     same(&rt, round_up(0, eight), Some(0));
     same(&rt, round_up(usize::MAX, two), None);
-    none_asked(&rt, rt.alloc());
+    none_asked(&rt);
 }
 
 /// Calls `memory_size`, where its conditions hold.
@@ -53,17 +53,16 @@ fn memory_sizes(rt: HostRuntime) {
     same(&rt, memory_size(large, 1024), Some(64));
     same(&rt, memory_size(small, 64), Some(40));
     same(&rt, memory_size(large, 100), Some(0));
-    none_asked(&rt, rt.alloc());
+    none_asked(&rt);
 }
 
 /// A region of eight bytes, call by call.
 #[test]
 fn a_region(rt: HostRuntime) {
-    let alloc = rt.alloc();
-    let Ok(bytes) = vec![in alloc; b'7'; 8] else {
-        return refused(&rt, alloc);
+    let Ok(bytes) = vec![in rt.alloc(); b'7'; 8] else {
+        return refused(&rt);
     };
-    refuse_memory(alloc);
+    refuse_memory(rt.alloc());
     let mut region = Region::new(4096, bytes);
     same(&rt, (region.start_address(), region.size()), (4096, 8));
     let chunk = Chunk::new(4098, 3).unwrap();
@@ -73,7 +72,7 @@ fn a_region(rt: HostRuntime) {
     check(&rt, region.bytes() == b"77153777".as_slice());
     region.zero(chunk);
     check(&rt, region.bytes() == b"77\0\0\0777".as_slice());
-    none_asked(&rt, alloc);
+    none_asked(&rt);
 }
 
 /// Laws do nothing, and each is called once.
@@ -94,5 +93,5 @@ fn laws_do_nothing(rt: HostRuntime) {
     split_bytes_law();
     loan_book::one_answer_law();
     loan_book::equality_law();
-    none_asked(&rt, rt.alloc());
+    none_asked(&rt);
 }

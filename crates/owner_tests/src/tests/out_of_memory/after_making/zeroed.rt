@@ -1,4 +1,4 @@
-//! Calls that clear bytes. The region's bytes are all 7 at first.
+//! Calls of the traits, and which bytes they clear. The region's bytes are all 7 at first.
 use crate::tests::checks::{check, chunk, layout, none_asked, refused, same};
 use crate::tests::kinds::{Of, fixed_over, fresh};
 use crate::tests::owner::Owner;
@@ -32,20 +32,56 @@ fn resizes<A: Allocator + Drop>(
     owner: &mut Owner<A>,
     (place, old, new): (usize, usize, usize),
     len: usize,
+    zeroed: bool,
 ) {
     let (old, new) = (layout(rt, old, 4), layout(rt, new, 4));
     let told = if new.size() > old.size() {
-        owner.grow(0, old, new, true)
+        owner.grow(0, old, new, zeroed)
     } else {
         owner.shrink(0, old, new)
     };
     same(rt, told, Reply::Chunk(chunk(rt, place, len)));
 }
 
+/// Allocates the 64 bytes at 4096 that a fresh allocator has. Then a request is refused.
+fn takes_all<A: BaseAllocator + Drop>(rt: &impl Abort, owner: &mut Owner<A>, zeroed: bool) {
+    let (all, whole) = (layout(rt, 64, 4), chunk(rt, 4096, 64));
+    same(rt, owner.allocate(all, zeroed), Reply::Chunk(whole));
+    let refused = Reply::Refused(AllocationError::OutOfMemory);
+    same(rt, owner.allocate(all, zeroed), refused);
+}
+
+/// Makes each call that resizes, plainly and then by clearing bytes, between a request and a return.
+fn each_call<A: Allocator + Drop>(rt: &(impl Abort + AllocGlobal), mut owner: Owner<A>) {
+    for (zeroed, end) in [(false, 4096), (true, 4160)] {
+        takes_all(rt, &mut owner, zeroed);
+        resizes(rt, &mut owner, (4096, 64, 48), 48, zeroed);
+        resizes(rt, &mut owner, (4096, 48, 64), 64, zeroed);
+        same(rt, owner.reserved(0), Some(64));
+        same(rt, owner.deallocate(0), Reply::Released);
+        check(rt, owner.has_zeros(4096, end));
+    }
+    none_asked(rt);
+}
+
+#[test]
+fn each_call_of_the_traits(rt: HostRuntime) {
+    let mut bump = fresh::<BumpAllocator>(&rt, [4096, 64, 0, 0]);
+    takes_all(&rt, &mut bump, false);
+    same(&rt, bump.deallocate(0), Reply::Released);
+    takes_all(&rt, &mut bump, true);
+    none_asked(&rt);
+    each_call(&rt, fresh::<OneChunkAllocator>(&rt, [4096, 64, 0, 0]));
+    let pool = fresh::<PoolAllocator<Global>>(&rt, [4096, 64, 64, 8]);
+    each_call(&rt, pool);
+    let fixed = fresh::<FixedSizePoolAllocator<4>>(&rt, [4096, 64, 64, 8]);
+    each_call(&rt, fixed);
+}
+
 // row: bump-allocate-zeroed
 #[test]
 fn a_bump_clears_its_chunk(rt: HostRuntime) {
-    let mut bump = fresh::<BumpAllocator>(&rt, rt.alloc(), [4096, 1024, 0, 0]);
+    let mut bump = fresh::<BumpAllocator>(&rt, [4096, 1024, 0, 0]);
     let made = bump.allocator();
     same(&rt, made.start_address(), 4096);
     same(&rt, takes(&rt, &mut bump, (10, 1), false), 4096);
@@ -54,74 +90,74 @@ fn a_bump_clears_its_chunk(rt: HostRuntime) {
     let used = bump.allocator();
     same(&rt, (used.used_space(), used.free_space()), (32, 992));
     same(&rt, used.total_space(), 1024);
-    none_asked(&rt, rt.alloc());
+    none_asked(&rt);
 }
 
 // row: one-zeroed-refused
 #[test]
 fn a_refused_request_clears_nothing(rt: HostRuntime) {
-    let mut one = fresh::<OneChunkAllocator>(&rt, rt.alloc(), [4096, 1024, 0, 0]);
+    let mut one = fresh::<OneChunkAllocator>(&rt, [4096, 1024, 0, 0]);
     let refused = Reply::Refused(AllocationError::OutOfMemory);
     same(&rt, one.allocate(layout(&rt, 1025, 1), true), refused);
     check(&rt, one.has_zeros(0, 0));
-    none_asked(&rt, rt.alloc());
+    none_asked(&rt);
 }
 
 // row: one-grow-zeroed
 #[test]
 fn a_grown_chunk_is_cleared_behind_its_old_size(rt: HostRuntime) {
-    let mut one = fresh::<OneChunkAllocator>(&rt, rt.alloc(), [4096, 1024, 0, 0]);
+    let mut one = fresh::<OneChunkAllocator>(&rt, [4096, 1024, 0, 0]);
     same(&rt, takes(&rt, &mut one, (48, 4), false), 4096);
-    resizes(&rt, &mut one, (4096, 48, 64), 1024);
+    resizes(&rt, &mut one, (4096, 48, 64), 1024, true);
     check(&rt, one.has_zeros(4144, 5120));
-    none_asked(&rt, rt.alloc());
+    none_asked(&rt);
 }
 
 // row: one-doc-example
 #[test]
 fn one_chunk_is_shrunk_and_grown(rt: HostRuntime) {
-    let mut one = fresh::<OneChunkAllocator>(&rt, rt.alloc(), [4096, 1024, 0, 0]);
+    let mut one = fresh::<OneChunkAllocator>(&rt, [4096, 1024, 0, 0]);
     same(&rt, takes(&rt, &mut one, (48, 4), false), 4096);
     let held = one.allocator();
     check(&rt, held.holds(4096) && !held.holds(4097));
-    resizes(&rt, &mut one, (4096, 64, 32), 32);
-    resizes(&rt, &mut one, (4096, 48, 64), 1024);
+    resizes(&rt, &mut one, (4096, 64, 32), 32, true);
+    resizes(&rt, &mut one, (4096, 48, 64), 1024, true);
     same(&rt, one.reserved(0), Some(1024));
     same(&rt, one.deallocate(0), Reply::Released);
     let back = one.allocator();
     check(&rt, back.has_chunk_available() && !back.holds(4096));
     check(&rt, one.has_zeros(4144, 5120));
-    none_asked(&rt, rt.alloc());
+    none_asked(&rt);
 }
 
 // row: fixed-doc-example
 #[test]
 fn a_bucket_is_grown_and_shrunk(rt: HostRuntime) {
-    let mut pool = fresh::<FixedSizePoolAllocator<512>>(&rt, rt.alloc(), [4096, 1024, 128, 8]);
+    let mut pool = fresh::<FixedSizePoolAllocator<512>>(&rt, [4096, 1024, 128, 8]);
     let place = takes(&rt, &mut pool, (48, 4), false);
-    resizes(&rt, &mut pool, (place, 48, 64), 64);
-    resizes(&rt, &mut pool, (place, 64, 32), 32);
+    resizes(&rt, &mut pool, (place, 48, 64), 64, true);
+    resizes(&rt, &mut pool, (place, 64, 32), 32, true);
     same(&rt, pool.deallocate(0), Reply::Released);
     let cleared = place.saturating_add(48);
     check(&rt, pool.has_zeros(cleared, cleared.saturating_add(16)));
-    none_asked(&rt, rt.alloc());
+    none_asked(&rt);
 }
 
 // row: fixed-grow-zeroed-refused
 #[test]
 fn a_refused_growth_clears_nothing(rt: HostRuntime) {
-    let mut pool = fresh::<FixedSizePoolAllocator<512>>(&rt, rt.alloc(), [4096, 1024, 128, 8]);
+    let mut pool = fresh::<FixedSizePoolAllocator<512>>(&rt, [4096, 1024, 128, 8]);
     takes(&rt, &mut pool, (48, 4), false);
     let (old, new) = (layout(&rt, 48, 4), layout(&rt, 129, 4));
     let refused = Reply::GrowRefused(AllocationGrowError::OutOfMemory);
     same(&rt, pool.grow(0, old, new, true), refused);
     check(&rt, pool.has_zeros(0, 0));
-    none_asked(&rt, rt.alloc());
+    none_asked(&rt);
 }
 
 /// Takes all buckets of a pool at 4096, each of which is at a place of its own, and then one of them again, cleared.
-fn fills(rt: &impl Abort, alloc: Global, of: Of, (stride, count): (usize, usize)) {
-    let mut pool = fresh::<PoolAllocator<Global>>(rt, alloc, of);
+fn fills(rt: &(impl Abort + AllocGlobal), of: Of, (stride, count): (usize, usize)) {
+    let mut pool = fresh::<PoolAllocator<Global>>(rt, of);
     same(rt, pool.allocator().number_of_buckets() as usize, count);
     same(rt, pool.allocator().bucket_size(), of[2]);
     for _ in 0..count {
@@ -132,36 +168,35 @@ fn fills(rt: &impl Abort, alloc: Global, of: Of, (stride, count): (usize, usize)
     same(rt, pool.deallocate(1), Reply::Released);
     let place = takes(rt, &mut pool, (9, 1), true);
     check(rt, pool.has_zeros(place, place.saturating_add(9)));
-    none_asked(rt, alloc);
+    none_asked(rt);
 }
 
 // row: pool-eight-buckets, pool-rounded-stride
 #[test]
 fn each_bucket_has_its_place(rt: HostRuntime) {
-    fills(&rt, rt.alloc(), [4096, 1024, 128, 8], (128, 8));
-    fills(&rt, rt.alloc(), [4096, 64, 12, 8], (16, 4));
+    fills(&rt, [4096, 1024, 128, 8], (128, 8));
+    fills(&rt, [4096, 64, 12, 8], (16, 4));
 }
 
 /// A spent budget refuses before its pool, and a resize spends nothing.
 #[test]
 fn a_budget_of_one_chunk(rt: HostRuntime) {
-    let alloc = rt.alloc();
     let Some(pool) = fixed_over::<16>(layout(&rt, 128, 8), 4096, 1024) else {
         return check(&rt, false);
     };
-    let Some(mut budget) = Owner::new(alloc, ChunkBudget::new(pool, 1), 4096, 1024) else {
-        return refused(&rt, alloc);
+    let Some(mut budget) = Owner::new(rt.alloc(), ChunkBudget::new(pool, 1), 4096, 1024) else {
+        return refused(&rt);
     };
-    refuse_memory(alloc);
+    refuse_memory(rt.alloc());
     let large = layout(&rt, 129, 1);
     let too_large = Reply::Refused(AllocationError::SizeTooLarge);
     same(&rt, budget.allocate(large, false), too_large);
     let place = takes(&rt, &mut budget, (10, 4), false);
-    resizes(&rt, &mut budget, (place, 10, 20), 20);
+    resizes(&rt, &mut budget, (place, 10, 20), 20, true);
     same(&rt, budget.allocator().out(), 1);
     let spent = Reply::Refused(AllocationError::OutOfMemory);
     same(&rt, budget.allocate(large, false), spent);
     same(&rt, budget.deallocate(0), Reply::Released);
     same(&rt, budget.allocator().out(), 0);
-    none_asked(&rt, alloc);
+    none_asked(&rt);
 }

@@ -8,12 +8,11 @@ use test_marks::{refuse_memory, some_was_freed};
 /// A block is written, shrunk and deallocated, which gives its memory back.
 #[test]
 fn a_heap_block(rt: HostRuntime) {
-    let alloc = rt.alloc();
-    let block = made(&rt, alloc, 4, false);
-    refuse_memory(alloc);
-    let block = shrunk(&rt, alloc, counted(block, 1), 2);
+    let block = made(&rt, 4, false);
+    refuse_memory(rt.alloc());
+    let block = shrunk(&rt, counted(block, 1), 2);
     same(&rt, digits(&block), (2, 12));
-    HeapAllocator::new(alloc).deallocate(block, Layout::empty());
-    check(&rt, some_was_freed(alloc));
-    none_asked(&rt, alloc);
+    HeapAllocator::new(rt.alloc()).deallocate(block, Layout::empty());
+    check(&rt, some_was_freed(rt.alloc()));
+    none_asked(&rt);
 }

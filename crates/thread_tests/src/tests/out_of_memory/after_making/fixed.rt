@@ -4,7 +4,8 @@ ghost use Rattle.std.specs.Prelude.{◌≡◌, All, IfSome};
 use crate::tests::checks::{check, chunk, layout, none_asked, refused, same};
 use bb_memory_owned::pool_allocator::FixedSizePoolAllocator;
 use bb_memory_shared_pools::shared_pool::{Bucket, PoolParty, SharedFixedSizePoolAllocator};
-use bb_memory_traits::allocator::{AllocationError, AllocationGrowError};
+use bb_memory_traits::allocator::AllocationError::{self, OutOfMemory};
+use bb_memory_traits::allocator::AllocationGrowError;
 use bb_memory_traits::layout::{Chunk, Layout};
 use std::alloc::Global;
 use std::process::Abort;
@@ -64,21 +65,11 @@ fn fills(rt: &impl Abort, pool: &Four, mut parties: Vec<PoolParty>)
     same(rt, number(pool, &mut party, small), Ok(1));
     same(rt, number(pool, &mut party, small), Ok(2));
     same(rt, number(pool, &mut party, small), Ok(3));
-    same(
-        rt,
-        number(pool, &mut party, small),
-        Err(AllocationError::OutOfMemory),
-    );
+    same(rt, number(pool, &mut party, small), Err(OutOfMemory));
     let grown = chunk(rt, 4096, 64);
     grow(rt, pool, &mut first, small, medium, Ok(grown));
-    grow(
-        rt,
-        pool,
-        &mut first,
-        medium,
-        large,
-        Err(AllocationGrowError::OutOfMemory),
-    );
+    let refused = Err(AllocationGrowError::OutOfMemory);
+    grow(rt, pool, &mut first, medium, large, refused);
     same(rt, first.chunk(), grown);
 }
 
@@ -86,10 +77,10 @@ fn fills(rt: &impl Abort, pool: &Four, mut parties: Vec<PoolParty>)
 #[test]
 fn four_of_eight_buckets(rt: HostRuntime) {
     let Some((pool, parties)) = four(rt.alloc()) else {
-        return refused(&rt, rt.alloc());
+        return refused(&rt);
     };
     refuse_memory(rt.alloc());
     same(&rt, (pool.number_of_buckets(), pool.size()), (4, 1024));
     fills(&rt, &pool, parties);
-    none_asked(&rt, rt.alloc());
+    none_asked(&rt);
 }

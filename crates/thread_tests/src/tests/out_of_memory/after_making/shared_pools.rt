@@ -1,7 +1,7 @@
 //! Parties of one thread that share a pool of buckets of 128 bytes. A request answers a bucket's number, place and length.
 ghost use Rattle.std.specs.Prelude.{◌≡◌};
 
-use crate::tests::buckets::{counts, fit, found, give, hold, last_of, pool_at_last, take, two};
+use crate::tests::buckets::{counts, fit, found, hold, last_of, pool_at_last, take, two};
 use crate::tests::checks::{chunk, layout, none_asked, same};
 use bb_memory_shared_pools::shared_pool::by_number::Flag;
 use bb_memory_shared_pools::shared_pool::{
@@ -14,36 +14,36 @@ use std::process::Abort;
 // row: shared-pool-dropped-bucket, refused-shared-pools
 #[test]
 fn a_dropped_token_leaves_its_bucket_held(rt: HostRuntime) {
-    let (small, (pool, mut all)) = (layout(&rt, 48, 4), pool_at_last(&rt, rt.alloc(), 256, 1));
+    let (small, (pool, mut all)) = (layout(&rt, 48, 4), pool_at_last(&rt, 256, 1));
     let mut party = last_of(&rt, &pool, &mut all);
     let first = hold(&rt, &pool, &mut party, small);
     same(&rt, found(&first), (0, 4096, 48));
     same(&rt, take(&pool, &mut party, small), Ok((1, 4224, 48)));
     same(&rt, take(&pool, &mut party, small), Err(OutOfMemory));
-    give(&pool, &mut party, first);
+    pool.deallocate_bucket(&mut party, first);
     same(&rt, take(&pool, &mut party, small), Ok((0, 4096, 48)));
     same(&rt, take(&pool, &mut party, small), Err(OutOfMemory));
-    none_asked(&rt, rt.alloc());
+    none_asked(&rt);
 }
 
 #[test]
 fn two_parties_of_one_bucket(rt: HostRuntime) {
-    let (small, (pool, mut a, mut b)) = (layout(&rt, 48, 4), two(&rt, rt.alloc(), 128));
+    let (small, (pool, mut a, mut b)) = (layout(&rt, 48, 4), two(&rt, 128));
     let (large, wide) = (layout(&rt, 129, 16), layout(&rt, 48, 16));
     same(&rt, take(&pool, &mut a, large), Err(SizeTooLarge));
     same(&rt, fit(&pool, &mut a, wide), Err(AlignmentFailure));
     let held = hold(&rt, &pool, &mut a, small);
     same(&rt, take(&pool, &mut b, small), Err(OutOfMemory));
     same(&rt, fit(&pool, &mut b, small), Err(OutOfMemory));
-    give(&pool, &mut a, held);
+    pool.deallocate_bucket(&mut a, held);
     same(&rt, take(&pool, &mut b, small), Ok((0, 4096, 48)));
-    none_asked(&rt, rt.alloc());
+    none_asked(&rt);
 }
 
 /// The last party's part of the pool is its last bucket, also when all parties have met.
 #[test]
 fn as_many_parties_as_buckets(rt: HostRuntime) {
-    let (pool, mut all) = pool_at_last(&rt, rt.alloc(), 65536, 512);
+    let (pool, mut all) = pool_at_last(&rt, 65536, 512);
     pool.meet_all(&mut all);
     let (small, mut party) = (layout(&rt, 48, 4), last_of(&rt, &pool, &mut all));
     same(&rt, (party.number(), all.len()), (511, 511));
@@ -56,12 +56,12 @@ fn as_many_parties_as_buckets(rt: HostRuntime) {
     same(&rt, pool.place_at(512), None);
     same(&rt, fit(&pool, &mut party, small), Ok((511, 69504, 48)));
     same(&rt, fit(&pool, &mut party, small), Ok((0, 4096, 48)));
-    none_asked(&rt, rt.alloc());
+    none_asked(&rt);
 }
 
 #[test]
 fn a_detached_bucket_is_nobodys(rt: HostRuntime) {
-    let (small, (pool, mut a, mut b)) = (layout(&rt, 48, 4), two(&rt, rt.alloc(), 128));
+    let (small, (pool, mut a, mut b)) = (layout(&rt, 48, 4), two(&rt, 128));
     let (own, other) = (a.number(), b.number());
     let held = hold(&rt, &pool, &mut a, small);
     let number = held.number();
@@ -76,7 +76,7 @@ fn a_detached_bucket_is_nobodys(rt: HostRuntime) {
     let attached = pool.attach(&mut b, detached);
     same(&rt, pool.holder(number), Flag::HeldBy(other));
     same(&rt, found(&attached), (0, 4096, 48));
-    give(&pool, &mut b, attached);
+    pool.deallocate_bucket(&mut b, attached);
     same(&rt, pool.holder(number), Flag::Free);
     let held = hold(&rt, &pool, &mut a, small);
     let detached = pool.detach(&mut a, held);
@@ -85,44 +85,44 @@ fn a_detached_bucket_is_nobodys(rt: HostRuntime) {
     let held = hold(&rt, &pool, &mut a, small);
     drop(pool.detach(&mut a, held));
     same(&rt, take(&pool, &mut b, small), Err(OutOfMemory));
-    none_asked(&rt, rt.alloc());
+    none_asked(&rt);
 }
 
 /// A search begins in the party's part. It goes on where the last one ended, or at the least bucket that came back since, and
 /// then at bucket 0.
 #[test]
 fn a_search_goes_on(rt: HostRuntime) {
-    let (small, (pool, mut a, mut b)) = (layout(&rt, 48, 4), two(&rt, rt.alloc(), 1024));
+    let (small, (pool, mut a, mut b)) = (layout(&rt, 48, 4), two(&rt, 1024));
     same(&rt, fit(&pool, &mut a, small), Ok((0, 4096, 48)));
     same(&rt, fit(&pool, &mut b, small), Ok((4, 4608, 48)));
     let least = hold(&rt, &pool, &mut b, small);
     same(&rt, found(&least), (1, 4224, 48));
     same(&rt, fit(&pool, &mut a, small), Ok((2, 4352, 48)));
-    give(&pool, &mut b, least);
+    pool.deallocate_bucket(&mut b, least);
     same(&rt, fit(&pool, &mut b, small), Ok((1, 4224, 48)));
     same(&rt, fit(&pool, &mut b, small), Ok((3, 4480, 48)));
     same(&rt, fit(&pool, &mut a, small), Ok((5, 4736, 48)));
     same(&rt, fit(&pool, &mut a, small), Ok((6, 4864, 48)));
     same(&rt, fit(&pool, &mut a, small), Ok((7, 4992, 48)));
     same(&rt, fit(&pool, &mut b, small), Err(OutOfMemory));
-    none_asked(&rt, rt.alloc());
+    none_asked(&rt);
 }
 
 #[test]
 fn a_meeting_keeps_where_a_search_begins(rt: HostRuntime) {
-    let (small, (pool, mut a, mut b)) = (layout(&rt, 48, 4), two(&rt, rt.alloc(), 1024));
+    let (small, (pool, mut a, mut b)) = (layout(&rt, 48, 4), two(&rt, 1024));
     same(&rt, fit(&pool, &mut a, small), Ok((0, 4096, 48)));
     same(&rt, fit(&pool, &mut b, small), Ok((4, 4608, 48)));
     pool.meet(&mut a, &mut b);
     same(&rt, fit(&pool, &mut b, small), Ok((5, 4736, 48)));
     same(&rt, fit(&pool, &mut a, small), Ok((1, 4224, 48)));
-    none_asked(&rt, rt.alloc());
+    none_asked(&rt);
 }
 
 /// The figures say how many buckets are held, how many were found held at most, and how many requests were refused.
 #[test]
 fn figures_count_what_is_held(rt: HostRuntime) {
-    let (small, (pool, mut a, mut b)) = (layout(&rt, 48, 4), two(&rt, rt.alloc(), 256));
+    let (small, (pool, mut a, mut b)) = (layout(&rt, 48, 4), two(&rt, 256));
     same(&rt, counts(&pool), (0, 0, 0));
     let first = hold(&rt, &pool, &mut a, small);
     let large = layout(&rt, 129, 4);
@@ -131,15 +131,15 @@ fn figures_count_what_is_held(rt: HostRuntime) {
     let detached = pool.detach(&mut a, first);
     same(&rt, counts(&pool), (1, 1, 0));
     let first = pool.attach(&mut b, detached);
-    give(&pool, &mut b, first);
+    pool.deallocate_bucket(&mut b, first);
     same(&rt, counts(&pool), (0, 1, 0));
     let first = hold(&rt, &pool, &mut a, small);
     same(&rt, take(&pool, &mut b, small), Ok((1, 4224, 48)));
     same(&rt, take(&pool, &mut b, small), Err(OutOfMemory));
     same(&rt, fit(&pool, &mut b, small), Err(OutOfMemory));
-    give(&pool, &mut a, first);
+    pool.deallocate_bucket(&mut a, first);
     same(&rt, counts(&pool), (1, 2, 2));
-    none_asked(&rt, rt.alloc());
+    none_asked(&rt);
 }
 
 fn shrink(
@@ -161,7 +161,7 @@ fn shrink(
 /// A chunk is shrunk. Then its bucket is made again by its number, and given back.
 #[test]
 fn a_bucket_by_its_number(rt: HostRuntime) {
-    let (small, (pool, mut party, _)) = (layout(&rt, 48, 4), two(&rt, rt.alloc(), 128));
+    let (small, (pool, mut party, _)) = (layout(&rt, 48, 4), two(&rt, 128));
     let mut held = hold(&rt, &pool, &mut party, small);
     let number = held.number();
     let (shorter, wanted) = (layout(&rt, 16, 4), chunk(&rt, 4096, 16));
@@ -172,7 +172,7 @@ fn a_bucket_by_its_number(rt: HostRuntime) {
     same(&rt, found(&held), (0, 4096, 16));
     let again = by_number::bucket(&pool, &party, number, 0);
     same(&rt, found(&again), (0, 4096, 0));
-    give(&pool, &mut party, again);
+    pool.deallocate_bucket(&mut party, again);
     same(&rt, take(&pool, &mut party, small), Ok((0, 4096, 48)));
-    none_asked(&rt, rt.alloc());
+    none_asked(&rt);
 }

@@ -1,6 +1,5 @@
 use Rattle.std.proofs.Common.{◌≡◌}
 use Rattle.thread_tests.proofs.tests.threads.bumps.take.Given as goal
 
--- the party stays this allocator's
 abbrev pub invariant-loop : goal.invariant-loop
 invariant-loop g l = l.party.allocator ≡ l.shared

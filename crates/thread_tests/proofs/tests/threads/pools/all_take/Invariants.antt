@@ -1,6 +1,5 @@
 use Rattle.std.proofs.Common.{◌≡◌}
 use Rattle.thread_tests.proofs.tests.threads.pools.all_take.Given as goal
 
--- the party stays this pool's
 abbrev pub invariant-loop-number : goal.invariant-loop-number
 invariant-loop-number g l = l.party.allocator ≡ l.pool
