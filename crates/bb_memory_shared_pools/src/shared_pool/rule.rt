@@ -41,7 +41,7 @@ impl TableRule<u8, View, Scene> for Agreement {
     ghost first = { all_parties };
 }
 
-/// An exchange from free to taken.
+/// An exchange from free to the party's number.
 pub(crate) struct Tries;
 
 impl Play<u8, View> for Tries {
@@ -50,7 +50,7 @@ impl Play<u8, View> for Tries {
     ghost then = { at_flag TellsTry };
 }
 
-/// An exchange from free to taken, by a party that is in no pass.
+/// An exchange from free to the party's number, by a party that is in no pass.
 pub(crate) struct TriesAt;
 
 impl Play<u8, View> for TriesAt {
