@@ -1,4 +1,4 @@
-use Rattle.std.proofs.Common.{◌+◌, false, ap, ◌∙◌, arith}
+use Rattle.std.proofs.Common.{◌+◌, false, Some, None, ap, ◌∙◌, arith}
 use Rattle.std.specs.Prelude.{Ok, Err}
 use Rattle.bb_memory_traits.specs.PoolObject.{PoolGeometry}
 use Rattle.bb_memory_traits.specs.declared.layout.Layout.{Layout}
@@ -8,7 +8,7 @@ use Rattle.bb_memory_shared_pools.specs.SharedPool.{PoolParty, ServesNextFit, Sh
 use Rattle.bb_memory_shared_pools.specs.SharedPoolRule.{party_in}
 use Rattle.bb_memory_shared_pools.proofs.SharedPoolParties.{seated_then}
 use Rattle.bb_memory_shared_pools.proofs.SharedPoolPasses.{pass_lost, pass_took}
-use Rattle.bb_memory_shared_pools.proofs.SharedPoolRequests.{refused, served}
+use Rattle.bb_memory_shared_pools.proofs.SharedPoolRequests.{refused, served, stays}
 use Rattle.bb_memory_shared_pools.proofs.SharedPoolTries.{hint-losses, hint-taking}
 use Rattle.bb_memory_shared_pools.proofs.shared_pool.buckets.SharedBucketPool.allocate.Goals as goal
 
@@ -75,3 +75,35 @@ returns-in-None-clause-others_kept g c = (lost g c).serves.others_kept
 
 pub returns-in-None-clause-others : goal.returns-in-None-clause-others
 returns-in-None-clause-others g c = (lost g c).serves.others
+
+pub returns-in-Some-clause-party : goal.returns-in-Some-clause-party
+returns-in-Some-clause-party g c =
+    let old = c.party.inside in
+    let new = c.pass.new.seat in
+    stays c.args.self.now old.seat.table_id new.table_id old.seat.me new.me old.number old.hint _ _ c.args.party.now c.args.layout
+    c.party.invariant (invariant_of-party g c) c.party.view_is c.requires.party (Some c.in-Some.number) c.pass.ensures.told.table
+    (pass_took c.args.self.now.scene (number_of old.seat.me.0) (view_log old.seat.me.0) new.me c.in-Some.number
+    c.in-Some.ensures.told.step)
+
+pub returns-in-None-clause-party : goal.returns-in-None-clause-party
+returns-in-None-clause-party g c =
+    let old = c.party.inside in
+    let new = c.pass.new.seat in
+    stays c.args.self.now old.seat.table_id new.table_id old.seat.me new.me old.number old.hint _ _ c.args.party.now c.args.layout
+    c.party.invariant (invariant_of-party-in-None g c) c.party.view_is c.requires.party None c.pass.ensures.told.table
+    (pass_lost c.args.self.now.scene (number_of old.seat.me.0) (view_log old.seat.me.0) new.me c.in-None.ensures.told.step)
+
+pub returns-in-Some-clause-is_party : goal.returns-in-Some-clause-is_party
+returns-in-Some-clause-is_party g c = record { number = (took g c).serves.number; is_party = (took g c).serves.is_party }
+
+pub returns-in-Some-clause-held : goal.returns-in-Some-clause-held
+returns-in-Some-clause-held g c = (took g c).serves.held
+
+pub returns-in-Some-clause-alone : goal.returns-in-Some-clause-alone
+returns-in-Some-clause-alone g c = (took g c).alone
+
+pub returns-in-None-clause-is_party : goal.returns-in-None-clause-is_party
+returns-in-None-clause-is_party g c = record { number = (lost g c).serves.number; is_party = (lost g c).serves.is_party }
+
+pub returns-in-None-clause-alone : goal.returns-in-None-clause-alone
+returns-in-None-clause-alone g c = (lost g c).alone
