@@ -1,38 +1,64 @@
 use Rattle.std.proofs.Common.{rules, ◌≡◌, [], length, append-nil, arith, refl, sym, ap, ◌∙◌, subst}
 use Rattle.std.proofs.lemmas.List.{length_push}
+use Rattle.bb_memory_traits.specs.PoolObject.{IsWithin}
 use Rattle.bb_memory_traits.specs.declared.allocator.AllocationError.TheVariants.{AlignmentFailure, SizeTooLarge}
-use Rattle.bb_memory_traits.specs.declared.layout.Layout.{Layout}
 use Rattle.bb_memory_shared_pools.specs.SharedPool.{IsParty, PoolParty, ServesNextFit, SharedPool, TakenBucket}
 use Rattle.bb_memory_shared_pools.specs.SharedPoolNextFit.{MayTakeFrom, hint_of}
 use Rattle.bb_memory_shared_pools.specs.SharedPoolCaching.{AreCached, CachingParty}
-use Rattle.bb_memory_shared_pools.proofs.SharedPoolCaching.{cached_less, last_fresh, last_held, last_out, out_less, out_more, searches, served_last}
-use Rattle.bb_memory_shared_pools.proofs.SharedPoolCaching.{takes_last, unasked_answer, unasked_serves, found_out, found_fresh, found_kept, found_others}
+use Rattle.bb_memory_shared_pools.proofs.SharedPoolCaching.{cached_less, found_fresh, found_kept, found_others, found_out}
+use Rattle.bb_memory_shared_pools.proofs.SharedPoolCaching.{last_fresh, last_held, last_out, out_less, out_more, searches}
+use Rattle.bb_memory_shared_pools.proofs.SharedPoolCaching.{served_last, takes_last, unasked_answer, unasked_serves}
 use Rattle.bb_memory_shared_pools.proofs.shared_pool.caching.CachingParty.allocate.Goals as goal
 
-pub returns-in-Some-clause-taken : goal.returns-in-Some-clause-taken
-returns-in-Some-clause-taken g c =
-    let before = c.self.inside in
-    last_out before.party before.cached.items c.pop.new.self.items before.most c.in-Some.number c.size-in-Some.result
-    c.args.pool.now c.bucket-bucket.result c.self.invariant.0 c.in-Some.ensures.items c.bucket-bucket.ensures.value
+-- refused without a step
+pub returns-then-size-bucket_size : goal.returns-then-size-bucket_size
+returns-then-size-bucket_size g c =
+    let old = c.args.self.now in
+    let size = ap (λ (p : SharedPool). p.scene.geometry.bucket.size) c.requires.party in
+    let is = subst (λ (p : CachingParty). IsParty p.party) c.self.view_is c.number.ensures.party in
+    let too_great : ¬ IsWithin old.party.allocator.scene.geometry.bucket c.args.layout =
+    λ within. let short = within.size in absurd (omega arith) in
+    record {
+      answer = unasked_answer old c.args.layout SizeTooLarge is too_great (omega arith, refl) (λ same. cc);
+      serves = (unasked_serves old c.args.layout SizeTooLarge is too_great).serves;
+      taken = tt;
+      fresh = tt;
+      others_kept = λ other out. out;
+      others = λ other apart out. out;
+      party = refl;
+      most = refl;
+    }
 
-pub returns-in-Some-clause-fresh : goal.returns-in-Some-clause-fresh
-returns-in-Some-clause-fresh g c = λ other.
-    last_fresh c.args.self.now c.self.inside.cached.items c.pop.new.self.items c.in-Some.number c.size-in-Some.result
-    c.args.pool.now c.bucket-bucket.result other (ap (λ (p : CachingParty). p.cached) c.self.view_is)
-    c.in-Some.ensures.items c.bucket-bucket.ensures.value
+pub returns-then-align-max_alignment : goal.returns-then-align-max_alignment
+returns-then-align-max_alignment g c =
+    let old = c.args.self.now in
+    let size = ap (λ (p : SharedPool). p.scene.geometry.bucket.size) c.requires.party in
+    let align = ap (λ (p : SharedPool). p.scene.geometry.bucket.align) c.requires.party in
+    let is = subst (λ (p : CachingParty). IsParty p.party) c.self.view_is c.number.ensures.party in
+    let too_great : ¬ IsWithin old.party.allocator.scene.geometry.bucket c.args.layout =
+    λ within. let even = within.align in absurd (omega arith) in
+    record {
+      answer = unasked_answer old c.args.layout AlignmentFailure is too_great (omega arith, omega arith, refl) (λ same. cc);
+      serves = (unasked_serves old c.args.layout AlignmentFailure is too_great).serves;
+      taken = tt;
+      fresh = tt;
+      others_kept = λ other out. out;
+      others = λ other apart out. out;
+      party = refl;
+      most = refl;
+    }
 
-pub returns-in-Some-clause-others_kept : goal.returns-in-Some-clause-others_kept
-returns-in-Some-clause-others_kept g c = λ other.
-    out_less c.args.self.now _ c.in-Some.number other (ap (λ (p : CachingParty). p.party) c.self.view_is)
-    (sym (ap (λ (p : CachingParty). p.cached) c.self.view_is) ∙ c.in-Some.ensures.items)
-
-pub returns-in-Some-clause-serves : goal.returns-in-Some-clause-serves
-returns-in-Some-clause-serves g c =
-    let before = c.self.inside in
-    served_last c.args.pool.now c.args.self.now.party before.party c.args.layout before.cached.items c.pop.new.self.items
-    c.in-Some.number c.size-in-Some.result c.bucket-bucket.result (ap (λ (p : CachingParty). p.party) c.self.view_is)
-    c.requires.party c.number.ensures.party c.self.invariant.0 c.in-Some.ensures.items c.bucket-bucket.ensures.value
-    c.size-in-Some.ensures (record { size = omega arith; align = omega arith })
+-- the bucket that was cached last
+pub bucket-bucket-requires : goal.bucket-bucket-requires
+bucket-bucket-requires g c = let before = c.self.inside in (
+  omega arith, (
+    ap (λ (p : CachingParty). p.party.allocator) c.self.view_is ∙ c.requires.party, (
+      last_held before.party before.cached.items c.pop.new.self.items c.in-Some.number c.in-Some.ensures.items
+          c.self.invariant.0,
+      omega arith,
+    ),
+  ),
+)
 
 pub invariant_of-self : goal.invariant_of-self
 invariant_of-self g c =
@@ -45,108 +71,42 @@ invariant_of-self g c =
       c.self.invariant.3,
     )
 
-pub returns-in-Some-clause-answer : goal.returns-in-Some-clause-answer
-returns-in-Some-clause-answer g c =
-    takes_last c.args.pool.now c.args.self.now _ c.args.layout c.in-Some.number c.size-in-Some.result c.bucket-bucket.result
-    (ap (λ (p : CachingParty). p.party) c.self.view_is) (ap (λ (p : CachingParty). p.most) c.self.view_is) c.requires.party
-    (sym (ap (λ (p : CachingParty). p.cached) c.self.view_is) ∙ c.in-Some.ensures.items) c.bucket-bucket.ensures.value
-    c.size-in-Some.ensures (record { size = omega arith; align = omega arith })
+pub returns-in-Some : goal.returns-in-Some
+returns-in-Some g c =
+    let old = c.args.self.now in
+    let before = c.self.inside in
+    let rest = c.pop.new.self.items in
+    let number = c.in-Some.number in
+    let len = c.size-in-Some.result in
+    let token = c.bucket-bucket.result in
+    let party = ap (λ (p : CachingParty). p.party) c.self.view_is in
+    let most = ap (λ (p : CachingParty). p.most) c.self.view_is in
+    let cached = ap (λ (p : CachingParty). p.cached) c.self.view_is in
+    let items = c.in-Some.ensures.items in
+    let its = c.bucket-bucket.ensures.value in
+    let within : IsWithin c.args.pool.now.scene.geometry.bucket c.args.layout =
+    record { size = omega arith; align = omega arith } in
+    record {
+      answer = takes_last c.args.pool.now old _ c.args.layout number len token party most c.requires.party
+          (sym cached ∙ items) its c.size-in-Some.ensures within;
+      serves = served_last c.args.pool.now old.party before.party c.args.layout before.cached.items rest number len token party
+          c.requires.party c.number.ensures.party c.self.invariant.0 items its c.size-in-Some.ensures within;
+      taken = last_out before.party before.cached.items rest before.most number len c.args.pool.now token c.self.invariant.0
+          items its;
+      fresh = λ other. last_fresh old before.cached.items rest number len c.args.pool.now token other cached items its;
+      others_kept = λ other. out_less old _ number other party (sym cached ∙ items);
+      others = λ other apart out. out_more _ old number other (sym party) (sym cached ∙ items)
+          (λ same. apart (same ∙ sym (ap (λ (b : TakenBucket). b.number) its))) out;
+      party = ap (λ (p : PoolParty). p.allocator) party;
+      most = most;
+    }
 
-pub returns-then-size-bucket_size-clause-answer : goal.returns-then-size-bucket_size-clause-answer
-returns-then-size-bucket_size-clause-answer g c =
-    let size = ap (λ (p : SharedPool). p.scene.geometry.bucket.size) c.requires.party in
-    unasked_answer c.args.self.now c.args.layout SizeTooLarge
-    (subst (λ (p : CachingParty). IsParty p.party) c.self.view_is c.number.ensures.party)
-    (λ within. let short = within.size in absurd (omega arith)) (omega arith, refl) (λ same. cc)
-
-pub returns-then-size-bucket_size-clause-serves : goal.returns-then-size-bucket_size-clause-serves
-returns-then-size-bucket_size-clause-serves g c =
-    let size = ap (λ (p : SharedPool). p.scene.geometry.bucket.size) c.requires.party in
-    (unasked_serves c.args.self.now c.args.layout SizeTooLarge
-    (subst (λ (p : CachingParty). IsParty p.party) c.self.view_is c.number.ensures.party)
-    (λ within. let short = within.size in absurd (omega arith))).serves
-
-pub returns-then-align-max_alignment-clause-answer : goal.returns-then-align-max_alignment-clause-answer
-returns-then-align-max_alignment-clause-answer g c =
-    let size = ap (λ (p : SharedPool). p.scene.geometry.bucket.size) c.requires.party in
-    let align = ap (λ (p : SharedPool). p.scene.geometry.bucket.align) c.requires.party in
-    unasked_answer c.args.self.now c.args.layout AlignmentFailure
-    (subst (λ (p : CachingParty). IsParty p.party) c.self.view_is c.number.ensures.party)
-    (λ within. let even = within.align in absurd (omega arith)) (omega arith, omega arith, refl) (λ same. cc)
-
-pub returns-then-align-max_alignment-clause-serves : goal.returns-then-align-max_alignment-clause-serves
-returns-then-align-max_alignment-clause-serves g c =
-    let align = ap (λ (p : SharedPool). p.scene.geometry.bucket.align) c.requires.party in
-    (unasked_serves c.args.self.now c.args.layout AlignmentFailure
-    (subst (λ (p : CachingParty). IsParty p.party) c.self.view_is c.number.ensures.party)
-    (λ within. let even = within.align in absurd (omega arith))).serves
-
--- the search's answer, of the party that the caching party has
-asked : (g : _) (c : goal.After-allocate_next_fit g) → ServesNextFit c.args.self.now.party.allocator c.args.self.now.party
-    c.args.layout c.allocate_next_fit.result c.allocate_next_fit.new.party
-asked g c = subst (λ (x : SharedPool × PoolParty). ServesNextFit x.0 x.1 c.args.layout c.allocate_next_fit.result
-    c.allocate_next_fit.new.party) (λ i. (sym c.requires.party i, (c.self.view_is i).party)) c.allocate_next_fit.ensures.serves
-
-pub returns-in-None-clause-serves : goal.returns-in-None-clause-serves
-returns-in-None-clause-serves g c = (asked g c).serves
-
-now : (g : _) (c : goal.After-allocate_next_fit g) → c.pop.new.self.items ≡ []
-now g c = search rules
-
-none : (g : _) (c : goal.After-allocate_next_fit g) → c.args.self.now.cached ≡ []
-none g c = ap (λ (p : CachingParty). p.cached) (sym c.self.view_is) ∙ c.in-None.ensures.items ∙ append-nil _ ∙ now g c
-
-said : (g : _) (c : goal.After-allocate_next_fit g) → MayTakeFrom (hint_of c.args.self.now.party) c.args.self.now.party
-    c.args.layout c.allocate_next_fit.result c.allocate_next_fit.new.party
-said g c = subst (λ (p : CachingParty). MayTakeFrom (hint_of p.party) p.party c.args.layout c.allocate_next_fit.result
-    c.allocate_next_fit.new.party) c.self.view_is c.allocate_next_fit.ensures.answer
-
-pub returns-in-None-clause-answer : goal.returns-in-None-clause-answer
-returns-in-None-clause-answer g c =
-    searches c.args.self.now _ c.args.layout c.allocate_next_fit.result (none g c) (said g c) (asked g c)
-    (λ i. record {
-      party = c.allocate_next_fit.new.party;
-      cached = (now g c ∙ sym (none g c)) i;
-      most = (c.self.view_is i).most;
-    })
-
-pub returns-in-None-clause-taken : goal.returns-in-None-clause-taken
-returns-in-None-clause-taken g c =
-    found_out c.args.self.now _ c.args.layout (none g c) (now g c) c.allocate_next_fit.result (asked g c)
-
-pub returns-in-None-clause-fresh : goal.returns-in-None-clause-fresh
-returns-in-None-clause-fresh g c =
-    found_fresh c.args.self.now _ c.args.layout c.allocate_next_fit.result (said g c)
-
-pub returns-in-None-clause-others_kept : goal.returns-in-None-clause-others_kept
-returns-in-None-clause-others_kept g c =
-    found_kept c.args.self.now _ c.args.layout (none g c) (now g c) c.allocate_next_fit.result (asked g c)
-
-pub returns-in-None-clause-others : goal.returns-in-None-clause-others
-returns-in-None-clause-others g c =
-    found_others c.args.self.now _ c.args.layout (none g c) (now g c) c.allocate_next_fit.result (asked g c)
-
-pub bucket-bucket-requires : goal.bucket-bucket-requires
-bucket-bucket-requires g c = let before = c.self.inside in (
-  omega arith, (
-    ap (λ (p : CachingParty). p.party.allocator) c.self.view_is ∙ c.requires.party, (
-      last_held before.party before.cached.items c.pop.new.self.items c.in-Some.number c.in-Some.ensures.items
-          c.self.invariant.0,
-      omega arith,
-    ),
-  ),
-)
-
-pub returns-in-Some-clause-others : goal.returns-in-Some-clause-others
-returns-in-Some-clause-others g c = λ other apart out. out_more _ c.args.self.now c.in-Some.number other
-    (ap (λ (p : CachingParty). p.party) (sym c.self.view_is))
-    (ap (λ (p : CachingParty). p.cached) (sym c.self.view_is) ∙ c.in-Some.ensures.items)
-    (λ same. apart (same ∙ sym (ap (λ (b : TakenBucket). b.number) c.bucket-bucket.ensures.value))) out
-
+-- a search, where none is cached
 pub invariant_of-self-in-None : goal.invariant_of-self-in-None
 invariant_of-self-in-None g c =
-    let long = ap length (now g c) in (
-      subst (AreCached c.allocate_next_fit.new.party) (sym (now g c)) record {
+    let now : c.pop.new.self.items ≡ [] = search rules in
+    let long = ap length now in (
+      subst (AreCached c.allocate_next_fit.new.party) (sym now) record {
         held = λ k d below. absurd (omega arith);
         differ = λ i j d order within same. absurd (omega arith);
       },
@@ -154,3 +114,30 @@ invariant_of-self-in-None g c =
       omega arith,
       c.self.invariant.3,
     )
+
+pub returns-in-None : goal.returns-in-None
+returns-in-None g c =
+    let old = c.args.self.now in
+    let layout = c.args.layout in
+    let result = c.allocate_next_fit.result in
+    let new = c.allocate_next_fit.new.party in
+    let asked = c.allocate_next_fit.ensures in
+    let now : c.pop.new.self.items ≡ [] = search rules in
+    let none : old.cached ≡ [] =
+    ap (λ (p : CachingParty). p.cached) (sym c.self.view_is) ∙ c.in-None.ensures.items ∙ append-nil _ ∙ now in
+    let serves : ServesNextFit old.party.allocator old.party layout result new =
+    subst (λ (x : SharedPool × PoolParty). ServesNextFit x.0 x.1 layout result new)
+    (λ i. (sym c.requires.party i, (c.self.view_is i).party)) asked.serves in
+    let answer : MayTakeFrom (hint_of old.party) old.party layout result new =
+    subst (λ (p : CachingParty). MayTakeFrom (hint_of p.party) p.party layout result new) c.self.view_is asked.answer in
+    record {
+      answer = searches old _ layout result none answer serves
+          (λ i. record { party = new; cached = (now ∙ sym none) i; most = (c.self.view_is i).most });
+      serves = serves.serves;
+      taken = found_out old _ layout none now result serves;
+      fresh = found_fresh old new layout result answer;
+      others_kept = found_kept old _ layout none now result serves;
+      others = found_others old _ layout none now result serves;
+      party = asked.party ∙ sym c.requires.party;
+      most = ap (λ (p : CachingParty). p.most) c.self.view_is;
+    }
