@@ -1,16 +1,59 @@
-use Rattle.std.proofs.Common.{◌+◌, false, Some, None, ap, ◌∙◌, arith}
+use Rattle.std.proofs.Common.{◌+◌, false, Some, None, refl, ap, ◌∙◌, subst, arith}
 use Rattle.std.specs.Prelude.{Ok, Err}
 use Rattle.bb_memory_traits.specs.PoolObject.{PoolGeometry}
 use Rattle.bb_memory_traits.specs.declared.layout.Layout.{Layout}
 use Rattle.bb_memory_traits.specs.declared.allocator.AllocationError.TheVariants.{OutOfMemory}
 use Rattle.bb_memory_seats.specs.Seats.{number_of, view_log}
-use Rattle.bb_memory_shared_pools.specs.SharedPool.{PoolParty, ServesNextFit, SharedPool, taken_bucket}
+use Rattle.bb_memory_shared_pools.specs.SharedPool.{IsParty, PoolParty, ServesNextFit, SharedPool, taken_bucket}
 use Rattle.bb_memory_shared_pools.specs.SharedPoolRule.{party_in}
-use Rattle.bb_memory_shared_pools.proofs.SharedPoolParties.{seated_then}
+use Rattle.bb_memory_shared_pools.proofs.SharedPoolParties.{is_party, seated_then}
 use Rattle.bb_memory_shared_pools.proofs.SharedPoolPasses.{pass_lost, pass_took}
 use Rattle.bb_memory_shared_pools.proofs.SharedPoolRequests.{refused, served, stays}
 use Rattle.bb_memory_shared_pools.proofs.SharedPoolTries.{hint-losses, hint-taking}
 use Rattle.bb_memory_shared_pools.proofs.shared_pool.buckets.SharedBucketPool.allocate.Goals as goal
+
+-- refused without a step
+pub returns-then-size : goal.returns-then-size
+returns-then-size g c =
+    let bucket = c.bucket-bucket.ensures ∙ ap (λ (x : PoolGeometry). x.bucket) c.geometry.ensures.value
+    ∙ ap (λ (p : SharedPool). p.scene.geometry.bucket) c.self.view_is in
+    let its = ap (λ (l : Layout). l.size) bucket in
+    let own = ap (λ (p : SharedPool). p.scene.geometry.bucket.size) c.requires.party in
+    record {
+      answer = (omega arith, refl);
+      party = c.requires.party;
+      is_party = record { number = refl; is_party = subst IsParty c.party.view_is (is_party _ _ _ _ c.party.invariant) };
+      bucket = tt;
+      held = tt;
+      others_kept = λ other held. held;
+      others = λ other apart held. held;
+      alone = λ one within. let short = within.size in absurd (omega arith);
+      inside = tt;
+      aligned = tt;
+      exact_size = tt;
+    }
+
+pub returns-then-align : goal.returns-then-align
+returns-then-align g c =
+    let bucket = c.bucket-bucket.ensures ∙ ap (λ (x : PoolGeometry). x.bucket) c.geometry.ensures.value
+    ∙ ap (λ (p : SharedPool). p.scene.geometry.bucket) c.self.view_is in
+    let its = ap (λ (l : Layout). (l.size)) bucket in
+    let even = ap (λ (l : Layout). (l.align)) bucket in
+    let own = ap (λ (p : SharedPool). p.scene.geometry.bucket.size) c.requires.party in
+    let own_align = ap (λ (p : SharedPool). p.scene.geometry.bucket.align) c.requires.party in
+    record {
+      answer = (omega arith, omega arith, refl);
+      party = c.requires.party;
+      is_party = record { number = refl; is_party = subst IsParty c.party.view_is (is_party _ _ _ _ c.party.invariant) };
+      bucket = tt;
+      held = tt;
+      others_kept = λ other held. held;
+      others = λ other apart held. held;
+      alone = λ one within. let aligned = within.align in absurd (omega arith);
+      inside = tt;
+      aligned = tt;
+      exact_size = tt;
+    }
 
 pub invariant_of-party : goal.invariant_of-party
 invariant_of-party g c =
