@@ -15,6 +15,7 @@ use Rattle.bb_memory_shared_pools.specs.SharedPool.{return_entry, taken_bucket, 
 use Rattle.bb_memory_shared_pools.specs.SharedPoolCaching.{AreCached, CachingParty, IsOut, TakesCaching, returns_of}
 use Rattle.bb_memory_shared_pools.specs.SharedPoolNextFit.{MayTakeFrom, hint_of}
 use Rattle.bb_memory_shared_pools.proofs.SharedPoolLaws.{held_below}
+use Rattle.bb_memory_shared_pools.proofs.SharedPoolRequests.{unasked}
 
 -- a token's number
 pub number_of : (pool : SharedPool) (token : TakenBucket) (bucket len : ℕ) → token ≡ taken_bucket pool bucket len →
@@ -138,32 +139,20 @@ takes_last pool old new layout last len token same most own cut its size within 
 }
 
 -- a request that is refused without a step
-module _ (old : CachingParty) (layout : Layout) (error : AllocationError) (is : IsParty old.party)
-    (too_great : ¬ IsWithin old.party.allocator.scene.geometry.bucket layout) where
-  pub unasked_serves : ServesNextFit old.party.allocator old.party layout (Err error) old.party
-  unasked_serves = record {
-    serves = record {
-      bucket = tt;
-      number = refl;
-      is_party = is;
-      held = tt;
-      others_kept = λ other held. held;
-      others = λ other apart held. held;
-      inside = tt;
-      aligned = tt;
-      exact_size = tt;
-    };
-    alone = λ one within. absurd (too_great within);
-  }
-
-  pub unasked_answer : MayTakeFrom (hint_of old.party) old.party layout (Err error) old.party → error ≢ OutOfMemory →
-      TakesCaching old layout (Err error) old
-  unasked_answer answer other_error = record {
-    cached = λ before last within at. absurd (too_great within);
-    searched = λ none. record { answer = answer; serves = unasked_serves; unchanged = refl };
-    refused = record { answer = answer; unchanged = refl; none_cached = λ out. absurd (other_error out) };
-    within = tt;
-  }
+pub unasked_answer : (old : CachingParty) (layout : Layout) (error : AllocationError) → IsParty old.party →
+    ¬ IsWithin old.party.allocator.scene.geometry.bucket layout →
+    MayTakeFrom (hint_of old.party) old.party layout (Err error) old.party → error ≢ OutOfMemory →
+    TakesCaching old layout (Err error) old
+unasked_answer old layout error is too_great answer other_error = record {
+  cached = λ before last within at. absurd (too_great within);
+  searched = λ none. record {
+    answer = answer;
+    serves = unasked old.party.allocator old.party layout error is too_great;
+    unchanged = refl;
+  };
+  refused = record { answer = answer; unchanged = refl; none_cached = λ out. absurd (other_error out) };
+  within = tt;
+}
 
 -- a request that searches the pool, as none is cached
 pub searches : (old new : CachingParty) (layout : Layout) (result : Result TakenBucket AllocationError) → old.cached ≡ [] →

@@ -1,13 +1,44 @@
-use Rattle.std.proofs.Common.{◌+◌, false, ap, ◌∙◌, arith}
+use Rattle.std.proofs.Common.{◌+◌, false, refl, ap, ◌∙◌, subst, arith}
 use Rattle.bb_memory_traits.specs.PoolObject.{PoolGeometry}
 use Rattle.bb_memory_traits.specs.declared.layout.Layout.{Layout}
-use Rattle.bb_memory_traits.specs.declared.allocator.AllocationError.TheVariants.{OutOfMemory}
+use Rattle.bb_memory_traits.specs.declared.allocator.AllocationError.TheVariants.{AlignmentFailure, OutOfMemory, SizeTooLarge}
 use Rattle.bb_memory_seats.specs.Seats.{number_of, view_log}
-use Rattle.bb_memory_shared_pools.specs.SharedPool.{PoolParty, SharedPool}
-use Rattle.bb_memory_shared_pools.proofs.SharedPoolParties.{seated_then}
-use Rattle.bb_memory_shared_pools.proofs.SharedPoolRequests.{refused, served}
+use Rattle.bb_memory_shared_pools.specs.SharedPool.{IsParty, PoolParty, SharedPool}
+use Rattle.bb_memory_shared_pools.proofs.SharedPoolParties.{is_party, seated_then}
+use Rattle.bb_memory_shared_pools.proofs.SharedPoolRequests.{refused, served, unasked}
 use Rattle.bb_memory_shared_pools.proofs.SharedPoolNextFit.{hint-misses, hint_by_search, search_lost, search_took}
 use Rattle.bb_memory_shared_pools.proofs.shared_pool.buckets.SharedBucketPool.allocate_next_fit.Goals as goal
+
+-- refused without a step
+pub returns-then-size : goal.returns-then-size
+returns-then-size g c =
+    let bucket = c.bucket-bucket.ensures ∙ ap (λ (x : PoolGeometry). x.bucket) c.geometry.ensures.value
+    ∙ ap (λ (p : SharedPool). p.scene.geometry.bucket) c.self.view_is in
+    let its = ap (λ (l : Layout). l.size) bucket in
+    let own = ap (λ (p : SharedPool). p.scene.geometry.bucket.size) c.requires.party in
+    record {
+      answer = (omega arith, refl);
+      party = c.requires.party;
+      serves = unasked c.args.self.now c.args.party.now c.args.layout SizeTooLarge
+          (subst IsParty c.party.view_is (is_party _ _ _ _ c.party.invariant))
+          (λ within. let short = within.size in absurd (omega arith));
+    }
+
+pub returns-then-align : goal.returns-then-align
+returns-then-align g c =
+    let bucket = c.bucket-bucket.ensures ∙ ap (λ (x : PoolGeometry). x.bucket) c.geometry.ensures.value
+    ∙ ap (λ (p : SharedPool). p.scene.geometry.bucket) c.self.view_is in
+    let its = ap (λ (l : Layout). l.size) bucket in
+    let even = ap (λ (l : Layout). l.align) bucket in
+    let own = ap (λ (p : SharedPool). p.scene.geometry.bucket.size) c.requires.party in
+    let own_align = ap (λ (p : SharedPool). p.scene.geometry.bucket.align) c.requires.party in
+    record {
+      answer = (omega arith, omega arith, refl);
+      party = c.requires.party;
+      serves = unasked c.args.self.now c.args.party.now c.args.layout AlignmentFailure
+          (subst IsParty c.party.view_is (is_party _ _ _ _ c.party.invariant))
+          (λ within. let aligned = within.align in absurd (omega arith));
+    }
 
 pub invariant_of-party : goal.invariant_of-party
 invariant_of-party g c =

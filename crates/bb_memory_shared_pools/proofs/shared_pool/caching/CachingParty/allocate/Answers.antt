@@ -7,7 +7,8 @@ use Rattle.bb_memory_shared_pools.specs.SharedPoolNextFit.{MayTakeFrom, hint_of}
 use Rattle.bb_memory_shared_pools.specs.SharedPoolCaching.{AreCached, CachingParty}
 use Rattle.bb_memory_shared_pools.proofs.SharedPoolCaching.{cached_less, found_fresh, found_kept, found_others, found_out}
 use Rattle.bb_memory_shared_pools.proofs.SharedPoolCaching.{last_fresh, last_held, last_out, out_less, out_more, searches}
-use Rattle.bb_memory_shared_pools.proofs.SharedPoolCaching.{served_last, takes_last, unasked_answer, unasked_serves}
+use Rattle.bb_memory_shared_pools.proofs.SharedPoolCaching.{served_last, takes_last, unasked_answer}
+use Rattle.bb_memory_shared_pools.proofs.SharedPoolRequests.{unasked}
 use Rattle.bb_memory_shared_pools.proofs.shared_pool.caching.CachingParty.allocate.Goals as goal
 
 -- refused without a step
@@ -20,7 +21,7 @@ returns-then-size-bucket_size g c =
     λ within. let short = within.size in absurd (omega arith) in
     record {
       answer = unasked_answer old c.args.layout SizeTooLarge is too_great (omega arith, refl) (λ same. cc);
-      serves = (unasked_serves old c.args.layout SizeTooLarge is too_great).serves;
+      serves = (unasked old.party.allocator old.party c.args.layout SizeTooLarge is too_great).serves;
       taken = tt;
       fresh = tt;
       others_kept = λ other out. out;
@@ -39,7 +40,7 @@ returns-then-align-max_alignment g c =
     λ within. let even = within.align in absurd (omega arith) in
     record {
       answer = unasked_answer old c.args.layout AlignmentFailure is too_great (omega arith, omega arith, refl) (λ same. cc);
-      serves = (unasked_serves old c.args.layout AlignmentFailure is too_great).serves;
+      serves = (unasked old.party.allocator old.party c.args.layout AlignmentFailure is too_great).serves;
       taken = tt;
       fresh = tt;
       others_kept = λ other out. out;

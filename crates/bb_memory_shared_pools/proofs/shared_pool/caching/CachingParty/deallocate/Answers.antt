@@ -26,7 +26,7 @@ invariant_of-self-else-len-self g c = let before = c.self.inside in (
 pub returns-then-len-self : goal.returns-then-len-self
 unfolding IsOut
 returns-then-len-self g c =
-    let old = c.args.self.now in
+    let old : CachingParty = c.args.self.now in
     let before = c.self.inside in
     let now : List ℕ = c.push_reserved.new.self.items in
     let new : CachingParty = record { party = before.party; cached = now; most = before.most } in
