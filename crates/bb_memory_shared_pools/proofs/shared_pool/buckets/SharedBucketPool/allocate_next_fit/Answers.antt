@@ -1,11 +1,11 @@
-use Rattle.std.proofs.Common.{◌+◌, false, refl, ap, ◌∙◌, subst, arith}
+use Rattle.std.proofs.Common.{◌+◌, false, Some, None, refl, ap, ◌∙◌, subst, arith}
 use Rattle.bb_memory_traits.specs.PoolObject.{PoolGeometry}
 use Rattle.bb_memory_traits.specs.declared.layout.Layout.{Layout}
 use Rattle.bb_memory_traits.specs.declared.allocator.AllocationError.TheVariants.{AlignmentFailure, OutOfMemory, SizeTooLarge}
 use Rattle.bb_memory_seats.specs.Seats.{number_of, view_log}
 use Rattle.bb_memory_shared_pools.specs.SharedPool.{IsParty, PoolParty, SharedPool}
 use Rattle.bb_memory_shared_pools.proofs.SharedPoolParties.{is_party, seated_then}
-use Rattle.bb_memory_shared_pools.proofs.SharedPoolRequests.{refused, served, unasked}
+use Rattle.bb_memory_shared_pools.proofs.SharedPoolRequests.{refused, served, stays, unasked}
 use Rattle.bb_memory_shared_pools.proofs.SharedPoolNextFit.{hint-misses, hint_by_search, search_lost, search_took}
 use Rattle.bb_memory_shared_pools.proofs.shared_pool.buckets.SharedBucketPool.allocate_next_fit.Goals as goal
 
@@ -83,5 +83,25 @@ returns-in-None-clause-serves g c =
     let new = c.next_fit.new.seat in
     refused c.args.self.now old.seat.table_id new.table_id old.seat.me new.me old.number old.hint _ _ c.args.party.now
     c.args.layout c.party.invariant (invariant_of-party-in-None g c) c.party.view_is c.requires.party OutOfMemory
+    (search_lost c.args.self.now.scene (number_of old.seat.me.0) (view_log old.seat.me.0) old.hint.bucket new.me
+    c.in-None.ensures.told.step)
+
+pub returns-in-Some-clause-party : goal.returns-in-Some-clause-party
+returns-in-Some-clause-party g c =
+    let old = c.party.inside in
+    let new = c.next_fit.new.seat in
+    stays c.args.self.now old.seat.table_id new.table_id old.seat.me new.me old.number old.hint _ _ c.args.party.now c.args.layout
+    c.party.invariant (invariant_of-party g c) c.party.view_is c.requires.party (Some c.in-Some.number)
+    c.next_fit.ensures.told.table
+    (search_took c.args.self.now.scene (number_of old.seat.me.0) (view_log old.seat.me.0) old.hint.bucket new.me c.in-Some.number
+    c.in-Some.ensures.told.step)
+
+pub returns-in-None-clause-party : goal.returns-in-None-clause-party
+returns-in-None-clause-party g c =
+    let old = c.party.inside in
+    let new = c.next_fit.new.seat in
+    stays c.args.self.now old.seat.table_id new.table_id old.seat.me new.me old.number old.hint _ _ c.args.party.now c.args.layout
+    c.party.invariant (invariant_of-party-in-None g c) c.party.view_is c.requires.party None
+    c.next_fit.ensures.told.table
     (search_lost c.args.self.now.scene (number_of old.seat.me.0) (view_log old.seat.me.0) old.hint.bucket new.me
     c.in-None.ensures.told.step)

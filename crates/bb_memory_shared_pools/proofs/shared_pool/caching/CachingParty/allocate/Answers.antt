@@ -52,8 +52,10 @@ returns-then-align-max_alignment g c =
 -- the bucket that was cached last
 pub bucket-bucket-requires : goal.bucket-bucket-requires
 bucket-bucket-requires g c = let before = c.self.inside in (
-  omega arith, (
-    ap (λ (p : CachingParty). p.party.allocator) c.self.view_is ∙ c.requires.party, (
+  omega arith,
+  (
+    ap (λ (p : CachingParty). p.party.allocator) c.self.view_is ∙ c.requires.party,
+    (
       last_held before.party before.cached.items c.pop.new.self.items c.in-Some.number c.in-Some.ensures.items
           c.self.invariant.0,
       omega arith,

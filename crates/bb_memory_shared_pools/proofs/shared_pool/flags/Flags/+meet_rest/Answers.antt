@@ -15,8 +15,8 @@ invariant_of-push_reserved t c =
     let guest = c.party.inside in
     let its = (All-pop (λ (p : PoolParty). p.allocator ≡ c.args.self.now) c.args.rest.now.items c.pop.new.self.items
     (Some c.in-Some.party) c.in-Some.ensures.items c.requires.rest).1 in
-    let there = comes c.args.self.now.scene _ _ _ _ guest.number guest.hint _ c.party.invariant c.party.view_is c.requires.seat.seat
-    c.gather.ensures.step in
+    let there = comes c.args.self.now.scene _ _ _ _ guest.number guest.hint _ c.party.invariant c.party.view_is
+    c.requires.seat.seat c.gather.ensures.step in
     subst (IsPartySeat guest.number guest.hint) (sym (same_seat c.args.self.now _ guest.number guest.hint _ _ _ c.party.invariant
     c.party.view_is its (c.deal-back.ensures.first
     ∙ ap (λ (m : Me ℕ SeatView). (first_of m.0, [])) (c.meet_rest.ensures.seat ∙ there)))) c.party.invariant
@@ -27,8 +27,8 @@ returns t c =
     let party = c.in-Some.party in
     let its = (All-pop (λ (p : PoolParty). p.allocator ≡ c.args.self.now) c.args.rest.now.items c.pop.new.self.items
     (Some party) c.in-Some.ensures.items c.requires.rest).1 in
-    let there = comes c.args.self.now.scene _ _ _ _ guest.number guest.hint _ c.party.invariant c.party.view_is c.requires.seat.seat
-    c.gather.ensures.step in
+    let there = comes c.args.self.now.scene _ _ _ _ guest.number guest.hint _ c.party.invariant c.party.view_is
+    c.requires.seat.seat c.gather.ensures.step in
     let met = c.meet_rest.ensures in
     let back = same_seat c.args.self.now _ guest.number guest.hint _ _ _ c.party.invariant c.party.view_is its
     (c.deal-back.ensures.first ∙ ap (λ (m : Me ℕ SeatView). (first_of m.0, [])) (met.seat ∙ there)) in
