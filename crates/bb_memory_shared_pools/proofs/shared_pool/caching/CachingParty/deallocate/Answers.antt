@@ -36,7 +36,7 @@ returns-then-len-self g c =
     let most = ap (λ (p : CachingParty). p.most) c.self.view_is in
     let long = ap (λ (p : CachingParty). length p.cached) c.self.view_is in
     let items : now ≡ old.cached ++ number ∷ [] =
-    c.push_reserved.ensures.items ∙ ap (λ (p : CachingParty). p.cached ++ number ∷ []) c.self.view_is in
+    ◌∙◌ {A = List ℕ} c.push_reserved.ensures.items (ap (λ (p : CachingParty). p.cached ++ number ∷ []) c.self.view_is) in
     record {
       answer = record {
         cached = λ less i. record {
