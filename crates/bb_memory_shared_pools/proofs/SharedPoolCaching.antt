@@ -1,17 +1,21 @@
 -- Lists of cached buckets, which lose their last one or get one more; what a request answers then; and what is out.
 use Rattle.std.proofs.Common.{◌≡◌, ◌≢◌, ℕ, List, [], ◌∷◌, ◌++◌, length, refl, sym, ap, ◌∙◌, subst, ⊎_elim, append_assoc, arith}
-use Rattle.std.specs.Prelude.{Contains, Ok, ◌⊎◌}
-use Rattle.std.proofs.lemmas.List.{get_or_append_left, get_or_default, get_or_push, length_push}
+use Rattle.std.specs.Prelude.{Contains, Ok, Err, Result, IfOk, ◌⊎◌}
+use Rattle.std.proofs.lemmas.List.{get_or_append_left, get_or_default, get_or_push, length_push, same_from_push}
 use Rattle.std.proofs.lemmas.List.Elements.{All-push, Contains-append_left, Contains-push, Contains-push_cases}
 use Rattle.std.proofs.lemmas.List.Quantifiers.{all_pairs_push}
 use Rattle.bb_memory_traits.specs.PoolObject.{IsWithin}
 use Rattle.bb_memory_pool_machine.specs.PoolLogs.{IsHeldAfter, PoolLog}
 use Rattle.bb_memory_traits.specs.declared.layout.Layout.{Layout}
+use Rattle.bb_memory_traits.specs.declared.allocator.AllocationError.{AllocationError}
+use Rattle.bb_memory_traits.specs.declared.allocator.AllocationError.TheVariants.{OutOfMemory}
 use Rattle.bb_memory_geometry.proofs.Measures.{bucket-inside, bucket_place-multiple}
-use Rattle.bb_memory_shared_pools.specs.SharedPool.{IsParty, PoolParty, Serves, SharedPool, TakenBucket}
+use Rattle.bb_memory_shared_pools.specs.SharedPool.{IsParty, PoolParty, Serves, ServesNextFit, SharedPool, TakenBucket}
 use Rattle.bb_memory_shared_pools.specs.SharedPool.{return_entry, taken_bucket, with_entries}
-use Rattle.bb_memory_shared_pools.specs.SharedPoolCaching.{AreCached, CachingParty, IsOut, returns_of}
+use Rattle.bb_memory_shared_pools.specs.SharedPoolCaching.{AreCached, CachingParty, IsOut, TakesCaching, returns_of}
+use Rattle.bb_memory_shared_pools.specs.SharedPoolNextFit.{MayTakeFrom, hint_of}
 use Rattle.bb_memory_shared_pools.proofs.SharedPoolLaws.{held_below}
+use Rattle.bb_memory_shared_pools.proofs.SharedPoolRequests.{unasked}
 
 -- a token's number
 pub number_of : (pool : SharedPool) (token : TakenBucket) (bucket len : ℕ) → token ≡ taken_bucket pool bucket len →
@@ -114,6 +118,60 @@ served_last pool old party layout cached before last len token same own is are c
     (subst (λ (b : TakenBucket). Serves party.allocator party layout (Ok b) party) (sym token_is)
     (served_cached party layout last is within_its (last_held party cached before last cut are)))
 
+-- no list that ends with an element is empty
+not_empty : (before : List ℕ) (last : ℕ) → ¬ ([] ≡ before ++ last ∷ [])
+not_empty before last is = let long = length_push before last in absurd (omega (arith, ap length is))
+
+-- a request that takes the bucket that was cached last
+pub takes_last : (pool : SharedPool) (old new : CachingParty) (layout : Layout) (last len : ℕ) (token : TakenBucket) →
+    new.party ≡ old.party → new.most ≡ old.most → old.party.allocator ≡ pool → old.cached ≡ new.cached ++ last ∷ [] →
+    token ≡ taken_bucket pool last len → len ≡ layout.size → IsWithin pool.scene.geometry.bucket layout →
+    TakesCaching old layout (Ok token) new
+takes_last pool old new layout last len token same most own cut its size within = record {
+  cached = λ before end _ is.
+      let ends = same_from_push new.cached before last end (sym cut ∙ is) in (
+        λ i. Ok ((its ∙ λ j. taken_bucket (sym own j) (ends.1 j) (size j)) i),
+        λ i. record { party = same i; cached = ends.0 i; most = most i },
+      );
+  searched = λ none. absurd (not_empty new.cached last (sym none ∙ cut));
+  refused = tt;
+  within = subst (λ (p : SharedPool). IsWithin p.scene.geometry.bucket layout) (sym own) within;
+}
+
+-- a request that is refused without a step
+pub unasked_answer : (old : CachingParty) (layout : Layout) (error : AllocationError) → IsParty old.party →
+    ¬ IsWithin old.party.allocator.scene.geometry.bucket layout →
+    MayTakeFrom (hint_of old.party) old.party layout (Err error) old.party → error ≢ OutOfMemory →
+    TakesCaching old layout (Err error) old
+unasked_answer old layout error is too_great answer other_error = record {
+  cached = λ before last within at. absurd (too_great within);
+  searched = λ none. record {
+    answer = answer;
+    serves = unasked old.party.allocator old.party layout error is too_great;
+    unchanged = refl;
+  };
+  refused = record { answer = answer; unchanged = refl; none_cached = λ out. absurd (other_error out) };
+  within = tt;
+}
+
+-- a request that searches the pool, as none is cached
+pub searches : (old new : CachingParty) (layout : Layout) (result : Result TakenBucket AllocationError) → old.cached ≡ [] →
+    MayTakeFrom (hint_of old.party) old.party layout result new.party →
+    ServesNextFit old.party.allocator old.party layout result new.party → new ≡ record old { party = new.party } →
+    TakesCaching old layout result new
+searches old new layout (Ok bucket) none answer serves unchanged = record {
+  cached = λ before last within at. absurd (not_empty before last (sym none ∙ at));
+  searched = λ _. record { answer = answer; serves = serves; unchanged = unchanged };
+  refused = tt;
+  within = answer.0.within;
+}
+searches old new layout (Err error) none answer serves unchanged = record {
+  cached = λ before last within at. absurd (not_empty before last (sym none ∙ at));
+  searched = λ _. record { answer = answer; serves = serves; unchanged = unchanged };
+  refused = record { answer = answer; unchanged = unchanged; none_cached = λ out. none };
+  within = tt;
+}
+
 -- the returns of all but the last come behind that of the last
 pub returns_push : (party : ℕ) (before : List ℕ) (last : ℕ) →
     returns_of party (before ++ last ∷ []) ≡ return_entry party last ++ returns_of party before
@@ -192,3 +250,34 @@ out_less old new bucket other own is out = (
   subst (λ (p : PoolParty). IsHeldAfter p.log other) (sym own) out.0,
   λ at. out.1 (has_others old.cached new.cached bucket other is at),
 )
+
+-- what is out behind a search of the pool
+module _ (old new : CachingParty) (layout : Layout) (none : old.cached ≡ []) (none_now : new.cached ≡ []) where
+  uncached : (cached : List ℕ) (other : ℕ) → cached ≡ [] → ¬ Contains cached other
+  uncached cached other is at = let within = (subst (λ (xs : List ℕ). Contains xs other) is at).1 in absurd (omega arith)
+
+  pub found_out : (result : Result TakenBucket AllocationError) →
+      ServesNextFit old.party.allocator old.party layout result new.party → IfOk result (λ bucket. IsOut new bucket.number)
+  unfolding IsOut
+  found_out (Ok bucket) serves = (serves.serves.held, uncached new.cached bucket.number none_now)
+  found_out (Err error) serves = tt
+
+  pub found_kept : (result : Result TakenBucket AllocationError) →
+      ServesNextFit old.party.allocator old.party layout result new.party → (other : ℕ) → IsOut old other → IsOut new other
+  unfolding IsOut
+  found_kept result serves other out = (serves.serves.others_kept other out.0, uncached new.cached other none_now)
+
+  pub found_others : (result : Result TakenBucket AllocationError) →
+      ServesNextFit old.party.allocator old.party layout result new.party → (other : ℕ) →
+      IfOk result (λ bucket. other ≢ bucket.number) → IsOut new other → IsOut old other
+  unfolding IsOut
+  found_others result serves other apart out = (serves.serves.others other apart out.0, uncached old.cached other none)
+
+-- a bucket that a search took wasn't out
+pub found_fresh : (old : CachingParty) (new : PoolParty) (layout : Layout) (result : Result TakenBucket AllocationError) →
+    MayTakeFrom (hint_of old.party) old.party layout result new →
+    IfOk result (λ bucket. (other : ℕ) → IsOut old other → other ≢ bucket.number)
+unfolding IsOut
+found_fresh old new layout (Ok bucket) answer =
+    λ other out same. answer.0.free (subst (λ (n : ℕ). IsHeldAfter old.party.log n) same out.0)
+found_fresh old new layout (Err error) answer = tt

@@ -14,9 +14,9 @@ use Rattle.bb_memory_pool_machine.specs.PoolLogs.{PoolLog, HasLog, IsHeldAfter, 
 use Rattle.bb_memory_pool_machine.proofs.PoolFlags.{flag_from_taken, taken_from_flag}
 use Rattle.bb_memory_pool_machine.proofs.PoolLogFacts.{machine_flag, named_from_log, taken_is_held_whole}
 use Rattle.bb_memory_pool_machine.proofs.PoolLogSteps.{opening_agrees}
-use Rattle.bb_memory_seats.specs.Seats.{times_in}
+use Rattle.bb_memory_seats.specs.Seats.{both_of, standing_for, times_in}
 use Rattle.bb_memory_shared_pools.specs.declared.shared_pool.party.Hint.{Hint}
-use Rattle.bb_memory_shared_pools.specs.SharedPool.{HaveMet, IsHeldByOne, IsSharedScene, PoolParty}
+use Rattle.bb_memory_shared_pools.specs.SharedPool.{HaveMet, IsHeldByOne, IsSharedScene, PoolParty, SharedPool}
 use Rattle.bb_memory_shared_pools.specs.SharedPoolRule.{IsPartySeat, NumberedLog, SeatView, numbered_of, party_in, TellsMeeting}
 use Rattle.bb_memory_seats.proofs.PartyNumbers.{all_there, has_number, logs_had, numbers_differ, owner}
 use Rattle.bb_memory_lists.proofs.Contained.{any_contained}
@@ -129,3 +129,26 @@ none_met scene items shared none =
         whole = λ long. let some = shared.parties in absurd (omega (arith, some, long));
       },
     )
+
+-- the party that goes back after the meeting
+pub met_party : (table was : TableId) (number : ℕ) (me new : Me ℕ SeatView) (party : PoolParty) →
+    party_in was number me.0 ≡ party → table ≡ was → new ≡ me → party_in table number new.0 ≡ party
+met_party table was number me new party view_is same is = (λ i. party_in (same i) number (is i).0) ∙ view_is
+
+-- its seat is as it was where it stands for that party alone again
+pub same_seat : (pool : SharedPool) (table : TableId) (number : ℕ) (hint : Hint) (me new : Me ℕ SeatView) (party : PoolParty) →
+    IsPartySeat number hint me → party_in table number me.0 ≡ party → party.allocator ≡ pool →
+    new ≡ (standing_for pool.scene (numbered_of party ∷ []), []) → new ≡ me
+same_seat pool table number hint me new party is view_is its back =
+    let scene : me.0.scene ≡ pool.scene =
+    ap (λ (p : PoolParty). p.allocator.scene) view_is ∙ ap (λ (p : SharedPool). p.scene) its in
+    back ∙ (λ i. (standing_for (sym scene i) (numbered_of (sym view_is i) ∷ []), [])) ∙ sym is.seat.seat.is
+
+-- the seat of parties to which one more comes
+pub comes : (scene : PoolScene) (seat guest there : Me ℕ SeatView) (table : TableId) (number : ℕ) (hint : Hint)
+    (party : PoolParty) →
+    IsPartySeat number hint guest → party_in table number guest.0 ≡ party → seat ≡ (standing_for scene seat.0.parties, []) →
+    there ≡ (both_of seat.0 guest.0, seat.1) → there ≡ (standing_for scene (numbered_of party ∷ seat.0.parties), [])
+comes scene seat guest there table number hint party is view_is here gathered =
+    let its = parties_of table number hint guest party is view_is in
+    gathered ∙ λ i. (standing_for (here i).0.scene (its i ++ seat.0.parties), (here i).1)

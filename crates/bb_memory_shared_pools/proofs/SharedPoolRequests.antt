@@ -6,7 +6,7 @@ use Rattle.std.proofs.lemmas.Bool.Decides.{nat_tests}
 use Rattle.atomic_table.specs.Seated.{TableId}
 use Rattle.atomic_table.specs.Table.{Me}
 use Rattle.bb_memory_traits.specs.Chunk.{IsInside}
-use Rattle.bb_memory_traits.specs.PoolObject.{IsPoolGeometry}
+use Rattle.bb_memory_traits.specs.PoolObject.{IsPoolGeometry, IsWithin}
 use Rattle.bb_memory_pool_machine.specs.PoolMachine.{PoolScene}
 use Rattle.bb_memory_pool_machine.specs.PoolLogs.{PoolLog, IsHeldAfter}
 use Rattle.bb_memory_traits.specs.declared.layout.Layout.{Layout}
@@ -16,7 +16,8 @@ use Rattle.bb_memory_pool_machine.proofs.PoolSteps.{test_apart}
 use Rattle.bb_memory_seats.specs.Seats.{number_of, view_log}
 use Rattle.bb_memory_geometry.proofs.Measures.{bucket-inside, bucket_place-multiple}
 use Rattle.bb_memory_shared_pools.specs.declared.shared_pool.party.Hint.{Hint}
-use Rattle.bb_memory_shared_pools.specs.SharedPool.{AreAllHeldAfter, PoolParty, ServesNextFit, SharedPool, chunk_of, taken_bucket}
+use Rattle.bb_memory_shared_pools.specs.SharedPool.{AreAllHeldAfter, IsParty, PoolParty, ServesNextFit, SharedPool}
+use Rattle.bb_memory_shared_pools.specs.SharedPool.{chunk_of, taken_bucket}
 use Rattle.bb_memory_shared_pools.specs.SharedPoolRule.{IsPartySeat, SeatView, party_in, pool_in, HasEnded}
 use Rattle.bb_memory_shared_pools.proofs.SharedPoolParties.{is_party}
 
@@ -124,3 +125,21 @@ module _ (pool : SharedPool) (table new_table : TableId) (me new : Me ℕ SeatVi
       λ all. refl,
     );
   }
+
+-- a request that is refused without a step
+pub unasked : (pool : SharedPool) (party : PoolParty) (layout : Layout) (error : AllocationError) → IsParty party →
+    ¬ IsWithin pool.scene.geometry.bucket layout → ServesNextFit pool party layout (Err error) party
+unasked pool party layout error is too_great = record {
+  serves = record {
+    bucket = tt;
+    number = refl;
+    is_party = is;
+    held = tt;
+    others_kept = λ other held. held;
+    others = λ other apart held. held;
+    inside = tt;
+    aligned = tt;
+    exact_size = tt;
+  };
+  alone = λ one within. absurd (too_great within);
+}

@@ -1,16 +1,59 @@
-use Rattle.std.proofs.Common.{◌+◌, false, ap, ◌∙◌, arith}
+use Rattle.std.proofs.Common.{◌+◌, false, Some, None, refl, ap, ◌∙◌, subst, arith}
 use Rattle.std.specs.Prelude.{Ok, Err}
 use Rattle.bb_memory_traits.specs.PoolObject.{PoolGeometry}
 use Rattle.bb_memory_traits.specs.declared.layout.Layout.{Layout}
 use Rattle.bb_memory_traits.specs.declared.allocator.AllocationError.TheVariants.{OutOfMemory}
 use Rattle.bb_memory_seats.specs.Seats.{number_of, view_log}
-use Rattle.bb_memory_shared_pools.specs.SharedPool.{PoolParty, ServesNextFit, SharedPool, taken_bucket}
+use Rattle.bb_memory_shared_pools.specs.SharedPool.{IsParty, PoolParty, ServesNextFit, SharedPool, taken_bucket}
 use Rattle.bb_memory_shared_pools.specs.SharedPoolRule.{party_in}
-use Rattle.bb_memory_shared_pools.proofs.SharedPoolParties.{seated_then}
+use Rattle.bb_memory_shared_pools.proofs.SharedPoolParties.{is_party, seated_then}
 use Rattle.bb_memory_shared_pools.proofs.SharedPoolPasses.{pass_lost, pass_took}
-use Rattle.bb_memory_shared_pools.proofs.SharedPoolRequests.{refused, served}
+use Rattle.bb_memory_shared_pools.proofs.SharedPoolRequests.{refused, served, stays}
 use Rattle.bb_memory_shared_pools.proofs.SharedPoolTries.{hint-losses, hint-taking}
 use Rattle.bb_memory_shared_pools.proofs.shared_pool.buckets.SharedBucketPool.allocate.Goals as goal
+
+-- refused without a step
+pub returns-then-size : goal.returns-then-size
+returns-then-size g c =
+    let bucket = c.bucket-bucket.ensures ∙ ap (λ (x : PoolGeometry). x.bucket) c.geometry.ensures.value
+    ∙ ap (λ (p : SharedPool). p.scene.geometry.bucket) c.self.view_is in
+    let its = ap (λ (l : Layout). l.size) bucket in
+    let own = ap (λ (p : SharedPool). p.scene.geometry.bucket.size) c.requires.party in
+    record {
+      answer = (omega arith, refl);
+      party = c.requires.party;
+      is_party = record { number = refl; is_party = subst IsParty c.party.view_is (is_party _ _ _ _ c.party.invariant) };
+      bucket = tt;
+      held = tt;
+      others_kept = λ other held. held;
+      others = λ other apart held. held;
+      alone = λ one within. let short = within.size in absurd (omega arith);
+      inside = tt;
+      aligned = tt;
+      exact_size = tt;
+    }
+
+pub returns-then-align : goal.returns-then-align
+returns-then-align g c =
+    let bucket = c.bucket-bucket.ensures ∙ ap (λ (x : PoolGeometry). x.bucket) c.geometry.ensures.value
+    ∙ ap (λ (p : SharedPool). p.scene.geometry.bucket) c.self.view_is in
+    let its = ap (λ (l : Layout). (l.size)) bucket in
+    let even = ap (λ (l : Layout). (l.align)) bucket in
+    let own = ap (λ (p : SharedPool). p.scene.geometry.bucket.size) c.requires.party in
+    let own_align = ap (λ (p : SharedPool). p.scene.geometry.bucket.align) c.requires.party in
+    record {
+      answer = (omega arith, omega arith, refl);
+      party = c.requires.party;
+      is_party = record { number = refl; is_party = subst IsParty c.party.view_is (is_party _ _ _ _ c.party.invariant) };
+      bucket = tt;
+      held = tt;
+      others_kept = λ other held. held;
+      others = λ other apart held. held;
+      alone = λ one within. let aligned = within.align in absurd (omega arith);
+      inside = tt;
+      aligned = tt;
+      exact_size = tt;
+    }
 
 pub invariant_of-party : goal.invariant_of-party
 invariant_of-party g c =
@@ -75,3 +118,35 @@ returns-in-None-clause-others_kept g c = (lost g c).serves.others_kept
 
 pub returns-in-None-clause-others : goal.returns-in-None-clause-others
 returns-in-None-clause-others g c = (lost g c).serves.others
+
+pub returns-in-Some-clause-party : goal.returns-in-Some-clause-party
+returns-in-Some-clause-party g c =
+    let old = c.party.inside in
+    let new = c.pass.new.seat in
+    stays c.args.self.now old.seat.table_id new.table_id old.seat.me new.me old.number old.hint _ _ c.args.party.now c.args.layout
+    c.party.invariant (invariant_of-party g c) c.party.view_is c.requires.party (Some c.in-Some.number) c.pass.ensures.told.table
+    (pass_took c.args.self.now.scene (number_of old.seat.me.0) (view_log old.seat.me.0) new.me c.in-Some.number
+    c.in-Some.ensures.told.step)
+
+pub returns-in-None-clause-party : goal.returns-in-None-clause-party
+returns-in-None-clause-party g c =
+    let old = c.party.inside in
+    let new = c.pass.new.seat in
+    stays c.args.self.now old.seat.table_id new.table_id old.seat.me new.me old.number old.hint _ _ c.args.party.now c.args.layout
+    c.party.invariant (invariant_of-party-in-None g c) c.party.view_is c.requires.party None c.pass.ensures.told.table
+    (pass_lost c.args.self.now.scene (number_of old.seat.me.0) (view_log old.seat.me.0) new.me c.in-None.ensures.told.step)
+
+pub returns-in-Some-clause-is_party : goal.returns-in-Some-clause-is_party
+returns-in-Some-clause-is_party g c = record { number = (took g c).serves.number; is_party = (took g c).serves.is_party }
+
+pub returns-in-Some-clause-held : goal.returns-in-Some-clause-held
+returns-in-Some-clause-held g c = (took g c).serves.held
+
+pub returns-in-Some-clause-alone : goal.returns-in-Some-clause-alone
+returns-in-Some-clause-alone g c = (took g c).alone
+
+pub returns-in-None-clause-is_party : goal.returns-in-None-clause-is_party
+returns-in-None-clause-is_party g c = record { number = (lost g c).serves.number; is_party = (lost g c).serves.is_party }
+
+pub returns-in-None-clause-alone : goal.returns-in-None-clause-alone
+returns-in-None-clause-alone g c = (lost g c).alone

@@ -1,13 +1,44 @@
-use Rattle.std.proofs.Common.{◌+◌, false, ap, ◌∙◌, arith}
+use Rattle.std.proofs.Common.{◌+◌, false, Some, None, refl, ap, ◌∙◌, subst, arith}
 use Rattle.bb_memory_traits.specs.PoolObject.{PoolGeometry}
 use Rattle.bb_memory_traits.specs.declared.layout.Layout.{Layout}
-use Rattle.bb_memory_traits.specs.declared.allocator.AllocationError.TheVariants.{OutOfMemory}
+use Rattle.bb_memory_traits.specs.declared.allocator.AllocationError.TheVariants.{AlignmentFailure, OutOfMemory, SizeTooLarge}
 use Rattle.bb_memory_seats.specs.Seats.{number_of, view_log}
-use Rattle.bb_memory_shared_pools.specs.SharedPool.{PoolParty, SharedPool}
-use Rattle.bb_memory_shared_pools.proofs.SharedPoolParties.{seated_then}
-use Rattle.bb_memory_shared_pools.proofs.SharedPoolRequests.{refused, served}
+use Rattle.bb_memory_shared_pools.specs.SharedPool.{IsParty, PoolParty, SharedPool}
+use Rattle.bb_memory_shared_pools.proofs.SharedPoolParties.{is_party, seated_then}
+use Rattle.bb_memory_shared_pools.proofs.SharedPoolRequests.{refused, served, stays, unasked}
 use Rattle.bb_memory_shared_pools.proofs.SharedPoolNextFit.{hint-misses, hint_by_search, search_lost, search_took}
 use Rattle.bb_memory_shared_pools.proofs.shared_pool.buckets.SharedBucketPool.allocate_next_fit.Goals as goal
+
+-- refused without a step
+pub returns-then-size : goal.returns-then-size
+returns-then-size g c =
+    let bucket = c.bucket-bucket.ensures ∙ ap (λ (x : PoolGeometry). x.bucket) c.geometry.ensures.value
+    ∙ ap (λ (p : SharedPool). p.scene.geometry.bucket) c.self.view_is in
+    let its = ap (λ (l : Layout). l.size) bucket in
+    let own = ap (λ (p : SharedPool). p.scene.geometry.bucket.size) c.requires.party in
+    record {
+      answer = (omega arith, refl);
+      party = c.requires.party;
+      serves = unasked c.args.self.now c.args.party.now c.args.layout SizeTooLarge
+          (subst IsParty c.party.view_is (is_party _ _ _ _ c.party.invariant))
+          (λ within. let short = within.size in absurd (omega arith));
+    }
+
+pub returns-then-align : goal.returns-then-align
+returns-then-align g c =
+    let bucket = c.bucket-bucket.ensures ∙ ap (λ (x : PoolGeometry). x.bucket) c.geometry.ensures.value
+    ∙ ap (λ (p : SharedPool). p.scene.geometry.bucket) c.self.view_is in
+    let its = ap (λ (l : Layout). l.size) bucket in
+    let even = ap (λ (l : Layout). l.align) bucket in
+    let own = ap (λ (p : SharedPool). p.scene.geometry.bucket.size) c.requires.party in
+    let own_align = ap (λ (p : SharedPool). p.scene.geometry.bucket.align) c.requires.party in
+    record {
+      answer = (omega arith, omega arith, refl);
+      party = c.requires.party;
+      serves = unasked c.args.self.now c.args.party.now c.args.layout AlignmentFailure
+          (subst IsParty c.party.view_is (is_party _ _ _ _ c.party.invariant))
+          (λ within. let aligned = within.align in absurd (omega arith));
+    }
 
 pub invariant_of-party : goal.invariant_of-party
 invariant_of-party g c =
@@ -52,5 +83,25 @@ returns-in-None-clause-serves g c =
     let new = c.next_fit.new.seat in
     refused c.args.self.now old.seat.table_id new.table_id old.seat.me new.me old.number old.hint _ _ c.args.party.now
     c.args.layout c.party.invariant (invariant_of-party-in-None g c) c.party.view_is c.requires.party OutOfMemory
+    (search_lost c.args.self.now.scene (number_of old.seat.me.0) (view_log old.seat.me.0) old.hint.bucket new.me
+    c.in-None.ensures.told.step)
+
+pub returns-in-Some-clause-party : goal.returns-in-Some-clause-party
+returns-in-Some-clause-party g c =
+    let old = c.party.inside in
+    let new = c.next_fit.new.seat in
+    stays c.args.self.now old.seat.table_id new.table_id old.seat.me new.me old.number old.hint _ _ c.args.party.now c.args.layout
+    c.party.invariant (invariant_of-party g c) c.party.view_is c.requires.party (Some c.in-Some.number)
+    c.next_fit.ensures.told.table
+    (search_took c.args.self.now.scene (number_of old.seat.me.0) (view_log old.seat.me.0) old.hint.bucket new.me c.in-Some.number
+    c.in-Some.ensures.told.step)
+
+pub returns-in-None-clause-party : goal.returns-in-None-clause-party
+returns-in-None-clause-party g c =
+    let old = c.party.inside in
+    let new = c.next_fit.new.seat in
+    stays c.args.self.now old.seat.table_id new.table_id old.seat.me new.me old.number old.hint _ _ c.args.party.now c.args.layout
+    c.party.invariant (invariant_of-party-in-None g c) c.party.view_is c.requires.party None
+    c.next_fit.ensures.told.table
     (search_lost c.args.self.now.scene (number_of old.seat.me.0) (view_log old.seat.me.0) old.hint.bucket new.me
     c.in-None.ensures.told.step)

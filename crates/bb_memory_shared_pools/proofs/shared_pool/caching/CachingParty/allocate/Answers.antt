@@ -1,29 +1,146 @@
-use Rattle.std.proofs.Common.{arith, sym, ap, ◌∙◌}
-use Rattle.bb_memory_shared_pools.specs.SharedPoolCaching.{CachingParty}
-use Rattle.bb_memory_shared_pools.proofs.SharedPoolCaching.{last_fresh, last_out, out_less, served_last}
+use Rattle.std.proofs.Common.{rules, ◌≡◌, [], length, append-nil, arith, refl, sym, ap, ◌∙◌, subst}
+use Rattle.std.proofs.lemmas.List.{length_push}
+use Rattle.bb_memory_traits.specs.PoolObject.{IsWithin}
+use Rattle.bb_memory_traits.specs.declared.allocator.AllocationError.TheVariants.{AlignmentFailure, SizeTooLarge}
+use Rattle.bb_memory_shared_pools.specs.SharedPool.{IsParty, PoolParty, ServesNextFit, SharedPool, TakenBucket}
+use Rattle.bb_memory_shared_pools.specs.SharedPoolNextFit.{MayTakeFrom, hint_of}
+use Rattle.bb_memory_shared_pools.specs.SharedPoolCaching.{AreCached, CachingParty}
+use Rattle.bb_memory_shared_pools.proofs.SharedPoolCaching.{cached_less, found_fresh, found_kept, found_others, found_out}
+use Rattle.bb_memory_shared_pools.proofs.SharedPoolCaching.{last_fresh, last_held, last_out, out_less, out_more, searches}
+use Rattle.bb_memory_shared_pools.proofs.SharedPoolCaching.{served_last, takes_last, unasked_answer}
+use Rattle.bb_memory_shared_pools.proofs.SharedPoolRequests.{unasked}
 use Rattle.bb_memory_shared_pools.proofs.shared_pool.caching.CachingParty.allocate.Goals as goal
 
-pub returns-in-Some-clause-taken : goal.returns-in-Some-clause-taken
-returns-in-Some-clause-taken g c =
+-- refused without a step
+pub returns-then-size-bucket_size : goal.returns-then-size-bucket_size
+returns-then-size-bucket_size g c =
+    let old = c.args.self.now in
+    let size = ap (λ (p : SharedPool). p.scene.geometry.bucket.size) c.requires.party in
+    let is = subst (λ (p : CachingParty). IsParty p.party) c.self.view_is c.number.ensures.party in
+    let too_great : ¬ IsWithin old.party.allocator.scene.geometry.bucket c.args.layout =
+    λ within. let short = within.size in absurd (omega arith) in
+    record {
+      answer = unasked_answer old c.args.layout SizeTooLarge is too_great (omega arith, refl) (λ same. cc);
+      serves = (unasked old.party.allocator old.party c.args.layout SizeTooLarge is too_great).serves;
+      taken = tt;
+      fresh = tt;
+      others_kept = λ other out. out;
+      others = λ other apart out. out;
+      party = refl;
+      most = refl;
+    }
+
+pub returns-then-align-max_alignment : goal.returns-then-align-max_alignment
+returns-then-align-max_alignment g c =
+    let old = c.args.self.now in
+    let size = ap (λ (p : SharedPool). p.scene.geometry.bucket.size) c.requires.party in
+    let align = ap (λ (p : SharedPool). p.scene.geometry.bucket.align) c.requires.party in
+    let is = subst (λ (p : CachingParty). IsParty p.party) c.self.view_is c.number.ensures.party in
+    let too_great : ¬ IsWithin old.party.allocator.scene.geometry.bucket c.args.layout =
+    λ within. let even = within.align in absurd (omega arith) in
+    record {
+      answer = unasked_answer old c.args.layout AlignmentFailure is too_great (omega arith, omega arith, refl) (λ same. cc);
+      serves = (unasked old.party.allocator old.party c.args.layout AlignmentFailure is too_great).serves;
+      taken = tt;
+      fresh = tt;
+      others_kept = λ other out. out;
+      others = λ other apart out. out;
+      party = refl;
+      most = refl;
+    }
+
+-- the bucket that was cached last
+pub bucket-bucket-requires : goal.bucket-bucket-requires
+bucket-bucket-requires g c = let before = c.self.inside in (
+  omega arith,
+  (
+    ap (λ (p : CachingParty). p.party.allocator) c.self.view_is ∙ c.requires.party,
+    (
+      last_held before.party before.cached.items c.pop.new.self.items c.in-Some.number c.in-Some.ensures.items
+          c.self.invariant.0,
+      omega arith,
+    ),
+  ),
+)
+
+pub invariant_of-self : goal.invariant_of-self
+invariant_of-self g c =
     let before = c.self.inside in
-    last_out before.party before.cached.items c.pop.new.self.items before.most c.in-Some.number c.size-in-Some.result
-    c.args.pool.now c.bucket-bucket.result c.self.invariant.0 c.in-Some.ensures.items c.bucket-bucket.ensures.value
+    let rest = c.pop.new.self.items in
+    let long = length_push rest c.in-Some.number in (
+      cached_less before.party before.cached.items rest c.in-Some.number c.in-Some.ensures.items c.self.invariant.0,
+      omega (arith, ap length c.in-Some.ensures.items),
+      omega arith,
+      c.self.invariant.3,
+    )
 
-pub returns-in-Some-clause-fresh : goal.returns-in-Some-clause-fresh
-returns-in-Some-clause-fresh g c = λ other.
-    last_fresh c.args.self.now c.self.inside.cached.items c.pop.new.self.items c.in-Some.number c.size-in-Some.result
-    c.args.pool.now c.bucket-bucket.result other (ap (λ (p : CachingParty). p.cached) c.self.view_is)
-    c.in-Some.ensures.items c.bucket-bucket.ensures.value
-
-pub returns-in-Some-clause-others_kept : goal.returns-in-Some-clause-others_kept
-returns-in-Some-clause-others_kept g c = λ other.
-    out_less c.args.self.now _ c.in-Some.number other (ap (λ (p : CachingParty). p.party) c.self.view_is)
-    (sym (ap (λ (p : CachingParty). p.cached) c.self.view_is) ∙ c.in-Some.ensures.items)
-
-pub returns-in-Some-clause-serves : goal.returns-in-Some-clause-serves
-returns-in-Some-clause-serves g c =
+pub returns-in-Some : goal.returns-in-Some
+returns-in-Some g c =
+    let old = c.args.self.now in
     let before = c.self.inside in
-    served_last c.args.pool.now c.args.self.now.party before.party c.args.layout before.cached.items c.pop.new.self.items
-    c.in-Some.number c.size-in-Some.result c.bucket-bucket.result (ap (λ (p : CachingParty). p.party) c.self.view_is)
-    c.requires.party c.number.ensures.party c.self.invariant.0 c.in-Some.ensures.items c.bucket-bucket.ensures.value
-    c.size-in-Some.ensures (record { size = omega arith; align = omega arith })
+    let rest = c.pop.new.self.items in
+    let number = c.in-Some.number in
+    let len = c.size-in-Some.result in
+    let token = c.bucket-bucket.result in
+    let party = ap (λ (p : CachingParty). p.party) c.self.view_is in
+    let most = ap (λ (p : CachingParty). p.most) c.self.view_is in
+    let cached = ap (λ (p : CachingParty). p.cached) c.self.view_is in
+    let items = c.in-Some.ensures.items in
+    let its = c.bucket-bucket.ensures.value in
+    let within : IsWithin c.args.pool.now.scene.geometry.bucket c.args.layout =
+    record { size = omega arith; align = omega arith } in
+    record {
+      answer = takes_last c.args.pool.now old _ c.args.layout number len token party most c.requires.party
+          (sym cached ∙ items) its c.size-in-Some.ensures within;
+      serves = served_last c.args.pool.now old.party before.party c.args.layout before.cached.items rest number len token party
+          c.requires.party c.number.ensures.party c.self.invariant.0 items its c.size-in-Some.ensures within;
+      taken = last_out before.party before.cached.items rest before.most number len c.args.pool.now token c.self.invariant.0
+          items its;
+      fresh = λ other. last_fresh old before.cached.items rest number len c.args.pool.now token other cached items its;
+      others_kept = λ other. out_less old _ number other party (sym cached ∙ items);
+      others = λ other apart out. out_more _ old number other (sym party) (sym cached ∙ items)
+          (λ same. apart (same ∙ sym (ap (λ (b : TakenBucket). b.number) its))) out;
+      party = ap (λ (p : PoolParty). p.allocator) party;
+      most = most;
+    }
+
+-- a search, where none is cached
+pub invariant_of-self-in-None : goal.invariant_of-self-in-None
+invariant_of-self-in-None g c =
+    let now : c.pop.new.self.items ≡ [] = search rules in
+    let long = ap length now in (
+      subst (AreCached c.allocate_next_fit.new.party) (sym now) record {
+        held = λ k d below. absurd (omega arith);
+        differ = λ i j d order within same. absurd (omega arith);
+      },
+      omega arith,
+      omega arith,
+      c.self.invariant.3,
+    )
+
+pub returns-in-None : goal.returns-in-None
+returns-in-None g c =
+    let old = c.args.self.now in
+    let layout = c.args.layout in
+    let result = c.allocate_next_fit.result in
+    let new = c.allocate_next_fit.new.party in
+    let asked = c.allocate_next_fit.ensures in
+    let now : c.pop.new.self.items ≡ [] = search rules in
+    let none : old.cached ≡ [] =
+    ap (λ (p : CachingParty). p.cached) (sym c.self.view_is) ∙ c.in-None.ensures.items ∙ append-nil _ ∙ now in
+    let serves : ServesNextFit old.party.allocator old.party layout result new =
+    subst (λ (x : SharedPool × PoolParty). ServesNextFit x.0 x.1 layout result new)
+    (λ i. (sym c.requires.party i, (c.self.view_is i).party)) asked.serves in
+    let answer : MayTakeFrom (hint_of old.party) old.party layout result new =
+    subst (λ (p : CachingParty). MayTakeFrom (hint_of p.party) p.party layout result new) c.self.view_is asked.answer in
+    record {
+      answer = searches old _ layout result none answer serves
+          (λ i. record { party = new; cached = (now ∙ sym none) i; most = (c.self.view_is i).most });
+      serves = serves.serves;
+      taken = found_out old _ layout none now result serves;
+      fresh = found_fresh old new layout result answer;
+      others_kept = found_kept old _ layout none now result serves;
+      others = found_others old _ layout none now result serves;
+      party = asked.party ∙ sym c.requires.party;
+      most = ap (λ (p : CachingParty). p.most) c.self.view_is;
+    }

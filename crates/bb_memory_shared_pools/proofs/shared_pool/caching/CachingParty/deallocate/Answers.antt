@@ -1,7 +1,8 @@
-use Rattle.std.proofs.Common.{◌∷◌, ◌++◌, [], arith, sym, ap, ◌∙◌}
+use Rattle.std.proofs.Common.{◌≡◌, ℕ, List, ◌∷◌, ◌++◌, [], length, arith, sym, ap, ◌∙◌, subst}
 use Rattle.std.proofs.lemmas.Grind.{common_steps}
-use Rattle.bb_memory_shared_pools.specs.SharedPoolCaching.{CachingParty}
-use Rattle.bb_memory_shared_pools.proofs.SharedPoolCaching.{out_cached, out_less, out_more, out_returned}
+use Rattle.bb_memory_shared_pools.specs.SharedPool.{PoolParty, return_entry, with_entries}
+use Rattle.bb_memory_shared_pools.specs.SharedPoolCaching.{CachingParty, IsOut}
+use Rattle.bb_memory_shared_pools.proofs.SharedPoolCaching.{has_last, out_cached, out_less, out_more, out_returned}
 use Rattle.bb_memory_shared_pools.proofs.shared_pool.caching.CachingParty.deallocate.Goals as goal
 
 pub invariant_of-self : goal.invariant_of-self
@@ -22,13 +23,58 @@ invariant_of-self-else-len-self g c = let before = c.self.inside in (
   c.self.invariant.3,
 )
 
-pub returns-then-len-self-clause-others_kept : goal.returns-then-len-self-clause-others_kept
-returns-then-len-self-clause-others_kept g c = λ other apart.
-    out_more c.args.self.now _ c.number.result other (ap (λ (p : CachingParty). p.party) c.self.view_is)
-    (c.push_reserved.ensures.items ∙ ap (λ (p : CachingParty). p.cached ++ c.number.result ∷ []) c.self.view_is)
-    (λ same. apart (same ∙ c.number.ensures.value))
+pub returns-then-len-self : goal.returns-then-len-self
+unfolding IsOut
+returns-then-len-self g c =
+    let old : CachingParty = c.args.self.now in
+    let before = c.self.inside in
+    let now : List ℕ = c.push_reserved.new.self.items in
+    let new : CachingParty = record { party = before.party; cached = now; most = before.most } in
+    let number = c.number.result in
+    let its = c.number.ensures.value in
+    let party = ap (λ (p : CachingParty). p.party) c.self.view_is in
+    let most = ap (λ (p : CachingParty). p.most) c.self.view_is in
+    let long = ap (λ (p : CachingParty). length p.cached) c.self.view_is in
+    let items : now ≡ old.cached ++ number ∷ [] =
+    ◌∙◌ {A = List ℕ} c.push_reserved.ensures.items (ap (λ (p : CachingParty). p.cached ++ number ∷ []) c.self.view_is) in
+    record {
+      answer = record {
+        cached = λ less i. record {
+          party = party i;
+          cached = (items ∙ ap (λ (n : ℕ). old.cached ++ n ∷ []) its) i;
+          most = most i;
+        };
+        returned = λ full. absurd (omega arith);
+      };
+      given_back = λ out. out.1 (has_last now old.cached number c.args.bucket.number items (sym its));
+      others_kept = λ other apart. out_more old new number other party items (λ same. apart (same ∙ its));
+      others = λ other. out_less new old number other (sym party) items;
+      party = ap (λ (p : PoolParty). p.allocator) party;
+      most = most;
+    }
 
-pub returns-then-len-self-clause-others : goal.returns-then-len-self-clause-others
-returns-then-len-self-clause-others g c = λ other.
-    out_less _ c.args.self.now c.number.result other (sym (ap (λ (p : CachingParty). p.party) c.self.view_is))
-    (c.push_reserved.ensures.items ∙ ap (λ (p : CachingParty). p.cached ++ c.number.result ∷ []) c.self.view_is)
+pub returns-else-len-self : goal.returns-else-len-self
+unfolding IsOut
+returns-else-len-self g c =
+    let party = c.deallocate_bucket.ensures in
+    let number = c.args.bucket.number in
+    let most = ap (λ (p : CachingParty). p.most) c.self.view_is in
+    let long = ap (λ (p : CachingParty). length p.cached) c.self.view_is in
+    record {
+      answer = record {
+        cached = λ less. absurd (omega arith);
+        returned = λ full i. record {
+          party = (party.logged ∙ λ j. let its = (c.self.view_is j).party in
+              with_entries its (return_entry its.number number)) i;
+          cached = (c.self.view_is i).cached;
+          most = most i;
+        };
+      };
+      given_back = λ out. party.given_back out.0;
+      others_kept = λ other apart out.
+          let its = subst (λ (p : CachingParty). IsOut p other) (sym c.self.view_is) out in
+          (party.others_kept other apart its.0, its.1);
+      others = λ other out. subst (λ (p : CachingParty). IsOut p other) c.self.view_is (party.others other out.0, out.1);
+      party = party.party ∙ sym c.requires.party;
+      most = most;
+    }
