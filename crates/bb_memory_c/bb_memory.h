@@ -245,7 +245,7 @@ BB_MUST_USE static inline uint32_t bb_pool_init_at_least(bb_pool *pool, size_t b
     struct bb_pool_info info;
     uint32_t code = bb_pool_init(pool, bucket_size, bucket_align, start, size);
     if (code != BB_OK || (bb_pool_info(pool, &info) == BB_OK && info.number_of_buckets >= buckets)) return code;
-    return bb_pool_destroy(pool) == BB_OK ? BB_NO_BUCKET : code;
+    return bb_pool_destroy(pool), BB_NO_BUCKET;
 }
 
 // PARTIES: what threads share is initialized for some number of parties. `join` makes a party behind a handle, for one thread at
@@ -307,7 +307,7 @@ BB_MUST_USE static inline uint32_t bb_shared_pool_init_at_least(bb_shared_pool *
     struct bb_shared_pool_info info;
     uint32_t code = bb_shared_pool_init(pool, bucket_size, bucket_align, start, size, parties);
     if (code != BB_OK || (bb_shared_pool_info(pool, &info) == BB_OK && info.pool.number_of_buckets >= buckets)) return code;
-    return bb_shared_pool_destroy(pool) == BB_OK ? BB_NO_BUCKET : code;
+    return bb_shared_pool_destroy(pool), BB_NO_BUCKET;
 }
 
 // DETACHED BUCKETS: in a pool of two parties or more a party detaches a bucket that it holds into a `bb_detached`. No party
