@@ -144,10 +144,12 @@ static inline const char *bb_text(uint32_t code) {
 // BB_EMPTY is a handle before its first use. BB_OF is a type's size and alignment: `bb_pool_allocate(&pool, BB_OF(message))`.
 #ifdef __cplusplus
 #define BB_EMPTY {nullptr, false}
+#define BB_LOST {nullptr, true}
 #define BB_OF(type) sizeof(type), alignof(type)
 #define BB_SIZE(number) static_cast<size_t>(number)
 #else
 #define BB_EMPTY {NULL, false}
+#define BB_LOST {NULL, true}
 #define BB_OF(type) sizeof(type), __alignof__(type)
 #define BB_SIZE(number) ((size_t)(number))
 #endif
@@ -158,7 +160,7 @@ typedef struct bb_pool { void *at; bool made; } bb_pool; typedef struct bb_share
 typedef struct bb_one_chunk { void *at; bool made; } bb_one_chunk;
 typedef struct bb_bump_party { void *at; bool made; } bb_bump_party;
 typedef struct bb_pool_party { void *at; bool made; } bb_pool_party;
-typedef struct bb_detached { void *at; bool made; } bb_detached;
+typedef struct bb_detached { void *at; bool made; } bb_detached; typedef struct bb_lost { void *at; bool made; } bb_lost;
 
 // Where a chunk begins that was given. A number that was asked for; of a place, its number. Both are returned in registers.
 typedef struct bb_answer { uint32_t code; bb_place place; } bb_answer;
@@ -330,9 +332,10 @@ BB_MUST_USE uint32_t bb_pool_party_detach(bb_pool_party *, bb_address place, siz
 BB_MUST_USE bb_answer bb_pool_party_attach(bb_pool_party *, bb_detached *);
 // Gives back the bucket in the `bb_detached`, which has none then, by one store and without a holder. Refused as `attach`.
 uint32_t bb_pool_party_return_detached(bb_pool_party *, bb_detached *);
-// Gives back the detached bucket of this number. BB_NOT_A_BUCKET; BB_NOT_HELD where it isn't detached. Only for a bucket whose
-// `bb_detached` nobody has or will use: it was destroyed with the bucket in it, or a dead process was in a call with it.
-uint32_t bb_pool_party_recover(bb_pool_party *, uint32_t number);
+// Gives back the detached bucket of this number. By `bb_lost lost = BB_LOST;` the host says that nobody has or will use its
+// `bb_detached`: that was destroyed with the bucket in it, or a dead process was in a call with it. The call empties `lost`.
+// BB_UNINITIALIZED; BB_NOT_A_BUCKET; BB_NOT_HELD where the bucket isn't detached.
+uint32_t bb_pool_party_recover(bb_pool_party *, uint32_t number, bb_lost *);
 
 // PROCESSES share a pool as threads do where the region and the library's memory (`bb_use_memory`) lie in a mapping that all
 // have at one address: one that `fork` copies (examples/c/workers.c), or of a file (processes.c there). All have one version of

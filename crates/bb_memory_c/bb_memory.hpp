@@ -167,8 +167,9 @@ class shared : public owner<Handle, Init, Destroy> {
         }
         // Gives back the detached bucket of this number, whose `bb_detached` nobody has or will use.
         error recover(std::uint32_t number) noexcept {
+            bb_lost lost = BB_LOST;
             tell_return_at(&handle_, number);
-            return static_cast<error>(bb_pool_party_recover(&handle_, number));
+            return static_cast<error>(bb_pool_party_recover(&handle_, number, &lost));
         }
         PartyHandle *get() noexcept { return &handle_; }
         const PartyHandle *get() const noexcept { return &handle_; }

@@ -146,8 +146,9 @@ static void clean_up(uint32_t worker) {
         uint32_t state = __atomic_load_n(&it->state, __ATOMIC_SEQ_CST), bucket = state >> 16;
         if ((state & 1) == 0 || (state >> 2 & 0x3fff) != worker) continue;
         struct bb_holder holder;
+        bb_lost lost = BB_LOST;
         expect(bb_shared_pool_holder(&pool, bucket, &holder) == BB_OK && holder.state != BB_FREE, "its bucket isn't free");
-        if (holder.state == BB_DETACHED) expect(bb_pool_party_recover(&mine, bucket) == BB_OK, "a bucket is recovered");
+        if (holder.state == BB_DETACHED) expect(bb_pool_party_recover(&mine, bucket, &lost) == BB_OK, "a bucket is recovered");
         else expect(holder.party == bb_pool_party_number(&parties[worker]).number, "the dead party holds it");
         expect(bb_detached_destroy(&it->detached) == BB_OK && bb_detached_init(&it->detached) == BB_OK, "the slot has a new one");
         set_state(it, EMPTY, 0);
