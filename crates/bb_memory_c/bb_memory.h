@@ -33,7 +33,6 @@
 // | `bb_shared_bump`, `bb_bump_party`      | the same to threads, each of which is a party       | all at once, by `reset` |
 // | `bb_shared_pool`, `bb_pool_party`      | the same to threads, each of which is a party       | each by its party       |
 // | `bb_detached`                          | carries a bucket from one party to another          |                         |
-//
 // RULES, which no function tests:
 //
 //  1. A handle is a variable with both fields zero before its first use: `bb_pool pool = BB_EMPTY;`. Pass its address.
@@ -48,7 +47,6 @@
 //  8. A region serves one allocator at a time, and is yours while chunks in it are used. It may be another's chunk (but see 6).
 //  9. `malloc`, `realloc` and `free`, or what `bb_use_memory` names, are one allocator's, which aligns as C says.
 // 10. Return each chunk once. A second return is refused until the place is given anew, and then takes the new holder's chunk.
-//
 // No function reads or writes a byte of a region. Chunks that are out lie inside it, at multiples of the asked alignment, and
 // never overlap. Sizes and alignments are in bytes. MemorySanitizer needs `__msan_unpoison` of each struct that a call filled.
 #ifndef BB_MEMORY_H
@@ -173,7 +171,7 @@ typedef struct bb_figure { uint32_t code; size_t number; } bb_figure;
 //     bb_bump, bb_one_chunk, bb_detached    64
 //     bb_pool                               256, and 16 for each 64 buckets
 //     bb_shared_bump                        256, and 16 for each party (as many to reset, before it frees those); 64 to join
-//     bb_shared_pool                        336, 16 a bucket, 12 a party; to join 352; to cache 256, 4 a bucket, 4 of `most`
+//     bb_shared_pool                        336, 16 a bucket, 12 a party; to join 256; to cache 256, 4 a bucket, 4 of `most`
 // The library asks these functions in the place of `malloc`, `realloc` and `free`. A process names them before its other calls.
 void bb_use_memory(void *(*allocate)(size_t), void *(*resize)(void *, size_t), void (*release)(void *));
 
@@ -332,9 +330,8 @@ BB_MUST_USE uint32_t bb_pool_party_detach(bb_pool_party *, bb_address place, siz
 BB_MUST_USE bb_answer bb_pool_party_attach(bb_pool_party *, bb_detached *);
 // Gives back the bucket in the `bb_detached`, which has none then, by one store and without a holder. Refused as `attach`.
 uint32_t bb_pool_party_return_detached(bb_pool_party *, bb_detached *);
-// Gives back the detached bucket of this number. By `bb_lost lost = BB_LOST;` the host says that nobody has or will use its
-// `bb_detached`: that was destroyed with the bucket in it, or a dead process was in a call with it. The call empties `lost`.
-// BB_UNINITIALIZED; BB_NOT_A_BUCKET; BB_NOT_HELD where the bucket isn't detached.
+// Gives back the detached bucket of this number. `bb_lost lost = BB_LOST;` says that nobody has or will use its `bb_detached`, as
+// of a dead process; the call empties it. BB_UNINITIALIZED; BB_NOT_A_BUCKET; BB_NOT_HELD where the bucket isn't detached.
 uint32_t bb_pool_party_recover(bb_pool_party *, uint32_t number, bb_lost *);
 
 // PROCESSES share a pool as threads do where the region and the library's memory (`bb_use_memory`) lie in a mapping that all

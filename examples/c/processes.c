@@ -127,7 +127,7 @@ static void clean_up(void) {
         bb_lost lost = BB_LOST;
         if (load(&it->state) != TAKEN) continue;
         expect(bb_shared_pool_holder(&all->pool, it->bucket, &holder) == BB_OK, "a flag says who holds a bucket");
-        if (holder.state == BB_DETACHED) expect(bb_pool_party_recover(&all->daemon, it->bucket, &lost) == BB_OK, "it is recovered");
+        if (holder.state == BB_DETACHED) expect(bb_pool_party_recover(&all->daemon, it->bucket, &lost) == BB_OK, "it comes back");
         expect(bb_detached_destroy(&it->detached) == BB_OK && bb_detached_init(&it->detached) == BB_OK, "the mailbox is as new");
         store(&it->state, EMPTY);
     }

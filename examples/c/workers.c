@@ -145,8 +145,7 @@ static void clean_up(uint32_t worker) {
         slot *it = &all->slots[at];
         uint32_t state = __atomic_load_n(&it->state, __ATOMIC_SEQ_CST), bucket = state >> 16;
         if ((state & 1) == 0 || (state >> 2 & 0x3fff) != worker) continue;
-        struct bb_holder holder;
-        bb_lost lost = BB_LOST;
+        struct bb_holder holder; bb_lost lost = BB_LOST;
         expect(bb_shared_pool_holder(&pool, bucket, &holder) == BB_OK && holder.state != BB_FREE, "its bucket isn't free");
         if (holder.state == BB_DETACHED) expect(bb_pool_party_recover(&mine, bucket, &lost) == BB_OK, "a bucket is recovered");
         else expect(holder.party == bb_pool_party_number(&parties[worker]).number, "the dead party holds it");
