@@ -116,9 +116,9 @@ inline void tell_return_at(const bb_pool_party *party, std::uint32_t number) noe
     bb_figure at = bb_pool_party_place_at(party, number);
     if (at.code == BB_OK) tell_return(reinterpret_cast<const void *>(at.number));
 }
-inline void tell_detached(const bb_shared_pool *pool, const bb_pool_party *party) noexcept {
+inline void tell_detached(const bb_shared_pool *of, const bb_pool_party *party) noexcept {
     bb_holder told{};
-    for (std::uint32_t number = 0; bb_shared_pool_holder(pool, number, &told) == BB_OK; number++)
+    for (std::uint32_t number = 0; bb_shared_pool_holder(of, number, &told) == BB_OK; number++)
         if (told.state == BB_DETACHED) tell_return_at(party, number);
 }
 #else
