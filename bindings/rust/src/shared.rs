@@ -371,8 +371,8 @@ impl<'region> PoolParty<'region> {
     ///
     /// # Safety
     ///
-    /// Nobody has or will use the bucket's [`DetachedBucket`], which was forgotten, or a dead process had it. Its chunk isn't used
-    /// any more.
+    /// Nobody has or will use the bucket's [`DetachedBucket`], which was forgotten or a dead process's. Its chunk isn't used any
+    /// more.
     pub unsafe fn recover(&self, number: u32) -> Result<(), RecoverError> {
         let mut lost = ffi::Handle::LOST;
         // SAFETY: the function is of this kind, no other call has the handle, and the bucket's token is nobody's.
