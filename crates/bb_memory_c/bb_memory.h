@@ -336,12 +336,12 @@ uint32_t bb_pool_party_recover(bb_pool_party *, uint32_t number, bb_lost *);
 
 // PROCESSES share a pool as threads do where the region and the library's memory (`bb_use_memory`) lie in a mapping that all
 // have at one address: one that `fork` copies (examples/c/workers.c), or of a file (processes.c there). All have one version of
-// the library. A handle is copied by `fork` or lies in the mapping; one process at a time uses it. A process may be killed in
-// any call of a party but `cache` and `destroy`, at any instruction. Another one then leaves for its party: exactly what that
-// held is free. `leave` trusts the pool's words, and behind the party's handle what never changes: where the pool and the cache
-// lie, and the party's number. All else there may be torn, as may be a `bb_detached` that the dead process was in a call with:
-// destroy it. Its bucket is held by the dead party until that leaves, or still detached: ask `holder` before, and `recover` it
-// (workers.c). What a process shares that dies in another call, such as `join`, isn't used any more.
+// the library. A handle is copied by `fork` or lies in the mapping; one process at a time uses it. A process may be killed at
+// any instruction but in a call that takes or frees memory: `init`, `join`, `leave`, `cache`, `reset` or `destroy`. Another
+// process then leaves for its party: exactly what the party held is free again. `leave` trusts the pool's words, and behind the
+// party's handle what never changes: where the pool and the cache lie, and the party's number. All else there may be torn, as
+// may be a `bb_detached` that the dead process was in a call with: destroy it. Its bucket is held by the dead party until that
+// leaves, or still detached: ask `holder` before, and `recover` it. After a `return_detached` it may be another's.
 
 #ifdef __cplusplus
 #pragma GCC diagnostic pop
