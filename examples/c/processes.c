@@ -10,6 +10,7 @@
 #include <stdlib.h>
 #include <string.h>
 #include <sys/mman.h>
+#include <sys/prctl.h>
 #include <sys/wait.h>
 #include <unistd.h>
 
@@ -97,6 +98,7 @@ static pid_t start(const char *program, const char *name) {
     pid_t process = fork();
     expect(process >= 0, "a process starts");
     if (process == 0) {
+        prctl(PR_SET_PDEATHSIG, SIGKILL);  // no client outlives the daemon
         execl(program, program, name, (char *)NULL);
         expect(0, "the client runs");
     }

@@ -9,6 +9,7 @@
 #include <stdlib.h>
 #include <string.h>
 #include <sys/mman.h>
+#include <sys/prctl.h>
 #include <sys/wait.h>
 #include <unistd.h>
 
@@ -24,8 +25,7 @@ typedef union block { union block *next; uint64_t words[512]; } __attribute__((a
 
 // What lies in the mapping. The blocks are the library's memory.
 typedef struct {
-    block blocks[BLOCKS], *idle;
-    size_t used;
+    block blocks[BLOCKS], *idle; size_t used;
     slot slots[SLOTS];
     uint64_t region[BUCKETS * WORDS], wrong, messages;
     uint32_t ends;
@@ -68,9 +68,8 @@ static void check(const uint64_t *bucket, uint64_t number) {
     for (uint64_t at = 0; at < WORDS; at++) wrong += bucket[at] != number * (2 * at + 1);
     if (wrong > 0) __atomic_fetch_add(&all->wrong, wrong, __ATOMIC_SEQ_CST);
 }
-
 static uint32_t state_of(uint32_t step, uint32_t worker, uint32_t bucket) { return step | worker << 2 | bucket << 16; }
-// Takes a slot of this step, if it is the next one found, and returns it with what its state was.
+// Takes a slot in the step `step`, EMPTY or FULL, by one exchange. A slot that is FULL keeps its bucket.
 static slot *take_slot(uint32_t step, uint32_t to, uint32_t worker, uint32_t bucket, uint32_t from) {
     for (uint32_t at = 0; at < SLOTS; at++) {
         slot *it = &all->slots[(from + at) % SLOTS];
@@ -81,7 +80,6 @@ static slot *take_slot(uint32_t step, uint32_t to, uint32_t worker, uint32_t buc
     }
     return NULL;
 }
-
 static void set_state(slot *of, uint32_t step, uint32_t bucket) {
     __atomic_store_n(&of->state, state_of(step, 0, bucket), __ATOMIC_SEQ_CST);
 }
@@ -135,7 +133,9 @@ static void start(uint32_t worker, uint32_t cached) {
     lives++;
     processes[worker] = fork();
     expect(processes[worker] >= 0, "a worker starts");
-    if (processes[worker] == 0) work(&parties[worker], worker, lives);
+    if (processes[worker] != 0) return;
+    prctl(PR_SET_PDEATHSIG, SIGKILL);  // no worker outlives the parent
+    work(&parties[worker], worker, lives);
 }
 
 // Ends what a dead worker had begun. The bucket of a slot that it took is held by its party or still detached, until the party
@@ -145,7 +145,8 @@ static void clean_up(uint32_t worker) {
         slot *it = &all->slots[at];
         uint32_t state = __atomic_load_n(&it->state, __ATOMIC_SEQ_CST), bucket = state >> 16;
         if ((state & 1) == 0 || (state >> 2 & 0x3fff) != worker) continue;
-        struct bb_holder holder; bb_lost lost = BB_LOST;
+        struct bb_holder holder;
+        bb_lost lost = BB_LOST;
         expect(bb_shared_pool_holder(&pool, bucket, &holder) == BB_OK && holder.state != BB_FREE, "its bucket isn't free");
         if (holder.state == BB_DETACHED) expect(bb_pool_party_recover(&mine, bucket, &lost) == BB_OK, "a bucket is recovered");
         else expect(holder.party == bb_pool_party_number(&parties[worker]).number, "the dead party holds it");
@@ -157,8 +158,7 @@ static void clean_up(uint32_t worker) {
 
 // Kills workers, and returns whether a byte was wrong or a bucket is lost.
 static int run(uint32_t kills, uint32_t cached) {
-    uint32_t seed = 7;
-    int status;
+    uint32_t seed = 7; int status;
     memset(all, 0, sizeof *all);
     expect(bb_shared_pool_init(&pool, SIZE, 8, all->region, sizeof all->region, WORKERS + 1) == BB_OK, "a pool is there");
     expect(bb_shared_pool_join(&pool, &mine) == BB_OK, "the parent is a party");
