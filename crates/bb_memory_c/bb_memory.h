@@ -34,7 +34,6 @@
 // | `bb_shared_pool`, `bb_pool_party`      | the same to threads, each of which is a party       | each by its party       |
 // | `bb_detached`                          | carries a bucket from one party to another          |                         |
 // RULES, which no function tests:
-//
 //  1. A handle is a variable with both fields zero before its first use: `bb_pool pool = BB_EMPTY;`. Pass its address.
 //  2. Only these functions write a handle, and it keeps its kind. It may be moved; don't use the old copy then.
 //  3. One call at a time has a handle. A data race on one is undefined behaviour, and may give a chunk twice.
@@ -47,6 +46,7 @@
 //  8. A region serves one allocator at a time, and is yours while chunks in it are used. It may be another's chunk (but see 6).
 //  9. `malloc`, `realloc` and `free`, or what `bb_use_memory` names, are one allocator's, which aligns as C says.
 // 10. Return each chunk once. A second return is refused until the place is given anew, and then takes the new holder's chunk.
+//
 // No function reads or writes a byte of a region. Chunks that are out lie inside it, at multiples of the asked alignment, and
 // never overlap. Sizes and alignments are in bytes. MemorySanitizer needs `__msan_unpoison` of each struct that a call filled.
 #ifndef BB_MEMORY_H
@@ -284,7 +284,7 @@ struct bb_holder { uint32_t state, party; };
 uint32_t bb_shared_pool_holder(const bb_shared_pool *, uint32_t number, struct bb_holder *);
 bb_figure bb_pool_party_number(bb_pool_party *);
 // As of the shared bump. `leave` also gives back each bucket whose flag says that the party holds it, cached or not, in order of
-// their numbers, so the host uses no chunk in it any more. `leave` and `info` take time in proportion to the number of buckets.
+// their numbers, so the host uses no chunk in it any more. `leave`, `cache` and `info` take time by the number of buckets.
 BB_MUST_USE uint32_t bb_shared_pool_join(bb_shared_pool *, bb_pool_party *);
 uint32_t bb_shared_pool_leave(bb_shared_pool *, bb_pool_party *);
 uint32_t bb_pool_party_destroy(bb_pool_party *);
