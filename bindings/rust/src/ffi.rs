@@ -93,9 +93,11 @@ pub struct Holder {
     pub party: u32,
 }
 
-pub const FREE: u32 = 0;
-pub const HELD: u32 = 1;
-pub const DETACHED: u32 = 2;
+impl Holder {
+    pub const FREE: u32 = 0;
+    pub const HELD: u32 = 1;
+    pub const DETACHED: u32 = 2;
+}
 
 pub const OK: u32 = 0;
 pub const SIZE_IS_ZERO: u32 = 1;

@@ -182,9 +182,9 @@ impl SharedPoolAllocator<'_> {
             code => expect_ok(code),
         }
         Some(match told.state {
-            ffi::FREE => Holder::Free,
-            ffi::HELD => Holder::HeldBy(told.party),
-            ffi::DETACHED => Holder::DetachedBy(told.party),
+            ffi::Holder::FREE => Holder::Free,
+            ffi::Holder::HELD => Holder::HeldBy(told.party),
+            ffi::Holder::DETACHED => Holder::DetachedBy(told.party),
             state => no_such_answer(state),
         })
     }
