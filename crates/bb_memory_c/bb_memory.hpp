@@ -111,10 +111,22 @@ inline void tell_leaving(bb_pool_party *party) noexcept {
         if (bb_pool_party_holds(party, place).number == 1) tell_return(place);
     }
 }
+// A detached bucket that is given back by its number, or by its `bb_detached`, which doesn't tell its place: so each is told of.
+inline void tell_return_at(const bb_pool_party *party, std::uint32_t number) noexcept {
+    bb_figure at = bb_pool_party_place_at(party, number);
+    if (at.code == BB_OK) tell_return(reinterpret_cast<const void *>(at.number));
+}
+inline void tell_detached(const bb_shared_pool *of, const bb_pool_party *party) noexcept {
+    bb_holder told{};
+    for (std::uint32_t number = 0; bb_shared_pool_holder(of, number, &told) == BB_OK; number++)
+        if (told.state == BB_DETACHED) tell_return_at(party, number);
+}
 #else
 inline void tell_taking(void *) noexcept {}
 inline void tell_return(const void *) noexcept {}
 inline void tell_leaving(bb_pool_party *) noexcept {}
+inline void tell_return_at(const bb_pool_party *, std::uint32_t) noexcept {}
+inline void tell_detached(const bb_shared_pool *, const bb_pool_party *) noexcept {}
 #endif
 inline void tell_leaving(bb_bump_party *) noexcept {}
 
@@ -143,6 +155,22 @@ class shared : public owner<Handle, Init, Destroy> {
             }
         }
         auto info() noexcept { return bb::info(&handle_); }
+        // The party of a pool alone has these. The number by which flags name it, none where it hasn't joined.
+        std::optional<std::uint32_t> number() noexcept {
+            bb_figure told = bb_pool_party_number(&handle_);
+            return told.code == BB_OK ? std::optional<std::uint32_t>(static_cast<std::uint32_t>(told.number)) : std::nullopt;
+        }
+        // Gives back the bucket that is in `from`, without attaching it.
+        error return_detached(detached &from) noexcept {
+            if (of_ != nullptr) tell_detached(of_->get(), &handle_);
+            return static_cast<error>(bb_pool_party_return_detached(&handle_, from.get()));
+        }
+        // Gives back the detached bucket of this number, whose `bb_detached` nobody has or will use.
+        error recover(std::uint32_t number) noexcept {
+            bb_lost lost = BB_LOST;
+            tell_return_at(&handle_, number);
+            return static_cast<error>(bb_pool_party_recover(&handle_, number, &lost));
+        }
         PartyHandle *get() noexcept { return &handle_; }
         const PartyHandle *get() const noexcept { return &handle_; }
 
@@ -159,6 +187,11 @@ class shared : public owner<Handle, Init, Destroy> {
         error code = static_cast<error>(Join(this->get(), &into.handle_));
         if (code == error::ok) into.of_ = this;
         return code;
+    }
+    // Of a pool alone, in any thread: what the flag of this bucket says, none where no bucket has the number.
+    std::optional<bb_holder> holder(std::uint32_t number) const noexcept {
+        bb_holder told{};
+        return bb_shared_pool_holder(this->get(), number, &told) == BB_OK ? std::optional<bb_holder>(told) : std::nullopt;
     }
     // Of a bump alone, whose parties have all left: nothing is used then.
     error reset() noexcept {

@@ -299,8 +299,9 @@ static void run_memory(void) {
             WITHIN(256 + 16 * parties, bb_shared_bump_init(&shared_bump, 4096, 8 * buckets, parties));
             WITHIN(64, bb_shared_bump_join(&shared_bump, &bump_party));
             WITHIN(336 + 16 * buckets + 12 * parties, bb_shared_pool_init(&shared_pool, 8, 8, 4096, 8 * buckets, parties));
-            WITHIN(352 + buckets, bb_shared_pool_join(&shared_pool, &pool_party));
-            WITHIN(128 + 4 * buckets, bb_pool_party_cache(&pool_party, UINT32_MAX));
+            WITHIN(256, bb_shared_pool_join(&shared_pool, &pool_party));
+            WITHIN(256 + 4 * buckets + 4 * (buckets / 2), bb_pool_party_cache(&pool_party, (uint32_t)buckets / 2));
+            WITHIN(256 + 8 * buckets, bb_pool_party_cache(&pool_party, UINT32_MAX));
             EXPECT(bb_pool_destroy(&pool) == BB_OK);
             EXPECT(bb_shared_bump_destroy(&shared_bump) == BB_OK && bb_bump_party_destroy(&bump_party) == BB_OK);
             EXPECT(bb_shared_pool_destroy(&shared_pool) == BB_OK && bb_pool_party_destroy(&pool_party) == BB_OK);
@@ -521,7 +522,7 @@ static void run_parties_come_and_go(void) {
         requests = 0;
         EXPECT(bb_shared_pool_leave(&pool, &one) == BB_OK && requests == 0);
         EXPECT(bb_shared_pool_leave(&pool, &one) == BB_UNINITIALIZED && bb_pool_party_destroy(&one) == BB_UNINITIALIZED);
-        WITHIN(352 + 5, bb_shared_pool_join(&pool, &one));
+        WITHIN(256, bb_shared_pool_join(&pool, &one));
         EXPECT(is(bb_pool_party_holds(&one, place), 0));
         EXPECT(same(of_pool_party(&one).held_buckets, 0) && is(bb_pool_party_holds(&other, kept.place), 1));
     }
@@ -697,6 +698,85 @@ static void run_detached(void) {
     EXPECT(is(bb_detached_len(&other), 48) && bb_detached_destroy(&other) == BB_OK);
 }
 
+static int says(bb_shared_pool *pool, uint32_t number, uint32_t state, uint32_t party) {
+    struct bb_holder holder = {7, 7};
+    return bb_shared_pool_holder(pool, number, &holder) == BB_OK && holder.state == state && holder.party == party;
+}
+
+// A flag says who holds a bucket, cached or not, or has detached it. A detached bucket is given back without attaching it, by its
+// `bb_detached` or, where that is lost, by its number.
+static void run_holders(void) {
+    bb_shared_pool pool = BB_EMPTY, far = BB_EMPTY;
+    bb_pool_party parties[2] = {BB_EMPTY, BB_EMPTY}, stranger = BB_EMPTY;
+    bb_detached detached = BB_EMPTY;
+    bb_lost lost = BB_LOST, none = BB_EMPTY;
+    struct bb_holder holder = {7, 7};
+    EXPECT(bb_shared_pool_holder(&pool, 0, &holder) == BB_UNINITIALIZED && holder.state == 7 && holder.party == 7);
+    EXPECT(has_none(bb_pool_party_number(&parties[0]), BB_UNINITIALIZED));
+    EXPECT(bb_pool_party_return_detached(&parties[0], &detached) == BB_UNINITIALIZED);
+    EXPECT(bb_pool_party_recover(&parties[0], 0, &lost) == BB_UNINITIALIZED && lost.made);
+    EXPECT(bb_shared_pool_init(&pool, 64, 8, 4096, 128, 2) == BB_OK && bb_shared_pool_init(&far, 64, 8, 8192, 128, 2) == BB_OK);
+    EXPECT(bb_shared_pool_join(&pool, &parties[0]) == BB_OK && bb_shared_pool_join(&pool, &parties[1]) == BB_OK);
+    EXPECT(bb_shared_pool_join(&far, &stranger) == BB_OK && bb_pool_party_cache(&parties[0], 1) == BB_OK);
+    EXPECT(bb_pool_party_return_detached(&parties[0], &detached) == BB_UNINITIALIZED && bb_detached_init(&detached) == BB_OK);
+    EXPECT(bb_pool_party_return_detached(&parties[0], &detached) == BB_DETACHED_EMPTY);
+    requests = 0;
+    bb_figure one = bb_pool_party_number(&parties[0]), other = bb_pool_party_number(&parties[1]);
+    EXPECT(one.code == BB_OK && other.code == BB_OK && one.number < 2 && other.number < 2 && one.number != other.number);
+    uint32_t by = (uint32_t)one.number, others = (uint32_t)other.number;
+    EXPECT(bb_shared_pool_holder(&pool, 2, &holder) == BB_NOT_A_BUCKET && holder.state == 7 && holder.party == 7);
+    EXPECT(says(&pool, 0, BB_FREE, 0) && says(&pool, 1, BB_FREE, 0));
+
+    size_t place = bb_pool_party_allocate(&parties[0], 48, 8).place;
+    uint32_t number = (uint32_t)((place - 4096) / 64);
+    EXPECT(says(&pool, number, BB_HELD, by) && says(&pool, 1 - number, BB_FREE, 0));
+    EXPECT(bb_pool_party_deallocate(&parties[0], place) == BB_OK && says(&pool, number, BB_HELD, by));
+    EXPECT(given(bb_pool_party_allocate(&parties[0], 48, 8), place) && bb_pool_party_recover(&parties[1], number, &none) == 8);
+    EXPECT(bb_pool_party_recover(&parties[1], number, &lost) == BB_NOT_HELD && !lost.made && lost.at == NULL);
+    EXPECT(bb_pool_party_detach(&parties[0], place, 40, &detached) == BB_OK && says(&pool, number, BB_DETACHED, by));
+    EXPECT(bb_pool_party_return_detached(&stranger, &detached) == BB_OTHER_POOL && bb_detached_share(&detached, 1) == BB_OK);
+    EXPECT(bb_pool_party_return_detached(&parties[1], &detached) == BB_READERS_LEFT && is(bb_detached_release(&detached), 0));
+    EXPECT(bb_pool_party_return_detached(&parties[1], &detached) == BB_OK && says(&pool, number, BB_FREE, 0));
+    EXPECT(bb_pool_party_return_detached(&parties[1], &detached) == BB_DETACHED_EMPTY);
+
+    // The other party attaches what the first detached, and leaves with it.
+    place = bb_pool_party_allocate(&parties[0], 48, 8).place;
+    number = (uint32_t)((place - 4096) / 64);
+    EXPECT(bb_pool_party_detach(&parties[0], place, 40, &detached) == BB_OK);
+    EXPECT(given(bb_pool_party_attach(&parties[1], &detached), place) && says(&pool, number, BB_HELD, others));
+    EXPECT(bb_shared_pool_leave(&pool, &parties[1]) == BB_OK && says(&pool, number, BB_FREE, 0));
+    EXPECT(has_none(bb_pool_party_number(&parties[1]), BB_UNINITIALIZED));
+    // A bucket whose `bb_detached` is destroyed comes back by its number, behind its party too.
+    place = bb_pool_party_allocate(&parties[0], 48, 8).place;
+    number = (uint32_t)((place - 4096) / 64);
+    EXPECT(bb_pool_party_detach(&parties[0], place, 40, &detached) == BB_OK && bb_detached_destroy(&detached) == BB_OK);
+    EXPECT(bb_shared_pool_leave(&pool, &parties[0]) == BB_OK && says(&pool, number, BB_DETACHED, by) && requests == 0);
+    EXPECT(bb_shared_pool_join(&pool, &parties[1]) == BB_OK);
+    bb_lost behind = BB_LOST, again = BB_LOST, found = BB_LOST;
+    EXPECT(bb_pool_party_recover(&parties[1], 2, &behind) == BB_NOT_A_BUCKET);
+    EXPECT(bb_pool_party_recover(&parties[1], number, &found) == BB_OK && says(&pool, number, BB_FREE, 0));
+    EXPECT(bb_pool_party_recover(&parties[1], number, &again) == BB_NOT_HELD);
+    EXPECT(bb_shared_pool_leave(&pool, &parties[1]) == BB_OK && bb_shared_pool_destroy(&pool) == BB_OK);
+    EXPECT(bb_shared_pool_leave(&far, &stranger) == BB_OK && bb_shared_pool_destroy(&far) == BB_OK);
+}
+
+static size_t taken, resized, released;
+static void *take(size_t size) { return taken++, malloc(size); }
+static void *resize(void *at, size_t size) { return resized++, realloc(at, size); }
+static void release(void *at) { released += at != NULL, free(at); }
+
+// The library's memory comes from the functions that the host names.
+static void run_use_memory(void) {
+    bb_shared_pool pool = BB_EMPTY;
+    bb_pool_party party = BB_EMPTY;
+    bb_use_memory(take, resize, release);
+    requests = 0;
+    EXPECT(bb_shared_pool_init(&pool, 64, 8, 4096, 128, 2) == BB_OK && bb_shared_pool_join(&pool, &party) == BB_OK);
+    EXPECT(taken > 0 && taken == requests && released < taken);
+    EXPECT(bb_shared_pool_leave(&pool, &party) == BB_OK && bb_shared_pool_destroy(&pool) == BB_OK && released == taken);
+    bb_use_memory(malloc, realloc, free);
+}
+
 // In a pool of one party nothing is detached, whatever the place.
 static void run_one_party(void) {
     bb_shared_pool pool = BB_EMPTY;
@@ -737,6 +817,8 @@ int main(void) {
     run_nested();
     run_detached();
     run_one_party();
+    run_holders();
+    run_use_memory();
     puts("calls: each is answered as it has to be");
     return 0;
 }

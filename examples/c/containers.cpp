@@ -204,6 +204,42 @@ void places_of_the_pool() {
     expect(heap.returned == 1 && *value == 7, "upstream gets what it gave");
 }
 
+// A reader gives back a detached bucket without attaching it, and the writer takes it again.
+void detached_buckets_come_back() {
+    bb::shared_pool pool;
+    expect_ok(pool.init(bucket, bucket, region, bucket, 2));
+    bb::pool_party writer, reader;
+    expect_ok(pool.join(writer));
+    expect(!reader.number() && reader.recover(0) == bb::error::uninitialized, "it hasn't joined");
+    expect_ok(pool.join(reader));
+    bb::detached detached;
+    expect_ok(detached.init());
+    std::atomic<int> sent{0};
+    std::thread reading([&] {
+        for (int round = 1; round <= 100; round++) {
+            while (sent.load() != round) std::this_thread::yield();
+            expect(*reinterpret_cast<const int *>(region) == round, "the bucket has what was written");
+            expect_ok(reader.return_detached(detached));
+        }
+    });
+    for (int round = 1; round <= 100; round++) {
+        bb_answer given = bb::allocate(writer.get(), sizeof(int), alignof(int));
+        for (; given.code != BB_OK; given = bb::allocate(writer.get(), sizeof(int), alignof(int))) std::this_thread::yield();
+        ::new (given.place) int(round);
+        auto holder = pool.holder(0);
+        expect(holder && holder->state == BB_HELD && holder->party == writer.number() && !pool.holder(1), "the writer holds it");
+        expect(bb_pool_party_detach(writer.get(), given.place, sizeof(int), detached.get()) == BB_OK, "it is on its way");
+        sent = round;
+    }
+    reading.join();
+    auto last = bb::make<int>(writer.get(), 7);
+    expect(bb_pool_party_detach(writer.get(), last.release(), sizeof(int), detached.get()) == BB_OK, "a bucket is on its way");
+    detached = bb::detached();
+    expect(pool.holder(0)->state == BB_DETACHED && reader.recover(1) == bb::error::not_a_bucket, "it is lost with its token");
+    expect_ok(reader.recover(0));
+    expect(pool.holder(0)->state == BB_FREE && reader.recover(0) == bb::error::not_held, "it is free");
+}
+
 void words_in_a_shared_bump() {
     bb::shared_bump bump;
     expect_ok(bump.init(region, sizeof region, 1));
@@ -227,6 +263,7 @@ int main() {
     lists_in_threads();
     values_in_threads();
     places_of_the_pool();
+    detached_buckets_come_back();
     words_in_a_shared_bump();
     std::puts("containers: every bucket came back");
     return 0;

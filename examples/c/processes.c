@@ -1,27 +1,41 @@
-// Two clients read messages in the memory of a daemon, from processes of their own. The daemon has the pool, and a party for each
-// client, which stands in for it: a message is detached, and attached by the client's party. The client maps the region at an
-// address of its own, reads bucket `number` at base + number * stride, and sends the number back. What a client returns has to be
-// held by its party, so it can't return what is another's; and when a client dies, its party leaves with all that it held.
-#define _POSIX_C_SOURCE 200809L
-#include <poll.h>
+// Two processes share a pool in a file, which both map at an agreed address. A daemon makes the file, and in it the pool, the
+// handles and the mailboxes. A client, which is this program run with the file's name, finds them there, and reads messages where
+// they lie. The daemon kills clients with messages on their way, leaves for the client's party, and starts another client.
+#define _DEFAULT_SOURCE
+#include <fcntl.h>
+#include <sched.h>
 #include <signal.h>
 #include <stdint.h>
 #include <stdio.h>
 #include <stdlib.h>
 #include <string.h>
 #include <sys/mman.h>
+#include <sys/prctl.h>
 #include <sys/wait.h>
 #include <unistd.h>
 
 #include "bb_memory.h"
 
-enum { CLIENTS = 2, BUCKETS = 16, SIZE = 256, ALIGN = 64, STRIDE = BB_STRIDE(SIZE, ALIGN), MESSAGES = 4000 };
-static const size_t region_size = BB_BYTES_FOR(SIZE, ALIGN, BUCKETS);
+// Nothing else may lie at the address, in none of the processes.
+enum { ADDRESS = 0x40000000, BUCKETS = 16, SIZE = 256, ALIGN = 64, MAILS = 8, MESSAGES = 4000, BLOCKS = 32 };
 
-typedef struct { uint32_t number, len; } note;
+// A mailbox: the daemon makes it FULL, and the client that takes it EMPTY.
+enum { EMPTY, FULL, TAKEN };
+typedef struct { uint32_t state, bucket; bb_detached detached; } mail;
+typedef union { uint64_t words[256]; } __attribute__((aligned(16))) block;
 
-// The pipes of a client, and its party.
-typedef struct { int notes[2], returns[2]; pid_t process; bool alive; bb_pool_party party; } client;
+// What lies in the file. Blocks that were given back aren't used again: this program asks for few.
+typedef struct {
+    block blocks[BLOCKS];
+    size_t used;
+    bb_shared_pool pool;
+    bb_pool_party daemon, client;
+    mail mails[MAILS];
+    uint32_t read, ends;
+    unsigned char region[BB_BYTES_FOR(SIZE, ALIGN, BUCKETS + 1)];
+} shared;
+
+static shared *all;
 
 static void expect(int holds, const char *what) {
     if (!holds) {
@@ -30,126 +44,133 @@ static void expect(int holds, const char *what) {
     }
 }
 
-static unsigned char *map(int file, int access) {
-    void *base = mmap(NULL, region_size, access, MAP_SHARED, file, 0);
-    expect(base != MAP_FAILED, "the region is mapped");
-    return (unsigned char *)base;
+// The library's memory. The daemon alone asks for any: no call of the client does.
+static void *take_block(size_t size) { return size <= sizeof(block) && all->used < BLOCKS ? &all->blocks[all->used++] : NULL; }
+static void *resize_block(void *at, size_t size) { return at == NULL ? take_block(size) : size <= sizeof(block) ? at : NULL; }
+static void give_block(void *at) { (void)at; }
+
+static void map(int file) {
+    void *wanted = (void *)(uintptr_t)ADDRESS;
+    void *at = mmap(wanted, sizeof *all, PROT_READ | PROT_WRITE, MAP_SHARED | MAP_FIXED_NOREPLACE, file, 0);
+    expect(at == wanted, "the file is mapped at the agreed address");
+    all = (shared *)at;
+    bb_use_memory(take_block, resize_block, give_block);
 }
 
+static uint32_t load(const uint32_t *word) { return __atomic_load_n(word, __ATOMIC_SEQ_CST); }
+static void store(uint32_t *word, uint32_t value) { __atomic_store_n(word, value, __ATOMIC_SEQ_CST); }
+
+static size_t len_of(uint32_t message) { return 64 + message % (SIZE - 64); }
 static unsigned char byte_of(uint32_t message) { return (unsigned char)(message * 7 + 1); }
 
-// A client's process: it has no pool, and what a note says is tested before it is used. It ends with the notes.
-static void read_all(int file, int notes, int returns) {
-    const unsigned char *base = map(file, PROT_READ);
-    note next;
-    while (read(notes, &next, sizeof next) == (ssize_t)sizeof next) {
-        expect(next.number < BUCKETS && next.len >= sizeof(uint32_t) && next.len <= SIZE, "a note names a bucket");
-        const unsigned char *message = base + next.number * (size_t)STRIDE;
-        uint32_t told;
-        memcpy(&told, message, sizeof told);
-        for (size_t at = sizeof told; at < next.len; at++)
-            expect(message[at] == byte_of(told), "a message is what the daemon wrote");
-        expect(write(returns, &next.number, sizeof next.number) == (ssize_t)sizeof next.number, "a number is sent back");
-    }
-    _exit(0);
-}
-
-static void start(client *one, int file) {
-    expect(pipe(one->notes) == 0 && pipe(one->returns) == 0, "two pipes are there");
-    one->process = fork();
-    expect(one->process >= 0, "a process starts");
-    if (one->process == 0) {
-        close(one->notes[1]);
-        close(one->returns[0]);
-        read_all(file, one->notes[0], one->returns[1]);
-    }
-    close(one->notes[0]);
-    close(one->returns[1]);
-    one->alive = true;
-}
-
-// Gives back one bucket that a client returned, by the client's party; waits for one where `wait` says so.
-static bool take_return(client *one, const unsigned char *base, bool wait) {
-    struct pollfd returns = {one->returns[0], POLLIN, 0};
+// The client takes a mailbox before it attaches the bucket, so the daemon knows which ones it was busy with where it is killed.
+static uint32_t read_one(mail *from) {
+    if (load(&from->state) != FULL) return 0;
+    store(&from->state, TAKEN);
+    size_t len = bb_detached_len(&from->detached).number;
+    bb_answer got = bb_pool_party_attach(&all->client, &from->detached);
+    expect(got.code == BB_OK, "a bucket is attached");
+    store(&from->state, EMPTY);
+    const unsigned char *message = (const unsigned char *)got.place;
     uint32_t number;
-    if (!one->alive || poll(&returns, 1, wait ? 1000 : 0) <= 0) return false;
-    if (read(one->returns[0], &number, sizeof number) != (ssize_t)sizeof number) return false;
-    expect(number < BUCKETS, "a client returns a bucket");
-    return bb_pool_party_deallocate(&one->party, base + number * (size_t)STRIDE) == BB_OK;
+    memcpy(&number, message, sizeof number);
+    expect(len == len_of(number), "a message has its length");
+    for (size_t at = sizeof number; at < len; at++) expect(message[at] == byte_of(number), "a message is what the daemon wrote");
+    expect(bb_pool_party_deallocate(&all->client, got.place) == BB_OK, "its bucket is given back");
+    store(&all->read, load(&all->read) + 1);
+    return 1;
 }
 
-// Fills a bucket, lets the client's party have it, and sends the note.
-static bool send(bb_pool_party *mine, bb_detached *detached, client *to, uint32_t message) {
-    const size_t len = 64 + message % (SIZE - 64);
-    bb_answer given = bb_pool_party_allocate(mine, len, ALIGN);
+static int run_client(const char *name) {
+    int file = open(name, O_RDWR);
+    expect(file >= 0, "the file is there");
+    map(file);
+    while (true) {
+        uint32_t ends = load(&all->ends), count = 0;
+        for (uint32_t at = 0; at < MAILS; at++) count += read_one(&all->mails[at]);
+        if (count == 0 && ends != 0) return 0;
+        if (count == 0) sched_yield();
+    }
+}
+
+static pid_t start(const char *program, const char *name) {
+    expect(bb_shared_pool_join(&all->pool, &all->client) == BB_OK, "the client's party joins");
+    pid_t process = fork();
+    expect(process >= 0, "a process starts");
+    if (process == 0) {
+        prctl(PR_SET_PDEATHSIG, SIGKILL);  // no client outlives the daemon
+        execl(program, program, name, (char *)NULL);
+        expect(0, "the client runs");
+    }
+    return process;
+}
+
+// Fills a bucket, and puts it into an empty mailbox.
+static bool send_one(uint32_t message) {
+    mail *to = &all->mails[message % MAILS];
+    const size_t len = len_of(message);
+    if (load(&to->state) != EMPTY) return false;
+    bb_answer given = bb_pool_party_allocate(&all->daemon, len, ALIGN);
     if (given.code == BB_OUT_OF_MEMORY) return false;
     expect(given.code == BB_OK, "a bucket is given");
     memset(given.place, byte_of(message), len);
     memcpy(given.place, &message, sizeof message);
-    note next = {(uint32_t)bb_pool_party_number_at(mine, given.place).number, (uint32_t)len};
-    expect(bb_pool_party_detach(mine, given.place, len, detached) == BB_OK, "a bucket is detached");
-    expect(bb_pool_party_attach(&to->party, detached).code == BB_OK, "the client's party has it");
-    expect(write(to->notes[1], &next, sizeof next) == (ssize_t)sizeof next, "the note is sent");
+    to->bucket = (uint32_t)bb_pool_party_number_at(&all->daemon, given.place).number;
+    expect(bb_pool_party_detach(&all->daemon, given.place, len, &to->detached) == BB_OK, "a bucket is detached");
+    store(&to->state, FULL);
     return true;
 }
 
-static size_t held(bb_pool_party *party) {
-    struct bb_pool_info info;
-    expect(bb_pool_party_info(party, &info) == BB_OK, "a party has figures");
-    return info.held_buckets;
+// Gives back what the dead client had: a bucket that it was about to attach, and those that its party holds.
+static void clean_up(void) {
+    for (uint32_t at = 0; at < MAILS; at++) {
+        mail *it = &all->mails[at];
+        struct bb_holder holder;
+        bb_lost lost = BB_LOST;
+        if (load(&it->state) != TAKEN) continue;
+        expect(bb_shared_pool_holder(&all->pool, it->bucket, &holder) == BB_OK, "a flag says who holds a bucket");
+        if (holder.state == BB_DETACHED) expect(bb_pool_party_recover(&all->daemon, it->bucket, &lost) == BB_OK, "it comes back");
+        expect(bb_detached_destroy(&it->detached) == BB_OK && bb_detached_init(&it->detached) == BB_OK, "the mailbox is as new");
+        store(&it->state, EMPTY);
+    }
+    expect(bb_shared_pool_leave(&all->pool, &all->client) == BB_OK, "its party leaves");
 }
 
-// Ends a client, and gives back each bucket that its party holds.
-static void end(bb_shared_pool *pool, client *one, int by_signal) {
+static void wait_for(pid_t client, bool killed) {
     int status;
-    if (by_signal != 0) expect(kill(one->process, by_signal) == 0, "a client is killed");
-    close(one->notes[1]);
-    expect(waitpid(one->process, &status, 0) == one->process, "a client ended");
-    expect(by_signal != 0 ? WIFSIGNALED(status) : WIFEXITED(status) && WEXITSTATUS(status) == 0, "as it should");
-    expect(bb_shared_pool_leave(pool, &one->party) == BB_OK, "its party leaves");
-    close(one->returns[0]);
-    one->alive = false;
+    expect(waitpid(client, &status, 0) == client, "a client ended");
+    expect(killed ? WIFSIGNALED(status) : WIFEXITED(status) && WEXITSTATUS(status) == 0, "as it should");
+    clean_up();
 }
 
-int main(void) {
-    static client clients[CLIENTS];
+int main(int argc, char **argv) {
+    if (argc > 1) return run_client(argv[1]);
     char name[] = "/tmp/bb_memory_processes_XXXXXX";
     int file = mkstemp(name);
-    expect(file >= 0 && unlink(name) == 0 && ftruncate(file, (off_t)region_size) == 0, "the region's file is there");
-    for (size_t at = 0; at < CLIENTS; at++)  // before the pool: no client has a copy of its handles
-        start(&clients[at], file);
+    expect(file >= 0 && ftruncate(file, (off_t)sizeof *all) == 0, "the file is there");
+    map(file);
+    uint32_t code = bb_shared_pool_init_at_least(&all->pool, SIZE, ALIGN, all->region, sizeof all->region, 2, BUCKETS);
+    expect(code == BB_OK && bb_shared_pool_join(&all->pool, &all->daemon) == BB_OK, "the daemon has a pool, and a party");
+    for (uint32_t at = 0; at < MAILS; at++) expect(bb_detached_init(&all->mails[at].detached) == BB_OK, "a mailbox is there");
 
-    unsigned char *base = map(file, PROT_READ | PROT_WRITE);
-    bb_shared_pool pool = BB_EMPTY;
-    bb_pool_party mine = BB_EMPTY;
-    bb_detached detached = BB_EMPTY;
-    expect(bb_shared_pool_init_at_least(&pool, SIZE, ALIGN, base, region_size, CLIENTS + 1, BUCKETS) == BB_OK, "a pool is there");
-    expect(bb_shared_pool_join(&pool, &mine) == BB_OK && bb_detached_init(&detached) == BB_OK, "the daemon is a party");
-    for (size_t at = 0; at < CLIENTS; at++)
-        expect(bb_shared_pool_join(&pool, &clients[at].party) == BB_OK, "so is each client");
-
-    size_t lost = 0;
+    pid_t client = start(argv[0], name);
     for (uint32_t message = 0; message < MESSAGES; message++) {
-        client *to = &clients[message % CLIENTS];
-        while (to->alive && !send(&mine, &detached, to, message))
-            for (size_t at = 0; at < CLIENTS; at++)
-                while (take_return(&clients[at], base, false)) {}
-        if (message == MESSAGES / 2 + 1) {  // to the second client: it dies with this bucket at least
-            lost = held(&clients[1].party);
-            end(&pool, &clients[1], SIGKILL);
-        }
+        while (!send_one(message)) sched_yield();
+        if (message % (MESSAGES / 4) != MESSAGES / 8) continue;
+        while (load(&all->read) == 0) sched_yield();
+        expect(kill(client, SIGKILL) == 0, "a client is killed");
+        wait_for(client, true);
+        store(&all->read, 0);
+        client = start(argv[0], name);
     }
-    while (held(&clients[0].party) > 0)
-        expect(take_return(&clients[0], base, true), "the client returns all that it holds");
-    expect(bb_pool_party_deallocate(&clients[0].party, base) == BB_NOT_HELD, "a second return is refused");
-    end(&pool, &clients[0], 0);
+    store(&all->ends, 1);
+    wait_for(client, false);
 
-    size_t back = 0;
-    while (bb_pool_party_allocate(&mine, SIZE, ALIGN).code == BB_OK)
-        back++;
-    expect(lost > 0 && back == BUCKETS, "every bucket is back, also those of the client that was killed");
-    expect(bb_shared_pool_leave(&pool, &mine) == BB_OK && bb_shared_pool_destroy(&pool) == BB_OK, "the pool is destroyed");
-    expect(bb_detached_destroy(&detached) == BB_OK && munmap(base, region_size) == 0 && close(file) == 0, "nothing is left");
-    puts("processes: clients read in place, and a killed one lost no bucket");
+    struct bb_shared_pool_info info;
+    expect(bb_shared_pool_info(&all->pool, &info) == BB_OK && info.pool.held_buckets == 0, "every bucket is back");
+    for (uint32_t at = 0; at < MAILS; at++) expect(bb_detached_destroy(&all->mails[at].detached) == BB_OK, "a mailbox is gone");
+    expect(bb_shared_pool_leave(&all->pool, &all->daemon) == BB_OK, "the daemon leaves");
+    expect(bb_shared_pool_destroy(&all->pool) == BB_OK && unlink(name) == 0, "nothing is left");
+    puts("processes: two programs share a pool in a file, and killed clients lost no bucket");
     return 0;
 }

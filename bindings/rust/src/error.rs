@@ -131,6 +131,16 @@ error! {
 }
 
 error! {
+    /// Why a bucket wasn't recovered.
+    RecoverError {
+        /// The bucket isn't detached.
+        NotHeld = NOT_HELD: "the bucket is not detached",
+        /// No bucket has the number.
+        NotABucket = NOT_A_BUCKET: "no bucket has the number",
+    }
+}
+
+error! {
     /// Why a bump that threads share wasn't reset. It is as it was.
     ResetError {
         /// Not each party was dropped.

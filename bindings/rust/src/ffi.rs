@@ -11,6 +11,8 @@ pub struct Handle {
 
 impl Handle {
     pub const EMPTY: Handle = Handle { at: ptr::null_mut(), made: false };
+    /// What a host hands in for a lost `bb_detached`: `BB_LOST` of the header.
+    pub const LOST: Handle = Handle { at: ptr::null_mut(), made: true };
 }
 
 /// A code, and with [`OK`] the place of the chunk that was given.
@@ -83,6 +85,20 @@ pub struct SharedPoolInfo {
     pub refused: usize,
 }
 
+/// What the flag of a bucket says.
+#[repr(C)]
+#[derive(Default)]
+pub struct Holder {
+    pub state: u32,
+    pub party: u32,
+}
+
+impl Holder {
+    pub const FREE: u32 = 0;
+    pub const HELD: u32 = 1;
+    pub const DETACHED: u32 = 2;
+}
+
 pub const OK: u32 = 0;
 pub const SIZE_IS_ZERO: u32 = 1;
 pub const SIZE_TOO_LARGE: u32 = 2;
@@ -110,6 +126,17 @@ pub type Resize =
     unsafe extern "C" fn(*mut Handle, *const c_void, usize, usize, usize, usize) -> Answer;
 /// Makes the party behind the second handle join, or leave.
 pub type Parties = unsafe extern "C" fn(*mut Handle, *mut Handle) -> u32;
+
+/// What the library calls in the place of `malloc`, of `realloc` and of `free`.
+pub type TakeMemory = unsafe extern "C" fn(usize) -> *mut c_void;
+/// As [`TakeMemory`].
+pub type ResizeMemory = unsafe extern "C" fn(*mut c_void, usize) -> *mut c_void;
+/// As [`TakeMemory`].
+pub type ReleaseMemory = unsafe extern "C" fn(*mut c_void);
+
+unsafe extern "C" {
+    pub fn bb_use_memory(take: TakeMemory, resize: ResizeMemory, release: ReleaseMemory);
+}
 
 /// Declares the functions, whose parameters need no names.
 macro_rules! functions {
@@ -153,6 +180,7 @@ functions! {
     bb_shared_pool_init(usize, usize, *const c_void, usize, u32) -> u32;
     bb_shared_pool_destroy() -> u32;
     bb_shared_pool_info(*mut SharedPoolInfo) -> u32;
+    bb_shared_pool_holder(u32, *mut Holder) -> u32;
     bb_shared_pool_join(*mut Handle) -> u32;
     bb_shared_pool_leave(*mut Handle) -> u32;
     bb_pool_party_destroy() -> u32;
@@ -162,10 +190,13 @@ functions! {
     bb_pool_party_info(*mut PoolInfo) -> u32;
     bb_pool_party_place_at(u32) -> Figure;
     bb_pool_party_number_at(*const c_void) -> Figure;
+    bb_pool_party_number() -> Figure;
     bb_pool_party_cache(u32) -> u32;
     bb_pool_party_flush() -> u32;
     bb_detached_init() -> u32;
     bb_detached_destroy() -> u32;
     bb_pool_party_detach(*const c_void, usize, *mut Handle) -> u32;
     bb_pool_party_attach(*mut Handle) -> Answer;
+    bb_pool_party_return_detached(*mut Handle) -> u32;
+    bb_pool_party_recover(u32, *mut Handle) -> u32;
 }

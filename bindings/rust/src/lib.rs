@@ -14,8 +14,11 @@ mod shared;
 pub use allocator::{Allocator, BaseAllocator, Pool};
 pub use error::{
     AllocationError, AllocationGrowError, AllocationShrinkError, DeallocationError, DetachError,
-    InitError, JoinError, ResetError,
+    InitError, JoinError, RecoverError, ResetError,
 };
 pub use ffi::{BumpInfo, OneChunkInfo, PoolInfo, SharedPoolInfo};
+pub use owned::use_memory;
 pub use owners::{BumpAllocator, OneChunkAllocator, PoolAllocator};
-pub use shared::{BumpParty, DetachedBucket, PoolParty, SharedBumpAllocator, SharedPoolAllocator};
+pub use shared::{
+    BumpParty, DetachedBucket, Holder, PoolParty, SharedBumpAllocator, SharedPoolAllocator,
+};

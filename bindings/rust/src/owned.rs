@@ -11,6 +11,20 @@ use core::ptr::NonNull;
 use std::alloc;
 use std::sync::{Arc, Mutex, MutexGuard, PoisonError};
 
+/// Has the library call these functions in the place of `malloc`, `realloc` and `free`.
+///
+/// # Safety
+///
+/// Nothing of this crate was made before in this process. The functions do what `malloc`, `realloc` and `free` do, in any thread.
+pub unsafe fn use_memory(
+    take: ffi::TakeMemory,
+    resize: ffi::ResizeMemory,
+    release: ffi::ReleaseMemory,
+) {
+    // SAFETY: as the caller says.
+    unsafe { ffi::bb_use_memory(take, resize, release) };
+}
+
 /// A handle that isn't empty, where its region starts, and how it is destroyed. A call writes what is behind the handle, so no
 /// two threads may call at once: the cell makes it `!Sync`. What is behind it belongs to no thread.
 pub struct Owned<'region> {

@@ -1,8 +1,8 @@
 //! Bumps and pools that threads share: each thread is a party, which joins, and leaves when it is dropped.
 use crate::allocator::{Pool, base, buckets, figures, over_region, shown};
 use crate::error::{
-    AllocationError, DeallocationError, DetachError, InitError, JoinError, ResetError,
-    no_such_answer,
+    AllocationError, DeallocationError, DetachError, InitError, JoinError, RecoverError,
+    ResetError, no_such_answer,
 };
 use crate::owned::{Common, Joining, Member, Memory, Owned, Shared, expect_ok, lock, number_if};
 use crate::{BaseAllocator, ffi};
@@ -157,6 +157,36 @@ impl<'region> SharedPoolAllocator<'region> {
             ffi::bb_shared_pool_info(lock(&self.shared).owned.handle(), &mut info)
         });
         info
+    }
+}
+
+/// What the flag of a pool's bucket says. A party's [`number`](PoolParty::number) is that by which flags name it.
+#[derive(Clone, Copy, Debug, PartialEq, Eq)]
+pub enum Holder {
+    /// No party holds the bucket.
+    Free,
+    /// The party of this number holds the bucket, or caches it.
+    HeldBy(u32),
+    /// The party of this number has detached the bucket.
+    DetachedBy(u32),
+}
+
+impl SharedPoolAllocator<'_> {
+    /// Returns what the flag of this bucket says, in any thread and while parties call, or `None` where no bucket has the number.
+    pub fn holder(&self, number: u32) -> Option<Holder> {
+        let mut told = ffi::Holder::default();
+        let pool = lock(&self.shared);
+        // SAFETY: the function is of this kind, and writes nothing that another call may read.
+        match unsafe { ffi::bb_shared_pool_holder(pool.owned.handle(), number, &mut told) } {
+            ffi::NOT_A_BUCKET => return None,
+            code => expect_ok(code),
+        }
+        Some(match told.state {
+            ffi::Holder::FREE => Holder::Free,
+            ffi::Holder::HELD => Holder::HeldBy(told.party),
+            ffi::Holder::DETACHED => Holder::DetachedBy(told.party),
+            state => no_such_answer(state),
+        })
     }
 }
 
@@ -315,5 +345,47 @@ impl<'region> PoolParty<'region> {
         assert!(Arc::ptr_eq(pool, &self.owned.of), "the bucket is another pool's");
         detached.of = None;
         Some(detached.attach_by(&self.owned, len))
+    }
+
+    /// Gives back the bucket that is in `detached`, without attaching it. Returns `false` where none is in it.
+    ///
+    /// # Safety
+    ///
+    /// The chunk isn't used any more.
+    ///
+    /// # Panics
+    ///
+    /// Where the bucket is another pool's, which stays in `detached`.
+    pub unsafe fn return_detached(&self, detached: &mut DetachedBucket<'region>) -> bool {
+        let Some((pool, _)) = detached.of.as_ref() else { return false };
+        assert!(Arc::ptr_eq(pool, &self.owned.of), "the bucket is another pool's");
+        detached.of = None;
+        // SAFETY: both handles are of their kinds, no other call has one of them, and the bucket is of the party's pool.
+        expect_ok(unsafe {
+            ffi::bb_pool_party_return_detached(self.owned.handle(), detached.owned.handle())
+        });
+        true
+    }
+
+    /// Gives back the detached bucket of this number.
+    ///
+    /// # Safety
+    ///
+    /// Nobody has or will use the bucket's [`DetachedBucket`], which was forgotten or a dead process's. Its chunk isn't used any
+    /// more.
+    pub unsafe fn recover(&self, number: u32) -> Result<(), RecoverError> {
+        let mut lost = ffi::Handle::LOST;
+        // SAFETY: the function is of this kind, no other call has the handle, and the bucket's token is nobody's.
+        RecoverError::unless_ok(unsafe {
+            ffi::bb_pool_party_recover(self.owned.handle(), number, &mut lost)
+        })
+    }
+
+    /// Returns the number by which flags name this party.
+    pub fn number(&self) -> u32 {
+        // SAFETY: the function is of this kind, and no other call has the handle.
+        let figure = unsafe { ffi::bb_pool_party_number(self.owned.handle()) };
+        let number = number_if(ffi::NOT_HELD, figure).and_then(|it| u32::try_from(it).ok());
+        number.unwrap_or_else(|| no_such_answer(ffi::OK))
     }
 }

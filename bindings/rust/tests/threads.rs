@@ -1,7 +1,8 @@
 //! What threads share: each thread is a party, which it takes along.
 use bb_memory::{
     AllocationError, BaseAllocator, BumpParty, DeallocationError, DetachError, DetachedBucket,
-    InitError, JoinError, Pool, PoolParty, ResetError, SharedBumpAllocator, SharedPoolAllocator,
+    Holder, InitError, JoinError, Pool, PoolParty, RecoverError, ResetError, SharedBumpAllocator,
+    SharedPoolAllocator,
 };
 use std::alloc::Layout;
 use std::ptr::NonNull;
@@ -247,6 +248,40 @@ fn what_one_party_holds_is_not_anothers() {
         assert_eq!((taken.cast(), taken.len()), (chunk, 64));
         refuses(mine.try_deallocate(chunk), DeallocationError::NotHeld);
         assert_eq!(other.try_deallocate(chunk), Ok(()));
+    }
+}
+
+#[test]
+fn a_flag_says_who_holds_a_bucket() {
+    let pool = SharedPoolAllocator::with_buckets(bucket(), 2, 2).unwrap();
+    let (mine, other) = (pool.join().unwrap(), pool.join().unwrap());
+    assert_ne!(mine.number(), other.number());
+    let mut detached = DetachedBucket::new().unwrap();
+    let chunk = mine.allocate(bucket()).unwrap().cast();
+    let number = mine.number_at(chunk).unwrap();
+    let told = |number| thread::scope(|scope| scope.spawn(|| pool.holder(number)).join().unwrap());
+    let says = [told(number), told(1 - number), told(2)];
+    assert_eq!(says, [Some(Holder::HeldBy(mine.number())), Some(Holder::Free), None]);
+    // SAFETY: no chunk is used, and what is recovered was forgotten.
+    unsafe {
+        assert!(!other.return_detached(&mut detached));
+        mine.detach(chunk, 64, &mut detached).unwrap();
+        assert_eq!(told(number), Some(Holder::DetachedBy(mine.number())));
+        assert!(other.return_detached(&mut detached) && !detached.is_full());
+        assert_eq!(told(number), Some(Holder::Free));
+        refuses(other.recover(number), RecoverError::NotHeld);
+        refuses(other.recover(2), RecoverError::NotABucket);
+        let chunk = mine.allocate(bucket()).unwrap().cast();
+        let number = mine.number_at(chunk).unwrap();
+        mine.detach(chunk, 64, &mut detached).unwrap();
+        let mut attached = DetachedBucket::new().unwrap();
+        let taken = other.attach(&mut detached).unwrap().cast();
+        assert_eq!(told(number), Some(Holder::HeldBy(other.number())));
+        other.detach(taken, 64, &mut attached).unwrap();
+        std::mem::forget(attached);
+        drop(other);
+        assert_eq!(mine.recover(number), Ok(()));
+        assert_eq!(told(number), Some(Holder::Free));
     }
 }
 
