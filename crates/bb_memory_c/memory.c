@@ -1,5 +1,5 @@
-// Where the library's own memory comes from. It stands outside the proofs: of a request for memory no contract says more than that
-// it may be refused. The Makefile has the library call the functions `memory_*` where it calls `malloc`, `realloc` and `free`.
+// Where the library's own memory comes from. It stands outside the proofs: of a request for memory no contract says more than
+// that it may be refused. The Makefile has the library call `memory_*` where it calls `malloc`, `realloc` and `free`.
 #include <stdlib.h>
 
 #include "bb_memory.h"

@@ -1,6 +1,7 @@
 -- A shared pool, its parties, and detached buckets that go from party to party, behind handles: what their calls are answered.
 use Rattle.std.specs.Prelude.{◌≡◌, ◌≢◌, ◌-◌, ◌<◌, ◌≤◌, ◌↔◌, ◌++◌, [], ℕ, zero, suc, All, Bool, false, List, Result, Ok}
-use Rattle.std.specs.Prelude.{Option, Some, None, IfOk, IfSome, MatchOption, count_by, fold, length, min, if◌then◌else◌, slice_get}
+use Rattle.std.specs.Prelude.{Option, Some, None, IfOk, IfSome, MatchOption, count_by, fold, length, min, slice_get}
+use Rattle.std.specs.Prelude.{if◌then◌else◌}
 use Rattle.std.specs.Result.{result_map_both}
 use Rattle.bb_memory_traits.specs.Chunk.{Region, Chunk, IsInside, first_place}
 use Rattle.bb_memory_traits.specs.PoolObject.{IsCut, PoolGeometry, bucket_place}
@@ -79,7 +80,8 @@ pub record AreFlagged (pool : SharedPool) (are_so : ℕ → Type 0) (flags : Lis
 abbrev pub ArePlaces : List ℕ → List ℕ → Type 0
 ArePlaces cached places = (k bucket : ℕ) → slice_get cached k ≡ Some bucket → slice_get places bucket ≡ Some k
 
--- the party is this pool's, and the places are those of the buckets that it caches, with room for each bucket where it caches some
+-- The party is this pool's, and the places are those of the buckets that it caches. There is room for each bucket where it
+-- caches some.
 pub record IsJoinedAt (pool : SharedPool) (joined : CachingParty) (places : List ℕ) : Type 0 where
   pub theirs : joined.party.allocator ≡ pool
   pub room : 0 < joined.most → pool.scene.geometry.buckets ≤ length places

@@ -8,7 +8,8 @@ use Rattle.std.proofs.lemmas.List.{length-replicate}
 use Rattle.bb_memory_pool_machine.specs.PoolMachine.{PoolScene, PoolState, PoolMove, IsFlag, IsHolder, IsDetached, IsTaken}
 use Rattle.bb_memory_pool_machine.specs.PoolMachine.{pool_step, pool_after, opening_state, left_by, Flag, Free, HeldBy}
 use Rattle.bb_memory_pool_machine.specs.PoolMachine.{DetachedBy, PoolStep, Detaches}
-use Rattle.bb_memory_pool_machine.specs.PoolLogs.{PoolEntry, PoolLog, entry_of, history_of, pool_history, IsDetachedIn, WasDetached}
+use Rattle.bb_memory_pool_machine.specs.PoolLogs.{PoolEntry, PoolLog, entry_of, history_of, pool_history, IsDetachedIn}
+use Rattle.bb_memory_pool_machine.specs.PoolLogs.{WasDetached}
 use Rattle.bb_memory_lists.proofs.SliceGets.{slice_get-replicated, slice_get-set_apart, slice_get-set_at}
 use Rattle.bb_memory_pool_machine.proofs.PoolSteps.{StepKind, takes, takes_at, gives, detaches, attaches, gives_detached}
 use Rattle.bb_memory_pool_machine.proofs.PoolSteps.{calls-step, kind_of}

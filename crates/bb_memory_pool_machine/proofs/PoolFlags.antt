@@ -4,8 +4,9 @@ use Rattle.std.proofs.Common.{inl, inr}
 use Rattle.std.specs.Prelude.{◌⊎◌, option_map, slice_get}
 use Rattle.std.proofs.lemmas.Bool.{cases_eq}
 use Rattle.std.proofs.lemmas.Option.{same_Some, slice_get-map, slice_get_within}
-use Rattle.bb_memory_pool_machine.specs.PoolMachine.{PoolScene, PoolState, PoolMove, PoolStep, IsFlag, IsTaken, Flag, Free, HeldBy}
-use Rattle.bb_memory_pool_machine.specs.PoolMachine.{DetachedBy, NamesMade, left_by, opening_state, pool_after, pool_step, with_flag}
+use Rattle.bb_memory_pool_machine.specs.PoolMachine.{PoolScene, PoolState, PoolMove, PoolStep, IsFlag, IsTaken, Flag, Free}
+use Rattle.bb_memory_pool_machine.specs.PoolMachine.{DetachedBy, HeldBy, NamesMade, left_by, opening_state, pool_after}
+use Rattle.bb_memory_pool_machine.specs.PoolMachine.{pool_step, with_flag}
 use Rattle.bb_memory_pool_machine.specs.PoolLogs.{is_taken}
 use Rattle.bb_memory_lists.proofs.SliceGets.{slice_get-replicated, slice_get-set_apart, slice_get-set_at}
 use Rattle.bb_memory_pool_machine.proofs.PoolSteps.{StepKind, takes, takes_at, gives, detaches, attaches, gives_detached}

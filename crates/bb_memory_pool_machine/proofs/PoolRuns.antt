@@ -161,9 +161,9 @@ module _ (geometry : PoolGeometry) (is : IsPoolGeometry geometry) where
       subst (Matches geometry move.state.flags) (sym call)
       (flag_set old.flags live live bucket (DetachedBy sender) (HeldBy party) matches detached
       (λ one. one) (λ b apart. refl) matches.buckets)
-  step_matches old live new layout step move (gives_detached party bucket idle (sender, detached)) matches (position, at, released) =
+  step_matches old live new layout step move (gives_detached party bucket idle (sender, detached)) matches (i, at, released) =
       subst (Matches geometry move.state.flags) (sym released.leaves)
-      (flag_freed old live bucket position (DetachedBy sender) matches detached refl released.within at)
+      (flag_freed old live bucket i (DetachedBy sender) matches detached refl released.within at)
   step_matches old live new layout step move _ matches call = subst (Matches geometry old.flags) (sym call) matches
 
   -- LISTS OF STEPS

@@ -106,8 +106,8 @@ pub sees_detached_as : (scene : PoolScene) (slots seat word bucket : ℕ) (me : 
     me ≡ (carrying scene bucket, []) →
     Allows (WordsAndLogsAgree scene) slots seat me word (λ found. found) (sees_detached (step slots word 0 0 none) me)
 sees_detached_as scene slots seat word bucket me there is =
-    subst (λ (w : ℕ). Allows (WordsAndLogsAgree scene) slots seat me w (λ found. found) (sees_detached (step slots w 0 0 none) me))
-    (sym there)
+    subst (λ (w : ℕ). Allows (WordsAndLogsAgree scene) slots seat me w (λ found. found)
+    (sees_detached (step slots w 0 0 none) me)) (sym there)
     (subst (λ (m : Me ℕ SeatView). Allows (WordsAndLogsAgree scene) slots seat m (word_of bucket) (λ found. found)
     (sees_detached (step slots (word_of bucket) 0 0 none) m)) (sym is) (sees_one scene slots seat bucket))
 

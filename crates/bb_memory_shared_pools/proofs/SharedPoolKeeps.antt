@@ -21,8 +21,8 @@ use Rattle.bb_memory_shared_pools.specs.SharedPoolRule.{as_word, bucket_of, word
 use Rattle.bb_memory_shared_pools.specs.SharedPoolRule.{WordsAndLogsAgree, HasMissedAt, TellsHeld, TellsLookAt, TellsReturn}
 use Rattle.bb_memory_shared_pools.specs.SharedPoolRule.{TellsTry, TellsTryAt, Telling, all_parties, at_flag, returns, tells_of}
 use Rattle.bb_memory_seats.specs.Seats.{alone, number_of, standing_for, view_log}
-use Rattle.bb_memory_shared_pools.proofs.FlagWords.{at_word, changed, exchange_leaves, exchanged, found_in, made_again, taken_word}
-use Rattle.bb_memory_shared_pools.proofs.FlagWords.{word_names}
+use Rattle.bb_memory_shared_pools.proofs.FlagWords.{at_word, changed, exchange_leaves, exchanged, found_in, made_again}
+use Rattle.bb_memory_shared_pools.proofs.FlagWords.{taken_word, word_names}
 use Rattle.bb_memory_seats.proofs.Seatings.{seated_entered, seated_step}
 use Rattle.bb_memory_shared_pools.proofs.SharedPoolDetached.{detached_entered, detached_kept, free_not_detached, still_detached}
 use Rattle.bb_memory_shared_pools.proofs.SharedPoolMeetings.{unchanged}
@@ -167,7 +167,8 @@ module _ (tells : Telling) (scene : PoolScene) (seat party bucket : ℕ) (log : 
 -- A step may be made at a bucket that there is, where it may be made at each flag.
 module _ (becomes : ℕ → ℕ) (tells : Telling) (scene : PoolScene) (slots seat word party bucket : ℕ) (log : PoolLog)
     (me : Me ℕ SeatView) (there : word ≡ word_of bucket) (is : me ≡ (alone scene party log, []))
-    (below : bucket < scene.geometry.buckets) (at_flags : (flag : Flag) → AllowedAt tells scene seat party bucket log becomes flag)
+    (below : bucket < scene.geometry.buckets)
+    (at_flags : (flag : Flag) → AllowedAt tells scene seat party bucket log becomes flag)
   where
     at_bucket : Allows (WordsAndLogsAgree scene) slots seat (alone scene party log, []) (word_of bucket) becomes
         (tells_of tells (alone scene party log, []) bucket)
