@@ -5,7 +5,9 @@ use Rattle.std.specs.Prelude.{IfOk, OnErr, Some, slice_get}
 use Rattle.std.specs.List.{list_any, range_with_len}
 use Rattle.bb_memory_traits.specs.Chunk.{IsRegion, Chunk, IsSound}
 use Rattle.bb_memory_traits.specs.Object.{PlacesDiffer, note_after_run}
-use Rattle.bb_memory_traits.specs.PoolObject.{PoolGeometry, bucket_place, IsCut, IsPoolGeometry, IsHeld, IsWithin, chunk_in}
+use Rattle.bb_memory_traits.specs.Request.{Requested}
+use Rattle.bb_memory_traits.specs.PoolObject.{PoolGeometry, bucket_place, IsCut, IsPoolGeometry, IsHeld, IsWithin}
+use Rattle.bb_memory_traits.specs.PoolObject.{MayAllocate, chunk_in}
 use Rattle.bb_memory_traits.specs.declared.layout.Layout.{Layout}
 use Rattle.bb_memory_traits.specs.declared.allocator.Command.{Command}
 use Rattle.bb_memory_traits.specs.declared.allocator.AllocationError.{AllocationError}
@@ -126,6 +128,19 @@ pub record TakesBucket (old : CountedPool) (layout : Layout) (answer : Result Ch
   pub uncounted : words ≡ 0 → new.reads ≡ old.reads
   pub unchanged : words ≡ 0 → OnErr answer (new ≡ old)
 
+-- how many words a request for the layout reads, of so many: one if there is one, and none where its size or its alignment is
+-- refused
+abbrev pub reads_of : Layout → ℕ → Layout → ℕ
+reads_of bucket words layout =
+    if nat_le layout.size bucket.size && nat_le layout.align bucket.align then min words 1 else 0
+
+-- All that a pool promises of a request for this layout, of so many index words.
+abbrev pub Allocates : CountedPool → Layout → Result Chunk AllocationError → CountedPool → ℕ → Type 0
+Allocates old layout answer new words = Requested (λ pool. StandsFor pool.pool) (λ pool. HoldsPlace pool.pool)
+    (λ pool. pool.pool.geometry) (λ geometry. geometry.region) MayAllocate (λ pool. pool.reads)
+    (λ geometry asked before. reads_of geometry.bucket words asked)
+    (λ before asked told after. TakesBucket before asked told after words) old layout answer new
+
 -- What a pool is after a release by the value alone: that bucket, which was held, is free, and so one less is held. Each other
 -- place is held or free as it was, and the greatest number stays.
 pub record FreesBucket (old : CountedPool) (place : ℕ) (new : CountedPool) : Type 0 where
@@ -138,12 +153,6 @@ pub record FreesBucket (old : CountedPool) (place : ℕ) (new : CountedPool) : T
   pub greatest : new.greatest ≡ old.greatest
 
 -- INDEX WORDS
-
--- how many words a request for the layout reads, of so many: one if there is one, and none where its size or its alignment is
--- refused
-abbrev pub reads_of : Layout → ℕ → Layout → ℕ
-reads_of bucket words layout =
-    if nat_le layout.size bucket.size && nat_le layout.align bucket.align then min words 1 else 0
 
 -- how many the last request of these commands reads, or as many as before where they have none
 abbrev pub reads_after : Layout → ℕ → ℕ → List Command → ℕ

@@ -1,11 +1,11 @@
 //! Pools over a set of held buckets: what the pools of this crate have in common.
 ghost use Rattle.std.specs.Prelude.{◌≡◌, ◌≢◌, ◌↔◌, ◌≤◌, ℕ, false, true, List, OnOk, Some};
-ghost use Rattle.std.specs.Prelude.{IfSome, IsSome, IsTrue, length, max, remove, slice_get};
+ghost use Rattle.std.specs.Prelude.{IfErr, IfSome, IsSome, IsTrue, length, max, remove, slice_get};
 ghost use Rattle.bb_memory_traits.specs.Chunk.{Chunk};
 ghost use Rattle.bb_memory_traits.specs.Object.{AnswersRun, ResizableStep};
 ghost use Rattle.bb_memory_traits.specs.PoolObject.{bucket_place, pool_object};
 ghost use Rattle.bb_memory_geometry.specs.Geometry.{TellsNumber, TellsPlace};
-ghost use Rattle.bb_memory_owned.specs.Pool.{held_count, FreesBucket, HoldsPlace, IsPool, StandsFor, TakesBucket};
+ghost use Rattle.bb_memory_owned.specs.Pool.{held_count, Allocates, FreesBucket, HoldsPlace, IsPool, StandsFor, TakesBucket};
 ghost use Rattle.bb_memory_index_set.specs.IndexSets.{Has, Lacks, member_count};
 ghost use Rattle.bb_memory_owned.specs.Pool.{Takes, pool_of, reads_after, reads_of};
 
@@ -127,6 +127,20 @@ impl<S: IndexSet> BucketPool<S> {
         ensures { IsTrue result ↔ ((i : ℕ) × Lacks self.now.pool.held i) }
     {
         self.held.has_room()
+    }
+
+    /// Takes a whole bucket that isn't held: it answers as `allocate` does to the bucket's own layout. Which bucket is left open.
+    /// It is refused with `OutOfMemory`, where every bucket is held.
+    ///
+    /// Example: `pools::taken_whole` of `crates/examples`.
+    #[inline(always)]
+    pub fn take(&mut self) -> Result<Chunk, AllocationError>
+        ensures answer { Allocates self.old self.old.pool.geometry.bucket result self.new
+            (S.words self.old.pool.geometry.buckets) }
+        ensures refused { IfErr result (λ error. error ≡ AllocationError.OutOfMemory) }
+    {
+        let bucket = self.bucket_layout();
+        self.allocate(bucket)
     }
 
     /// Tests that this is the place of a held bucket, which may be given back: true exactly where `deallocate` may be called with
