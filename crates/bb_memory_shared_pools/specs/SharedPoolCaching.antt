@@ -6,7 +6,7 @@ use Rattle.bb_memory_pool_machine.specs.PoolLogs.{PoolLog, IsHeldAfter}
 use Rattle.bb_memory_traits.specs.declared.layout.Layout.{Layout}
 use Rattle.bb_memory_traits.specs.declared.allocator.AllocationError.{AllocationError}
 use Rattle.bb_memory_traits.specs.declared.allocator.AllocationError.TheVariants.{OutOfMemory}
-use Rattle.bb_memory_shared_pools.specs.SharedPool.{PoolParty, ServesNextFit, TakenBucket, return_entry, taken_bucket}
+use Rattle.bb_memory_shared_pools.specs.SharedPool.{PoolParty, Serves, ServesNextFit, TakenBucket, return_entry, taken_bucket}
 use Rattle.bb_memory_shared_pools.specs.SharedPool.{with_entries}
 use Rattle.bb_memory_shared_pools.specs.SharedPoolNextFit.{MayTakeFrom, hint_of}
 
@@ -49,6 +49,19 @@ pub record TakesCaching (old : CachingParty) (layout : Layout) (result : Result 
   pub searched : old.cached ≡ [] → SearchesPool old layout result new
   pub refused : IfErr result (λ error. RefusesCaching old layout error new)
   pub within : IfOk result (λ bucket. IsWithin old.party.allocator.scene.geometry.bucket layout)
+
+-- All that a caching party promises of a request. The bucket that it takes is out then, and wasn't before; each other bucket is
+-- out where it was.
+pub record ServesCaching (old : CachingParty) (layout : Layout) (result : Result TakenBucket AllocationError) (new : CachingParty)
+    : Type 0 where
+  pub answer : TakesCaching old layout result new
+  pub serves : Serves old.party.allocator old.party layout result new.party
+  pub taken : IfOk result (λ bucket. IsOut new bucket.number)
+  pub fresh : IfOk result (λ bucket. (other : ℕ) → IsOut old other → other ≢ bucket.number)
+  pub others_kept : (other : ℕ) → IsOut old other → IsOut new other
+  pub others : (other : ℕ) → IfOk result (λ bucket. other ≢ bucket.number) → IsOut new other → IsOut old other
+  pub party : new.party.allocator ≡ old.party.allocator
+  pub most : new.most ≡ old.most
 
 -- a return: the bucket is cached while fewer than the most are, and else goes back to the pool by one step
 pub record ReturnsCaching (old : CachingParty) (number : ℕ) (new : CachingParty) : Type 0 where

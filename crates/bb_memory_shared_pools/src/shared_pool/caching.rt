@@ -3,10 +3,10 @@ ghost use Rattle.std.specs.Prelude.{◌≡◌, ◌≢◌, ◌<◌, ◌≤◌, �
 ghost use Rattle.std.specs.Prelude.{true, vec_capacity};
 ghost use Rattle.bb_memory_traits.specs.PoolObject.{IsWithin};
 ghost use Rattle.bb_memory_pool_machine.specs.PoolLogs.{IsHeldAfter};
-ghost use Rattle.bb_memory_shared_pools.specs.SharedPool.{AreBothOf, AreInterleaved, IsSameParty, Serves, attach_entry};
+ghost use Rattle.bb_memory_shared_pools.specs.SharedPool.{AreBothOf, AreInterleaved, IsSameParty, attach_entry};
 ghost use Rattle.bb_memory_shared_pools.specs.SharedPool.{detach_entry, return_detached_entry, return_entry, taken_bucket};
 ghost use Rattle.bb_memory_shared_pools.specs.SharedPool.{with_entries};
-ghost use Rattle.bb_memory_shared_pools.specs.SharedPoolCaching.{AreCached, IsOut, ReturnsCaching, TakesCaching, returns_of};
+ghost use Rattle.bb_memory_shared_pools.specs.SharedPoolCaching.{AreCached, IsOut, ReturnsCaching, ServesCaching, returns_of};
 
 use super::bucket::Bucket;
 use super::buckets::SharedBucketPool;
@@ -144,17 +144,7 @@ impl CachingParty {
         layout: Layout,
     ) -> Result<Bucket<'p>, AllocationError>
         requires party { self.old.party.allocator ≡ pool.now }
-        ensures answer { TakesCaching self.old layout result self.new }
-        ensures serves { Serves self.old.party.allocator self.old.party layout
-            result self.new.party }
-        ensures taken { IfOk result (λ bucket. IsOut self.new bucket.number) }
-        ensures fresh { IfOk result (λ bucket. (other : ℕ) → IsOut self.old other
-            → other ≢ bucket.number) }
-        ensures others_kept { (other : ℕ) → IsOut self.old other → IsOut self.new other }
-        ensures others { (other : ℕ) → IfOk result (λ bucket. other ≢ bucket.number)
-            → IsOut self.new other → IsOut self.old other }
-        ensures party { self.new.party.allocator ≡ self.old.party.allocator }
-        ensures most { self.new.most ≡ self.old.most }
+        ensures { ServesCaching self.old layout result self.new }
     {
         // Proof hint: brings the party's invariant into scope on the returns without a step.
         let _ = self.party.number();
@@ -171,6 +161,21 @@ impl CachingParty {
             }
             None => pool.allocate_next_fit(&mut self.party, layout),
         }
+    }
+
+    /// Takes a whole bucket: it answers as `allocate` does to the bucket's own layout. It is refused with `OutOfMemory`, where
+    /// none is cached and each probe of the search misses. The party has to be this pool's.
+    #[inline(always)]
+    pub fn take<'p, const CAPPED: usize, const MOST: usize>(
+        &mut self,
+        pool: &'p SharedBucketPool<CAPPED, MOST>,
+    ) -> Result<Bucket<'p>, AllocationError>
+        requires party { self.old.party.allocator ≡ pool.now }
+        ensures answer { ServesCaching self.old pool.now.scene.geometry.bucket result self.new }
+        ensures refused { IfErr result (λ error. error ≡ AllocationError.OutOfMemory) }
+    {
+        let bucket = pool.bucket_layout();
+        self.allocate(pool, bucket)
     }
 
     /// Gives back a bucket. Where fewer than `most` are cached, the bucket is cached without a step. Otherwise it goes back to
