@@ -10,7 +10,7 @@ use Rattle.bb_memory_traits.specs.declared.layout.Layout.{Layout}
 use Rattle.bb_memory_traits.specs.declared.allocator.AllocationError.{AllocationError}
 use Rattle.bb_memory_traits.specs.declared.allocator.AllocationError.TheVariants.{OutOfMemory}
 use Rattle.bb_memory_geometry.proofs.Measures.{bucket-inside, bucket_place-multiple}
-use Rattle.bb_memory_shared_pools.specs.SharedPool.{IsParty, PoolParty, Serves, ServesNextFit, SharedPool, TakenBucket}
+use Rattle.bb_memory_shared_pools.specs.SharedPool.{IsParty, PoolParty, Serves, ServesAlone, SharedPool, TakenBucket}
 use Rattle.bb_memory_shared_pools.specs.SharedPool.{return_entry, taken_bucket, with_entries}
 use Rattle.bb_memory_shared_pools.specs.SharedPoolCaching.{AreCached, CachingParty, IsOut, TakesCaching, returns_of}
 use Rattle.bb_memory_shared_pools.specs.SharedPoolNextFit.{MayTakeFrom, hint_of}
@@ -157,7 +157,7 @@ unasked_answer old layout error is too_great answer other_error = record {
 -- a request that searches the pool, as none is cached
 pub searches : (old new : CachingParty) (layout : Layout) (result : Result TakenBucket AllocationError) → old.cached ≡ [] →
     MayTakeFrom (hint_of old.party) old.party layout result new.party →
-    ServesNextFit old.party.allocator old.party layout result new.party → new ≡ record old { party = new.party } →
+    ServesAlone old.party.allocator old.party layout result new.party → new ≡ record old { party = new.party } →
     TakesCaching old layout result new
 searches old new layout (Ok bucket) none answer serves unchanged = record {
   cached = λ before last within at. absurd (not_empty before last (sym none ∙ at));
@@ -257,18 +257,18 @@ module _ (old new : CachingParty) (layout : Layout) (none : old.cached ≡ []) (
   uncached cached other is at = let within = (subst (λ (xs : List ℕ). Contains xs other) is at).1 in absurd (omega arith)
 
   pub found_out : (result : Result TakenBucket AllocationError) →
-      ServesNextFit old.party.allocator old.party layout result new.party → IfOk result (λ bucket. IsOut new bucket.number)
+      ServesAlone old.party.allocator old.party layout result new.party → IfOk result (λ bucket. IsOut new bucket.number)
   unfolding IsOut
   found_out (Ok bucket) serves = (serves.serves.held, uncached new.cached bucket.number none_now)
   found_out (Err error) serves = tt
 
   pub found_kept : (result : Result TakenBucket AllocationError) →
-      ServesNextFit old.party.allocator old.party layout result new.party → (other : ℕ) → IsOut old other → IsOut new other
+      ServesAlone old.party.allocator old.party layout result new.party → (other : ℕ) → IsOut old other → IsOut new other
   unfolding IsOut
   found_kept result serves other out = (serves.serves.others_kept other out.0, uncached new.cached other none_now)
 
   pub found_others : (result : Result TakenBucket AllocationError) →
-      ServesNextFit old.party.allocator old.party layout result new.party → (other : ℕ) →
+      ServesAlone old.party.allocator old.party layout result new.party → (other : ℕ) →
       IfOk result (λ bucket. other ≢ bucket.number) → IsOut new other → IsOut old other
   unfolding IsOut
   found_others result serves other apart out = (serves.serves.others other apart out.0, uncached old.cached other none)

@@ -16,7 +16,7 @@ use Rattle.bb_memory_pool_machine.proofs.PoolSteps.{test_apart}
 use Rattle.bb_memory_seats.specs.Seats.{number_of, view_log}
 use Rattle.bb_memory_geometry.proofs.Measures.{bucket-inside, bucket_place-multiple}
 use Rattle.bb_memory_shared_pools.specs.declared.shared_pool.party.Hint.{Hint}
-use Rattle.bb_memory_shared_pools.specs.SharedPool.{AreAllHeldAfter, IsParty, PoolParty, ServesNextFit, SharedPool}
+use Rattle.bb_memory_shared_pools.specs.SharedPool.{AreAllHeldAfter, IsParty, PoolParty, ServesAlone, SharedPool}
 use Rattle.bb_memory_shared_pools.specs.SharedPool.{chunk_of, taken_bucket}
 use Rattle.bb_memory_shared_pools.specs.SharedPoolRule.{IsPartySeat, SeatView, party_in, pool_in, HasEnded}
 use Rattle.bb_memory_shared_pools.proofs.SharedPoolParties.{is_party}
@@ -78,7 +78,7 @@ module _ (pool : SharedPool) (table new_table : TableId) (me new : Me ℕ SeatVi
   -- a request that took a bucket
   pub served : (its : SharedPool) (bucket len : ℕ) → Asked (Some bucket) → its ≡ pool → len ≡ layout.size →
       layout.size ≤ pool.scene.geometry.bucket.size → layout.align ≤ pool.scene.geometry.bucket.align →
-      ServesNextFit pool party layout (Ok (taken_bucket its bucket len)) (party_in new_table number new.0)
+      ServesAlone pool party layout (Ok (taken_bucket its bucket len)) (party_in new_table number new.0)
   served its bucket len asked its_is len_is short even =
       let geometry = subst (λ (p : SharedPool). IsPoolGeometry p.scene.geometry)
       (ap (λ (p : PoolParty). p.allocator) view_is ∙ own) is.shared.geometry in
@@ -107,7 +107,7 @@ module _ (pool : SharedPool) (table new_table : TableId) (me new : Me ℕ SeatVi
 
   -- a request that took none
   pub refused : (error : AllocationError) → Asked None →
-      ServesNextFit pool party layout (Err error) (party_in new_table number new.0)
+      ServesAlone pool party layout (Err error) (party_in new_table number new.0)
   refused error asked = record {
     serves = record {
       bucket = tt;
@@ -128,7 +128,7 @@ module _ (pool : SharedPool) (table new_table : TableId) (me new : Me ℕ SeatVi
 
 -- a request that is refused without a step
 pub unasked : (pool : SharedPool) (party : PoolParty) (layout : Layout) (error : AllocationError) → IsParty party →
-    ¬ IsWithin pool.scene.geometry.bucket layout → ServesNextFit pool party layout (Err error) party
+    ¬ IsWithin pool.scene.geometry.bucket layout → ServesAlone pool party layout (Err error) party
 unasked pool party layout error is too_great = record {
   serves = record {
     bucket = tt;

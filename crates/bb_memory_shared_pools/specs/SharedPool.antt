@@ -166,8 +166,9 @@ pub record Serves (pool : SharedPool) (old : PoolParty) (layout : Layout) (answe
   pub aligned : IfOk answer (λ bucket. (chunk_of bucket).place % layout.align ≡ 0)
   pub exact_size : IfOk answer (λ bucket. (chunk_of bucket).len ≡ layout.size)
 
--- A request by a next-fit search: with one party it is refused exactly where each bucket is held after that party's log.
-pub record ServesNextFit (pool : SharedPool) (old : PoolParty) (layout : Layout) (answer : Result TakenBucket AllocationError)
+-- A request of a pool with one party: within the bucket's size and alignment it is refused exactly where that party holds each
+-- bucket.
+pub record ServesAlone (pool : SharedPool) (old : PoolParty) (layout : Layout) (answer : Result TakenBucket AllocationError)
     (new : PoolParty) : Type 0 where
   pub serves : Serves pool old layout answer new
   pub alone : pool.scene.parties ≡ 1 → IsWithin pool.scene.geometry.bucket layout →

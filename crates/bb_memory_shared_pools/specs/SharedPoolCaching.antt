@@ -6,7 +6,7 @@ use Rattle.bb_memory_pool_machine.specs.PoolLogs.{PoolLog, IsHeldAfter}
 use Rattle.bb_memory_traits.specs.declared.layout.Layout.{Layout}
 use Rattle.bb_memory_traits.specs.declared.allocator.AllocationError.{AllocationError}
 use Rattle.bb_memory_traits.specs.declared.allocator.AllocationError.TheVariants.{OutOfMemory}
-use Rattle.bb_memory_shared_pools.specs.SharedPool.{PoolParty, Serves, ServesNextFit, TakenBucket, return_entry, taken_bucket}
+use Rattle.bb_memory_shared_pools.specs.SharedPool.{PoolParty, Serves, ServesAlone, TakenBucket, return_entry, taken_bucket}
 use Rattle.bb_memory_shared_pools.specs.SharedPool.{with_entries}
 use Rattle.bb_memory_shared_pools.specs.SharedPoolNextFit.{MayTakeFrom, hint_of}
 
@@ -30,7 +30,7 @@ pub record AreCached (party : PoolParty) (cached : List ℕ) : Type 0 where
 pub record SearchesPool (old : CachingParty) (layout : Layout) (result : Result TakenBucket AllocationError) (new : CachingParty)
     : Type 0 where
   pub answer : MayTakeFrom (hint_of old.party) old.party layout result new.party
-  pub serves : ServesNextFit old.party.allocator old.party layout result new.party
+  pub serves : ServesAlone old.party.allocator old.party layout result new.party
   pub unchanged : new ≡ record old { party = new.party }
 
 -- a refused request: none is cached where the search found none

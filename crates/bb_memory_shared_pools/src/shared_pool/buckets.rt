@@ -7,8 +7,8 @@ ghost use Rattle.bb_memory_pool_machine.specs.PoolLogs.{IsHeldAfter};
 ghost use Rattle.bb_memory_seats.specs.Seats.{HasRoomFor, Stays, number_of, view_log};
 ghost use Rattle.bb_memory_shared_pools.specs.SharedPool.{AreAllHeldAfter, AreBothOf, AreFresh, AreInterleaved, HasTaker};
 ghost use Rattle.bb_memory_shared_pools.specs.SharedPool.{HaveMet, HoldApart, IsAlignedTo, IsResizedTo, IsSameParty};
-ghost use Rattle.bb_memory_shared_pools.specs.SharedPool.{IsSharedScene, MayTake, chunk_of, refused_pass, return_entry};
-ghost use Rattle.bb_memory_shared_pools.specs.SharedPool.{with_entries};
+ghost use Rattle.bb_memory_shared_pools.specs.SharedPool.{IsSharedScene, MayTake, ServesAlone, chunk_of, refused_pass};
+ghost use Rattle.bb_memory_shared_pools.specs.SharedPool.{return_entry, with_entries};
 ghost use Rattle.bb_memory_shared_pools.specs.SharedPoolRule.{IsIdleAt, all_parties, HasRefused, HasTaken};
 
 use super::bucket::Bucket;
@@ -162,6 +162,20 @@ impl<const CAPPED: usize, const MOST: usize> SharedBucketPool<CAPPED, MOST> {
                 Err(AllocationError::OutOfMemory)
             }
         }
+    }
+
+    /// Takes a whole bucket for the party: it answers as `allocate` does to the bucket's own layout. It is refused with
+    /// `OutOfMemory`, where all exchanges are lost. The party has to be this pool's.
+    pub fn take(&self, party: &mut PoolParty) -> Result<Bucket<'_>, AllocationError>
+        requires party { party.old.allocator ≡ self.now }
+        ensures answer { MayTake party.old self.now.scene.geometry.bucket result party.new }
+        ensures party { party.new.allocator ≡ self.now }
+        ensures serves { ServesAlone self.now party.old self.now.scene.geometry.bucket
+            result party.new }
+        ensures refused { IfErr result (λ error. error ≡ AllocationError.OutOfMemory) }
+    {
+        let bucket = self.bucket_layout();
+        self.allocate(party, bucket)
     }
 
     /// Gives back a bucket by one store, which makes its flag free. The party and the bucket have to be this pool's, and the

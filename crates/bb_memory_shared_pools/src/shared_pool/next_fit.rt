@@ -1,8 +1,8 @@
 //! Next fit: requests whose search begins at the party's hint.
-ghost use Rattle.std.specs.Prelude.{◌≡◌, ℕ, ◌+◌, ◌<◌, ◌^◌, IfSome, MatchOption};
+ghost use Rattle.std.specs.Prelude.{◌≡◌, ℕ, ◌+◌, ◌<◌, ◌^◌, IfErr, IfSome, MatchOption};
 ghost use Rattle.bb_memory_pool_machine.specs.PoolLogs.{PoolLog};
 ghost use Rattle.bb_memory_seats.specs.Seats.{Stays, number_of, view_log};
-ghost use Rattle.bb_memory_shared_pools.specs.SharedPool.{ServesNextFit};
+ghost use Rattle.bb_memory_shared_pools.specs.SharedPool.{ServesAlone};
 ghost use Rattle.bb_memory_shared_pools.specs.SharedPoolNextFit.{MayTakeFrom, probed, hint_of, part_of, refused_search};
 ghost use Rattle.bb_memory_shared_pools.specs.SharedPoolRule.{IsIdleAt, HasRefused, HasTakenFrom, IsInSearch};
 
@@ -102,7 +102,7 @@ impl<const CAPPED: usize, const MOST: usize> SharedBucketPool<CAPPED, MOST> {
         requires party { party.old.allocator ≡ self.now }
         ensures answer { MayTakeFrom (hint_of party.old) party.old layout result party.new }
         ensures party { party.new.allocator ≡ self.now }
-        ensures serves { ServesNextFit self.now party.old layout result party.new }
+        ensures serves { ServesAlone self.now party.old layout result party.new }
     {
         // Proof hint: brings the party's invariant into scope on the early returns.
         let _ = &party.number;
@@ -128,5 +128,20 @@ impl<const CAPPED: usize, const MOST: usize> SharedBucketPool<CAPPED, MOST> {
                 Err(AllocationError::OutOfMemory)
             }
         }
+    }
+
+    /// Takes a whole bucket for the party, as `take` does, by the search of `allocate_next_fit`. The party has to be this pool's.
+    #[inline(always)]
+    pub fn take_next_fit(&self, party: &mut PoolParty) -> Result<Bucket<'_>, AllocationError>
+        requires party { party.old.allocator ≡ self.now }
+        ensures answer { MayTakeFrom (hint_of party.old) party.old self.now.scene.geometry.bucket
+            result party.new }
+        ensures party { party.new.allocator ≡ self.now }
+        ensures serves { ServesAlone self.now party.old self.now.scene.geometry.bucket
+            result party.new }
+        ensures refused { IfErr result (λ error. error ≡ AllocationError.OutOfMemory) }
+    {
+        let bucket = self.bucket_layout();
+        self.allocate_next_fit(party, bucket)
     }
 }

@@ -4,7 +4,7 @@ use Rattle.bb_memory_traits.specs.PoolObject.{PoolGeometry}
 use Rattle.bb_memory_traits.specs.declared.layout.Layout.{Layout}
 use Rattle.bb_memory_traits.specs.declared.allocator.AllocationError.TheVariants.{OutOfMemory}
 use Rattle.bb_memory_seats.specs.Seats.{number_of, view_log}
-use Rattle.bb_memory_shared_pools.specs.SharedPool.{IsParty, PoolParty, ServesNextFit, SharedPool, taken_bucket}
+use Rattle.bb_memory_shared_pools.specs.SharedPool.{IsParty, PoolParty, ServesAlone, SharedPool, taken_bucket}
 use Rattle.bb_memory_shared_pools.specs.SharedPoolRule.{party_in}
 use Rattle.bb_memory_shared_pools.proofs.SharedPoolParties.{is_party, seated_then}
 use Rattle.bb_memory_shared_pools.proofs.SharedPoolPasses.{pass_lost, pass_took}
@@ -75,7 +75,7 @@ invariant_of-party-in-None g c =
     c.pass.new.seat.me _ party.hint (hint-losses buckets (number_of me.0) buckets party.hint) c.in-None.ensures.told.step.ended
 
 -- what the request says where it takes a bucket, and where it takes none
-took : (g : _) (c : goal.After-size-in-Some g) → ServesNextFit c.args.self.now c.args.party.now c.args.layout
+took : (g : _) (c : goal.After-size-in-Some g) → ServesAlone c.args.self.now c.args.party.now c.args.layout
     (Ok (taken_bucket c.self.inside.flags c.in-Some.number c.size-in-Some.result))
     (party_in c.pass.new.seat.table_id c.party.inside.number c.pass.new.seat.me.0)
 took g c =
@@ -92,7 +92,7 @@ took g c =
     c.in-Some.ensures.told.step)
     c.self.view_is c.size-in-Some.ensures (omega arith) (omega arith)
 
-lost : (g : _) (c : goal.After-count_refusal g) → ServesNextFit c.args.self.now c.args.party.now c.args.layout (Err OutOfMemory)
+lost : (g : _) (c : goal.After-count_refusal g) → ServesAlone c.args.self.now c.args.party.now c.args.layout (Err OutOfMemory)
     (party_in c.pass.new.seat.table_id c.party.inside.number c.pass.new.seat.me.0)
 lost g c =
     let old = c.party.inside in

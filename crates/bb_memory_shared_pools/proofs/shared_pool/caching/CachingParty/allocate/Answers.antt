@@ -2,7 +2,7 @@ use Rattle.std.proofs.Common.{rules, ◌≡◌, [], length, append-nil, arith, r
 use Rattle.std.proofs.lemmas.List.{length_push}
 use Rattle.bb_memory_traits.specs.PoolObject.{IsWithin}
 use Rattle.bb_memory_traits.specs.declared.allocator.AllocationError.TheVariants.{AlignmentFailure, SizeTooLarge}
-use Rattle.bb_memory_shared_pools.specs.SharedPool.{IsParty, PoolParty, ServesNextFit, SharedPool, TakenBucket}
+use Rattle.bb_memory_shared_pools.specs.SharedPool.{IsParty, PoolParty, ServesAlone, SharedPool, TakenBucket}
 use Rattle.bb_memory_shared_pools.specs.SharedPoolNextFit.{MayTakeFrom, hint_of}
 use Rattle.bb_memory_shared_pools.specs.SharedPoolCaching.{AreCached, CachingParty}
 use Rattle.bb_memory_shared_pools.proofs.SharedPoolCaching.{cached_less, found_fresh, found_kept, found_others, found_out}
@@ -128,8 +128,8 @@ returns-in-None g c =
     let now : c.pop.new.self.items ≡ [] = search rules in
     let none : old.cached ≡ [] =
     ap (λ (p : CachingParty). p.cached) (sym c.self.view_is) ∙ c.in-None.ensures.items ∙ append-nil _ ∙ now in
-    let serves : ServesNextFit old.party.allocator old.party layout result new =
-    subst (λ (x : SharedPool × PoolParty). ServesNextFit x.0 x.1 layout result new)
+    let serves : ServesAlone old.party.allocator old.party layout result new =
+    subst (λ (x : SharedPool × PoolParty). ServesAlone x.0 x.1 layout result new)
     (λ i. (sym c.requires.party i, (c.self.view_is i).party)) asked.serves in
     let answer : MayTakeFrom (hint_of old.party) old.party layout result new =
     subst (λ (p : CachingParty). MayTakeFrom (hint_of p.party) p.party layout result new) c.self.view_is asked.answer in
