@@ -7,6 +7,7 @@ use Rattle.bb_memory_traits.specs.Chunk.{Chunk, Region}
 use Rattle.bb_memory_traits.specs.PoolObject.{HasBucket, PoolGeometry, bucket_place}
 use Rattle.bb_memory_traits.specs.declared.layout.Layout.{Layout}
 use Rattle.bb_memory_traits.specs.declared.allocator.AllocationError.{AllocationError}
+use Rattle.bb_memory_traits.specs.declared.allocator.AllocationError.TheVariants.{OutOfMemory}
 use Rattle.bb_memory_geometry.specs.Geometry.{IsPlaceOfBucket, MayBeCut}
 use Rattle.bb_memory_c.specs.Answers.{answer_of, figure_of, no_figure, refused, already_initialized, invalid_argument, ok}
 use Rattle.bb_memory_c.specs.Answers.{malloc_refused, invalid_layout, not_a_bucket, not_held, uninitialized, no_bucket, no_party}
@@ -120,6 +121,18 @@ abbrev pub AnswersRequest : {X : Type 0} → Option X → Option X → ℕ → �
     → (X → Layout → Result Chunk AllocationError → X → Type 0) → Type 0
 AnswersRequest old new size align told may =
     Answers old new (told ≡ refused uninitialized) (λ made after. TellsRequest made after size align told may)
+
+-- A whole bucket is taken, or none where no bucket is free.
+pub record TellsTake {X : Type 0} (made after : X) (told : Answer) (may : X → Result Chunk AllocationError → X → Type 0)
+    : Type 0 where
+  pub answer : Result Chunk AllocationError
+  pub answered : told ≡ answer_of answer
+  pub taken : may made answer after
+  pub refused : IfErr answer (λ error. error ≡ OutOfMemory)
+
+abbrev pub AnswersTake : {X : Type 0} → Option X → Option X → Answer → (X → Result Chunk AllocationError → X → Type 0) → Type 0
+AnswersTake old new told may =
+    Answers old new (told ≡ refused uninitialized) (λ made after. TellsTake made after told may)
 
 -- What is held at a place is given back. Where nothing is held, it is refused, and all stays.
 pub record TellsReturn (held gone stays : Type 0) (code : ℕ) : Type 0 where

@@ -10,10 +10,10 @@ use Rattle.bb_memory_pool_machine.specs.declared.steps.pool.Flag.{Flag}
 use Rattle.bb_memory_traits.specs.declared.layout.Layout.{Layout}
 use Rattle.bb_memory_traits.specs.declared.allocator.AllocationError.{AllocationError}
 use Rattle.bb_memory_index_set.specs.IndexSets.{Has}
-use Rattle.bb_memory_shared_pools.specs.SharedPool.{AreFresh, PoolParty, Serves, SharedPool, TakenBucket, attach_entry, chunk_of}
+use Rattle.bb_memory_shared_pools.specs.SharedPool.{AreFresh, PoolParty, SharedPool, TakenBucket, attach_entry, chunk_of}
 use Rattle.bb_memory_shared_pools.specs.SharedPool.{detach_entry, return_detached_entry, return_entry, taken_bucket}
 use Rattle.bb_memory_shared_pools.specs.SharedPool.{with_entries}
-use Rattle.bb_memory_shared_pools.specs.SharedPoolCaching.{CachingParty, IsOut, ReturnsCaching, TakesCaching}
+use Rattle.bb_memory_shared_pools.specs.SharedPoolCaching.{CachingParty, IsOut, ReturnsCaching, ServesCaching}
 use Rattle.bb_memory_shared_pools.specs.SharedPoolCaching as caching
 use Rattle.bb_memory_c.specs.Answers.{answer_of, refused, detached_empty, detached_full, ok, not_held, one_party, other_pool}
 use Rattle.bb_memory_c.specs.Answers.{figure_of, invalid_argument, malloc_refused, no_figure, no_reader, readers_left}
@@ -123,19 +123,11 @@ pub record HoldsAt (joined : CachingParty) (place number : ℕ) : Type 0 where
 abbrev pub HoldsPlace : CachingParty → ℕ → Type 0
 HoldsPlace joined place = (number : ℕ) × HoldsAt joined place number
 
--- A request took a bucket or none. The bucket is out then, and wasn't before; all others are held as they were.
-pub record TakesOut (joined : CachingParty) (layout : Layout) (result : Result TakenBucket AllocationError)
-    (after : CachingParty) : Type 0 where
-  pub answer : TakesCaching joined layout result after
-  pub serves : Serves joined.party.allocator joined.party layout result after.party
-  pub taken : IfOk result (λ bucket. IsOut after bucket.number)
-  pub fresh : IfOk result (λ bucket. (other : ℕ) → IsOut joined other → other ≢ bucket.number)
-
 -- a request is answered the chunk in the bucket that it took, or why it took none
 abbrev pub GivesChunk : CachingParty → Layout → Result Chunk AllocationError → CachingParty → Type 0
 GivesChunk joined layout answer after =
     (taken : Result TakenBucket AllocationError) × (answer ≡ result_map_both chunk_of (λ error. error) taken)
-    × TakesOut joined layout taken after
+    × ServesCaching joined layout taken after
 
 -- the bucket at the place was given back
 abbrev pub GivesBack : CachingParty → ℕ → CachingParty → Type 0

@@ -2,7 +2,7 @@
 ghost use Rattle.std.specs.Prelude.{◌≡◌, ◌≢◌, None, Some, IsFalse, IsTrue};
 ghost use Rattle.bb_memory_c.specs.Answers.{malloc_refused, ok};
 ghost use Rattle.bb_memory_c.specs.Calls.{AnswersFree, AnswersInfo, AnswersJoin, AnswersLeave, AnswersNumber, AnswersPlace};
-ghost use Rattle.bb_memory_c.specs.Calls.{AnswersRequest, AnswersReturn, AnswersWhether, IfBoth, TellsRequest};
+ghost use Rattle.bb_memory_c.specs.Calls.{AnswersRequest, AnswersReturn, AnswersTake, AnswersWhether, IfBoth, TellsRequest};
 
 use crate::answer::{Answer, Figure};
 use crate::code;
@@ -103,6 +103,16 @@ pub(crate) fn request_bucket<I, M: Gives<I> + Bucketed, H: Handle<M>>(
         }
     }
     ask(made, size, align)
+}
+
+/// Takes a whole bucket.
+pub(crate) fn take<M: Bucketed, H: Handle<M>>(handle: &mut H) -> Answer
+    ensures { AnswersTake (H.made handle.old) (H.made handle.new) result M.may_take }
+{
+    match handle.made_mut() {
+        Some(made) => Answer::of(made.take()),
+        None => Answer::refusal(code::UNINITIALIZED),
+    }
 }
 
 /// Gives back the chunk at this place, if one is held there.

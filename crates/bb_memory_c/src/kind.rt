@@ -1,5 +1,5 @@
 //! Traits of each kind that a call serves which is written once.
-ghost use Rattle.std.specs.Prelude.{◌≡◌, ◌↔◌, ℕ, IsFalse, IsTrue, Result};
+ghost use Rattle.std.specs.Prelude.{◌≡◌, ◌↔◌, ℕ, IfErr, IsFalse, IsTrue, Result};
 ghost use Rattle.bb_memory_traits.specs.Chunk.{Chunk};
 ghost use Rattle.bb_memory_traits.specs.PoolObject.{PoolGeometry};
 ghost use Rattle.bb_memory_traits.specs.declared.layout.Layout.{Layout as Asked};
@@ -52,6 +52,14 @@ pub(crate) trait Keeps: Drop {
 pub(crate) trait Bucketed: Drop {
     /// How its region is cut.
     ghost geometry: { Self → PoolGeometry };
+
+    /// The answers that the taking of a whole bucket may have, and the value that is there then.
+    ghost may_take: { Self → Result Chunk AllocationError → Self → Type 0 };
+
+    /// Takes a whole bucket.
+    fn take(&mut self) -> Result<Chunk, AllocationError>
+        ensures may { may_take self.old result self.new }
+        ensures refused { IfErr result (λ error. error ≡ AllocationError.OutOfMemory) };
 
     /// Returns a layout within which a request skips `layout_of`, if there is one now. Any answer is right.
     fn limit(&self) -> Option<Layout>;

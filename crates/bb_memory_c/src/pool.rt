@@ -4,11 +4,13 @@ ghost use Rattle.bb_memory_traits.specs.Chunk.{region_at};
 ghost use Rattle.bb_memory_owned.specs.Pool.{CountedPool, FreesBucket, HoldsPlace};
 ghost use Rattle.bb_memory_geometry.specs.Geometry.{MayBeCut};
 ghost use Rattle.bb_memory_c.specs.Calls.{AnswersFree, AnswersInfo, AnswersNumber, AnswersPlace, AnswersPoolMake};
-ghost use Rattle.bb_memory_c.specs.Calls.{AnswersRequest, AnswersReturn, AnswersWhether, HasRoom};
+ghost use Rattle.bb_memory_c.specs.Calls.{AnswersRequest, AnswersReturn, AnswersTake, AnswersWhether, HasRoom};
 ghost use Rattle.bb_memory_c.specs.OneOwner.{MakesPool, PoolAllocates, ShowsPool};
 
 use crate::answer::{Answer, Figure, PoolInfo};
-use crate::call::{free, give_back, holds, info, is_made, keep, number, place, request_bucket};
+use crate::call::{
+    free, give_back, holds, info, is_made, keep, number, place, request_bucket, take,
+};
 use crate::code;
 use crate::handle::PoolHandle;
 use crate::kind::{Bucketed, Gives, Keeps};
@@ -71,6 +73,15 @@ pub extern "C" fn bb_pool_allocate(handle: &mut PoolHandle, size: usize, align: 
     ensures { AnswersRequest handle.old.value handle.new.value size align result PoolAllocates }
 {
     request_bucket(handle, size, align)
+}
+
+/// Takes a whole bucket that isn't held, as a request of the bucket's own size and alignment does.
+#[unsafe(no_mangle)]
+pub extern "C" fn bb_pool_take(handle: &mut PoolHandle) -> Answer
+    ensures { AnswersTake handle.old.value handle.new.value result
+        (λ pool. PoolAllocates pool pool.pool.geometry.bucket) }
+{
+    take(handle)
 }
 
 /// Gives back the bucket at this place. A place that isn't a held bucket's is refused and changes nothing.
@@ -152,6 +163,13 @@ impl Keeps for Pool {
 
 impl Bucketed for Pool {
     ghost geometry = { λ pool. pool.pool.geometry };
+
+    ghost may_take = { λ pool. PoolAllocates pool pool.pool.geometry.bucket };
+
+    #[inline(always)]
+    fn take(&mut self) -> Result<Chunk, AllocationError> {
+        self.pool.take()
+    }
 
     fn limit(&self) -> Option<Layout> {
         Some(self.pool.bucket_layout())

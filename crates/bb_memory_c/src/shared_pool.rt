@@ -6,8 +6,8 @@ ghost use Rattle.bb_memory_traits.specs.Chunk.{region_at};
 ghost use Rattle.bb_memory_shared_pools.specs.SharedPoolCaching.{CachingParty, IsOut, ReturnsCaching};
 ghost use Rattle.bb_memory_c.specs.Answers.{figure_of, no_figure, ok, uninitialized};
 ghost use Rattle.bb_memory_c.specs.Calls.{Answers, AnswersFree, AnswersInfo, AnswersJoin, AnswersLeave, AnswersNumber};
-ghost use Rattle.bb_memory_c.specs.Calls.{AnswersPlace, AnswersPoolMake, AnswersRequest, AnswersReturn, AnswersWhether, HasRoom};
-ghost use Rattle.bb_memory_c.specs.Calls.{IfBoth, IsThere, MayBeShared, left_at};
+ghost use Rattle.bb_memory_c.specs.Calls.{AnswersPlace, AnswersPoolMake, AnswersRequest, AnswersReturn, AnswersTake};
+ghost use Rattle.bb_memory_c.specs.Calls.{AnswersWhether, HasRoom, IfBoth, IsThere, MayBeShared, left_at};
 ghost use Rattle.bb_memory_c.specs.OneOwner.{pool_info};
 ghost use Rattle.bb_memory_c.specs.SharedPools.{AreFreshOver, AreUnjoined, CountsOut, GivesAllBack, GivesBack, GivesChunk};
 ghost use Rattle.bb_memory_c.specs.SharedPools.{HoldsAt, HoldsPlace, IsAt, IsIdleAt, IsJoinedAt, JoinsAt, Knows, Leaves};
@@ -16,7 +16,7 @@ ghost use Rattle.bb_memory_c.specs.SharedPools.{emptied, geometry_of, with_left}
 
 use crate::answer::{Answer, Figure, Holder, PoolInfo, SharedPoolInfo};
 use crate::call::{
-    free, give_back, holds, info, is_made, join, keep, leave, number, place, request_bucket,
+    free, give_back, holds, info, is_made, join, keep, leave, number, place, request_bucket, take,
 };
 use crate::code;
 use crate::handle::{Handle, PoolPartyHandle, SharedPoolHandle};
@@ -263,6 +263,14 @@ impl Keeps for JoinedPool {
 impl Bucketed for JoinedPool {
     ghost geometry = { geometry_of };
 
+    ghost may_take = { λ joined. GivesChunk joined (geometry_of joined).bucket };
+
+    #[inline(always)]
+    fn take(&mut self) -> Result<Chunk, AllocationError> {
+        let bucket = self.party.take(&*self.pool)?;
+        Ok(bucket.chunk())
+    }
+
     fn limit(&self) -> Option<Layout> {
         if self.party.number_of_cached() == 0 {
             return None;
@@ -485,6 +493,15 @@ pub extern "C" fn bb_pool_party_allocate(
     ensures { AnswersRequest handle.old.value handle.new.value size align result GivesChunk }
 {
     request_bucket(handle, size, align)
+}
+
+/// Takes a whole bucket: the one cached last, or else one that a next fit finds.
+#[unsafe(no_mangle)]
+pub extern "C" fn bb_pool_party_take(handle: &mut PoolPartyHandle) -> Answer
+    ensures { AnswersTake handle.old.value handle.new.value result
+        (λ joined. GivesChunk joined (geometry_of joined).bucket) }
+{
+    take(handle)
 }
 
 /// Gives back the bucket at this place. A place of no bucket that this party holds is refused and changes nothing.
