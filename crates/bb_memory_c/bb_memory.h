@@ -17,8 +17,6 @@
 //         bb_answer chunk = bb_pool_allocate(&pool, 48, 8);                // 48 bytes at a multiple of 8
 //         if (chunk.code != BB_OK) return 1;
 //         memset(chunk.place, 0, 48);
-//         struct bb_pool_info info;
-//         if (bb_pool_info(&pool, &info) != BB_OK || info.held_buckets != 1) return 1;
 //         if (bb_pool_deallocate(&pool, chunk.place) != BB_OK) return 1;
 //         if (bb_pool_deallocate(&pool, chunk.place) == BB_OK) return 1;   // a second or a wild return is refused by a code
 //         bb_pool_destroy(&pool);
@@ -67,9 +65,9 @@ extern "C" {
 #endif
 
 // The version of this library, as text and by its numbers. The last of them grows with each version, for `#if`.
-#define BB_VERSION "0.15.0"
+#define BB_VERSION "0.16.0"
 #define BB_VERSION_MAJOR 0
-#define BB_VERSION_MINOR 15
+#define BB_VERSION_MINOR 16
 #define BB_VERSION_PATCH 0
 #define BB_VERSION_NUMBER (BB_VERSION_MAJOR * 10000 + BB_VERSION_MINOR * 100 + BB_VERSION_PATCH)
 // The number in the shared library's SONAME. It grows where a function goes, or a type, a struct's fields or a code's number
@@ -227,6 +225,8 @@ BB_MUST_USE uint32_t bb_pool_init(bb_pool *, size_t bucket_size, size_t bucket_a
 uint32_t bb_pool_destroy(bb_pool *);
 // A chunk of `size` bytes in a bucket that isn't held. Refused by size, then by alignment, then where every bucket is held.
 BB_MUST_USE bb_answer bb_pool_allocate(bb_pool *, size_t size, size_t align);
+// A whole bucket, as by a request of a bucket's own size and alignment. BB_OUT_OF_MEMORY where every bucket is held.
+BB_MUST_USE bb_answer bb_pool_take(bb_pool *);
 // Gives back the bucket at this place; BB_NOT_HELD where it isn't that of a held bucket.
 uint32_t bb_pool_deallocate(bb_pool *, bb_address place);
 // 1 where this is the place of a held bucket, else 0.
@@ -291,6 +291,7 @@ uint32_t bb_pool_party_destroy(bb_pool_party *);
 // A chunk of `size` bytes in a bucket that isn't held, by next fit: one search from the least bucket that the party gave back
 // since its last taking, else behind that one. BB_OUT_OF_MEMORY where it found each bucket held, one after the other.
 BB_MUST_USE bb_answer bb_pool_party_allocate(bb_pool_party *, size_t size, size_t align);
+BB_MUST_USE bb_answer bb_pool_party_take(bb_pool_party *);               // a whole bucket, as above
 // As of a pool, of the buckets that this party holds and doesn't cache. `greatest_held` is the greatest number that `info` found.
 uint32_t bb_pool_party_deallocate(bb_pool_party *, bb_address place);
 bb_figure bb_pool_party_holds(bb_pool_party *, bb_address place);

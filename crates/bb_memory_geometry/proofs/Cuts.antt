@@ -1,14 +1,17 @@
 -- Regions that are cut into buckets: how many there are, and where each one is.
 use Rattle.std.proofs.Common.{◌≡◌, ℕ, ◌+◌, ◌-◌, ◌*◌, ◌/◌, ◌%◌, ◌<◌, ◌≤◌, ◌^◌, IsTrue, w64, pow_pos, Option, Some, None, IsSome}
-use Rattle.std.proofs.Common.{refl, arith, ap, sym, subst, ◌∙◌, inl, inr}
-use Rattle.std.specs.Int.{is_power_of_two, trailing_zeros}
+use Rattle.std.proofs.Common.{refl, arith, ap, sym, subst, ◌∙◌, ◌≢◌, inl, inr, rules}
+use Rattle.std.specs.Int.{is_power_of_two, rotate_right, trailing_zeros}
+use Rattle.std.specs.Int.Bits.{bit_or, or_zero_r}
 use Rattle.std.specs.Option.{SomeIff}
-use Rattle.std.proofs.Math.Nat.{mul-div_cancel, mul-le-mul_left, mul-mod_left}
+use Rattle.std.proofs.Math.Nat.{add-mul, le-mul_of_pos_right, mod-eq_of_lt, mod-lt, mul-div_cancel, mul-le-mul_left, mul-mod_left}
+use Rattle.std.proofs.Math.Nat.{mul-lt-mul_of_pos_right, mul_assoc, mul_comm, mul-one, div-one, zero-mul}
 use Rattle.std.proofs.lemmas.Bool.{cases_eq, cases_lt}
-use Rattle.std.proofs.lemmas.Nat.{le-div}
-use Rattle.std.proofs.lemmas.Nat.Bits.{bit_at-trailing_zeros, bit_at-pow_other}
+use Rattle.std.proofs.lemmas.Nat.{le-div, le_or_r, mod-mul-add, pow-add, shr_split}
+use Rattle.std.proofs.lemmas.Nat.Bits.{bit_at-trailing_zeros, bit_at-pow_other, bit_at_or, same_from_bits}
 use Rattle.bb_memory_traits.specs.Chunk.{Region, IsRegion, region_end, first_place}
 use Rattle.bb_memory_traits.specs.PoolObject.{PoolGeometry, pool_geometry, bucket_place, stride, FillsRegion, IsCut}
+use Rattle.bb_memory_traits.specs.PoolObject.{IsPoolGeometry}
 use Rattle.bb_memory_traits.specs.declared.layout.Layout.{Layout}
 use Rattle.bb_memory_traits.specs.LeastPlace.{least_place}
 use Rattle.bb_memory_traits.proofs.PowersOfTwo.{power_of_two-from_test}
@@ -24,6 +27,17 @@ stride-small bucket = bucket.valid.fits
 
 pub stride-positive : (bucket : Layout) → 0 < bucket.size → 0 < stride bucket
 stride-positive bucket filled = omega (arith, stride-above bucket)
+
+-- all buckets of a region are as long together as a number of the machine
+pub buckets-fit : (geometry : PoolGeometry) → IsRegion geometry.region → IsPoolGeometry geometry →
+    geometry.buckets * stride geometry.bucket < 2 ^ 64
+buckets-fit geometry region is = elim (cases_lt 0 geometry.buckets) [
+  | inl some ↦
+      let last : geometry.buckets - 1 + 1 ≡ geometry.buckets = omega arith in
+      let ends = is.room (geometry.buckets - 1) (omega arith) in
+      omega (arith, ends, ap (λ n. n * stride geometry.bucket) last, region.end)
+  | inr none ↦ let zero : geometry.buckets ≡ 0 = omega arith in omega (arith, ap (λ n. n * stride geometry.bucket) zero)
+]
 
 -- HOW MANY BUCKETS
 
@@ -111,6 +125,54 @@ shifts-zeros n test small =
     let zeros = zeros-power power.0 (omega (arith, power.1)) in
     subst (λ (m : ℕ). (trailing_zeros w64 m < 64) × (m ≡ 2 ^ trailing_zeros w64 m)) (sym power.1)
     (zeros.0, ap (λ e. 2 ^ e) (sym zeros.1))
+
+-- ROTATIONS
+
+-- a number or-ed with itself
+or-same : (n : ℕ) → bit_or n n ≡ n
+or-same n = same_from_bits (bit_or n n) n (λ i. bit_at_or n n i ∙ search rules)
+
+-- what a rotation brings to the top is the rest of the division by this power of two
+rest-at-top : (n k : ℕ) → 0 < k → k < 64 → n * 2 ^ ((64 - k % 64) % 64) % 2 ^ 64 ≡ n % 2 ^ k * 2 ^ (64 - k)
+rest-at-top n k some below =
+    let own : k % 64 ≡ k = mod-eq_of_lt below in
+    let up : (64 - k % 64) % 64 ≡ 64 - k = ap (λ i. (64 - i) % 64) own ∙ mod-eq_of_lt (omega arith) in
+    let top : ℕ = 2 ^ (64 - k) in
+    let both : 64 ≡ k + (64 - k) = omega arith in
+    let parts : 2 ^ 64 ≡ 2 ^ k * top = ap (λ i. 2 ^ i) both ∙ pow-add 2 k (64 - k) in
+    let small : n % 2 ^ k * top < 2 ^ k * top = mul-lt-mul_of_pos_right (mod-lt n (pow_pos k)) (pow_pos (64 - k)) in
+    let split : n * top ≡ n / 2 ^ k * (2 ^ k * top) + n % 2 ^ k * top =
+    ap (λ m. m * top) (sym (shr_split n k)) ∙ add-mul (n / 2 ^ k * 2 ^ k) (n % 2 ^ k) top
+    ∙ ap (λ m. m + n % 2 ^ k * top) (mul_assoc (n / 2 ^ k) (2 ^ k) top) in
+    ap (λ i. n * 2 ^ i % 2 ^ 64) up ∙ ap (λ m. n * top % m) parts ∙ ap (λ m. m % (2 ^ k * top)) split
+    ∙ mod-mul-add (n / 2 ^ k) (2 ^ k * top) (n % 2 ^ k * top) small
+
+-- a multiple of a power of two is divided by a rotation
+pub rotated-whole : (n k : ℕ) → k < 64 → n < 2 ^ 64 → n % 2 ^ k ≡ 0 → rotate_right w64 n k ≡ n / 2 ^ k
+rotated-whole n k below small whole = elim (cases_lt 0 k) [
+  | inl some ↦
+      ap (λ i. bit_or (n / 2 ^ i) (n * 2 ^ ((64 - k % 64) % 64) % 2 ^ 64)) (mod-eq_of_lt below)
+      ∙ ap (bit_or (n / 2 ^ k)) (rest-at-top n k some below ∙ ap (λ r. r * 2 ^ (64 - k)) whole ∙ zero-mul (2 ^ (64 - k)))
+      ∙ or_zero_r (n / 2 ^ k)
+  | inr none ↦
+      let zero : k ≡ 0 = omega arith in
+      let same : n * 1 % 2 ^ 64 ≡ n = ap (λ m. m % 2 ^ 64) (mul-one n) ∙ mod-eq_of_lt small in
+      subst (λ i. rotate_right w64 n i ≡ n / 2 ^ i) (sym zero)
+      (ap (bit_or (n / 1)) (same ∙ sym (div-one n)) ∙ or-same (n / 1))
+]
+
+-- any other number is greater then than all these multiples
+pub rotated-part : (n k : ℕ) → k < 64 → n % 2 ^ k ≢ 0 → 2 ^ (64 - k) ≤ rotate_right w64 n k
+rotated-part n k below part = elim (cases_lt 0 k) [
+  | inl some ↦
+      let rest : 0 < n % 2 ^ k = omega (arith, part) in
+      let low = le-mul_of_pos_right (2 ^ (64 - k)) rest in
+      let turned = mul_comm (2 ^ (64 - k)) (n % 2 ^ k) in
+      omega (arith, low, turned, rest-at-top n k some below, le_or_r (n / 2 ^ (k % 64)) (n * 2 ^ ((64 - k % 64) % 64) % 2 ^ 64))
+  | inr none ↦
+      let zero : k ≡ 0 = omega arith in
+      absurd (part (subst (λ i. n % 2 ^ i ≡ 0) (sym zero) (let low : n % 1 < 1 = mod-lt n (omega arith) in omega arith)))
+]
 
 -- WHERE A BUCKET IS
 

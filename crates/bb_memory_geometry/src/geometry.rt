@@ -1,5 +1,5 @@
 //! Where the buckets of a region are.
-ghost use Rattle.std.specs.Prelude.{◌≡◌, ℕ, ◌<◌, ◌≤◌, ◌/◌, ◌%◌, ◌↔◌, IfOk, IfSome, IfNone, IsTrue};
+ghost use Rattle.std.specs.Prelude.{◌≡◌, ◌≢◌, ℕ, ◌<◌, ◌≤◌, ◌/◌, ◌%◌, ◌↔◌, IfOk, IfSome, IfNone, IsTrue};
 ghost use Rattle.bb_memory_traits.specs.Chunk.{IsRegion, region_at, Chunk, IsInside, first_place};
 ghost use Rattle.bb_memory_traits.specs.PoolObject.{IsCut, IsPoolGeometry, at_most, bucket_place, pool_geometry, stride};
 ghost use Rattle.bb_memory_traits.specs.PoolObject.{MayGrow, MayShrink};
@@ -129,14 +129,19 @@ impl Geometry {
         }
     }
 
-    /// Tests that a distance is a multiple of the stride: by a mask, where the stride is a power of two.
+    /// How many strides a distance has, where it is a multiple of the stride, and else a number that no bucket has. Where the
+    /// stride is a power of two, a rotation brings the bits of the rest to the top.
     #[inline(always)]
-    fn is_multiple(&self, distance: usize) -> bool
-        ensures { IsTrue result ↔ (distance % stride self.now.bucket ≡ 0) }
+    fn whole_strides(&self, distance: usize) -> usize
+        ensures whole { distance % stride self.now.bucket ≡ 0
+            → result ≡ distance / stride self.now.bucket }
+        ensures part { distance % stride self.now.bucket ≢ 0 → self.now.buckets ≤ result }
+        ensures some { 0 < stride self.now.bucket }
     {
         match self.shift {
-            Some(_) => distance & (self.stride - 1) == 0,
-            None => distance % self.stride == 0,
+            Some(shift) => distance.rotate_right(shift),
+            None if distance % self.stride == 0 => distance / self.stride,
+            None => usize::MAX,
         }
     }
 
@@ -153,11 +158,7 @@ impl Geometry {
         if place < first {
             return None;
         }
-        let distance = place - first;
-        if !self.is_multiple(distance) {
-            return None;
-        }
-        let number = self.strides(distance);
+        let number = self.whole_strides(place - first);
         if number >= self.count() as usize {
             return None;
         }
