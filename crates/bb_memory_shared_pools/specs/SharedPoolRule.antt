@@ -1,7 +1,7 @@
 -- The rule of a shared pool's words, what its seats and fields stand for, and what each step on a word tells the party that
 -- makes it.
 use Rattle.std.specs.Prelude.{◌≡◌, ℕ, ◌+◌, ◌-◌, ◌*◌, List, map, replicate, ◌<◌, ◌≤◌, ◌↔◌, []}
-use Rattle.std.specs.Prelude.{None, get_or, length, ◌≢◌, ◌∷◌, ◌++◌}
+use Rattle.std.specs.Prelude.{None, Bool, MatchBool, get_or, length, ◌≢◌, ◌∷◌, ◌++◌}
 use mathlib.Core.Path.{refl}
 use native.Mathlib.Nat.{zero-lt-suc}
 use Rattle.atomic_table.specs.Seated.{TableId}
@@ -186,6 +186,11 @@ pub record HasGained (scene : PoolScene) (number : ℕ) (log step : PoolLog) (bu
 pub record HasMissedAt (scene : PoolScene) (number : ℕ) (log : PoolLog) (bucket : ℕ) (new : Me ℕ SeatView) : Type 0 where
   pub ended : HasEnded scene number log (miss_at number bucket) new
   pub held : scene.parties ≡ 1 → IsHeldAfter log bucket
+
+-- what a probe of a bucket by an idle party told: that it took the bucket, or missed it
+abbrev pub TellsProbe : PoolScene → ℕ → PoolLog → ℕ → Me ℕ SeatView → Bool → Type 0
+TellsProbe scene number log bucket new told = MatchBool told
+    (HasGained scene number log (taking_at number bucket) bucket new) (HasMissedAt scene number log bucket new)
 
 abbrev pub TellsTryAt : PoolScene → ℕ → PoolLog → ℕ → ℕ → Me ℕ SeatView → Type 0
 TellsTryAt scene number log bucket found new =

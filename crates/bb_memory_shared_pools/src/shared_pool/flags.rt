@@ -1,21 +1,20 @@
 //! The flags that threads share, one a bucket: their words, and the only calls that touch them.
 //!
-//! `try_flag`, `try_at` and `give_back` make one logged step each, by the seat of the party whose step it is, and tell that its
+//! `try_flag`, `try_at`, `probe` and `give_back` make one logged step each, by the seat of the party whose step it is, and tell that its
 //! log then ends with that step and what it found. So do `detach`, `attach` and `return_detached`, each of which loads a word
 //! more for the seat of what is detached. `deal`, `gather`, `find`, `meet`, `is_held`, `is_detached` and `found` only load words,
-//! and are in no log; nor is the load with which `try_at` begins, where it finds the flag free. `open` is before all sharing, and
+//! and are in no log; nor is the load with which `probe` begins, where it finds the flag free. `open` is before all sharing, and
 //! `geometry` touches no word.
 ghost use Rattle.std.specs.Prelude.{◌≡◌, ◌<◌, ◌≤◌, ◌↔◌, ◌^◌, [], IfOk, MatchBool, true};
 ghost use Rattle.bb_memory_traits.specs.Chunk.{IsRegion};
 ghost use Rattle.bb_memory_shared_pools.specs.SharedPool.{attach_entry, return_detached_entry};
-ghost use Rattle.bb_memory_shared_pools.specs.SharedPoolNextFit.{taking_at};
 ghost use Rattle.bb_memory_traits.specs.PoolObject.{IsPoolGeometry};
 ghost use Rattle.bb_memory_pool_machine.specs.PoolMachine.{NamesMade};
 ghost use Rattle.bb_memory_pool_machine.specs.declared.steps.pool.Flag.{Flag};
 ghost use Rattle.bb_memory_pool_machine.specs.declared.steps.pool.Flag.TheVariants.{DetachedBy, HeldBy};
 ghost use Rattle.bb_memory_pool_machine.specs.PoolLogs.{IsHeldAfter, MayBeFound, next_bucket};
 ghost use Rattle.bb_memory_shared_pools.specs.SharedPoolRule.{word_of, StandsAt, IsHeldAt, IsIdleAt, IsDetachedAt, all_parties};
-ghost use Rattle.bb_memory_shared_pools.specs.SharedPoolRule.{IsSeatAt, HasDetachedAt, HasMissedAt, HasGained, as_word};
+ghost use Rattle.bb_memory_shared_pools.specs.SharedPoolRule.{IsSeatAt, HasDetachedAt, HasGained, TellsProbe, as_word};
 ghost use Rattle.bb_memory_shared_pools.specs.SharedPoolRule.{TellsLoss, TellsMeeting, TellsReturn, TellsTaking, TellsTwo};
 ghost use Rattle.bb_memory_seats.specs.Seats.{IsDealt, MayGather, Stays, both_of, number_of, view_log};
 
@@ -149,26 +148,34 @@ impl Flags {
         found == FREE
     }
 
-    /// Tries this bucket, by a party that is in no pass: whether it took the bucket. The exchange is made only where a load finds
-    /// the flag free, since an exchange takes the flag's cache line from all other threads, also where it is lost.
+    /// One exchange on the flag of this bucket, by a party that is in no pass: whether it took the bucket.
     pub(super) fn try_at(&self, party: u32, seat: &mut Seat<u8, View>, bucket: u32) -> bool
         requires party { number_of seat.old.me.0 ≡ party }
         requires seat { IsIdleAt self.now seat.old.table_id seat.old.me }
         requires below { bucket < self.now.scene.geometry.buckets }
-        ensures { Stays seat.old.table_id seat.new.table_id (MatchBool result
-            (HasGained self.now.scene (number_of seat.old.me.0) (view_log seat.old.me.0)
-            (taking_at (number_of seat.old.me.0) bucket) bucket seat.new.me)
-            (HasMissedAt self.now.scene (number_of seat.old.me.0) (view_log seat.old.me.0)
-            bucket seat.new.me)) }
+        ensures { Stays seat.old.table_id seat.new.table_id (TellsProbe self.now.scene
+            (number_of seat.old.me.0) (view_log seat.old.me.0) bucket seat.new.me result) }
     {
         let shared = &self.table.shared;
         let word = word_of(bucket);
-        let seen = shared.load::<LooksAt>(seat, word);
+        let flag = shared.compare_exchange::<TriesAt>(seat, word, FREE, held_by(party));
+        flag == FREE
+    }
+
+    /// Tries this bucket as `try_at` does, but makes the exchange only where a load finds the flag free, since an exchange takes
+    /// the flag's cache line from all other threads, also where it is lost.
+    pub(super) fn probe(&self, party: u32, seat: &mut Seat<u8, View>, bucket: u32) -> bool
+        requires party { number_of seat.old.me.0 ≡ party }
+        requires seat { IsIdleAt self.now seat.old.table_id seat.old.me }
+        requires below { bucket < self.now.scene.geometry.buckets }
+        ensures { Stays seat.old.table_id seat.new.table_id (TellsProbe self.now.scene
+            (number_of seat.old.me.0) (view_log seat.old.me.0) bucket seat.new.me result) }
+    {
+        let seen = self.table.shared.load::<LooksAt>(seat, word_of(bucket));
         if seen != FREE {
             return false;
         }
-        let flag = shared.compare_exchange::<TriesAt>(seat, word, FREE, held_by(party));
-        flag == FREE
+        self.try_at(party, seat, bucket)
     }
 
     /// A store of free on the flag of a bucket that is held after the party's log.

@@ -39,7 +39,8 @@ impl<const CAPPED: usize, const MOST: usize> SharedBucketPool<CAPPED, MOST> {
         (before / self.number_of_parties() as u64) as u32
     }
 
-    /// One whole search: a probe of each bucket from bucket `first` up, and then of each below it, until one is taken.
+    /// One whole search: a probe of each bucket from bucket `first` up, and then of each below it, until one is taken. The first
+    /// makes its exchange without a load before it: at the hint a bucket is mostly free.
     fn next_fit(&self, party: u32, seat: &mut Seat<u8, View>, first: u32) -> Option<u32>
         requires party { number_of seat.old.me.0 ≡ party }
         requires seat { IsIdleAt self.now seat.old.table_id seat.old.me }
@@ -79,7 +80,7 @@ impl<const CAPPED: usize, const MOST: usize> SharedBucketPool<CAPPED, MOST> {
         let count = self.number_of_buckets();
         for probe in 1..count {
             let bucket = probed(count, first, probe);
-            if self.flags.try_at(party, seat, bucket) {
+            if self.flags.probe(party, seat, bucket) {
                 return Some(bucket);
             }
         }
@@ -87,8 +88,8 @@ impl<const CAPPED: usize, const MOST: usize> SharedBucketPool<CAPPED, MOST> {
     }
 
     /// Takes a bucket for the party, as `allocate` does, but tries the buckets in another order: after the same tests of size and
-    /// alignment it probes each bucket once, until one is taken. A probe loads the flag, and makes an exchange only where the
-    /// flag is free, so held buckets cost no exchange. The search begins at the party's hint: at the least bucket that it gave
+    /// alignment it probes each bucket once, until one is taken. The first probe is an exchange. Each later one loads the flag, and
+    /// makes an exchange only where the flag is free. The search begins at the party's hint: at the least bucket that it gave
     /// back since it took its last one, or else behind that one; before both, at the first bucket of a part of the pool of its
     /// own. The search goes on to the last bucket, and then from bucket 0 up. It is refused with `OutOfMemory` where each probe
     /// misses. Where other parties step meanwhile, that doesn't mean that all buckets were held at one moment. The party has to

@@ -1,15 +1,14 @@
 use Rattle.std.proofs.Common.{◌≡◌, ℕ, ◌<◌, [], sym, ap, ◌∙◌, arith, subst}
-use Rattle.atomic_table.specs.Table.{Me}
 use Rattle.bb_memory_pool_machine.specs.PoolMachine.{PoolScene}
 use Rattle.bb_memory_pool_machine.specs.declared.steps.pool.Flag.TheVariants.{HeldBy}
 use Rattle.bb_memory_seats.specs.Seats.{alone, number_of, view_log}
 use Rattle.bb_memory_shared_pools.specs.SharedPool.{SharedPool}
-use Rattle.bb_memory_shared_pools.specs.SharedPoolRule.{SeatView, as_word}
-use Rattle.bb_memory_shared_pools.proofs.SharedPoolKeeps.{looks_at_as, tries_at_as}
+use Rattle.bb_memory_shared_pools.specs.SharedPoolRule.{as_word}
+use Rattle.bb_memory_shared_pools.proofs.SharedPoolKeeps.{tries_at_as}
 use Rattle.bb_memory_shared_pools.proofs.shared_pool.flags.Flags.try_at.Goals as goal
 
-pub load-seen-requires : goal.load-seen-requires
-load-seen-requires c =
+pub compare_exchange-flag-requires : goal.compare_exchange-flag-requires
+compare_exchange-flag-requires c =
     let me = c.args.seat.now.me in
     let key : c.self.inside.table.shared.key ≡ c.args.self.now.scene =
     c.self.invariant.0 ∙ ap (λ (p : SharedPool). p.scene) c.self.view_is in
@@ -17,26 +16,9 @@ load-seen-requires c =
     let counted = c.self.invariant.1.words in (
       c.requires.seat.table ∙ sym (ap (λ (p : SharedPool). p.table) c.self.view_is),
       omega arith,
-      looks_at_as c.self.inside.table.shared.key _ _ c.word_of-word.result (number_of me.0) c.args.bucket (view_log me.0) me
+      tries_at_as c.self.inside.table.shared.key _ _ c.word_of-word.result (number_of me.0) c.args.bucket (view_log me.0) me
           c.word_of-word.ensures
           (c.requires.seat.seat.seat.is ∙ ap (λ (s : PoolScene). (alone s (number_of me.0) (view_log me.0), [])) (sym key))
-          (subst (λ (s : PoolScene). c.args.bucket < s.geometry.buckets) (sym key) c.requires.below) c.requires.seat.seat.idle,
-    )
-
-pub compare_exchange-flag-requires : goal.compare_exchange-flag-requires
-compare_exchange-flag-requires c =
-    let me = c.args.seat.now.me in
-    let key : c.self.inside.table.shared.key ≡ c.args.self.now.scene =
-    c.self.invariant.0 ∙ ap (λ (p : SharedPool). p.scene) c.self.view_is in
-    let own = ap (λ (m : Me ℕ SeatView). m.0.scene) c.requires.seat.seat.seat.is ∙ sym key in
-    let as_was = c.load-seen.ensures.2.0 c.if-seen-ne-FREE.false in
-    let below = rw (← c.self.view_is) at c.requires.below in
-    let counted = c.self.invariant.1.words in (
-      c.load-seen.ensures.0 ∙ c.requires.seat.table ∙ sym (ap (λ (p : SharedPool). p.table) c.self.view_is),
-      omega arith,
-      tries_at_as c.self.inside.table.shared.key _ _ c.word_of-word.result (number_of me.0) c.args.bucket (view_log me.0)
-          c.load-seen.new.seat.me c.word_of-word.ensures
-          (as_was.seat.is ∙ ap (λ (s : PoolScene). (alone s (number_of me.0) (view_log me.0), [])) own)
           (subst (λ (s : PoolScene). c.args.bucket < s.geometry.buckets) (sym key) c.requires.below) c.held_by.result
-          (c.held_by.ensures ∙ ap (λ (party : ℕ). as_word (HeldBy party)) (sym c.requires.party)) as_was.idle,
+          (c.held_by.ensures ∙ ap (λ (party : ℕ). as_word (HeldBy party)) (sym c.requires.party)) c.requires.seat.seat.idle,
     )
