@@ -98,13 +98,11 @@ fn entry(all: &[u32], number: u32) -> Option<u32>
     all.get(number as usize).copied()
 }
 
-/// Notes the place of a bucket, where there is room for it.
-fn put(places: &mut Vec<u32>, number: u32, place: u32)
-    ensures { places.new.items ≡ slice_set places.old.items number place }
+/// Returns whether this number is at this place of the list.
+fn is_at(all: &[u32], number: u32, place: u32) -> bool
+    ensures { IsTrue result ↔ (slice_get all.now place ≡ Some number) }
 {
-    if (number as usize) < places.len() {
-        places[number as usize] = place;
-    }
+    entry(all, place) == Some(number)
 }
 
 impl JoinedPool {
@@ -139,11 +137,8 @@ impl JoinedPool {
     fn is_cached(&self, number: u32) -> bool
         ensures { IsTrue result ↔ Contains self.now.cached number }
     {
-        let Some(place) = entry(&self.places, number) else {
-            return false;
-        };
-        match entry(self.party.cached(), place) {
-            Some(there) => there == number,
+        match entry(&self.places, number) {
+            Some(place) => is_at(self.party.cached(), number, place),
             None => false,
         }
     }
@@ -209,18 +204,34 @@ impl JoinedPool {
         count
     }
 
-    /// Gives back the bucket of this number, which is out.
+    /// Gives back the bucket of this number where it is out, and returns whether it was. Its place in the list is looked at and
+    /// noted by one access.
     #[tactic(auto, unfolding(bb_memory_shared_pools::specs::SharedPoolCaching::IsOut))]
-    fn give_back_bucket(&mut self, number: u32)
-        requires { IsOut self.old number }
-        ensures { ReturnsCaching self.old number self.new }
+    fn give_back_if_out(&mut self, number: u32) -> bool
+        requires { number < (geometry_of self.old).buckets }
+        ensures out { IsTrue result ↔ IsOut self.old number }
+        ensures returned { IsTrue result → ReturnsCaching self.old number self.new }
+        ensures unchanged { IsFalse result → self.new ≡ self.old }
     {
         // Proof hint: brings the party's invariant into scope.
         let _ = self.party.party().number();
         let pool = &*self.pool;
+        match self.places.get_mut(number as usize) {
+            Some(place) => {
+                if is_at(self.party.cached(), number, *place) || !self.party.is_held(pool, number) {
+                    return false;
+                }
+                *place = self.party.number_of_cached();
+            }
+            None => {
+                if !self.party.is_held(pool, number) {
+                    return false;
+                }
+            }
+        }
         let bucket = by_number::bucket(pool, self.party.party(), number, 0);
-        put(&mut self.places, number, self.party.number_of_cached());
         self.party.deallocate(pool, bucket);
+        true
     }
 }
 
@@ -252,11 +263,10 @@ impl Keeps for JoinedPool {
     }
 
     fn give_back(&mut self, place: usize) -> bool {
-        let Some(number) = self.held_at(place) else {
+        let Some(number) = self.pool.number_at(place) else {
             return false;
         };
-        self.give_back_bucket(number);
-        true
+        self.give_back_if_out(number)
     }
 }
 

@@ -7,28 +7,28 @@ use Rattle.bb_memory_shared_pools.specs.SharedPoolRule.{IsInSearch, SeatView}
 use Rattle.bb_memory_shared_pools.proofs.SharedPoolNextFit.{idle_where, search_goes_on, search_refuses, search_takes}
 use Rattle.bb_memory_shared_pools.proofs.shared_pool.buckets.SharedBucketPool.later_probes.Goals as goal
 
-pub returns-then-try_at-clause-told : goal.returns-then-try_at-clause-told
-returns-then-try_at-clause-told g c =
+pub returns-then-probe-clause-told : goal.returns-then-probe-clause-told
+returns-then-probe-clause-told g c =
     let is = c.probed-bucket.ensures.value ∙ ap (λ (n : ℕ). probed n c.args.first c.loop-probe.probe)
     c.number_of_buckets-count.ensures.value in
     record {
-      table = c.try_at.ensures.table ∙ c.loop-probe.invariant.table;
+      table = c.probe.ensures.table ∙ c.loop-probe.invariant.table;
       step = λ number log begun. search_takes c.args.self.now.scene number log c.args.first c.loop-probe.seat.me
-          c.try_at.new.seat.me c.loop-probe.probe (c.loop-probe.invariant.so_far number log begun) c.probed-bucket.result is
-          (rw c.if-try_at.true at (rw c.self.view_is at c.try_at.ensures.step)) (omega arith);
+          c.probe.new.seat.me c.loop-probe.probe (c.loop-probe.invariant.so_far number log begun) c.probed-bucket.result is
+          (rw c.if-probe.true at (rw c.self.view_is at c.probe.ensures.step)) (omega arith);
     }
 
 pub loop-probe-preserved : goal.loop-probe-preserved
 loop-probe-preserved g c =
     let is = c.probed-bucket.ensures.value ∙ ap (λ (n : ℕ). probed n c.args.first c.loop-probe.probe)
     c.number_of_buckets-count.ensures.value in
-    let missed = rw c.if-try_at.false at (rw c.self.view_is at c.try_at.ensures.step) in
+    let missed = rw c.if-probe.false at (rw c.self.view_is at c.probe.ensures.step) in
     record {
-      table = c.try_at.ensures.table ∙ c.loop-probe.invariant.table;
+      table = c.probe.ensures.table ∙ c.loop-probe.invariant.table;
       own = ap (λ (m : Me ℕ SeatView). number_of m.0) missed.ended.seat.is ∙ c.loop-probe.invariant.own;
-      idle = idle_where c.args.self.now.scene _ _ c.try_at.new.seat.me missed.ended;
+      idle = idle_where c.args.self.now.scene _ _ c.probe.new.seat.me missed.ended;
       so_far = λ number log begun. search_goes_on c.args.self.now.scene number log c.args.first c.loop-probe.seat.me
-          c.try_at.new.seat.me c.loop-probe.probe (c.loop-probe.invariant.so_far number log begun) c.probed-bucket.result is
+          c.probe.new.seat.me c.loop-probe.probe (c.loop-probe.invariant.so_far number log begun) c.probed-bucket.result is
           missed;
     }
 
