@@ -1,6 +1,6 @@
 -- Where cached buckets stand in their list: when none is cached, after one more, and after one fewer.
 use Rattle.std.proofs.Common.{◌≡◌, ◌<◌, ◌≤◌, ◌⊎◌, ◌∙◌, ◌∷◌, ◌++◌, [], ℕ, List, Some, inl, inr, ap, arith, length}
-use Rattle.std.proofs.Common.{None, eqb, false, refl, subst, sym, set, ◌↔◌}
+use Rattle.std.proofs.Common.{Bool, None, eqb, false, refl, subst, sym, set, ◌↔◌}
 use Rattle.std.specs.Prelude.{Contains, Err, IsTrue, Ok, Result, slice_get}
 use Rattle.std.proofs.lemmas.Bool.{cases_lt, eq-eqb, eqb-true}
 use Rattle.std.proofs.lemmas.Option.{same_Some, slice_get-get_or, slice_get_within}
@@ -20,36 +20,23 @@ pub at-place : (cached places : List ℕ) (number : ℕ) → ArePlaces cached pl
 at-place cached places number are (k, below, same) =
     let there = slice_get-get_or cached k number below ∙ ap Some same in (are k number there, there)
 
--- A bucket that has no place isn't cached, nor is one at whose place none or another stands.
-module _ (cached shown places : List ℕ) (number : ℕ) (same : cached ≡ shown) (are : ArePlaces cached places) where
-  its-place : (has : Contains shown number) → (slice_get places number ≡ Some has.0) × (slice_get cached has.0 ≡ Some number)
-  its-place has =
-      let (there, stands) = at-place shown places number (subst (λ (l : List ℕ). ArePlaces l places) same are) has in
-      (there, ap (λ (l : List ℕ). slice_get l has.0) same ∙ stands)
+-- a bucket is cached where it stands at its place in the list
+pub tells-cached : (cached places : List ℕ) (number place : ℕ) (told : Bool) → ArePlaces cached places →
+    slice_get places number ≡ Some place → IsTrue told ↔ (slice_get cached place ≡ Some number) →
+    IsTrue told ↔ Contains cached number
+tells-cached cached places number place told are at tells = (
+  λ yes. contains_at cached place number (tells.0 yes),
+  λ has.
+      let its = at-place cached places number are has in
+      let same = same_Some has.0 place (sym its.0 ∙ at) in
+      tells.1 (subst (λ (k : ℕ). slice_get cached k ≡ Some number) same its.1),
+)
 
-  pub no-place : slice_get places number ≡ None → IsTrue false ↔ Contains shown number
-  no-place none = (λ wrong. absurd (cc), λ has. let there = (its-place has).0 in absurd (cc))
-
-  module _ (place : ℕ) (at : slice_get places number ≡ Some place) where
-    pub none-there : slice_get cached place ≡ None → IsTrue false ↔ Contains shown number
-    none-there none = (
-      λ wrong. absurd (cc),
-      λ has.
-          let its = its-place has in
-          let is = same_Some has.0 place (sym its.0 ∙ at) in
-          let stands = subst (λ (k : ℕ). slice_get cached k ≡ Some number) is its.1 in absurd (cc),
-    )
-
-    pub one-there : (there : ℕ) → slice_get cached place ≡ Some there → IsTrue (eqb there number) ↔ Contains shown number
-    one-there there stands = (
-      λ test. subst (λ (l : List ℕ). Contains l number) same
-          (contains_at cached place number (stands ∙ ap Some (eqb-true there number test))),
-      λ has.
-          let its = its-place has in
-          let is = same_Some has.0 place (sym its.0 ∙ at) in
-          let its_own = subst (λ (k : ℕ). slice_get cached k ≡ Some number) is its.1 in
-          eq-eqb there number (same_Some there number (sym stands ∙ its_own)),
-    )
+-- a bucket that has no place isn't cached
+pub tells-uncached : (cached places : List ℕ) (number : ℕ) → ArePlaces cached places → slice_get places number ≡ None →
+    IsTrue false ↔ Contains cached number
+tells-uncached cached places number are none =
+    (λ wrong. absurd (cc), λ has. let there = (at-place cached places number are has).0 in absurd (cc))
 
 -- the place of a bucket that isn't cached may be any
 pub other-place : (cached places : List ℕ) (number place : ℕ) → ¬ Contains cached number → ArePlaces cached places →
@@ -149,6 +136,15 @@ joined-takes {joined = joined} {after = after} (Ok taken) {places = places} is a
           (ap (λ (j : CachingParty). j.cached) (sym took.1))
           (fewer-places joined.cached some.0 some.1 places some.2 is.listed))
     ]
+
+-- a place noted for a bucket that isn't cached
+pub joined-noted : {pool : SharedPool} {joined : CachingParty} (number place : ℕ) {places : List ℕ} →
+    IsJoinedAt pool joined places → ¬ Contains joined.cached number → IsJoinedAt pool joined (set places number place)
+joined-noted {joined = joined} number place {places} is uncached = record {
+  theirs = is.theirs;
+  room = λ some. omega (arith, is.room some, length-set_at places number place);
+  listed = other-place joined.cached places number place uncached is.listed;
+}
 
 -- a return, with the place of its bucket noted
 pub joined-returns : {pool : SharedPool} {joined after : CachingParty} (number : ℕ) {places : List ℕ} →

@@ -1,15 +1,16 @@
 //! A shared pool behind handles: one for the pool and the parties that haven't joined, and one for each party that has.
-ghost use Rattle.std.specs.Prelude.{◌≡◌, ◌<◌, ◌≤◌, ◌↔◌, Contains, IfErr, IfNone, IfOk, IfSome, IsTrue};
-ghost use Rattle.std.specs.Prelude.{slice_get, slice_set, vec_capacity};
+ghost use Rattle.std.specs.Prelude.{◌≡◌, ◌<◌, ◌≤◌, ◌↔◌, Contains, IfErr, IfNone, IfOk, IfSome, IsFalse, IsTrue, Some};
+ghost use Rattle.std.specs.Prelude.{ℕ, slice_get, slice_set, vec_capacity};
 ghost use Rattle.std.specs.Arc.{arc_value};
 ghost use Rattle.bb_memory_traits.specs.Chunk.{region_at};
+ghost use Rattle.bb_memory_traits.specs.PoolObject.{bucket_place};
 ghost use Rattle.bb_memory_shared_pools.specs.SharedPoolCaching.{CachingParty, IsOut, ReturnsCaching};
 ghost use Rattle.bb_memory_c.specs.Answers.{figure_of, no_figure, ok, uninitialized};
 ghost use Rattle.bb_memory_c.specs.Calls.{Answers, AnswersFree, AnswersInfo, AnswersJoin, AnswersLeave, AnswersNumber};
 ghost use Rattle.bb_memory_c.specs.Calls.{AnswersPlace, AnswersPoolMake, AnswersRequest, AnswersReturn, AnswersTake};
 ghost use Rattle.bb_memory_c.specs.Calls.{AnswersWhether, HasRoom, IfBoth, IsThere, MayBeShared, left_at};
 ghost use Rattle.bb_memory_c.specs.OneOwner.{pool_info};
-ghost use Rattle.bb_memory_c.specs.SharedPools.{AreFreshOver, AreUnjoined, CountsOut, GivesAllBack, GivesBack, GivesChunk};
+ghost use Rattle.bb_memory_c.specs.SharedPools.{AreFreshOver, ArePlaces, AreUnjoined, CountsOut, GivesAllBack, GivesBack, GivesChunk};
 ghost use Rattle.bb_memory_c.specs.SharedPools.{HoldsAt, HoldsPlace, IsAt, IsIdleAt, IsJoinedAt, JoinsAt, Knows, Leaves};
 ghost use Rattle.bb_memory_c.specs.SharedPools.{PoolParties, ShowsParty, ShowsShared, TellsCache, TellsHolder, as_joined};
 ghost use Rattle.bb_memory_c.specs.SharedPools.{emptied, geometry_of, with_left};
@@ -98,11 +99,28 @@ fn entry(all: &[u32], number: u32) -> Option<u32>
     all.get(number as usize).copied()
 }
 
-/// Returns whether this number is at this place of the list.
-fn is_at(all: &[u32], number: u32, place: u32) -> bool
+/// Returns whether this number stands at this place of the list.
+fn is_at(all: &[u32], place: u32, number: u32) -> bool
     ensures { IsTrue result ↔ (slice_get all.now place ≡ Some number) }
 {
     entry(all, place) == Some(number)
+}
+
+/// Returns whether the bucket of this number is cached. Where it isn't, notes this place for it, if there is room.
+fn note(places: &mut Vec<u32>, cached: &[u32], number: u32, place: u32) -> bool
+    requires { ArePlaces cached.now places.old.items }
+    ensures cached { IsTrue result ↔ Contains cached.now number }
+    ensures noted { IsFalse result → places.new.items ≡ slice_set places.old.items number place }
+    ensures unchanged { IsTrue result → places.new.items ≡ places.old.items }
+{
+    let Some(noted) = entry(places, number) else {
+        return false;
+    };
+    if is_at(cached, noted, number) {
+        return true;
+    }
+    places[number as usize] = place;
+    false
 }
 
 impl JoinedPool {
@@ -137,10 +155,10 @@ impl JoinedPool {
     fn is_cached(&self, number: u32) -> bool
         ensures { IsTrue result ↔ Contains self.now.cached number }
     {
-        match entry(&self.places, number) {
-            Some(place) => is_at(self.party.cached(), number, place),
-            None => false,
-        }
+        let Some(place) = entry(&self.places, number) else {
+            return false;
+        };
+        is_at(self.party.cached(), place, number)
     }
 
     /// Tells whether the bucket of this number is out: held, and not cached.
@@ -155,17 +173,26 @@ impl JoinedPool {
         self.party.is_held(&*self.pool, number)
     }
 
+    /// The number of the bucket at this place. Where no bucket begins there, none is out there.
+    fn numbered(&self, place: usize) -> Option<u32>
+        ensures below { IfSome result (λ number. number < (geometry_of self.now).buckets) }
+        ensures there { IfSome result (λ number. place ≡ bucket_place (geometry_of self.now) number) }
+        ensures one { IfSome result (λ number. (other : ℕ)
+            → place ≡ bucket_place (geometry_of self.now) other → other ≡ number) }
+        ensures none { IfNone result (¬ HoldsPlace self.now place) }
+    {
+        // Proof hint: brings the party's invariant into scope.
+        let _ = self.party.party().number();
+        self.pool.number_at(place)
+    }
+
     /// The number of the bucket at this place, if it is out.
     pub(crate) fn held_at(&mut self, place: usize) -> Option<u32>
         ensures held { IfSome result (HoldsAt self.old place) }
         ensures none { IfNone result (¬ HoldsPlace self.old place) }
         ensures unchanged { self.new ≡ self.old }
     {
-        // Proof hint: brings the party's invariant into scope.
-        let _ = self.party.party().number();
-        let Some(number) = self.pool.number_at(place) else {
-            return None;
-        };
+        let number = self.numbered(place)?;
         if self.is_out(number) {
             Some(number)
         } else {
@@ -204,8 +231,7 @@ impl JoinedPool {
         count
     }
 
-    /// Gives back the bucket of this number where it is out, and returns whether it was. Its place in the list is looked at and
-    /// noted by one access.
+    /// Gives back the bucket of this number where it is out, and returns whether it was.
     #[tactic(auto, unfolding(bb_memory_shared_pools::specs::SharedPoolCaching::IsOut))]
     fn give_back_if_out(&mut self, number: u32) -> bool
         requires { number < (geometry_of self.old).buckets }
@@ -216,18 +242,12 @@ impl JoinedPool {
         // Proof hint: brings the party's invariant into scope.
         let _ = self.party.party().number();
         let pool = &*self.pool;
-        match self.places.get_mut(number as usize) {
-            Some(place) => {
-                if is_at(self.party.cached(), number, *place) || !self.party.is_held(pool, number) {
-                    return false;
-                }
-                *place = self.party.number_of_cached();
-            }
-            None => {
-                if !self.party.is_held(pool, number) {
-                    return false;
-                }
-            }
+        let place = self.party.number_of_cached();
+        if note(&mut self.places, self.party.cached(), number, place) {
+            return false;
+        }
+        if !self.party.is_held(pool, number) {
+            return false;
         }
         let bucket = by_number::bucket(pool, self.party.party(), number, 0);
         self.party.deallocate(pool, bucket);
@@ -263,10 +283,10 @@ impl Keeps for JoinedPool {
     }
 
     fn give_back(&mut self, place: usize) -> bool {
-        let Some(number) = self.pool.number_at(place) else {
-            return false;
-        };
-        self.give_back_if_out(number)
+        match self.numbered(place) {
+            Some(number) => self.give_back_if_out(number),
+            None => false,
+        }
     }
 }
 
