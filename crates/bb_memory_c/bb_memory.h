@@ -178,8 +178,7 @@ BB_MUST_USE uint32_t bb_bump_init(bb_bump *, bb_place start, size_t size);
 uint32_t bb_bump_destroy(bb_bump *);
 // A chunk of exactly `size` bytes at the least multiple of `align` behind what is used.
 BB_MUST_USE bb_answer bb_bump_allocate(bb_bump *, size_t size, size_t align);
-// All chunks are given back.
-uint32_t bb_bump_deallocate(bb_bump *);
+uint32_t bb_bump_deallocate(bb_bump *);                                  // gives all chunks back
 // In bytes. The used space has the padding between chunks in it, and the free space lies behind the last chunk.
 struct bb_bump_info { size_t start_address, used_space, free_space, total_space; };
 uint32_t bb_bump_info(bb_bump *, struct bb_bump_info *);

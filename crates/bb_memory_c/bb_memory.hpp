@@ -210,7 +210,7 @@ using shared_pool = shared<bb_shared_pool, bb_shared_pool_init, bb_shared_pool_d
 using bump_party = shared_bump::party;
 using pool_party = shared_pool::party;
 
-// The calls that `make` and the resources choose by a handle's type.
+// The calls that `take`, `make` and the resources choose by a handle's type.
 inline bb_answer allocate(bb_bump *of, std::size_t size, std::size_t align) { return bb_bump_allocate(of, size, align); }
 inline bb_answer allocate(bb_bump_party *of, std::size_t size, std::size_t align) {
     return bb_bump_party_allocate(of, size, align);
@@ -218,6 +218,12 @@ inline bb_answer allocate(bb_bump_party *of, std::size_t size, std::size_t align
 inline bb_answer allocate(bb_pool *of, std::size_t size, std::size_t align) { return bb_pool_allocate(of, size, align); }
 inline bb_answer allocate(bb_pool_party *of, std::size_t size, std::size_t align) {
     bb_answer given = bb_pool_party_allocate(of, size, align);
+    if (given.code == BB_OK) tell_taking(given.place);
+    return given;
+}
+inline bb_answer take_whole(bb_pool *of) { return bb_pool_take(of); }
+inline bb_answer take_whole(bb_pool_party *of) {
+    bb_answer given = bb_pool_party_take(of);
     if (given.code == BB_OK) tell_taking(given.place);
     return given;
 }
@@ -238,6 +244,13 @@ struct give_back {
 };
 template <class T, class Handle>
 using unique = std::unique_ptr<T, give_back<T, Handle>>;
+
+// Takes a whole bucket of a pool or of a party's pool, which outlives it; empty where each bucket is held.
+template <class Handle>
+unique<void, Handle> take(Handle *from) {
+    bb_answer given = bb::take_whole(from);
+    return unique<void, Handle>(given.code == BB_OK ? given.place : nullptr, {from});
+}
 
 // Makes a T in a bucket of a pool or of a party's pool, which outlives it; empty where the pool refuses.
 template <class T, class Handle, class... Arguments>

@@ -188,6 +188,33 @@ static void run_pool(void) {
     EXPECT(bb_pool_info(&pool, &info) == BB_UNINITIALIZED);
 }
 
+// Takes both buckets of 500 bytes, and the one that came back: what a request of the bucket's own size and alignment gets.
+#define RUN_TAKE(POOL, MADE)                                                                            \
+    do {                                                                                                 \
+        requests = 0;                                                                                    \
+        bb_answer one = POOL##_take(&MADE), other = POOL##_take(&MADE);                                  \
+        EXPECT(one.code == BB_OK && other.code == BB_OK && one.place + other.place == 4096 + 4596);      \
+        EXPECT(one.place == 4096 || one.place == 4596);                                                  \
+        EXPECT(refused(POOL##_take(&MADE), BB_OUT_OF_MEMORY));                                           \
+        EXPECT(POOL##_deallocate(&MADE, one.place) == BB_OK && given(POOL##_take(&MADE), one.place));    \
+        EXPECT(requests == 0 && POOL##_destroy(&MADE) == BB_OK);                                         \
+        EXPECT(refused(POOL##_take(&MADE), BB_UNINITIALIZED));                                           \
+    } while (0)
+
+static void run_take(void) {
+    bb_pool pool = BB_EMPTY;
+    bb_shared_pool shared = BB_EMPTY;
+    bb_pool_party caching = BB_EMPTY, party = BB_EMPTY;
+    EXPECT(bb_pool_init(&pool, 500, 4, 4096, 1024) == BB_OK);
+    RUN_TAKE(bb_pool, pool);
+    EXPECT(bb_shared_pool_init(&shared, 500, 4, 4096, 1024, 2) == BB_OK && bb_shared_pool_join(&shared, &party) == BB_OK);
+    RUN_TAKE(bb_pool_party, party);
+    EXPECT(bb_shared_pool_destroy(&shared) == BB_OK && bb_shared_pool_init(&shared, 500, 4, 4096, 1024, 2) == BB_OK);
+    EXPECT(bb_shared_pool_join(&shared, &caching) == BB_OK && bb_pool_party_cache(&caching, 1) == BB_OK);
+    RUN_TAKE(bb_pool_party, caching);
+    EXPECT(bb_shared_pool_destroy(&shared) == BB_OK);
+}
+
 // Buckets of 48 bytes at multiples of 32 are 64 bytes apart, the first at 4096, and the region has room for five. A number or a
 // place is told whether the bucket is held or not, and it takes no memory.
 #define RUN_NUMBERS(POOL, MADE)                                                                          \
@@ -799,6 +826,7 @@ int main(void) {
     run_bump();
     run_one_chunk();
     run_pool();
+    run_take();
     run_numbers();
     run_starts();
     run_no_bucket();

@@ -93,6 +93,10 @@ pub trait Pool: BaseAllocator {
     /// Returns all figures. Of a party each bucket is looked at.
     fn info(&self) -> PoolInfo;
 
+    /// Takes a whole bucket: what [`allocate`](BaseAllocator::allocate) answers to the layout of a bucket. It is refused with
+    /// `OutOfMemory`.
+    fn take(&self) -> Result<NonNull<[u8]>, AllocationError>;
+
     /// Returns whether a held bucket begins here; of a party, one that it holds.
     fn holds(&self, ptr: NonNull<u8>) -> bool;
 
@@ -213,7 +217,9 @@ macro_rules! base {
 
 /// Writes the calls of what is cut into buckets.
 macro_rules! buckets {
-    ($name:ident: $allocate:ident $deallocate:ident $holds:ident $info:ident $place_at:ident $number_at:ident) => {
+    (
+        $name:ident: $allocate:ident $take:ident $deallocate:ident $holds:ident $info:ident $place_at:ident $number_at:ident
+    ) => {
         base! { $name: $allocate }
 
         impl Pool for $name<'_> {
@@ -222,6 +228,11 @@ macro_rules! buckets {
                 // SAFETY: the function is of this kind, and no other call has the handle, here and below.
                 expect_ok(unsafe { ffi::$info(self.owned.handle(), &mut info) });
                 info
+            }
+
+            fn take(&self) -> Result<NonNull<[u8]>, AllocationError> {
+                // SAFETY: the function is of this kind.
+                unsafe { self.owned.take(ffi::$take, self.bucket) }
             }
 
             fn holds(&self, ptr: NonNull<u8>) -> bool {

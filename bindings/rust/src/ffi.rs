@@ -121,6 +121,8 @@ pub const NOT_A_BUCKET: u32 = 22;
 pub type Destroy = unsafe extern "C" fn(*mut Handle) -> u32;
 /// Asks for a chunk of this size at a multiple of this alignment.
 pub type Allocate = unsafe extern "C" fn(*mut Handle, usize, usize) -> Answer;
+/// Takes a whole bucket.
+pub type Take = unsafe extern "C" fn(*mut Handle) -> Answer;
 /// Resizes the chunk at this place, of this old size and alignment, to these new ones.
 pub type Resize =
     unsafe extern "C" fn(*mut Handle, *const c_void, usize, usize, usize, usize) -> Answer;
@@ -164,6 +166,7 @@ functions! {
     bb_pool_init(usize, usize, *const c_void, usize) -> u32;
     bb_pool_destroy() -> u32;
     bb_pool_allocate(usize, usize) -> Answer;
+    bb_pool_take() -> Answer;
     bb_pool_deallocate(*const c_void) -> u32;
     bb_pool_holds(*const c_void) -> Figure;
     bb_pool_info(*mut PoolInfo) -> u32;
@@ -185,6 +188,7 @@ functions! {
     bb_shared_pool_leave(*mut Handle) -> u32;
     bb_pool_party_destroy() -> u32;
     bb_pool_party_allocate(usize, usize) -> Answer;
+    bb_pool_party_take() -> Answer;
     bb_pool_party_deallocate(*const c_void) -> u32;
     bb_pool_party_holds(*const c_void) -> Figure;
     bb_pool_party_info(*mut PoolInfo) -> u32;

@@ -101,6 +101,20 @@ impl<'region> Owned<'region> {
         let place = self.place(answer).map_err(AllocationError::of)?;
         Ok(NonNull::slice_from_raw_parts(place, layout.size()))
     }
+
+    /// Takes a whole bucket of this layout.
+    /// # Safety
+    /// `take` is of this kind.
+    pub unsafe fn take(
+        &self,
+        take: ffi::Take,
+        bucket: Layout,
+    ) -> Result<NonNull<[u8]>, AllocationError> {
+        // SAFETY: the function is of this kind, and no other call has the handle.
+        let answer = unsafe { take(self.handle()) };
+        let place = self.place(answer).map_err(AllocationError::of)?;
+        Ok(NonNull::slice_from_raw_parts(place, bucket.size()))
+    }
 }
 
 impl Drop for Owned<'_> {

@@ -206,5 +206,6 @@ over_region! {
 }
 
 buckets! {
-    PoolAllocator: bb_pool_allocate bb_pool_deallocate bb_pool_holds bb_pool_info bb_pool_place_at bb_pool_number_at
+    PoolAllocator: bb_pool_allocate bb_pool_take bb_pool_deallocate bb_pool_holds bb_pool_info
+    bb_pool_place_at bb_pool_number_at
 }

@@ -215,8 +215,8 @@ pub struct PoolParty<'region> {
 }
 
 buckets! {
-    PoolParty: bb_pool_party_allocate bb_pool_party_deallocate bb_pool_party_holds bb_pool_party_info
-    bb_pool_party_place_at bb_pool_party_number_at
+    PoolParty: bb_pool_party_allocate bb_pool_party_take bb_pool_party_deallocate bb_pool_party_holds
+    bb_pool_party_info bb_pool_party_place_at bb_pool_party_number_at
 }
 
 /// A detached bucket, or none: what carries a bucket from one party of a [`SharedPoolAllocator`] to another, which gives it back.

@@ -140,6 +140,21 @@ fn a_pool_gives_buckets() {
 }
 
 #[test]
+fn a_pool_gives_whole_buckets() {
+    let mut region = Region::new();
+    let pool = PoolAllocator::over(layout(500, 4), &mut region.0).unwrap();
+    let start = pool.start_address();
+    let (one, other) = (pool.take().unwrap(), pool.take().unwrap());
+    let mut places = [at(one, start), at(other, start)];
+    places.sort();
+    assert_eq!(places, [(0, 500), (500, 500)]);
+    refuses(pool.take(), AllocationError::OutOfMemory);
+    // SAFETY: the chunk isn't used again.
+    unsafe { pool.deallocate(one.cast(), layout(500, 4)) };
+    assert_eq!(pool.take().unwrap(), one);
+}
+
+#[test]
 fn the_first_bucket_is_aligned() {
     let mut region = Region::new();
     let pool = PoolAllocator::over(layout(100, 64), &mut region.0[1..]).unwrap();

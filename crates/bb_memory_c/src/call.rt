@@ -97,12 +97,10 @@ pub(crate) fn request_bucket<I, M: Gives<I> + Bucketed, H: Handle<M>>(
     let Some(made) = handle.made_mut() else {
         return Answer::refusal(code::UNINITIALIZED);
     };
-    if let Some(limit) = made.limit() {
-        if let Some(layout) = limit.within(size, align) {
-            return Answer::of(made.give(layout));
-        }
+    match made.limit().within(size, align) {
+        Some(layout) => Answer::of(made.give(layout)),
+        None => ask(made, size, align),
     }
-    ask(made, size, align)
 }
 
 /// Takes a whole bucket.

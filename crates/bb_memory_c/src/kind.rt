@@ -61,8 +61,8 @@ pub(crate) trait Bucketed: Drop {
         ensures may { may_take self.old result self.new }
         ensures refused { IfErr result (λ error. error ≡ AllocationError.OutOfMemory) };
 
-    /// Returns a layout within which a request skips `layout_of`, if there is one now. Any answer is right.
-    fn limit(&self) -> Option<Layout>;
+    /// Returns a layout within which a request skips `layout_of`. Any answer is right.
+    fn limit(&self) -> Layout;
 
     /// Returns where the bucket of this number begins, if there is one.
     fn place_of(&self, number: u32) -> Option<usize>

@@ -171,8 +171,8 @@ impl Bucketed for Pool {
         self.pool.take()
     }
 
-    fn limit(&self) -> Option<Layout> {
-        Some(self.pool.bucket_layout())
+    fn limit(&self) -> Layout {
+        self.pool.bucket_layout()
     }
 
     fn place_of(&self, number: u32) -> Option<usize> {

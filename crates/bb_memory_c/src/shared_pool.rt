@@ -301,11 +301,8 @@ impl Bucketed for JoinedPool {
         Ok(bucket.chunk())
     }
 
-    fn limit(&self) -> Option<Layout> {
-        if self.party.number_of_cached() == 0 {
-            return None;
-        }
-        Some(self.pool.bucket_layout())
+    fn limit(&self) -> Layout {
+        self.pool.bucket_layout()
     }
 
     fn place_of(&self, number: u32) -> Option<usize> {

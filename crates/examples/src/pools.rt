@@ -36,8 +36,20 @@ pub fn taken_again(
     let (len, size) = (chunk.len(), layout.size());
     prove!(len == size);
     pool.deallocate(chunk.place(), layout);
-    let accepted = pool.allocate(layout).is_ok();
-    prove!(accepted);
+    let again = pool.allocate(layout);
+    prove!(matches!(&again, Ok(_)));
+    if let Ok(chunk) = again {
+        pool.deallocate(chunk.place(), layout);
+    }
+    Ok(())
+}
+
+/// A bucket that is taken whole has the bucket's size.
+pub fn taken_whole(pool: &mut FixedSizePoolAllocator<16>) -> Result<(), AllocationError> {
+    let chunk = pool.take()?;
+    let (len, size) = (chunk.len(), pool.bucket_size());
+    prove!(len == size);
+    pool.deallocate(chunk.place(), Layout::empty());
     Ok(())
 }
 
@@ -47,6 +59,9 @@ pub fn room_told(pool: &mut FixedSizePoolAllocator<16>) {
     let answer = pool.allocate(Layout::empty());
     let given = answer.is_ok();
     prove!(given == before);
+    if let Ok(chunk) = answer {
+        pool.deallocate(chunk.place(), Layout::empty());
+    }
 }
 
 /// A place of which nothing is known is given back where it is a held bucket's, and once.
@@ -116,7 +131,14 @@ pub fn two_out(
     layout: Layout,
 ) -> Result<(), AllocationError> {
     let first = pool.allocate(layout)?;
-    let second = one_more(pool, layout, first.place())?;
-    give_two(pool, first.place(), second.place());
-    Ok(())
+    match one_more(pool, layout, first.place()) {
+        Ok(second) => {
+            give_two(pool, first.place(), second.place());
+            Ok(())
+        }
+        Err(error) => {
+            pool.deallocate(first.place(), layout);
+            Err(error)
+        }
+    }
 }
