@@ -1,5 +1,5 @@
-// Times the allocators with one owner and their peers, and prints a line for each round, which `report` reads. Its argument is the
-// number of rounds.
+// Times the allocators with one owner and their peers, and prints a line for each round, which `report` reads. Its argument is
+// the number of rounds.
 #include "heaps.h"
 #include "pool_bench.h"
 #include <stdio.h>

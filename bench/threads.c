@@ -1,7 +1,7 @@
 // Times a bump and a list of free buckets in C, allocators of other packages, and parties of a shared pool of the C library, by
-// several threads at once: pairs, bursts, the slowest takings, and a queue between two threads whose receiver gives each message's
-// memory back. Its arguments are the number of rounds and the number of calls of each thread in a round. It prints a line for each
-// round, as shared_bench does for the shared forms in Rattle.
+// several threads at once: pairs, bursts, the slowest takings, and a queue between two threads whose receiver gives each
+// message's memory back. Its arguments are the number of rounds and the number of calls of each thread in a round. It prints a
+// line for each round, as shared_bench does for the shared forms in Rattle.
 #define BB_PLACES_ARE_NUMBERS
 #include "heaps.h"
 #include <bb_memory.h>
@@ -336,8 +336,8 @@ static void time_the_clock(void) {
     cycles_in_a_nanosecond = (double)(cycles() - first) / nanos(start, end);
 }
 
-// Runs the threads, and returns the nanoseconds of a thread's taking and its return, those that 99.9% of the takings take at most,
-// or those of a message: from the gate to the last one, of which the receiver has given the memory back.
+// Runs the threads, and returns the nanoseconds of a thread's taking and its return, those that 99.9% of the takings take at
+// most, or those of a message: from the gate to the last one, of which the receiver has given the memory back.
 static double timed(const kind *of, what it) {
     static uint32_t found[MOST_THREADS][MOST_CYCLES];
     pthread_t all[MOST_THREADS];
@@ -348,8 +348,8 @@ static double timed(const kind *of, what it) {
     open_all(of, is_dpdk);
     memset(found, 0, sizeof found);
     for (unsigned i = 0; i < threads; i++) {
-        jobs[i] = (job){.call = of->call[it == SEND && i ? RECEIVE : it], .times = times, .party = &parties[i], .counts = found[i]};
-        jobs[i].is_dpdk = is_dpdk;
+        jobs[i] = (job){.times = times, .party = &parties[i], .is_dpdk = is_dpdk, .counts = found[i]};
+        jobs[i].call = of->call[it == SEND && i ? RECEIVE : it];
         if (pthread_create(&all[i], NULL, work, &jobs[i]))
             abort();
     }
