@@ -10,10 +10,9 @@ enum { CALLS = 40000, WRITTEN_CALLS = 10 * CALLS, MOST_BUCKETS = 65536 };
 enum { MOST_CALLS = 2 * MOST_BUCKETS + WRITTEN_CALLS };
 enum { SIZES = 5, FILLS = 3, GROUP = 64 };
 
-typedef enum { ONE, OLDEST, RANDOM, REFUSED, PATTERNS } pattern;
+typedef enum { ONE, RANDOM, REFUSED, PATTERNS } pattern;
 
-static const char *const pattern_names[PATTERNS] = {"one", "oldest", "random", "refused"};
-static const char *const written_names[] = {"one written", "oldest written", "random written"};
+static const char *const pattern_names[PATTERNS] = {"one", "random", "refused"};
 
 // A loop over an allocator, and whether this machine has that one.
 typedef struct {
@@ -40,40 +39,25 @@ static uint64_t next_random(void) {
 // A number below the bound.
 static uint32_t below(uint32_t bound) { return (uint32_t)((next_random() >> 32) * bound >> 32); }
 
-// A script, and which bucket is kept at each index while it is written: they are counted in the order in which they are taken.
-static uint32_t script[MOST_CALLS], kept[MOST_BUCKETS + 1], where[MOST_CALLS];
+// A script; how many buckets are held behind it, and how many it took in all.
+static uint32_t script[MOST_CALLS], held, born;
 static size_t calls;
-static uint32_t count, born, oldest;
 
 static void take(void) {
     script[calls++] = TAKE;
-    kept[count] = born;
-    where[born++] = count++;
+    held++;
+    born++;
 }
 
-static void give(uint32_t at) {
-    script[calls++] = at;
-    where[kept[at]] = UINT32_MAX;
-    uint32_t last = kept[--count];
-    if (at != count) {
-        kept[at] = last;
-        where[last] = at;
-    }
-}
-
-static void give_oldest(void) {
-    while (where[oldest] == UINT32_MAX)
-        oldest++;
-    give(where[oldest]);
-}
+static void give(void) { script[calls++] = below(held--); }
 
 // Fills a pool, and gives back buckets at random until so many are held.
-static void fill(uint32_t buckets, uint32_t held) {
-    calls = 0, count = 0, born = 0, oldest = 0;
-    while (count < buckets)
+static void fill(uint32_t buckets, uint32_t left) {
+    calls = 0, held = 0, born = 0;
+    while (held < buckets)
         take();
-    while (count > held)
-        give(below(count));
+    while (held > left)
+        give();
 }
 
 static void some_calls(pattern p, uint32_t buckets) {
@@ -82,17 +66,13 @@ static void some_calls(pattern p, uint32_t buckets) {
         script[calls++] = TAKE;
         return;
     case RANDOM:
-        if (count == buckets || (count && next_random() >> 63))
-            give(below(count));
+        if (held == buckets || (held && next_random() >> 63))
+            give();
         else
             take();
         return;
-    case OLDEST:
-        give_oldest();
-        take();
-        return;
     default:
-        give(below(count));
+        give();
         take();
     }
 }
@@ -152,10 +132,8 @@ static void time_pools(void) {
 
 // What is taken is written, and read before it goes back, in buckets of a cache line: in 256 KiB, and in 4 MiB.
 static void time_written(void) {
-    for (int p = 0; p < REFUSED; p++) {
-        time_each(written_names[p], written, WRITTEN, p, task_of(4096, 64), 50, WRITTEN_CALLS);
-        time_each(written_names[p], written, WRITTEN, p, task_of(MOST_BUCKETS, 64), 50, WRITTEN_CALLS);
-    }
+    time_each("random written", written, WRITTEN, RANDOM, task_of(4096, 64), 50, WRITTEN_CALLS);
+    time_each("random written", written, WRITTEN, RANDOM, task_of(MOST_BUCKETS, 64), 50, WRITTEN_CALLS);
 }
 
 // The other allocators: for each request of 48 bytes its nanoseconds, together with those of giving back what it took.
@@ -164,12 +142,12 @@ static void time_others(void) {
         const char *name, *by;
         rounds_of *run;
     } others[] = {OTHER_ROWS};
-    uint32_t sizes[GROUP], rounds = CALLS / GROUP;
+    uint32_t requests[GROUP], rounds = CALLS / GROUP;
     for (size_t i = 0; i < GROUP; i++)
-        sizes[i] = 48;
+        requests[i] = 48;
     for (size_t i = 0; i < sizeof others / sizeof *others; i++) {
         double start = seconds();
-        others[i].run(sizes, GROUP, 8, rounds);
+        others[i].run(requests, GROUP, 8, rounds);
         printf("%s,1,,,%s,%.2f\n", others[i].name, others[i].by, (seconds() - start) * 1e9 / (rounds * GROUP));
     }
 }
