@@ -64,7 +64,9 @@ fn folder_by_pkg_config() -> Option<PathBuf> {
 fn unpacked_release() -> Option<PathBuf> {
     let release = concat!("bb_memory-", env!("CARGO_PKG_VERSION"), "-x86_64-linux");
     let archive = format!("{}/../../dist/{release}.tar.gz", env!("CARGO_MANIFEST_DIR"));
-    if !Path::new(&archive).exists() {
+    let target = env::var("TARGET").ok()?;
+    let fits = target.starts_with("x86_64-") && target.contains("-linux-");
+    if !fits || !Path::new(&archive).exists() {
         return None;
     }
     println!("cargo::rerun-if-changed={archive}");
