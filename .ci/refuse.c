@@ -3,11 +3,11 @@
 // REFUSE_AT=N refuses the Nth request. Where that request never came and the program ended well, the exit status is 99.
 // REFUSE_MARKED=1 refuses each request between two marks, which are requests of sizes that no other request has. The first mark
 // is refused, and so is each request behind it. The second ends that, and is refused exactly where a request came between both;
-// a third one between them exactly where nothing was given back since the first. So a test learns by their answers what happened
-// meanwhile. Where the program met the first two and ended well, the exit status is 98.
+// a third one between them exactly where nothing, not even a granted mark, was given back since the first. So a test learns by
+// their answers what happened meanwhile. Where the program met the first two and ended well, the exit status is 98.
 //
 // In both ways a fourth mark is refused exactly where a request that is no mark was refused before it. Without REFUSE_MARKED the
-// other three are granted, so a test that asks for them is run with ample memory, too. No mark is counted.
+// other three are granted, so a test that asks for them is run with ample memory, too. No mark is counted as a request.
 #define _GNU_SOURCE
 #include <stdlib.h>
 #include <sys/syscall.h>
@@ -19,23 +19,13 @@ extern void *__libc_malloc(size_t), *__libc_calloc(size_t, size_t), *__libc_real
 
 static long asked, refuse_at, asked_between, freed_between;
 static int marked, refused, between_marks, met_both;
-// A mark that was granted, until it is given back.
-static void *mark;
-
-// The status that the program ends with, where it asked for this one.
-static int told(int status) {
-    return status != 0 ? status : refuse_at && !refused ? 99 : met_both ? 98 : 0;
-}
 
 // A program with threads ends by this call, any other one returns from main.
 void _exit(int status) {
-    for (;;) syscall(SYS_exit_group, told(status));
+    for (;;) syscall(SYS_exit_group, status ? status : refuse_at && !refused ? 99 : met_both ? 98 : 0);
 }
 
-static void end(int status, void *unused) {
-    (void)unused;
-    if (told(status) != status) _exit(status);
-}
+static void end(int status, void *unused) { (void)unused, _exit(status); }
 
 __attribute__((constructor)) static void begin(void) {
     refuse_at = getenv("REFUSE_AT") ? atol(getenv("REFUSE_AT")) : 0;
@@ -56,18 +46,13 @@ static int refuses(size_t size) {
     return between_marks;
 }
 
-void *malloc(size_t size) {
-    void *block = refuses(size) ? NULL : __libc_malloc(size);
-    if (is_mark(size)) mark = block;
-    return block;
-}
+void *malloc(size_t size) { return refuses(size) ? NULL : __libc_malloc(size); }
 
 void *calloc(size_t count, size_t size) { return refuses(count * size) ? NULL : __libc_calloc(count, size); }
 
 void *realloc(void *block, size_t size) { return refuses(size) ? NULL : __libc_realloc(block, size); }
 
 void free(void *block) {
-    if (block && block == mark) mark = NULL;
-    else if (block && between_marks) __atomic_add_fetch(&freed_between, 1, __ATOMIC_SEQ_CST);
+    if (block && between_marks) __atomic_add_fetch(&freed_between, 1, __ATOMIC_SEQ_CST);
     __libc_free(block);
 }

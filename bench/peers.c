@@ -141,32 +141,3 @@ uint64_t plain_bump(const uint32_t *sizes, size_t count, size_t align, uint32_t 
     }
     return sum;
 }
-
-// One chunk in C, with the same tests.
-uint64_t plain_chunk(const uint32_t *sizes, size_t count, size_t align, uint32_t rounds) {
-    volatile size_t kept = 0;
-    uint64_t sum = 0;
-    for (uint32_t round = 0; round < rounds; round++)
-        for (size_t i = 0; i < count; i++) {
-            size_t place = (START + align - 1) & ~(align - 1), end;
-            if (kept || __builtin_add_overflow(place, sizes[i], &end) || end >= START + SIZE)
-                continue;
-            kept = place;
-            sum += place;
-            kept = 0;
-        }
-    return sum;
-}
-
-uint64_t calloc_free(const uint32_t *sizes, size_t count, size_t align, uint32_t rounds) {
-    uint64_t sum = 0;
-    (void)align;
-    for (uint32_t round = 0; round < rounds; round++)
-        for (size_t i = 0; i < count; i++) {
-            void *volatile block = calloc(sizes[i], 1);
-            if (block)
-                sum += sizes[i];
-            free(block);
-        }
-    return sum;
-}

@@ -1,7 +1,7 @@
-// A bump and a list of free buckets in C, allocators of other packages, and parties of a shared pool of the C library, by several
-// threads at once, as shared_bench times the shared forms; bursts, and how long the slowest takings are; and a queue between two
-// threads whose receiver gives each message's memory back. Its arguments are the number of rounds and the number of calls of each
-// thread in a round.
+// Times a bump and a list of free buckets in C, allocators of other packages, and parties of a shared pool of the C library, by
+// several threads at once: pairs, bursts, the slowest takings, and a queue between two threads whose receiver gives each
+// message's memory back. Its arguments are the number of rounds and the number of calls of each thread in a round. It prints a
+// line for each round, as shared_bench does for the shared forms in Rattle.
 #define BB_PLACES_ARE_NUMBERS
 #include "heaps.h"
 #include <bb_memory.h>
@@ -13,18 +13,17 @@
 #include <time.h>
 #include <x86intrin.h>
 
-enum { MOST_THREADS = 4, FEW = 64, MANY = 1024, START = 4096, ROOM = 32, BURST = 8, MOST_CYCLES = 1 << 18 };
+enum { MOST_THREADS = 4, BUCKETS = 64, START = 4096, ROOM = 32, BURST = 8, MOST_CYCLES = 1 << 18 };
 #define NONE UINT32_MAX
 #define SIZE ((size_t)1 << 50)
 
 // What threads write while they are timed shares no cache line with anything else.
 static _Alignas(128) _Atomic size_t used;
 static _Alignas(128) _Atomic uint64_t head;
-static _Alignas(128) _Atomic uint32_t next[MANY];
+static _Alignas(128) _Atomic uint32_t next[BUCKETS];
 static _Alignas(128) atomic_uint came;
 static _Alignas(128) unsigned threads;
 static _Alignas(128) unsigned calls;
-static unsigned buckets = FEW;
 
 // A request for 48 bytes at 8: the place is rounded up, and the position exchanged.
 static size_t bump_pair(void) {
@@ -74,7 +73,7 @@ HEAP(jemalloc, jemalloc_calls)
 static inline size_t dpdk_take(void) { return dpdk_pool_take(); }
 static inline void dpdk_give(size_t taken) { dpdk_pool_give(taken); }
 
-// The parties of a shared pool of as many buckets, which join one after the other, their handles side by side.
+// The parties of a shared pool, which join one after the other, their handles side by side.
 static bb_pool_party parties[MOST_THREADS];
 static _Thread_local bb_pool_party *party;
 
@@ -83,12 +82,37 @@ static inline void party_give(size_t taken) { (void)bb_pool_party_deallocate(par
 
 static void join_all(unsigned cached) {
     bb_shared_pool pool = BB_EMPTY;
-    if (bb_shared_pool_init(&pool, 128, 8, START, buckets * 128, threads) != BB_OK)
+    if (bb_shared_pool_init(&pool, 128, 8, START, BUCKETS * 128, threads) != BB_OK)
         abort();
     for (unsigned i = 0; i < threads; i++)
         if (bb_shared_pool_join(&pool, &parties[i]) != BB_OK || bb_pool_party_cache(&parties[i], cached) != BB_OK)
             abort();
     bb_shared_pool_destroy(&pool);
+}
+
+// The message of a party is a bucket that it detached into the next of these. There are twice as many as the ring has room for,
+// so each is empty again when its turn comes.
+static bb_detached detached[2 * ROOM];
+static _Thread_local unsigned messages;
+
+static inline size_t message_take(void) {
+    bb_detached *message = &detached[messages % (2 * ROOM)];
+    size_t taken = party_take();
+    if (!taken || bb_pool_party_detach(party, taken, 48, message) != BB_OK)
+        return 0;
+    messages++;
+    return (size_t)message;
+}
+
+static inline void message_give(size_t taken) { (void)bb_pool_party_return_detached(party, (bb_detached *)taken); }
+
+// The same by a party that attaches each message's bucket, and gives back eight at a time.
+#define attached_take message_take
+
+static inline void attached_give(size_t taken) {
+    party_give(bb_pool_party_attach(party, (bb_detached *)taken).place);
+    if (++messages % BURST == 0)
+        (void)bb_pool_party_flush(party);
 }
 
 static inline size_t none_take(void) { return 1; }
@@ -107,41 +131,40 @@ static inline void count_since(uint64_t start) {
     counts[spent < MOST_CYCLES ? spent : MOST_CYCLES - 1]++;
 }
 
-// A taking and its return; eight takings, and then their returns. The answer is 0 where a taking was refused.
-#define PAIR_AND_BURST(PAIR_NAME, BURST_NAME, TAKE, GIVE) \
-    static size_t PAIR_NAME(void) {                       \
-        size_t taken = TAKE();                            \
-        if (taken)                                        \
-            GIVE(taken);                                  \
-        return taken;                                     \
-    }                                                     \
-    static size_t BURST_NAME(void) {                      \
-        size_t taken[BURST], all = 1;                     \
-        for (int i = 0; i < BURST; i++)                   \
-            taken[i] = TAKE();                            \
-        for (int i = 0; i < BURST; i++)                   \
-            if (taken[i])                                 \
-                GIVE(taken[i]);                           \
-            else                                          \
-                all = 0;                                  \
-        return all;                                       \
+// Eight takings, and then their returns. The answer is 0 where a taking was refused.
+#define BURST_OF(BURST_NAME, TAKE, GIVE)   \
+    static size_t BURST_NAME(void) {       \
+        size_t taken[BURST], all = 1;      \
+        for (int i = 0; i < BURST; i++)    \
+            taken[i] = TAKE();             \
+        for (int i = 0; i < BURST; i++)    \
+            if (taken[i])                  \
+                GIVE(taken[i]);            \
+            else                           \
+                all = 0;                   \
+        return all;                        \
     }
 
-// The same, and with each taking timed by itself.
-#define CALLS_OF(NAME)                                                  \
-    static inline size_t NAME##_timed(void) {                           \
-        uint64_t start = cycles();                                      \
-        size_t taken = NAME##_take();                                   \
-        count_since(start);                                             \
-        return taken;                                                   \
-    }                                                                   \
-    PAIR_AND_BURST(NAME##_pair, NAME##_burst, NAME##_take, NAME##_give) \
-    PAIR_AND_BURST(NAME##_pair_tail, NAME##_burst_tail, NAME##_timed, NAME##_give)
+// A taking and its return; a burst; and one with each taking timed by itself.
+#define CALLS_OF(NAME)                                \
+    static size_t NAME##_pair(void) {                 \
+        size_t taken = NAME##_take();                 \
+        if (taken)                                    \
+            NAME##_give(taken);                       \
+        return taken;                                 \
+    }                                                 \
+    static inline size_t NAME##_timed(void) {         \
+        uint64_t start = cycles();                    \
+        size_t taken = NAME##_take();                 \
+        count_since(start);                           \
+        return taken;                                 \
+    }                                                 \
+    BURST_OF(NAME##_burst, NAME##_take, NAME##_give)  \
+    BURST_OF(NAME##_tail, NAME##_timed, NAME##_give)
 
 CALLS_OF(list)
 CALLS_OF(heap)
 CALLS_OF(mimalloc)
-CALLS_OF(jemalloc)
 CALLS_OF(dpdk)
 CALLS_OF(party)
 
@@ -154,7 +177,7 @@ static _Alignas(128) size_t ring[ROOM];
 
 // The two ends of a queue: the sender takes memory for each message, and the receiver gives it back.
 #define QUEUE(NAME)                                                         \
-    static void NAME##_send(void) {                                         \
+    static size_t NAME##_send(void) {                                       \
         uint64_t tail = 0, seen = 0;                                        \
         while (tail < calls) {                                              \
             if (tail - seen == ROOM)                                        \
@@ -167,8 +190,9 @@ static _Alignas(128) size_t ring[ROOM];
             ring[tail % ROOM] = taken;                                      \
             atomic_store(&ring_tail, ++tail);                               \
         }                                                                   \
+        return calls;                                                       \
     }                                                                       \
-    static void NAME##_receive(void) {                                      \
+    static size_t NAME##_receive(void) {                                    \
         uint64_t head = 0, seen = 0;                                        \
         while (head < calls) {                                              \
             if (head == seen && head == (seen = atomic_load(&ring_tail))) { \
@@ -179,6 +203,7 @@ static _Alignas(128) size_t ring[ROOM];
             atomic_store(&ring_head, ++head);                               \
             NAME##_give(taken);                                             \
         }                                                                   \
+        return calls;                                                       \
     }
 
 QUEUE(list)
@@ -186,62 +211,58 @@ QUEUE(heap)
 QUEUE(mimalloc)
 QUEUE(jemalloc)
 QUEUE(dpdk)
+QUEUE(message)
+QUEUE(attached)
 QUEUE(none)
 
 static int mimalloc_is_there(void) { return mimalloc_calls.take != NULL; }
 static int jemalloc_is_there(void) { return jemalloc_calls.take != NULL; }
 
 static int dpdk_is_there(void) {
-    if (!dpdk_pool_open(buckets, 128, BURST))
+    if (!dpdk_pool_open(BUCKETS, 128, BURST))
         return 0;
     dpdk_pool_close();
     return 1;
 }
 
-typedef enum { PAIR_CALL, BURST_CALL, PAIR_TAIL, BURST_TAIL, CALL_KINDS, ENDS = CALL_KINDS } what_of;
-
-// The calls of a kind, the two ends of a queue over it, whether this machine has it, which it has where nothing tells, and how
-// many buckets a party of it caches.
+// What is timed of a kind, by its calls: a taking and its return, eight takings and then their returns, the slowest takings of
+// these, and a message. Whether this machine has the kind, which it has where nothing tells, and how many buckets a party caches.
+typedef enum { PAIR, EIGHT, TAIL, SEND, RECEIVE, CALL_KINDS } what;
 typedef struct {
     const char *name;
     size_t (*call[CALL_KINDS])(void);
-    void (*send)(void), (*receive)(void);
     int (*is_there)(void);
     unsigned cached;
 } kind;
 
-#define ALL_CALLS(NAME) {NAME##_pair, NAME##_burst, NAME##_pair_tail, NAME##_burst_tail}
+#define CALLS(NAME) NAME##_pair, NAME##_burst, NAME##_tail
+#define ENDS(NAME) NAME##_send, NAME##_receive
 static const kind kinds[] = {
-    {"in C", {bump_pair, NULL, NULL, NULL}, NULL, NULL, NULL, 0},
-    {"lock-free list", ALL_CALLS(list), list_send, list_receive, NULL, 0},
-    {"malloc and free", ALL_CALLS(heap), heap_send, heap_receive, NULL, 0},
-    {"mimalloc", ALL_CALLS(mimalloc), mimalloc_send, mimalloc_receive, mimalloc_is_there, 0},
-    {"jemalloc", ALL_CALLS(jemalloc), jemalloc_send, jemalloc_receive, jemalloc_is_there, 0},
-    {"DPDK", ALL_CALLS(dpdk), dpdk_send, dpdk_receive, dpdk_is_there, 0},
-    {"party in C", ALL_CALLS(party), NULL, NULL, NULL, 0},
-    {"caching in C", ALL_CALLS(party), NULL, NULL, NULL, 8},
-    {"ring alone", {NULL, NULL, NULL, NULL}, none_send, none_receive, NULL, 0},
+    {"plain C", {bump_pair, NULL, NULL, NULL, NULL}, NULL, 0},
+    {"plain C", {CALLS(list), ENDS(list)}, NULL, 0},
+    {"malloc and free", {CALLS(heap), ENDS(heap)}, NULL, 0},
+    {"mimalloc", {CALLS(mimalloc), ENDS(mimalloc)}, mimalloc_is_there, 0},
+    {"jemalloc", {NULL, NULL, NULL, ENDS(jemalloc)}, jemalloc_is_there, 0},
+    {"DPDK", {CALLS(dpdk), ENDS(dpdk)}, dpdk_is_there, 0},
+    {"C", {CALLS(party), ENDS(message)}, NULL, 0},
+    {"C caching", {CALLS(party), ENDS(attached)}, NULL, BURST},
+    {"ring alone", {NULL, NULL, NULL, ENDS(none)}, NULL, 0},
 };
-
-// What is timed of a kind, by so many threads, in a pool of so many buckets.
 static const struct {
     const char *name;
-    what_of what;
-    unsigned threads, buckets;
+    what what;
+    unsigned threads;
 } figures[] = {
-    {"pool", PAIR_CALL, 1, FEW},   {"pool", PAIR_CALL, 2, FEW},         {"pool", PAIR_CALL, 4, FEW},
-    {"burst", BURST_CALL, 1, FEW}, {"burst", BURST_CALL, 2, FEW},       {"burst", BURST_CALL, 4, FEW},
-    {"queue", ENDS, 2, FEW},       {"wide burst", BURST_CALL, 4, MANY}, {"pair tail", PAIR_TAIL, 4, FEW},
-    {"burst tail", BURST_TAIL, 4, FEW},
+    {"pair", PAIR, 1},   {"pair", PAIR, 2},   {"pair", PAIR, 4},       {"burst", EIGHT, 1},
+    {"burst", EIGHT, 2}, {"burst", EIGHT, 4}, {"burst tail", TAIL, 4}, {"message", SEND, 2},
 };
 enum { KINDS = sizeof kinds / sizeof *kinds, FIGURES = sizeof figures / sizeof *figures, BUMP = 0 };
 
 // A thread's calls and its party, and what it found: its nanoseconds, its refused calls, and how long its takings were.
 typedef struct {
     size_t (*call)(void);
-    unsigned calls;
+    unsigned times;
     bb_pool_party *party;
-    void (*send)(void);
     int is_dpdk;
     double spent;
     unsigned refused;
@@ -261,7 +282,7 @@ static double nanos(struct timespec start, struct timespec end) {
 static void *work(void *arg) {
     job *own = arg;
     size_t (*call)(void) = own->call;
-    unsigned times = own->calls, refused = 0;
+    unsigned times = own->times, refused = 0;
     struct timespec start, end;
     party = own->party;
     counts = own->counts;
@@ -269,8 +290,6 @@ static void *work(void *arg) {
         dpdk_enter();
     pass_gate();
     clock_gettime(CLOCK_MONOTONIC, &start);
-    if (own->send)
-        own->send();
     for (unsigned i = 0; i < times; i++)
         refused += !call();
     clock_gettime(CLOCK_MONOTONIC, &end);
@@ -281,32 +300,17 @@ static void *work(void *arg) {
     return NULL;
 }
 
-static void open_all(int is_dpdk) {
+static void open_all(const kind *of, int is_dpdk) {
     atomic_store(&used, 0);
     atomic_store(&head, 0);
     atomic_store(&came, 0);
     atomic_store(&ring_head, 0);
     atomic_store(&ring_tail, 0);
-    for (uint32_t i = 0; i < buckets; i++)
-        atomic_store(&next[i], i + 1 < buckets ? i + 1 : NONE);
-    if (is_dpdk && !dpdk_pool_open(buckets, 128, BURST))
+    for (uint32_t i = 0; i < BUCKETS; i++)
+        atomic_store(&next[i], i + 1 < BUCKETS ? i + 1 : NONE);
+    if (is_dpdk && !dpdk_pool_open(BUCKETS, 128, BURST))
         abort();
-}
-
-// The nanoseconds of a message: from the gate to the last one, of which the memory is given back.
-static double queue_timed(const kind *of, int is_dpdk) {
-    pthread_t sender;
-    job sends = {.send = of->send, .is_dpdk = is_dpdk};
-    struct timespec start, end;
-    open_all(is_dpdk);
-    if (pthread_create(&sender, NULL, work, &sends))
-        abort();
-    pass_gate();
-    clock_gettime(CLOCK_MONOTONIC, &start);
-    of->receive();
-    clock_gettime(CLOCK_MONOTONIC, &end);
-    pthread_join(sender, NULL);
-    return nanos(start, end) / calls;
+    join_all(of->cached);
 }
 
 // The cycles that 99.9% of the counted takings take at most.
@@ -332,79 +336,60 @@ static void time_the_clock(void) {
     cycles_in_a_nanosecond = (double)(cycles() - first) / nanos(start, end);
 }
 
-// Runs the threads, and returns the nanoseconds of a thread's taking and its return, or those that 99.9% of the takings take at
-// most. Adds the refused calls.
-static double timed(const kind *of, what_of what, int is_dpdk, unsigned *refused) {
+// Runs the threads, and returns the nanoseconds of a thread's taking and its return, those that 99.9% of the takings take at
+// most, or those of a message: from the gate to the last one, of which the receiver has given the memory back.
+static double timed(const kind *of, what it) {
     static uint32_t found[MOST_THREADS][MOST_CYCLES];
     pthread_t all[MOST_THREADS];
     job jobs[MOST_THREADS];
+    int is_dpdk = of->is_there == dpdk_is_there;
+    unsigned in_a_call = it == SEND ? calls : it == PAIR ? 1 : BURST, times = calls / in_a_call, refused = 0;
     double sum = 0;
-    unsigned in_a_call = what == BURST_CALL || what == BURST_TAIL ? BURST : 1;
-    join_all(of->cached);
-    open_all(is_dpdk);
+    open_all(of, is_dpdk);
     memset(found, 0, sizeof found);
     for (unsigned i = 0; i < threads; i++) {
-        jobs[i] = (job){.call = of->call[what], .calls = calls / in_a_call, .party = &parties[i], .counts = found[i]};
-        jobs[i].is_dpdk = is_dpdk;
+        jobs[i] = (job){.times = times, .party = &parties[i], .is_dpdk = is_dpdk, .counts = found[i]};
+        jobs[i].call = of->call[it == SEND && i ? RECEIVE : it];
         if (pthread_create(&all[i], NULL, work, &jobs[i]))
             abort();
     }
     for (unsigned i = 0; i < threads; i++) {
         pthread_join(all[i], NULL);
-        sum += jobs[i].spent;
-        *refused += jobs[i].refused;
+        sum = it == SEND ? threads * jobs[i].spent : sum + jobs[i].spent;
+        refused += jobs[i].refused;
         bb_pool_party_destroy(&parties[i]);
     }
-    if (what == PAIR_CALL || what == BURST_CALL)
-        return sum / ((double)threads * (calls / in_a_call) * in_a_call);
+    if (is_dpdk)
+        dpdk_pool_close();
+    if (refused)
+        fprintf(stderr, "%s, %u threads: %u of %u calls were refused\n", of->name, threads, refused, threads * times);
+    if (it != TAIL)
+        return sum / ((double)threads * times * in_a_call);
     for (unsigned i = 1; i < threads; i++)
         for (unsigned at = 0; at < MOST_CYCLES; at++)
             found[0][at] += found[i][at];
     return most_cycles(found[0]) / cycles_in_a_nanosecond;
 }
 
-static int by_size(const void *one, const void *other) {
-    double x = *(const double *)one, y = *(const double *)other;
-    return (x > y) - (x < y);
-}
-
-static int has(int kind, int figure) {
-    return figures[figure].what == ENDS ? kinds[kind].send != NULL : kinds[kind].call[figures[figure].what] != NULL;
-}
-
 int main(int argc, char **argv) {
     unsigned rounds = argc > 1 ? (unsigned)atoi(argv[1]) : 3;
     calls = argc > 2 ? (unsigned)atoi(argv[2]) : 10000;
-    double *found = calloc((size_t)KINDS * FIGURES * (rounds + 1), sizeof *found);
-    static unsigned refused[KINDS * FIGURES];
     int there[KINDS];
-    if (!found || !rounds)
-        return 1;
     open_heaps();
     time_the_clock();
-    for (int kind = 0; kind < KINDS; kind++)
-        there[kind] = !kinds[kind].is_there || kinds[kind].is_there();
+    for (int i = 0; i < KINDS; i++)
+        there[i] = !kinds[i].is_there || kinds[i].is_there();
+    for (int i = 0; i < 2 * ROOM; i++)
+        if (bb_detached_init(&detached[i]) != BB_OK)
+            return 1;
     for (unsigned round = 0; round < rounds; round++)
         for (int at = 0; at < KINDS * FIGURES; at++) {
-            int kind = at / FIGURES, figure = at % FIGURES, is_dpdk = kinds[kind].is_there == dpdk_is_there;
-            if (!there[kind] || !has(kind, figure))
+            int i = at / FIGURES, figure = at % FIGURES;
+            if (!there[i] || !kinds[i].call[figures[figure].what])
                 continue;
             threads = figures[figure].threads;
-            buckets = figures[figure].buckets;
-            found[(unsigned)at * rounds + round] = figures[figure].what == ENDS
-                                                       ? queue_timed(&kinds[kind], is_dpdk)
-                                                       : timed(&kinds[kind], figures[figure].what, is_dpdk, &refused[at]);
-            if (is_dpdk)
-                dpdk_pool_close();
+            double spent = timed(&kinds[i], figures[figure].what);
+            const char *name = i == BUMP ? "shared bump" : figures[figure].name;
+            printf("%s,%u,,,%s,%.1f\n", name, threads, kinds[i].name, spent);
         }
-    for (int at = 0; at < KINDS * FIGURES; at++) {
-        int kind = at / FIGURES, figure = at % FIGURES;
-        double *of = &found[(unsigned)at * rounds];
-        if (!there[kind] || !has(kind, figure))
-            continue;
-        qsort(of, rounds, sizeof *of, by_size);
-        printf("shared,%s,%u,0,%s,%.1f,%.1f,%.1f,%u\n", kind == BUMP ? "bump" : figures[figure].name, figures[figure].threads,
-               kinds[kind].name, of[rounds / 2], of[rounds / 4], of[rounds - 1 - rounds / 4], refused[at]);
-    }
-    free(found);
 }

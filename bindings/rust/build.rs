@@ -1,11 +1,14 @@
-//! Finds the installed C library: in the folder that `BB_MEMORY_LIB_DIR` names, else by `bb_memory.pc`, which is looked for
-//! where `pkg-config` would. The archive is linked where it is there, with `BB_MEMORY_LINK=dylib` the shared library. Where no
-//! library is found, a warning says so: `cargo check` and `cargo doc` need none, and a program isn't linked.
+//! Finds the C library: in the folder that `BB_MEMORY_LIB_DIR` names, else by the first `bb_memory.pc` of the folders of
+//! `PKG_CONFIG_PATH`, of the release in the repository's `dist`, and of those where systems keep such files. The archive is
+//! linked where it is there, with `BB_MEMORY_LINK=dylib` the shared library. Where no library is found, a warning says so:
+//! `cargo check` and `cargo doc` need none, and a program isn't linked.
 use std::env;
 use std::fs;
+use std::iter;
 use std::path::{Path, PathBuf};
+use std::process::Command;
 
-/// Where systems keep the files of `pkg-config`, behind those of `PKG_CONFIG_PATH`.
+/// Where systems keep the files of `pkg-config`.
 const STANDARD_FOLDERS: [&str; 5] = [
     "/usr/local/lib/pkgconfig",
     "/usr/local/lib/x86_64-linux-gnu/pkgconfig",
@@ -47,12 +50,30 @@ fn main() {
 /// The folder of the library that the first `bb_memory.pc` names.
 fn folder_by_pkg_config() -> Option<PathBuf> {
     let told = env::var_os("PKG_CONFIG_PATH").unwrap_or_default();
-    let folders = env::split_paths(&told).chain(STANDARD_FOLDERS.map(PathBuf::from));
+    let folders = env::split_paths(&told)
+        .chain(iter::once_with(unpacked_release).flatten())
+        .chain(STANDARD_FOLDERS.map(PathBuf::from));
     folders.map(|folder| folder.join("bb_memory.pc")).find_map(|file| {
         let text = fs::read_to_string(&file).ok()?;
         println!("cargo::rerun-if-changed={}", file.display());
         Some(folder_of(&file, &text))
     })
+}
+
+/// Unpacks the release of this version into the build's own folder, where the repository round this crate has it.
+fn unpacked_release() -> Option<PathBuf> {
+    let release = concat!("bb_memory-", env!("CARGO_PKG_VERSION"), "-x86_64-linux");
+    let archive = format!("{}/../../dist/{release}.tar.gz", env!("CARGO_MANIFEST_DIR"));
+    let target = env::var("TARGET").ok()?;
+    let fits = target.starts_with("x86_64-") && target.contains("-linux-");
+    if !fits || !Path::new(&archive).exists() {
+        return None;
+    }
+    println!("cargo::rerun-if-changed={archive}");
+    let built = PathBuf::from(env::var_os("OUT_DIR")?);
+    let tar = Command::new("tar").arg("-xzf").arg(&archive).arg("-C").arg(&built).status();
+    assert!(tar.is_ok_and(|it| it.success()), "{archive} isn't unpacked by tar");
+    Some(built.join(release).join("lib/pkgconfig"))
 }
 
 /// The folder that this text of `bb_memory.pc` names. The library has to be of this crate's ABI, and no older than the crate.
