@@ -17,6 +17,17 @@ static void c_pool_drop(bb_pool *p) { bb_pool_destroy(p); }
 
 POOL_LOOPS(c_pool, bb_pool)
 
+// The same by whole buckets, which are asked for with no layout.
+static size_t c_whole_take(bb_pool *p, size_t size, size_t align) {
+    (void)size, (void)align;
+    return bb_pool_take(p).place;
+}
+
+#define c_whole_make c_pool_make
+#define c_whole_give c_pool_give
+#define c_whole_drop c_pool_drop
+LOOP(c_whole, bb_pool)
+
 uint64_t c_bump(const uint32_t *sizes, size_t count, size_t align, uint32_t rounds) {
     bb_bump bump = BB_EMPTY;
     uint64_t sum = 0;

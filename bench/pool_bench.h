@@ -25,6 +25,7 @@ typedef uint64_t follow(const task *, const uint32_t *script, size_t calls);
     ROW("Rattle", bench_words) \
     ROW("Rattle fixed", bench_fixed) \
     ROW("C", c_pool) \
+    ROW("C take", c_whole) \
     ROW("plain C", plain_list) \
     ROW("malloc and free", malloc_free) \
     ROW("mimalloc", mimalloc) \

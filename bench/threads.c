@@ -80,6 +80,10 @@ static _Thread_local bb_pool_party *party;
 static inline size_t party_take(void) { return bb_pool_party_allocate(party, 48, 8).place; }
 static inline void party_give(size_t taken) { (void)bb_pool_party_deallocate(party, taken); }
 
+// The same by whole buckets, which are asked for with no layout.
+static inline size_t whole_take(void) { return bb_pool_party_take(party).place; }
+#define whole_give party_give
+
 static void join_all(unsigned cached) {
     bb_shared_pool pool = BB_EMPTY;
     if (bb_shared_pool_init(&pool, 128, 8, START, BUCKETS * 128, threads) != BB_OK)
@@ -97,7 +101,7 @@ static _Thread_local unsigned messages;
 
 static inline size_t message_take(void) {
     bb_detached *message = &detached[messages % (2 * ROOM)];
-    size_t taken = party_take();
+    size_t taken = whole_take();
     if (!taken || bb_pool_party_detach(party, taken, 48, message) != BB_OK)
         return 0;
     messages++;
@@ -167,6 +171,7 @@ CALLS_OF(heap)
 CALLS_OF(mimalloc)
 CALLS_OF(dpdk)
 CALLS_OF(party)
+CALLS_OF(whole)
 
 // The ring of rtrb, which shared_bench has: each end owns a position, which it stores in one sequentially consistent step, and
 // keeps a copy of the other's, which it loads anew where the copy says that the ring is full or empty. The positions are 128
@@ -245,7 +250,9 @@ static const kind kinds[] = {
     {"jemalloc", {NULL, NULL, NULL, ENDS(jemalloc)}, jemalloc_is_there, 0},
     {"DPDK", {CALLS(dpdk), ENDS(dpdk)}, dpdk_is_there, 0},
     {"C", {CALLS(party), ENDS(message)}, NULL, 0},
+    {"C take", {CALLS(whole), NULL, NULL}, NULL, 0},
     {"C caching", {CALLS(party), ENDS(attached)}, NULL, BURST},
+    {"C caching take", {CALLS(whole), NULL, NULL}, NULL, BURST},
     {"ring alone", {NULL, NULL, NULL, ENDS(none)}, NULL, 0},
 };
 static const struct {
