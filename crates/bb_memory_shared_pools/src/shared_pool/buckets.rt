@@ -149,8 +149,7 @@ impl<const CAPPED: usize, const MOST: usize> SharedBucketPool<CAPPED, MOST> {
         }
         match self.pass(party.number, &mut party.seat) {
             Some(number) => {
-                party.hint.bucket = number + 1;
-                party.hint.came_back = false;
+                party.hint.follow_taking(number);
                 Ok(Bucket {
                     flags: &self.flags,
                     number,

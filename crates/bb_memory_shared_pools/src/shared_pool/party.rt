@@ -1,6 +1,6 @@
 //! Parties, each of which is one user's right to step on a shared pool.
-ghost use Rattle.std.specs.Prelude.{◌≡◌};
-ghost use Rattle.bb_memory_pool_machine.specs.declared.steps.pool.PoolOutcome.TheVariants.{Gives};
+ghost use Rattle.std.specs.Prelude.{◌≡◌, ◌+◌, ◌<◌, ◌^◌};
+ghost use Rattle.bb_memory_pool_machine.specs.declared.steps.pool.PoolOutcome.TheVariants.{Gives, Takes};
 ghost use Rattle.bb_memory_shared_pools.specs.SharedPool.{IsParty};
 ghost use Rattle.bb_memory_shared_pools.specs.SharedPoolNextFit.{hint_after};
 
@@ -16,6 +16,15 @@ pub(super) struct Hint {
 }
 
 impl Hint {
+    /// Follows the taking of this bucket: the next search begins behind it.
+    pub(super) fn follow_taking(&mut self, bucket: u32)
+        requires { bucket + 1 < 2 ^ 32 }
+        ensures { self.new ≡ hint_after self.old (Takes bucket) }
+    {
+        self.bucket = bucket + 1;
+        self.came_back = false;
+    }
+
     /// Follows a return of this bucket: the hint is the least of those that came back since the last taking.
     pub(super) fn follow_return(&mut self, bucket: u32)
         ensures { self.new ≡ hint_after self.old (Gives bucket) }

@@ -61,8 +61,8 @@ invariant_of-party g c =
     let own = ap (λ (p : PoolParty). p.allocator) c.party.view_is ∙ c.requires.party in
     let me = party.seat.me in
     seated_then c.args.self.now party.seat.table_id me party.number party.hint c.party.invariant own
-    c.pass.new.seat.me _ (record { bucket = c.in-Some.number + 1; came_back = false })
-    (hint-taking c.args.self.now.scene.geometry.buckets (number_of me.0) c.in-Some.number party.hint)
+    c.pass.new.seat.me _ c.follow_taking.new.self (c.follow_taking.ensures
+    ∙ hint-taking c.args.self.now.scene.geometry.buckets (number_of me.0) c.in-Some.number party.hint)
     c.in-Some.ensures.told.step.ended
 
 pub invariant_of-party-in-None : goal.invariant_of-party-in-None

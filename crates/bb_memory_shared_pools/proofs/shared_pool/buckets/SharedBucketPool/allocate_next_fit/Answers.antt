@@ -1,4 +1,4 @@
-use Rattle.std.proofs.Common.{◌+◌, false, Some, None, refl, ap, ◌∙◌, subst, arith}
+use Rattle.std.proofs.Common.{Some, None, refl, ap, ◌∙◌, subst, arith}
 use Rattle.bb_memory_traits.specs.PoolObject.{PoolGeometry}
 use Rattle.bb_memory_traits.specs.declared.layout.Layout.{Layout}
 use Rattle.bb_memory_traits.specs.declared.allocator.AllocationError.TheVariants.{AlignmentFailure, OutOfMemory, SizeTooLarge}
@@ -40,68 +40,70 @@ returns-then-align g c =
           (λ within. let aligned = within.align in absurd (omega arith));
     }
 
+pub invariant_of-party-2 : goal.invariant_of-party-2
+invariant_of-party-2 g c =
+    let party = c.party.inside in
+    let own = ap (λ (p : PoolParty). p.allocator) c.party.view_is ∙ c.requires.party in
+    let me = party.seat.me in
+    seated_then c.args.self.now party.seat.table_id me party.number party.hint c.party.invariant own
+    c.next_fit-found.new.seat.me _ c.next_fit-found.new.hint
+    (c.in-Some.ensures.hint
+    ∙ hint_by_search c.args.self.now.scene.geometry.buckets (number_of me.0) party.hint.bucket c.in-Some.ensures.told.step.probe
+    c.in-Some.number party.hint c.in-Some.ensures.told.step.there)
+    c.in-Some.ensures.told.step.ended
+
 pub invariant_of-party : goal.invariant_of-party
 invariant_of-party g c =
     let party = c.party.inside in
     let own = ap (λ (p : PoolParty). p.allocator) c.party.view_is ∙ c.requires.party in
     let me = party.seat.me in
-    seated_then c.args.self.now party.seat.table_id me party.number party.hint c.party.invariant own
-    c.next_fit.new.seat.me _ (record { bucket = c.in-Some.number + 1; came_back = false })
-    (hint_by_search c.args.self.now.scene.geometry.buckets (number_of me.0) party.hint.bucket c.in-Some.ensures.told.step.probe
-    c.in-Some.number party.hint c.in-Some.ensures.told.step.there)
-    c.in-Some.ensures.told.step.ended
-
-pub invariant_of-party-in-None : goal.invariant_of-party-in-None
-invariant_of-party-in-None g c =
-    let party = c.party.inside in
-    let own = ap (λ (p : PoolParty). p.allocator) c.party.view_is ∙ c.requires.party in
-    let me = party.seat.me in
     let buckets = c.args.self.now.scene.geometry.buckets in
     seated_then c.args.self.now party.seat.table_id me party.number party.hint c.party.invariant own
-    c.next_fit.new.seat.me _ party.hint (hint-misses buckets (number_of me.0) party.hint.bucket buckets party.hint)
-    c.in-None.ensures.told.step.ended
+    c.next_fit-found.new.seat.me _ c.next_fit-found.new.hint
+    (c.in_default.ensures.hint ∙ hint-misses buckets (number_of me.0) party.hint.bucket buckets party.hint)
+    c.in_default.ensures.told.step.ended
 
-pub returns-in-Some-clause-serves : goal.returns-in-Some-clause-serves
-returns-in-Some-clause-serves g c =
+pub returns-clause-serves : goal.returns-clause-serves
+returns-clause-serves g c =
     let old = c.party.inside in
-    let new = c.next_fit.new.seat in
+    let new = c.next_fit-found.new.seat in
     let took = c.in-Some.ensures.told.step in
     let bucket = c.bucket-bucket.ensures ∙ ap (λ (x : PoolGeometry). x.bucket) c.geometry.ensures.value
     ∙ ap (λ (p : SharedPool). p.scene.geometry.bucket) c.self.view_is in
     let size = ap (λ (l : Layout). l.size) bucket in
     let align = ap (λ (l : Layout). l.align) bucket in
     served c.args.self.now old.seat.table_id new.table_id old.seat.me new.me old.number old.hint _ _ c.args.party.now
-    c.args.layout c.party.invariant (invariant_of-party g c) c.party.view_is c.requires.party c.self.inside.flags
-    c.in-Some.number c.size-in-Some.result
+    c.args.layout c.party.invariant (invariant_of-party-2 g c) c.party.view_is c.requires.party c.self.inside.flags
+    c.in-Some.number c.size-3.result
     (search_took c.args.self.now.scene (number_of old.seat.me.0) (view_log old.seat.me.0) old.hint.bucket new.me c.in-Some.number
     took)
-    c.self.view_is c.size-in-Some.ensures (omega arith) (omega arith)
+    c.self.view_is c.size-3.ensures (omega arith) (omega arith)
 
-pub returns-in-None-clause-serves : goal.returns-in-None-clause-serves
-returns-in-None-clause-serves g c =
+pub returns-in_default-clause-serves : goal.returns-in_default-clause-serves
+returns-in_default-clause-serves g c =
     let old = c.party.inside in
-    let new = c.next_fit.new.seat in
+    let new = c.next_fit-found.new.seat in
     refused c.args.self.now old.seat.table_id new.table_id old.seat.me new.me old.number old.hint _ _ c.args.party.now
-    c.args.layout c.party.invariant (invariant_of-party-in-None g c) c.party.view_is c.requires.party OutOfMemory
+    c.args.layout c.party.invariant (invariant_of-party g c) c.party.view_is c.requires.party OutOfMemory
     (search_lost c.args.self.now.scene (number_of old.seat.me.0) (view_log old.seat.me.0) old.hint.bucket new.me
-    c.in-None.ensures.told.step)
+    c.in_default.ensures.told.step)
 
-pub returns-in-Some-clause-party : goal.returns-in-Some-clause-party
-returns-in-Some-clause-party g c =
+pub returns-clause-party : goal.returns-clause-party
+returns-clause-party g c =
     let old = c.party.inside in
-    let new = c.next_fit.new.seat in
+    let new = c.next_fit-found.new.seat in
     stays c.args.self.now old.seat.table_id new.table_id old.seat.me new.me old.number old.hint _ _ c.args.party.now c.args.layout
-    c.party.invariant (invariant_of-party g c) c.party.view_is c.requires.party (Some c.in-Some.number)
-    c.next_fit.ensures.told.table
+    c.party.invariant (invariant_of-party-2 g c) c.party.view_is c.requires.party (Some c.in-Some.number)
+    c.next_fit-found.ensures.told.table
     (search_took c.args.self.now.scene (number_of old.seat.me.0) (view_log old.seat.me.0) old.hint.bucket new.me c.in-Some.number
     c.in-Some.ensures.told.step)
 
-pub returns-in-None-clause-party : goal.returns-in-None-clause-party
-returns-in-None-clause-party g c =
+pub returns-in_default-clause-party : goal.returns-in_default-clause-party
+returns-in_default-clause-party g c =
     let old = c.party.inside in
-    let new = c.next_fit.new.seat in
+    let new = c.next_fit-found.new.seat in
     stays c.args.self.now old.seat.table_id new.table_id old.seat.me new.me old.number old.hint _ _ c.args.party.now c.args.layout
-    c.party.invariant (invariant_of-party-in-None g c) c.party.view_is c.requires.party None
-    c.next_fit.ensures.told.table
+    c.party.invariant (invariant_of-party g c) c.party.view_is c.requires.party None
+    c.next_fit-found.ensures.told.table
     (search_lost c.args.self.now.scene (number_of old.seat.me.0) (view_log old.seat.me.0) old.hint.bucket new.me
-    c.in-None.ensures.told.step)
+    c.in_default.ensures.told.step)
