@@ -2,7 +2,7 @@
 ghost use Rattle.std.specs.Prelude.{◌≡◌, ◌≢◌, None, Some, IsFalse, IsTrue};
 ghost use Rattle.bb_memory_c.specs.Answers.{malloc_refused, ok};
 ghost use Rattle.bb_memory_c.specs.Calls.{AnswersFree, AnswersInfo, AnswersJoin, AnswersLeave, AnswersNumber, AnswersPlace};
-ghost use Rattle.bb_memory_c.specs.Calls.{AnswersRequest, AnswersReturn, AnswersTake, AnswersWhether, IfBoth, TellsRequest};
+ghost use Rattle.bb_memory_c.specs.Calls.{AnswersRequest, AnswersReturn, AnswersTake, AnswersWhether, IfBoth, TellsRequest, TellsTake};
 
 use crate::answer::{Answer, Figure};
 use crate::code;
@@ -103,13 +103,25 @@ pub(crate) fn request_bucket<I, M: Gives<I> + Bucketed, H: Handle<M>>(
     }
 }
 
+/// Takes a whole bucket by a search, apart from the takings that need none, which are then straight-line code.
+#[inline(never)]
+fn search<M: Bucketed>(made: &mut M) -> Answer
+    ensures { TellsTake made.old made.new result M.may_take }
+{
+    Answer::of(made.take())
+}
+
 /// Takes a whole bucket.
 pub(crate) fn take<M: Bucketed, H: Handle<M>>(handle: &mut H) -> Answer
     ensures { AnswersTake (H.made handle.old) (H.made handle.new) result M.may_take }
 {
-    match handle.made_mut() {
-        Some(made) => Answer::of(made.take()),
-        None => Answer::refusal(code::UNINITIALIZED),
+    let Some(made) = handle.made_mut() else {
+        return Answer::refusal(code::UNINITIALIZED);
+    };
+    if made.is_short() {
+        Answer::of(made.take())
+    } else {
+        search(made)
     }
 }
 

@@ -61,6 +61,9 @@ pub(crate) trait Bucketed: Drop {
         ensures may { may_take self.old result self.new }
         ensures refused { IfErr result (λ error. error ≡ AllocationError.OutOfMemory) };
 
+    /// Returns whether taking a whole bucket needs no search now. Any answer is right.
+    fn is_short(&self) -> bool;
+
     /// Returns a layout within which a request skips `layout_of`. Any answer is right.
     fn limit(&self) -> Layout;
 

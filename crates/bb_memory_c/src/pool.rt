@@ -171,6 +171,10 @@ impl Bucketed for Pool {
         self.pool.take()
     }
 
+    fn is_short(&self) -> bool {
+        true
+    }
+
     fn limit(&self) -> Layout {
         self.pool.bucket_layout()
     }

@@ -301,6 +301,10 @@ impl Bucketed for JoinedPool {
         Ok(bucket.chunk())
     }
 
+    fn is_short(&self) -> bool {
+        self.party.number_of_cached() > 0
+    }
+
     fn limit(&self) -> Layout {
         self.pool.bucket_layout()
     }
