@@ -1,6 +1,6 @@
 -- A shared pool, its parties, and detached buckets that go from party to party, behind handles: what their calls are answered.
 use Rattle.std.specs.Prelude.{◌≡◌, ◌≢◌, ◌-◌, ◌<◌, ◌≤◌, ◌↔◌, ◌++◌, [], ℕ, zero, suc, All, Bool, false, List, Result, Ok}
-use Rattle.std.specs.Prelude.{Option, Some, None, IfOk, IfSome, MatchOption, count_by, fold, length, min, slice_get}
+use Rattle.std.specs.Prelude.{Err, IfErr, Option, Some, None, IfOk, IfSome, MatchOption, count_by, fold, length, min, slice_get}
 use Rattle.std.specs.Prelude.{if◌then◌else◌}
 use Rattle.std.specs.Result.{result_map_both}
 use Rattle.bb_memory_traits.specs.Chunk.{Region, Chunk, IsInside, first_place}
@@ -253,29 +253,30 @@ abbrev pub HasReturned : CachingParty → ℕ → CachingParty → Type 0
 HasReturned joined number after =
     after ≡ record joined { party = with_entries joined.party (return_detached_entry joined.party.number number) }
 
--- What is answered where a party is to attach the detached bucket: the chunk in that bucket, and none is behind the handle then.
--- Refused, where the bucket is of another pool or waits for a reader, all stays.
-pub record TellsAttach (joined : CachingParty) (before : Detached) (told : Answer) (after : CachingParty) (left : Detached)
-    : Type 0 where
-  pub empty : before.inside ≡ None → told ≡ refused detached_empty
-  pub others : IfSome before.inside (λ token. token.allocator ≢ joined.party.allocator → told ≡ refused other_pool)
+-- The bucket is taken out of the `bb_detached` for a party of its pool, and none is there then. It stays, and all does, by the
+-- first of these causes: none is there, it is of another pool, or it waits for a reader.
+pub record TakesInside (joined : CachingParty) (before : Detached) (told : Result TakenBucket ℕ) (left : Detached) : Type 0 where
+  pub empty : before.inside ≡ None → told ≡ Err detached_empty
+  pub others : IfSome before.inside (λ token. token.allocator ≢ joined.party.allocator → told ≡ Err other_pool)
   pub read : 0 < before.readers →
-      IfSome before.inside (λ token. token.allocator ≡ joined.party.allocator → told ≡ refused readers_left)
-  pub attached : before.readers ≡ 0 → IfSome before.inside (λ token. token.allocator ≡ joined.party.allocator →
-      (told ≡ answer_of (Ok (chunk_of token))) × HasAttached joined token after × (left ≡ nothing))
-  pub unchanged : told.code ≢ ok → (after ≡ joined) × (left ≡ before)
+      IfSome before.inside (λ token. token.allocator ≡ joined.party.allocator → told ≡ Err readers_left)
+  pub taken : before.readers ≡ 0 → IfSome before.inside (λ token. token.allocator ≡ joined.party.allocator →
+      (told ≡ Ok token) × (left ≡ nothing))
+  pub unchanged : IfErr told (λ code. left ≡ before)
 
--- What is answered where a party is to give back the detached bucket, by one step: none is behind the handle then. It is refused
--- as attaching is, and then all stays.
-pub record TellsReturnDetached (joined : CachingParty) (before : Detached) (code : ℕ) (after : CachingParty) (left : Detached)
-    : Type 0 where
-  pub empty : before.inside ≡ None → code ≡ detached_empty
-  pub others : IfSome before.inside (λ token. token.allocator ≢ joined.party.allocator → code ≡ other_pool)
-  pub read : 0 < before.readers →
-      IfSome before.inside (λ token. token.allocator ≡ joined.party.allocator → code ≡ readers_left)
-  pub returned : before.readers ≡ 0 → IfSome before.inside (λ token. token.allocator ≡ joined.party.allocator →
-      (code ≡ ok) × HasReturned joined token.number after × (left ≡ nothing))
-  pub unchanged : code ≢ ok → (after ≡ joined) × (left ≡ before)
+-- What is answered of the bucket where it was taken out, and else its cause.
+abbrev pub OfInside : {T : Type 0} → CachingParty → Detached → T → CachingParty → Detached → (ℕ → T) → (TakenBucket → Type 0)
+    → Type 0
+OfInside joined before told after left cause done = (inside : Result TakenBucket ℕ) × TakesInside joined before inside left
+    × IfOk inside done × IfErr inside (λ code. (told ≡ cause code) × (after ≡ joined))
+
+abbrev pub TellsAttach : CachingParty → Detached → Answer → CachingParty → Detached → Type 0
+TellsAttach joined before told after left = OfInside joined before told after left refused
+    (λ token. (told ≡ answer_of (Ok (chunk_of token))) × HasAttached joined token after)
+
+abbrev pub TellsReturnDetached : CachingParty → Detached → ℕ → CachingParty → Detached → Type 0
+TellsReturnDetached joined before code after left = OfInside joined before code after left (λ cause. cause)
+    (λ token. (code ≡ ok) × HasReturned joined token.number after)
 
 -- What is answered where a party is to give back a detached bucket by its number.
 pub record TellsRecover (joined : CachingParty) (number code : ℕ) (after : CachingParty) : Type 0 where

@@ -2,8 +2,9 @@
 ghost use Rattle.std.specs.Prelude.{◌≡◌, MatchOption, Some};
 ghost use Rattle.bb_memory_c.specs.Answers.{no_figure, refused, uninitialized};
 ghost use Rattle.bb_memory_c.specs.Calls.{Answers, AnswersFree, AnswersMake, AnswersOfBoth, IfBoth};
-ghost use Rattle.bb_memory_c.specs.SharedPools.{Detached, IsLostAt, KnowsInside, TellsAttach, TellsDetach, TellsLen};
-ghost use Rattle.bb_memory_c.specs.SharedPools.{TellsRecover, TellsRelease, TellsReturnDetached, TellsShare, nothing, start_of};
+ghost use Rattle.bb_memory_c.specs.SharedPools.{Detached, IsLostAt, KnowsInside, TakesInside, TellsAttach, TellsDetach};
+ghost use Rattle.bb_memory_c.specs.SharedPools.{TellsLen, TellsRecover, TellsRelease, TellsReturnDetached, TellsShare};
+ghost use Rattle.bb_memory_c.specs.SharedPools.{nothing, start_of};
 
 use crate::answer::{Answer, Figure};
 use crate::call::{free, is_made, keep};
@@ -56,46 +57,46 @@ impl JoinedPool {
         code::OK
     }
 
-    /// Attaches the bucket that is in `detached`, where it is of the party's pool. None is in it then.
+    /// Takes the bucket out of `detached`, where it is of the party's pool and waits for no reader, or returns why it stays.
+    fn take_inside(&self, detached: &mut Detached) -> Result<DetachedBucket, u32>
+        requires { KnowsInside self.now detached.old }
+        ensures { TakesInside self.now detached.old result detached.new }
+    {
+        if detached.inside.is_none() {
+            return Err(code::DETACHED_EMPTY);
+        }
+        if detached.start != self.pool.start_address() {
+            return Err(code::OTHER_POOL);
+        }
+        if detached.readers > 0 {
+            return Err(code::READERS_LEFT);
+        }
+        detached.inside.take().ok_or(code::DETACHED_EMPTY)
+    }
+
+    /// Attaches the bucket that is in `detached`, which has none then.
     pub(crate) fn attach(&mut self, detached: &mut Detached) -> Answer
         requires { KnowsInside self.old detached.old }
         ensures { TellsAttach self.old detached.old result self.new detached.new }
     {
-        if detached.inside.is_none() {
-            return Answer::refusal(code::DETACHED_EMPTY);
+        match self.take_inside(detached) {
+            Ok(token) => Answer::of(Ok(self.party.attach(&*self.pool, token).chunk())),
+            Err(code) => Answer::refusal(code),
         }
-        if detached.start != self.pool.start_address() {
-            return Answer::refusal(code::OTHER_POOL);
-        }
-        if detached.readers > 0 {
-            return Answer::refusal(code::READERS_LEFT);
-        }
-        let Some(token) = detached.inside.take() else {
-            return Answer::refusal(code::DETACHED_EMPTY);
-        };
-        let bucket = self.party.attach(&*self.pool, token);
-        Answer::of(Ok(bucket.chunk()))
     }
 
-    /// Gives back the bucket that is in `detached`, where it is of the party's pool. None is in it then.
+    /// Gives back the bucket that is in `detached`, which has none then.
     fn return_detached(&mut self, detached: &mut Detached) -> u32
         requires { KnowsInside self.old detached.old }
         ensures { TellsReturnDetached self.old detached.old result self.new detached.new }
     {
-        if detached.inside.is_none() {
-            return code::DETACHED_EMPTY;
+        match self.take_inside(detached) {
+            Ok(token) => {
+                self.party.return_detached(&*self.pool, token);
+                code::OK
+            }
+            Err(code) => code,
         }
-        if detached.start != self.pool.start_address() {
-            return code::OTHER_POOL;
-        }
-        if detached.readers > 0 {
-            return code::READERS_LEFT;
-        }
-        let Some(token) = detached.inside.take() else {
-            return code::DETACHED_EMPTY;
-        };
-        self.party.return_detached(&*self.pool, token);
-        code::OK
     }
 
     /// Gives back the detached bucket of this number, whose token was lost.
