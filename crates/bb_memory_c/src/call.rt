@@ -2,7 +2,8 @@
 ghost use Rattle.std.specs.Prelude.{◌≡◌, ◌≢◌, None, Some, IsFalse, IsTrue};
 ghost use Rattle.bb_memory_c.specs.Answers.{malloc_refused, ok};
 ghost use Rattle.bb_memory_c.specs.Calls.{AnswersFree, AnswersInfo, AnswersJoin, AnswersLeave, AnswersNumber, AnswersPlace};
-ghost use Rattle.bb_memory_c.specs.Calls.{AnswersRequest, AnswersReturn, AnswersTake, AnswersWhether, IfBoth, TellsRequest, TellsTake};
+ghost use Rattle.bb_memory_c.specs.Calls.{AnswersRequest, AnswersReturn, AnswersTake, AnswersWhether, IfBoth, TellsRequest};
+ghost use Rattle.bb_memory_c.specs.Calls.{TellsTake};
 
 use crate::answer::{Answer, Figure};
 use crate::code;

@@ -10,9 +10,9 @@ ghost use Rattle.bb_memory_c.specs.Calls.{Answers, AnswersFree, AnswersInfo, Ans
 ghost use Rattle.bb_memory_c.specs.Calls.{AnswersPlace, AnswersPoolMake, AnswersRequest, AnswersReturn, AnswersTake};
 ghost use Rattle.bb_memory_c.specs.Calls.{AnswersWhether, HasRoom, IfBoth, IsThere, MayBeShared, left_at};
 ghost use Rattle.bb_memory_c.specs.OneOwner.{pool_info};
-ghost use Rattle.bb_memory_c.specs.SharedPools.{AreFreshOver, ArePlaces, AreUnjoined, CountsOut, GivesAllBack, GivesBack, GivesChunk};
-ghost use Rattle.bb_memory_c.specs.SharedPools.{HoldsAt, HoldsPlace, IsAt, IsIdleAt, IsJoinedAt, JoinsAt, Knows, Leaves};
-ghost use Rattle.bb_memory_c.specs.SharedPools.{PoolParties, ShowsParty, ShowsShared, TellsCache, TellsHolder, as_joined};
+ghost use Rattle.bb_memory_c.specs.SharedPools.{AreFreshOver, ArePlaces, AreUnjoined, CountsOut, GivesAllBack, GivesBack};
+ghost use Rattle.bb_memory_c.specs.SharedPools.{GivesChunk, HoldsAt, HoldsPlace, IsAt, IsIdleAt, IsJoinedAt, JoinsAt, Knows};
+ghost use Rattle.bb_memory_c.specs.SharedPools.{Leaves, PoolParties, ShowsParty, ShowsShared, TellsCache, TellsHolder, as_joined};
 ghost use Rattle.bb_memory_c.specs.SharedPools.{emptied, geometry_of, with_left};
 
 use crate::answer::{Answer, Figure, Holder, PoolInfo, SharedPoolInfo};

@@ -1,10 +1,10 @@
 //! The flags that threads share, one a bucket: their words, and the only calls that touch them.
 //!
-//! `try_flag`, `try_at`, `probe` and `give_back` make one logged step each, by the seat of the party whose step it is, and tell that its
-//! log then ends with that step and what it found. So do `detach`, `attach` and `return_detached`, each of which loads a word
-//! more for the seat of what is detached. `deal`, `gather`, `find`, `meet`, `is_held`, `is_detached` and `found` only load words,
-//! and are in no log; nor is the load with which `probe` begins, where it finds the flag free. `open` is before all sharing, and
-//! `geometry` touches no word.
+//! `try_flag`, `try_at`, `probe` and `give_back` make one logged step each, by the seat of the party whose step it is. That
+//! party's log then ends with the step and what it found. So do `detach`, `attach` and `return_detached`, each of which loads a
+//! word more for the seat of what is detached. `deal`, `gather`, `find`, `meet`, `is_held`, `is_detached` and `found` only load
+//! words, and are in no log; nor is the load with which `probe` begins, where it finds the flag free. `open` is before all
+//! sharing, and `geometry` touches no word.
 ghost use Rattle.std.specs.Prelude.{◌≡◌, ◌<◌, ◌≤◌, ◌↔◌, ◌^◌, [], IfOk, MatchBool, true};
 ghost use Rattle.bb_memory_traits.specs.Chunk.{IsRegion};
 ghost use Rattle.bb_memory_shared_pools.specs.SharedPool.{attach_entry, return_detached_entry};

@@ -95,8 +95,8 @@ impl<const CAPPED: usize, const MOST: usize> SharedBucketPool<CAPPED, MOST> {
     }
 
     /// Takes a bucket for the party, as `allocate` does, but tries the buckets in another order: after the same tests of size and
-    /// alignment it probes each bucket once, until one is taken. The first probe is an exchange. Each later one loads the flag, and
-    /// makes an exchange only where the flag is free. The search begins at the party's hint: at the least bucket that it gave
+    /// alignment it probes each bucket once, until one is taken. The first probe is an exchange. Each later one loads the flag,
+    /// and makes an exchange only where the flag is free. The search begins at the party's hint: at the least bucket that it gave
     /// back since it took its last one, or else behind that one; before both, at the first bucket of a part of the pool of its
     /// own. The search goes on to the last bucket, and then from bucket 0 up. It is refused with `OutOfMemory` where each probe
     /// misses. Where other parties step meanwhile, that doesn't mean that all buckets were held at one moment. The party has to

@@ -45,7 +45,8 @@ returns-in-None-clause-some c =
 pub returns-in-None-2-clause-part : goal.returns-in-None-2-clause-part
 returns-in-None-2-clause-part c part =
     let geometry : PoolGeometry = c.args.self.now in
-    let some : 0 < stride geometry.bucket = rw (← c.self.view_is) (stride-positive c.self.inside.bucket c.self.invariant.is_geometry.filled) in
+    let some : 0 < stride geometry.bucket =
+    rw (← c.self.view_is) (stride-positive c.self.inside.bucket c.self.invariant.is_geometry.filled) in
     let fit : geometry.buckets * stride geometry.bucket < 2 ^ 64 =
     rw (← c.self.view_is) (buckets-fit _ c.self.invariant.is_region c.self.invariant.is_geometry) in
     omega (arith, fit, le-mul_of_pos_right geometry.buckets some)

@@ -10,7 +10,8 @@ returns-clause-told g c =
     let scene : PoolScene = c.args.self.now.scene in
     let me = c.args.seat.now.me in
     let begun = search_begins scene (number_of me.0) (view_log me.0) c.args.hint.now.bucket me c.requires.seat.seat in
-    let is = c.probed-bucket.ensures.value ∙ ap (λ (n : ℕ). probed n c.args.hint.now.bucket 0) c.number_of_buckets-count.ensures.value in
+    let is = c.probed-bucket.ensures.value
+    ∙ ap (λ (n : ℕ). probed n c.args.hint.now.bucket 0) c.number_of_buckets-count.ensures.value in
     record {
       table = c.later_probes.ensures.told.table ∙ c.try_at.ensures.table;
       step = c.later_probes.ensures.told.step (number_of me.0) (view_log me.0)
