@@ -4,16 +4,12 @@ use Rattle.std.proofs.Common.{append_assoc, Some, eq-eqb, ne_eqb}
 use Rattle.std.specs.Prelude.{if◌then◌else◌, max}
 use Rattle.std.proofs.lemmas.List.Elements.{All-from_recursion}
 use Rattle.atomic_table.specs.Table.{Me}
-use Rattle.bb_memory_traits.specs.Chunk.{Region, region_end, Chunk, chunk_end}
+use Rattle.bb_memory_traits.specs.Chunk.{Region, region_end, Chunk, chunk_end, Layout}
 use Rattle.bb_memory_bump_machine.specs.BumpMachine.{BumpScene, OngoingCall, chunk_at, ending, exchange_move, fits, loss_move}
-use Rattle.bb_memory_bump_machine.specs.BumpMachine.{position_behind, read_move, seeing}
+use Rattle.bb_memory_bump_machine.specs.BumpMachine.{position_behind, read_move, seeing, Read, Exchange, BumpOutcome, Sees}
+use Rattle.bb_memory_bump_machine.specs.BumpMachine.{RefusedAtRead, Wins, Loses, RefusedAtLoss}
 use Rattle.bb_memory_bump_machine.specs.BumpLogs.{BumpLog, chunks_won, entry_of, is_loss, losses_in, HasPositionFrom}
 use Rattle.bb_memory_bump_machine.specs.BumpLogs.{HasPositionUpTo, call_after, call_in, seen_in}
-use Rattle.bb_memory_traits.specs.declared.layout.Layout.{Layout}
-use Rattle.bb_memory_bump_machine.specs.declared.steps.bump.BumpStep.TheVariants.{Read, Exchange}
-use Rattle.bb_memory_bump_machine.specs.declared.steps.bump.BumpOutcome.{BumpOutcome}
-use Rattle.bb_memory_bump_machine.specs.declared.steps.bump.BumpOutcome.TheVariants.{Sees, RefusedAtRead, Wins, Loses}
-use Rattle.bb_memory_bump_machine.specs.declared.steps.bump.BumpOutcome.TheVariants.{RefusedAtLoss}
 use Rattle.bb_memory_bump_machine.proofs.BumpRuns.{chunk_at-above}
 use Rattle.bb_memory_seats.specs.Seats.{number_of, view_log}
 use Rattle.bb_memory_bump.specs.SharedBumpRule.{IsSeatOf, SeatView, met_by}

@@ -1,14 +1,10 @@
 //! An allocator that gives one chunk after another, and takes all of them back at once.
 ghost use Rattle.std.specs.Prelude.{◌≡◌, [], List, All, ◌+◌, ◌<◌, ◌≤◌, ◌%◌, ◌↔◌, ℕ};
 ghost use Rattle.std.specs.Prelude.{IfOk, IfErr, IsTrue, Ok, Some, length, slice_get};
-ghost use Rattle.bb_memory_traits.specs.Chunk.{Region, IsRegion, region_at, Chunk, IsInside, chunk_end};
-ghost use Rattle.bb_memory_traits.specs.Object.{AnswersAll, AnswersOnce, GivesOnly, AnswersRun, IsRun, Step};
+ghost use Rattle.bb_memory_traits.specs.Chunk.{Region, IsRegion, region_at, Chunk, IsInside, chunk_end, Layout, AllocationError};
+ghost use Rattle.bb_memory_traits.specs.Chunk.{OutOfMemory};
+ghost use Rattle.bb_memory_traits.specs.Object.{AnswersAll, AnswersOnce, GivesOnly, AnswersRun, IsRun, Step, Command, Reply};
 ghost use Rattle.bb_memory_traits.specs.BumpObject.{MayAllocate, IsInOrder, StandsFor, bump_object, used_space};
-ghost use Rattle.bb_memory_traits.specs.declared.layout.Layout.{Layout};
-ghost use Rattle.bb_memory_traits.specs.declared.allocator.AllocationError.{AllocationError};
-ghost use Rattle.bb_memory_traits.specs.declared.allocator.Command.{Command};
-ghost use Rattle.bb_memory_traits.specs.declared.allocator.Reply.{Reply};
-ghost use Rattle.bb_memory_traits.specs.declared.allocator.AllocationError.TheVariants.{OutOfMemory};
 ghost use Rattle.bb_memory_bump.specs.Bump.{Bump, Frees, Takes, bump_of};
 ghost use Rattle.bb_memory_bump.specs.SharedBump.{fresh_party, scene_at};
 

@@ -2,9 +2,7 @@
 use Rattle.std.proofs.Common.{◌≡◌, ℕ, ◌+◌, ◌<◌, ◌≤◌, List, [], ◌∷◌, ◌++◌, append_assoc, refl, sym, ap, ◌∙◌, subst, arith, true}
 use Rattle.std.proofs.Common.{false, Option, Some, None, Ok, Err}
 use Rattle.std.proofs.lemmas.Bool.{leb-true, leb-false}
-use Rattle.bb_memory_traits.specs.Chunk.{Region, region_end, Chunk, chunk_end}
-use Rattle.bb_memory_traits.specs.declared.layout.Layout.{Layout}
-use Rattle.bb_memory_traits.specs.declared.allocator.AllocationError.TheVariants.{OutOfMemory}
+use Rattle.bb_memory_traits.specs.Chunk.{Region, region_end, Chunk, chunk_end, Layout, OutOfMemory}
 use Rattle.bb_memory_traits.specs.Object.{appended}
 use Rattle.bb_memory_traits.specs.BumpObject.{StandsFor, chunk_at_or_after, next_chunk, used_space}
 use Rattle.bb_memory_bump_machine.specs.BumpMachine.{BumpState, BumpMove, BumpScene, AllFitting, chunk_at, fits, position_behind}

@@ -4,8 +4,7 @@ use Rattle.std.proofs.Common.{inl, inr}
 use Rattle.std.specs.Prelude.{slice_get, slice_set, ◌==◌, if◌then◌else◌, IfSome}
 use Rattle.std.proofs.lemmas.Bool.{eqb-true, eqb-false}
 use Rattle.std.proofs.lemmas.Option.{same_Some}
-use Rattle.bb_memory_traits.specs.Chunk.{Region}
-use Rattle.bb_memory_traits.specs.declared.layout.Layout.{Layout}
+use Rattle.bb_memory_traits.specs.Chunk.{Region, Layout}
 use Rattle.bb_memory_bump_machine.specs.BumpMachine.{OngoingCall, BumpState, BumpMove, PartyMove, IsIdle, IsInCall, IsFitting}
 use Rattle.bb_memory_bump_machine.specs.BumpMachine.{AllFitting, chunk_at, fits, position_behind, ending, seeing, read_move}
 use Rattle.bb_memory_bump_machine.specs.BumpMachine.{exchange_move, passed, moved, read, exchange, load, bump_step, BumpStep}

@@ -2,8 +2,7 @@
 -- from 0.
 use Rattle.std.specs.Prelude.{ℕ, ◌≡◌, ◌+◌, ◌-◌, ◌<◌, ◌==◌, nat_le, Bool, true, List, [], ◌∷◌}
 use Rattle.std.specs.Prelude.{Option, Some, None, if◌then◌else◌, slice_get, slice_set, replicate}
-use Rattle.bb_memory_traits.specs.Chunk.{Region, region_end, Chunk, chunk_end}
-use Rattle.bb_memory_traits.specs.declared.layout.Layout.{Layout}
+use Rattle.bb_memory_traits.specs.Chunk.{Region, region_end, Chunk, chunk_end, Layout}
 use Rattle.bb_memory_traits.specs.BumpObject.{chunk_at_or_after}
 pub use Rattle.bb_memory_bump_machine.specs.declared.steps.bump.BumpOutcome.{BumpOutcome}
 pub use Rattle.bb_memory_bump_machine.specs.declared.steps.bump.BumpOutcome.TheVariants.{Cleared, Loaded, Loses, Passed}

@@ -3,12 +3,9 @@ use Rattle.std.specs.Prelude.{◌≡◌, ℕ, ◌≤◌, ◌<◌, ◌↔◌, ◌
 use Rattle.std.specs.Prelude.{OnErr, zero, suc, length, slice_get}
 use Rattle.std.specs.Option.{ForSome}
 use Rattle.bb_memory_traits.specs.Chunk.{Region, IsRegion, region_at, region_end, Chunk, chunk_end, first_place, IsInside}
-use Rattle.bb_memory_traits.specs.Chunk.{IsSound}
+use Rattle.bb_memory_traits.specs.Chunk.{IsSound, Layout, AllocationError, OutOfMemory}
 use Rattle.bb_memory_traits.specs.OneChunkObject.{HasRoom, LacksRoom, reserved_at}
 use Rattle.bb_memory_traits.specs.Object.{PlacesDiffer}
-use Rattle.bb_memory_traits.specs.declared.layout.Layout.{Layout}
-use Rattle.bb_memory_traits.specs.declared.allocator.AllocationError.{AllocationError}
-use Rattle.bb_memory_traits.specs.declared.allocator.AllocationError.TheVariants.{OutOfMemory}
 use Rattle.std.proofs.Common.{arith, ap, refl, ◌∙◌}
 use Rattle.bb_memory_lists.proofs.Positions.{All-at}
 

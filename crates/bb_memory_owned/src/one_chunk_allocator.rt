@@ -1,13 +1,9 @@
 //! An allocator that gives one chunk at a time, which is all of its region from the chunk's place on.
 ghost use Rattle.std.specs.Prelude.{◌≡◌, [], List, ◌+◌, ◌-◌, ◌<◌, ◌≤◌, ◌%◌, ◌↔◌, ℕ, IsTrue, Some, Result};
-ghost use Rattle.bb_memory_traits.specs.Chunk.{Region, IsRegion, region_at, region_end, Chunk, IsInside, chunk_end};
+ghost use Rattle.bb_memory_traits.specs.Chunk.{Region, IsRegion, region_at, region_end, Chunk, IsInside, chunk_end, Layout};
+ghost use Rattle.bb_memory_traits.specs.Chunk.{AllocationError};
 ghost use Rattle.bb_memory_traits.specs.Object.{AnswersAll, AnswersOnce, GivesOnly, AnswersRun, IsRun, Step, ResizableStep};
-ghost use Rattle.bb_memory_traits.specs.declared.layout.Layout.{Layout};
-ghost use Rattle.bb_memory_traits.specs.declared.allocator.AllocationError.{AllocationError};
-ghost use Rattle.bb_memory_traits.specs.declared.allocator.AllocationGrowError.{AllocationGrowError};
-ghost use Rattle.bb_memory_traits.specs.declared.allocator.AllocationShrinkError.{AllocationShrinkError};
-ghost use Rattle.bb_memory_traits.specs.declared.allocator.Command.{Command};
-ghost use Rattle.bb_memory_traits.specs.declared.allocator.Reply.{Reply};
+ghost use Rattle.bb_memory_traits.specs.Object.{AllocationGrowError, AllocationShrinkError, Command, Reply};
 ghost use Rattle.bb_memory_owned.specs.OneChunk.{Frees, IsOneChunk, OneChunk, StandsFor, Takes, one_chunk_of};
 ghost use Rattle.bb_memory_traits.specs.OneChunkObject.{MayAllocate, MayGrow, MayShrink, reserved_at, one_chunk_object};
 

@@ -5,15 +5,13 @@ use Rattle.std.specs.List.{All}
 use Rattle.std.proofs.lemmas.Bool.{cases_lt}
 use Rattle.bb_memory_traits.specs.Chunk.{Region, region_end, Chunk, chunk_end, IsInside, Layout, AllocationError, SizeIsZero}
 use Rattle.bb_memory_traits.specs.Chunk.{SizeTooLarge, AlignmentFailure, OutOfMemory}
-use Rattle.bb_memory_traits.specs.Object.{Step, IsRun}
+use Rattle.bb_memory_traits.specs.Object.{Step, IsRun, Command, Reply}
 use Rattle.bb_memory_traits.specs.BumpObject.{end_of_last, next_chunk, MayAllocate, bump_object, IsInOrder, StandsFor}
-use Rattle.bb_memory_traits.specs.declared.allocator.Command.{Command}
 use Rattle.bb_memory_traits.specs.declared.allocator.Command.TheVariants.{Allocate, Release, Grow, Shrink}
-use Rattle.bb_memory_traits.specs.declared.allocator.Reply.{Reply}
-use Rattle.bb_memory_traits.specs.declared.allocator.Reply.TheVariants as reply
 use Rattle.bb_memory_traits.proofs.LeastPlaces.{least_place-is, least_place-multiple}
 use Rattle.bb_memory_traits.proofs.LiveLists.{all_end_by, StandsFor-push, StandsFor-empty, end_of_last-above}
 use Rattle.bb_memory_traits.proofs.Runs.{IsRun-keeps}
+use Rattle.bb_memory_traits.specs.declared.allocator.Reply.TheVariants as reply
 
 -- there is an answer to each request
 pub some_answer : (region : Region) (live : List Chunk) (layout : Layout) →

@@ -3,10 +3,8 @@ use Rattle.std.proofs.Common.{◌≡◌, ℕ, zero, suc, List, [], ◌∷◌, �
 use Rattle.std.proofs.lemmas.List.Sums.{fold_push}
 use Rattle.std.specs.Prelude.{Result}
 use Rattle.bb_memory_traits.specs.Chunk.{AllocationError, Chunk, Layout}
-use Rattle.bb_memory_traits.specs.Object.{AllocatorStep, IsRun, EachGiven, note_after_command, note_after_run}
-use Rattle.bb_memory_traits.specs.declared.allocator.Command.{Command}
+use Rattle.bb_memory_traits.specs.Object.{AllocatorStep, IsRun, EachGiven, note_after_command, note_after_run, Command, Reply}
 use Rattle.bb_memory_traits.specs.declared.allocator.Command.TheVariants.{Allocate}
-use Rattle.bb_memory_traits.specs.declared.allocator.Reply.{Reply}
 use Rattle.bb_memory_traits.specs.declared.allocator.Reply.TheVariants as reply
 
 -- a run goes on by one step

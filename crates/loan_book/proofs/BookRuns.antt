@@ -6,16 +6,15 @@ use Rattle.std.proofs.lemmas.Bool.Decides.{nat_tests}
 use Rattle.std.proofs.lemmas.List.Sums.{sum_by-cons}
 use Rattle.bb_memory_traits.specs.Chunk.{Chunk}
 use Rattle.bb_memory_traits.specs.Object.{IsRun}
-use Rattle.loan_book.specs.declared.run.LoanCall.{LoanCall}
-use Rattle.loan_book.specs.declared.run.LoanCall.TheVariants as call
-use Rattle.loan_book.specs.declared.run.LoanReply.{LoanReply}
-use Rattle.loan_book.specs.declared.run.LoanReply.TheVariants as reply
+use Rattle.loan_book.specs.Calls.{LoanCall, LoanReply, Answers, with_returns, without, BookStep, is_return_of, returns_in}
+use Rattle.loan_book.specs.Calls.{is_publish_of, publishes_in}
 use Rattle.loan_book.specs.Book.{returns_to_come, Book, IsBook, IsAt, IsOut, HasReturns, IsUnpublished}
-use Rattle.loan_book.specs.Calls.{Answers, with_returns, without, BookStep, is_return_of, returns_in, is_publish_of, publishes_in}
 use Rattle.loan_book.proofs.Books.{sample-waits}
 use Rattle.loan_book.proofs.BookLeads.{Change, no_change, one_loan, one_publish, one_less, last_one, change_of, step-sound}
 use Rattle.loan_book.proofs.BookSteps.{HasOrIsGone, push-keeps, set-keeps, own-set, own-push, own-remove, remove-keeps}
 use Rattle.loan_book.proofs.BookSteps.{one_returns}
+use Rattle.loan_book.specs.declared.run.LoanCall.TheVariants as call
+use Rattle.loan_book.specs.declared.run.LoanReply.TheVariants as reply
 
 -- how often a call counts
 abbrev once : Bool → ℕ

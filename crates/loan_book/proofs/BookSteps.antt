@@ -4,9 +4,9 @@ use Rattle.std.specs.Prelude.{slice_get}
 use Rattle.std.proofs.lemmas.Option.{slice_get_within, get_or_from_slice_get}
 use Rattle.bb_memory_traits.specs.Chunk.{Chunk}
 use Rattle.bb_memory_lists.proofs.SliceGets.{slice_get-set, slice_get-set_other, slice_get-set_same}
+use Rattle.bb_memory_lists.proofs.SliceGets.{slice_get-last, slice_get-push, slice_get-pushed}
 use Rattle.loan_book.specs.Book.{Sample, Book, IsBook, IsAt, IsOut, HasReturns, IsPublished, IsUnpublished}
 use Rattle.loan_book.specs.Calls.{with_sample, with_returns, without}
-use Rattle.bb_memory_lists.proofs.SliceGets.{slice_get-last, slice_get-push, slice_get-pushed}
 use Rattle.bb_memory_lists.proofs.Positions.{slice_get-removed, slice_get-unremoved}
 
 -- a sample of one id is before no other sample of that id

@@ -4,10 +4,8 @@ use Rattle.std.proofs.Common.{Some}
 use Rattle.std.specs.List.{range_with_len, cons_option}
 use Rattle.std.proofs.lemmas.List.FromFn.{length-range_with_len}
 use Rattle.bb_memory_traits.specs.Object.{IsRun}
-use Rattle.loan_book.specs.declared.run.LoanCall.{LoanCall}
-use Rattle.loan_book.specs.declared.run.LoanReply.{LoanReply}
+use Rattle.loan_book.specs.Calls.{LoanCall, LoanReply, Answers, BookStep, id_of, ids_in}
 use Rattle.loan_book.specs.Book.{Book}
-use Rattle.loan_book.specs.Calls.{Answers, BookStep, id_of, ids_in}
 use Rattle.loan_book.proofs.BookLeads.{Change, no_change, one_loan, change_of}
 
 -- a call that gives an id gives the number of loans, and counts one; another leaves the number

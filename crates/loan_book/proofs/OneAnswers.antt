@@ -2,9 +2,8 @@
 use Rattle.std.proofs.Common.{◌≡◌, ℕ, ◌<◌, ◌-◌, Bool, true, false, refl, ap, sym, ◌∙◌, subst, arith, Result, Ok, Err}
 use Rattle.std.specs.Prelude.{◌↔◌}
 use Rattle.bb_memory_traits.specs.Chunk.{Chunk}
-use Rattle.loan_book.specs.declared.error.LoanError.{LoanError}
+use Rattle.loan_book.specs.Book.{LoanError, Sample, returns_to_come, Book, IsBook, IsAt, IsOut, IsPublished, IsUnpublished}
 use Rattle.loan_book.specs.declared.error.LoanError.TheVariants.{UnknownSample, AlreadyPublished, NoReaders}
-use Rattle.loan_book.specs.Book.{Sample, returns_to_come, Book, IsBook, IsAt, IsOut, IsPublished, IsUnpublished}
 use Rattle.loan_book.specs.Calls.{Answers, Loans, Publishes, GivesBack, with_returns, without}
 use Rattle.loan_book.proofs.BookSteps.{one_position, one_sample, unpublished-nowhere}
 

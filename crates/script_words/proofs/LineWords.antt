@@ -7,8 +7,7 @@ use Rattle.std.proofs.lemmas.List.{append_assoc, append-nil, get_or_default}
 use Rattle.std.proofs.lemmas.List.Elements.{All-tail}
 use Rattle.std.proofs.lemmas.Str.Parse.{digit_at}
 use Rattle.script_words.proofs.Numbers.{own}
-use Rattle.script_words.specs.Words.{Words, AreNumbers, AreWords, StartsWith, list_of, numbers_text}
-use Rattle.script_words.specs.declared.words.Numbers.{Numbers}
+use Rattle.script_words.specs.Words.{Words, AreNumbers, AreWords, StartsWith, list_of, numbers_text, Numbers}
 use Rattle.script_words.specs.declared.words.Numbers.TheVariants.{Zero, One, Two, Three, Four, Five}
 
 -- no byte of the text is this one

@@ -1,7 +1,6 @@
 //! The bump machine's steps, and what holds of every list of them.
 ghost use Rattle.std.specs.Prelude.{◌≡◌, ◌+◌, ◌≤◌, ◌<◌, ◌++◌, ℕ, List, All};
-ghost use Rattle.bb_memory_traits.specs.Chunk.{Chunk, IsSound};
-ghost use Rattle.bb_memory_traits.specs.declared.layout.Layout.{Layout};
+ghost use Rattle.bb_memory_traits.specs.Chunk.{Chunk, IsSound, Layout};
 ghost use Rattle.bb_memory_traits.specs.BumpObject.{StandsFor, used_space};
 ghost use Rattle.bb_memory_bump_machine.specs.BumpMachine.{BumpScene, OngoingCall, IsIdle, IsInCall, left_by};
 ghost use Rattle.bb_memory_bump_machine.specs.BumpMachine.{BumpStep, Read, Exchange, Load, Loaded};

@@ -1,7 +1,6 @@
 //! The pool machine's steps, and what holds of every list of them.
 ghost use Rattle.std.specs.Prelude.{◌≡◌, ◌<◌, ◌↔◌, ℕ, List, Some, drop, take};
-ghost use Rattle.bb_memory_traits.specs.Chunk.{Region, Chunk, IsSound};
-ghost use Rattle.bb_memory_traits.specs.declared.layout.Layout.{Layout};
+ghost use Rattle.bb_memory_traits.specs.Chunk.{Region, Chunk, IsSound, Layout};
 ghost use Rattle.bb_memory_traits.specs.PoolObject.{PoolGeometry, pool_geometry, FillsRegion, IsPoolGeometry, at_most, IsHeld};
 ghost use Rattle.bb_memory_pool_machine.specs.PoolMachine.{PoolScene, IsHolder, IsDetached, IsTaken, left_by};
 ghost use Rattle.bb_memory_pool_machine.specs.PoolMachine.{PoolStep, Try, GiveBack, TryAt, Detach, Attach, Takes, Gives, Misses};

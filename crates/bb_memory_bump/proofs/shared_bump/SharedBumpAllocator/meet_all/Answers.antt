@@ -1,4 +1,4 @@
-use Rattle.std.proofs.Common.{[], rules, rules, ◌∷◌, ◌++◌, ◌≡◌, ◌≤◌, ap, sym, subst, ◌∙◌, arith}
+use Rattle.std.proofs.Common.{[], rules, ◌∷◌, ◌++◌, ◌≡◌, ◌≤◌, ap, sym, subst, ◌∙◌, arith}
 use Rattle.std.specs.Prelude.{All, map}
 use Rattle.std.proofs.lemmas.List.{map-append}
 use Rattle.std.proofs.lemmas.List.Elements.{All-map, All-push}

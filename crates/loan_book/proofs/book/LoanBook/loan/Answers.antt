@@ -3,9 +3,8 @@ use Rattle.std.specs.Prelude.{◌↔◌}
 use Rattle.std.specs.Align.{IsLayout}
 use Rattle.std.proofs.lemmas.Bool.{cases_lt, false≢true}
 use Rattle.bb_memory_traits.specs.Chunk.{Chunk}
-use Rattle.loan_book.specs.declared.error.LoanError.{LoanError}
+use Rattle.loan_book.specs.Book.{LoanError, chunks_of, loaned_before}
 use Rattle.loan_book.specs.declared.error.LoanError.TheVariants.{Size, IdsExhausted}
-use Rattle.loan_book.specs.Book.{chunks_of, loaned_before}
 use Rattle.loan_book.proofs.Books.{IsLoanBook-loaned, next_loaned}
 use Rattle.bb_memory_traits.specs.LeastPlace.{least_place}
 use Rattle.bb_memory_traits.proofs.Layouts.{layout-plain}

@@ -4,8 +4,8 @@ use Rattle.bb_memory_index_set.proofs.AsideNumbers.{less_none}
 use Rattle.bb_memory_index_set.proofs.NumberWords.{fresh_whole, fresh_part, last_word, zeros}
 use Rattle.bb_memory_index_set.proofs.OpenWords.{fresh_set, named_more}
 use Rattle.bb_memory_index_set.proofs.Tallies.{tally-fresh}
-use Rattle.bb_memory_index_set.proofs.index_set.words.Words.new.Goals as goal
 use Rattle.bb_memory_index_set.proofs.index_set.words.Words.new.Goals.{then-used-ne0, else-used-ne0}
+use Rattle.bb_memory_index_set.proofs.index_set.words.Words.new.Goals as goal
 
 pub loop-k-preserved : goal.loop-k-preserved
 loop-k-preserved g c =

@@ -4,8 +4,8 @@ use Rattle.bb_memory_index_set.proofs.NumberWords.{has_word}
 use Rattle.bb_memory_index_set.proofs.OpenWords.{set_opened, set_still, named_hand}
 use Rattle.bb_memory_index_set.proofs.Listings.{room_left}
 use Rattle.bb_memory_index_set.proofs.Tallies.{tally-some}
-use Rattle.bb_memory_index_set.proofs.index_set.words.Words.put_back.Goals as goal
 use Rattle.bb_memory_index_set.proofs.index_set.words.Words.put_back.Goals.{then-self-gt0, else-self-gt0}
+use Rattle.bb_memory_index_set.proofs.index_set.words.Words.put_back.Goals as goal
 
 pub overflow_sub-self : goal.overflow_sub-self
 overflow_sub-self g c =

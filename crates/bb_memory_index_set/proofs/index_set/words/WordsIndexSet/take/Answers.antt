@@ -4,9 +4,9 @@ use Rattle.bb_memory_index_set.proofs.AsideNumbers.{given, less_none}
 use Rattle.bb_memory_index_set.proofs.NumberWords.{length-numbers_of}
 use Rattle.bb_memory_index_set.proofs.OpenWords.{hand_open, hand_taken, none_open, set_left, set_filled}
 use Rattle.bb_memory_index_set.proofs.Tallies.{tally-most, tally-room, tally-taken}
-use Rattle.bb_memory_index_set.proofs.index_set.words.WordsIndexSet.take.Goals as goal
 use Rattle.bb_memory_index_set.proofs.index_set.words.WordsIndexSet.take.Goals.{then-left+then-self-gt0-2}
 use Rattle.bb_memory_index_set.proofs.index_set.words.WordsIndexSet.take.Goals.{then-left+else-self-gt0-2, else-left}
+use Rattle.bb_memory_index_set.proofs.index_set.words.WordsIndexSet.take.Goals as goal
 
 pub returns-then-number-clause-taken : goal.returns-then-number-clause-taken
 returns-then-number-clause-taken g c =
