@@ -2,8 +2,8 @@
 ghost use Rattle.std.specs.Prelude.{◌≡◌, ◌<◌, IfOk, IsSome, Some, slice_get, length};
 ghost use Rattle.bb_memory_traits.specs.Chunk.{Region, IsRegion};
 ghost use Rattle.bb_memory_bump_machine.specs.BumpMachine.{OngoingCall, IsFitting, PartyMove, ending, seeing, read_move};
-ghost use Rattle.bb_memory_bump_machine.specs.BumpMachine.{exchange_move, read, exchange, load};
-ghost use Rattle.bb_memory_bump_machine.specs.BumpWorld.{IsMove, IsPositionIn, Replays, Steps, in_state, opened};
+ghost use Rattle.bb_memory_bump_machine.specs.BumpMachine.{exchange_move, Exchange, Load, Read};
+ghost use Rattle.bb_memory_bump_machine.specs.BumpWorld.{IsMove, IsPositionIn, Replays, Steps, opened};
 
 use super::{BumpOutcome, BumpStep};
 use bb_memory_traits::layout::{Chunk, Layout};
@@ -191,31 +191,21 @@ impl BumpWorld {
 
     /// An idle party reads the position.
     fn read(&mut self, party: usize, layout: Layout) -> BumpOutcome
-        ensures outcome { let now = slice_get self.old.state.calls party in
-            result ≡ (read self.old.region self.old.state party layout now).outcome }
-        ensures state { let now = slice_get self.old.state.calls party in
-            self.new
-            ≡ in_state self.old (read self.old.region self.old.state party layout now).state }
+        ensures { Steps self.old (Read party layout) result self.new }
     {
         match self.call_of(party) {
-            Some(None) => {
-                if layout.size() == 0 {
-                    return BumpOutcome::Passed;
-                }
+            Some(None) if layout.size() != 0 => {
                 let turn = PartyMove::of_read(self.start, self.size, self.position, layout);
                 self.calls[party] = turn.call;
                 turn.outcome
             }
-            Some(Some(_)) | None => BumpOutcome::Passed,
+            _ => BumpOutcome::Passed,
         }
     }
 
     /// A party in a call puts the end of its chunk in the position's place.
     fn exchange(&mut self, party: usize) -> BumpOutcome
-        ensures outcome { let now = slice_get self.old.state.calls party in
-            result ≡ (exchange self.old.region self.old.state party now).outcome }
-        ensures state { let now = slice_get self.old.state.calls party in
-            self.new ≡ in_state self.old (exchange self.old.region self.old.state party now).state }
+        ensures { Steps self.old (Exchange party) result self.new }
     {
         match self.call_of(party) {
             Some(Some(call)) => {
@@ -230,8 +220,7 @@ impl BumpWorld {
 
     /// An idle party reads how much is used.
     fn load(&self, party: usize) -> BumpOutcome
-        ensures { let now = slice_get self.now.state.calls party in
-            result ≡ (load self.now.state now).outcome }
+        ensures { Steps self.now (Load party) result self.now }
     {
         match self.call_of(party) {
             Some(None) => BumpOutcome::Loaded(self.position),
