@@ -6,10 +6,10 @@ use Rattle.std.specs.List.{All}
 use Rattle.std.proofs.lemmas.Bool.{eq-eqb, ne_eqb}
 use Rattle.std.proofs.lemmas.List.Elements.{All-push}
 use Rattle.std.proofs.lemmas.Option.{slice_get_within, get_or_from_slice_get}
-use Rattle.bb_memory_traits.specs.Chunk.{Region, Layout}
-use Rattle.bb_memory_bump_machine.specs.BumpMachine.{OngoingCall, BumpState, BumpMove, PartyMove, BumpScene, opening_state}
-use Rattle.bb_memory_bump_machine.specs.BumpMachine.{read_move, exchange_move, passed, moved, read, exchange, load, bump_step}
-use Rattle.bb_memory_bump_machine.specs.BumpMachine.{bump_after, left_by, BumpStep, Read, Exchange, Load, Loaded}
+use Rattle.bb_memory_traits.specs.Chunk.{Region}
+use Rattle.bb_memory_bump_machine.specs.BumpMachine.{Layout, OngoingCall, BumpState, BumpMove, PartyMove, BumpScene}
+use Rattle.bb_memory_bump_machine.specs.BumpMachine.{opening_state, read_move, exchange_move, passed, moved, read, exchange, load}
+use Rattle.bb_memory_bump_machine.specs.BumpMachine.{bump_step, bump_after, left_by, BumpStep, Read, Exchange, Load, Loaded}
 use Rattle.bb_memory_bump_machine.specs.BumpLogs.{BumpEntry, BumpLog, entry_of, entry_at, bump_history, history_of, is_by}
 use Rattle.bb_memory_bump_machine.specs.BumpLogs.{entries_by, log_of, seen_at, call_after, call_through, call_in, IsAllowed}
 use Rattle.bb_memory_bump_machine.specs.BumpLogs.{AllAllowed, HasLog, LogsAgree, with_entry}

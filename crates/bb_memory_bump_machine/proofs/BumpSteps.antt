@@ -4,12 +4,12 @@ use Rattle.std.proofs.Common.{inl, inr}
 use Rattle.std.specs.Prelude.{slice_get, slice_set, ◌==◌, if◌then◌else◌, IfSome}
 use Rattle.std.proofs.lemmas.Bool.{eqb-true, eqb-false}
 use Rattle.std.proofs.lemmas.Option.{same_Some}
-use Rattle.bb_memory_traits.specs.Chunk.{Region, Layout}
-use Rattle.bb_memory_bump_machine.specs.BumpMachine.{OngoingCall, BumpState, BumpMove, PartyMove, IsIdle, IsInCall, IsFitting}
-use Rattle.bb_memory_bump_machine.specs.BumpMachine.{AllFitting, chunk_at, fits, position_behind, ending, seeing, read_move}
-use Rattle.bb_memory_bump_machine.specs.BumpMachine.{exchange_move, passed, moved, read, exchange, load, bump_step, BumpStep}
-use Rattle.bb_memory_bump_machine.specs.BumpMachine.{Read, Exchange, Load, Clear, Sees, RefusedAtRead, Wins, Loses, RefusedAtLoss}
-use Rattle.bb_memory_bump_machine.specs.BumpMachine.{Loaded, Cleared}
+use Rattle.bb_memory_traits.specs.Chunk.{Region}
+use Rattle.bb_memory_bump_machine.specs.BumpMachine.{Layout, OngoingCall, BumpState, BumpMove, PartyMove, IsIdle, IsInCall}
+use Rattle.bb_memory_bump_machine.specs.BumpMachine.{IsFitting, AllFitting, chunk_at, fits, position_behind, ending, seeing}
+use Rattle.bb_memory_bump_machine.specs.BumpMachine.{read_move, exchange_move, passed, moved, read, exchange, load, bump_step}
+use Rattle.bb_memory_bump_machine.specs.BumpMachine.{BumpStep, Read, Exchange, Load, Clear, Sees, RefusedAtRead, Wins, Loses}
+use Rattle.bb_memory_bump_machine.specs.BumpMachine.{RefusedAtLoss, Loaded, Cleared}
 use Rattle.bb_memory_bump_machine.specs.BumpLogs.{is_by}
 use Rattle.bb_memory_lists.proofs.SliceGets.{slice_get-set, slice_get-set_other, slice_get-set_same}
 

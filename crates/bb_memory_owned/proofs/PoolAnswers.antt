@@ -3,16 +3,20 @@ use Rattle.std.proofs.Common.{◌≡◌, ◌≢◌, ℕ, zero, suc, ◌<◌, ◌
 use Rattle.std.proofs.Common.{arith}
 use Rattle.std.specs.Prelude.{All}
 use Rattle.std.proofs.lemmas.Bool.{cases_lt}
-use Rattle.bb_memory_traits.specs.Chunk.{Chunk, IsInside, Layout, AllocationError, SizeTooLarge, AlignmentFailure, OutOfMemory}
+use Rattle.bb_memory_traits.specs.Chunk.{Chunk, IsInside}
 use Rattle.bb_memory_traits.specs.PoolObject.{PoolGeometry, bucket_place, IsPoolGeometry, IsHeld, IsWithin, MayAllocate, MayGrow}
 use Rattle.bb_memory_traits.specs.PoolObject.{MayShrink, chunk_in}
-use Rattle.bb_memory_traits.specs.Object.{AllocationGrowError, AllocationShrinkError}
+use Rattle.bb_memory_traits.specs.declared.layout.Layout.{Layout}
+use Rattle.bb_memory_traits.specs.declared.allocator.AllocationError.{AllocationError}
+use Rattle.bb_memory_traits.specs.declared.allocator.AllocationError.TheVariants.{SizeTooLarge, AlignmentFailure, OutOfMemory}
+use Rattle.bb_memory_traits.specs.declared.allocator.AllocationGrowError.{AllocationGrowError}
+use Rattle.bb_memory_traits.specs.declared.allocator.AllocationGrowError.TheVariants as grow
+use Rattle.bb_memory_traits.specs.declared.allocator.AllocationShrinkError.{AllocationShrinkError}
+use Rattle.bb_memory_traits.specs.declared.allocator.AllocationShrinkError.TheVariants as shrink
 use Rattle.bb_memory_traits.proofs.PoolGeometries.{bucket_place-aligned}
 use Rattle.bb_memory_traits.proofs.PoolLists.{count_at, at_from_count, count_from_at, inside_from_bucket}
 use Rattle.bb_memory_geometry.proofs.Measures.{bucket_place-multiple}
 use Rattle.bb_memory_lists.proofs.Positions.{All-from_positions}
-use Rattle.bb_memory_traits.specs.declared.allocator.AllocationGrowError.TheVariants as grow
-use Rattle.bb_memory_traits.specs.declared.allocator.AllocationShrinkError.TheVariants as shrink
 
 -- REQUESTS
 

@@ -3,10 +3,14 @@ use Rattle.std.proofs.Common.{◌≡◌, ◌≢◌, ℕ, ◌-◌, ◌/◌, ◌%�
 use Rattle.std.proofs.Common.{sym, ap, subst, ◌∙◌, arith, Some, inl, inr, cond, leb, max, min, ◌&&◌}
 use Rattle.std.proofs.lemmas.Bool.{le-leb, cases_lt}
 use Rattle.std.specs.Prelude.{slice_get, slice_set, remove, IfOk}
-use Rattle.bb_memory_traits.specs.Chunk.{Chunk, IsInside, first_place, Layout, AllocationError, SizeIsZero, SizeTooLarge}
-use Rattle.bb_memory_traits.specs.Chunk.{AlignmentFailure, OutOfMemory}
+use Rattle.bb_memory_traits.specs.Chunk.{Chunk, IsInside, first_place}
 use Rattle.bb_memory_traits.specs.PoolObject.{bucket_place, stride, IsWithin, chunk_in, MayAllocate, MayGrow, MayShrink}
-use Rattle.bb_memory_traits.specs.Object.{AllocationGrowError, AllocationShrinkError}
+use Rattle.bb_memory_traits.specs.declared.layout.Layout.{Layout}
+use Rattle.bb_memory_traits.specs.declared.allocator.AllocationError.{AllocationError}
+use Rattle.bb_memory_traits.specs.declared.allocator.AllocationError.TheVariants.{SizeIsZero, SizeTooLarge, AlignmentFailure}
+use Rattle.bb_memory_traits.specs.declared.allocator.AllocationError.TheVariants.{OutOfMemory}
+use Rattle.bb_memory_traits.specs.declared.allocator.AllocationGrowError.{AllocationGrowError}
+use Rattle.bb_memory_traits.specs.declared.allocator.AllocationShrinkError.{AllocationShrinkError}
 use Rattle.bb_memory_traits.proofs.PoolGeometries.{bucket_place-aligned, bucket_place-after}
 use Rattle.bb_memory_lists.proofs.SliceGets.{slice_get-set_other, slice_get-set_same}
 use Rattle.bb_memory_index_set.specs.IndexSets.{Has, Lacks}

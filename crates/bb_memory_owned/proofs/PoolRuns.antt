@@ -4,9 +4,15 @@ use Rattle.std.proofs.Common.{Some, length, get_or, refl, sym, ◌∙◌, ap, in
 use Rattle.std.specs.Prelude.{slice_get, slice_set, remove, All, AllPairs, IsOk}
 use Rattle.std.proofs.lemmas.Bool.{cases_lt}
 use Rattle.std.proofs.lemmas.Option.{slice_get-get_or}
-use Rattle.bb_memory_traits.specs.Chunk.{Chunk, Layout, AllocationError, SizeIsZero, SizeTooLarge, AlignmentFailure, OutOfMemory}
-use Rattle.bb_memory_traits.specs.Object.{IsRun, Step, ResizableStep, Command, Reply}
+use Rattle.bb_memory_traits.specs.Chunk.{Chunk}
+use Rattle.bb_memory_traits.specs.Object.{IsRun, Step, ResizableStep}
 use Rattle.bb_memory_traits.specs.PoolObject.{PoolGeometry, bucket_place, IsWithin, MayAllocate, pool_object}
+use Rattle.bb_memory_traits.specs.declared.layout.Layout.{Layout}
+use Rattle.bb_memory_traits.specs.declared.allocator.AllocationError.{AllocationError}
+use Rattle.bb_memory_traits.specs.declared.allocator.AllocationError.TheVariants.{SizeIsZero, SizeTooLarge, AlignmentFailure}
+use Rattle.bb_memory_traits.specs.declared.allocator.AllocationError.TheVariants.{OutOfMemory}
+use Rattle.bb_memory_traits.specs.declared.allocator.Command.{Command}
+use Rattle.bb_memory_traits.specs.declared.allocator.Reply.{Reply}
 use Rattle.bb_memory_traits.proofs.PoolGeometries.{bucket_place-aligned, bucket_place-after}
 use Rattle.bb_memory_index_set.proofs.NumberSets.{has_or_lacks}
 use Rattle.bb_memory_owned.proofs.KeptRuns.{IsKept, run_keeps, base_run_keeps}

@@ -3,10 +3,14 @@ use Rattle.std.specs.Prelude.{◌≡◌, ◌≢◌, ℕ, ◌+◌, ◌%◌, ◌�
 use Rattle.std.specs.Prelude.{get_or, nat_eq, nat_le, List, All, length, max, min, replicate, slice_set, Result, Ok, Err, IsOk}
 use Rattle.std.specs.Prelude.{IfOk, OnErr, Some, slice_get}
 use Rattle.std.specs.List.{list_any, range_with_len}
-use Rattle.bb_memory_traits.specs.Chunk.{IsRegion, Chunk, IsSound, Layout, AllocationError, SizeIsZero, SizeTooLarge}
-use Rattle.bb_memory_traits.specs.Chunk.{AlignmentFailure, OutOfMemory}
-use Rattle.bb_memory_traits.specs.Object.{PlacesDiffer, note_after_run, Command}
+use Rattle.bb_memory_traits.specs.Chunk.{IsRegion, Chunk, IsSound}
+use Rattle.bb_memory_traits.specs.Object.{PlacesDiffer, note_after_run}
 use Rattle.bb_memory_traits.specs.PoolObject.{PoolGeometry, bucket_place, IsCut, IsPoolGeometry, IsHeld, IsWithin, chunk_in}
+use Rattle.bb_memory_traits.specs.declared.layout.Layout.{Layout}
+use Rattle.bb_memory_traits.specs.declared.allocator.Command.{Command}
+use Rattle.bb_memory_traits.specs.declared.allocator.AllocationError.{AllocationError}
+use Rattle.bb_memory_traits.specs.declared.allocator.AllocationError.TheVariants.{SizeIsZero, SizeTooLarge, AlignmentFailure}
+use Rattle.bb_memory_traits.specs.declared.allocator.AllocationError.TheVariants.{OutOfMemory}
 use Rattle.bb_memory_geometry.specs.Geometry.{AreAStrideApart, MayBeCut}
 use Rattle.bb_memory_index_set.specs.IndexSets.{Has, Lacks, IsFull, member_count}
 use Rattle.std.specs.Cmp.Derive.{both_true}

@@ -5,7 +5,8 @@ use Rattle.bb_memory_pool_machine.specs.PoolMachine.{PoolScene, PoolState, openi
 use Rattle.bb_memory_pool_machine.specs.PoolMachine.{TryAt, Detach, Attach, GiveBackDetached, PoolOutcome, left_by, Flag, Free}
 use Rattle.bb_memory_pool_machine.specs.PoolMachine.{DetachedBy, Takes, Loses, RefusedAtLoss, Gives, Passed, Detaches, Attaches}
 use Rattle.bb_memory_pool_machine.specs.PoolMachine.{IsFlag, IsInCall, Misses, NamesMade}
-use Rattle.bb_memory_traits.specs.Chunk.{Chunk, Layout}
+use Rattle.bb_memory_traits.specs.Chunk.{Chunk}
+pub use Rattle.bb_memory_traits.specs.declared.layout.Layout.{Layout}
 use Rattle.bb_memory_traits.specs.Object.{Allocates, Releases, IsRun}
 use Rattle.bb_memory_traits.specs.PoolObject.{PoolGeometry, bucket_place, IsAt, IsHeld, IsWithin, chunk_in, pool_object}
 

@@ -3,7 +3,8 @@ ghost use Rattle.std.specs.Prelude.{◌≡◌, ◌<◌, IfOk, IsSome, Some, slic
 ghost use Rattle.bb_memory_traits.specs.Chunk.{Region, IsRegion};
 ghost use Rattle.bb_memory_bump_machine.specs.BumpMachine.{OngoingCall, IsFitting, PartyMove, ending, seeing, read_move};
 ghost use Rattle.bb_memory_bump_machine.specs.BumpMachine.{exchange_move, Exchange, Load, Read};
-ghost use Rattle.bb_memory_bump_machine.specs.BumpWorld.{IsMove, IsPositionIn, Replays, Steps, opened};
+ghost use Rattle.bb_memory_bump_machine.specs.BumpWorld.{IsMove, IsPositionIn, Replays, Steps, opened, BumpWorld, IsBumpWorld};
+ghost use Rattle.bb_memory_bump_machine.specs.BumpWorld.{world_of};
 
 use super::{BumpOutcome, BumpStep};
 use bb_memory_traits::layout::{Chunk, Layout};
@@ -17,32 +18,12 @@ struct OngoingCall {
     seen: usize,
 }
 
-impl Model for OngoingCall {
-    ghost use Rattle.bb_memory_bump_machine.specs.BumpMachine.{OngoingCall};
-
-    ghost Value = { OngoingCall };
-
-    ghost view = { λ call. record { layout = call.layout; seen = call.seen } };
-
-    ghost inverse = { λ call. record { layout = call.layout; seen = call.seen } };
-}
-
 /// The answer of a party's step, and the position and the party's call after it.
 #[derive(Clone, Copy)]
 struct PartyMove {
     outcome: BumpOutcome,
     position: usize,
     call: Option<OngoingCall>,
-}
-
-impl Model for PartyMove {
-    ghost use Rattle.bb_memory_bump_machine.specs.BumpMachine.{PartyMove};
-
-    ghost Value = { PartyMove };
-
-    ghost view = { λ m. record { outcome = m.outcome; position = m.position; call = m.call } };
-
-    ghost inverse = { λ m. record { outcome = m.outcome; position = m.position; call = m.call } };
 }
 
 impl PartyMove {
@@ -112,8 +93,6 @@ pub struct BumpWorld {
 }
 
 impl Model for BumpWorld {
-    ghost use Rattle.bb_memory_bump_machine.specs.BumpWorld.{BumpWorld, IsBumpWorld, world_of};
-
     ghost Value = { BumpWorld };
 
     ghost view = { λ w. world_of w.start w.size w.position w.calls.items };

@@ -1,7 +1,7 @@
 //! A pool machine that can be run: of each bucket its flag, and of each party the bucket that its pass tries next.
 ghost use Rattle.std.specs.Prelude.{◌≡◌, ◌<◌, IsSome, IfOk, length, slice_get};
 ghost use Rattle.bb_memory_pool_machine.specs.PoolMachine.{holder_of, Attach, Detach, GiveBack, GiveBackDetached, Try, TryAt};
-ghost use Rattle.bb_memory_pool_machine.specs.PoolWorld.{Replays, Steps, opened};
+ghost use Rattle.bb_memory_pool_machine.specs.PoolWorld.{Replays, Steps, opened, PoolWorld, IsPoolWorld, world_of};
 
 use super::{Flag, PoolOutcome, PoolStep};
 use std::alloc::{AllocError, Global};
@@ -18,8 +18,6 @@ pub struct PoolWorld {
 }
 
 impl Model for PoolWorld {
-    ghost use Rattle.bb_memory_pool_machine.specs.PoolWorld.{PoolWorld, IsPoolWorld, world_of};
-
     ghost Value = { PoolWorld };
 
     ghost view = { λ w. world_of w.flags.items w.calls.items };

@@ -10,7 +10,6 @@ invariant_of-self c =
     record {
       region = c.self.invariant.region;
       within = c.self.invariant.within;
-      fitting = λ other. each_call-set (IsFitting old.region) old.state.calls c.args.party other c.turn.inside.call
-          (c.self.invariant.fitting other) (subst (λ (turn : PartyMove). IfSome turn.call (IsFitting old.region))
-          (sym c.turn.view_is) c.of_read-turn.ensures.fitting);
+      fitting = λ other. each_call-set (IsFitting old.region) old.state.calls c.args.party other c.of_read-turn.result.call
+          (c.self.invariant.fitting other) c.of_read-turn.ensures.fitting;
     }
