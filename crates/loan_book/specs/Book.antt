@@ -1,7 +1,8 @@
 -- Books: how many samples were loaned so far, and those that are out; and loan books, which have an allocator below.
 use Rattle.std.specs.Prelude.{◌≡◌, ℕ, ◌<◌, ◌^◌, List, map, Option, Some, None, All, AllPairs, slice_get}
 use Rattle.std.specs.Option.{ForSome}
-use Rattle.bb_memory_traits.specs.Chunk.{Chunk, Layout}
+use Rattle.bb_memory_traits.specs.Chunk.{Chunk}
+use Rattle.bb_memory_traits.specs.declared.layout.Layout.{Layout}
 use Rattle.loan_book.specs.declared.error.LoanError.TheVariants.{Allocation}
 pub use Rattle.loan_book.specs.declared.error.LoanError.{LoanError}
 use Rattle.loan_book.specs.declared.book.Sample as declared

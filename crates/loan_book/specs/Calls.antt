@@ -1,7 +1,9 @@
 -- Answers that a loan book may give to each call, and the book after it. A refusal's cause stands behind all causes before it.
 use Rattle.std.specs.Prelude.{◌≡◌, ℕ, ◌+◌, ◌-◌, ◌<◌, ◌≤◌, ◌^◌, ◌==◌, ◌↔◌, Bool, true, false, IsTrue, List, [], ◌∷◌, ◌++◌}
 use Rattle.std.specs.Prelude.{Option, Some, None, Result, Ok, Err, remove, slice_set, count_by, filter_map}
-use Rattle.bb_memory_traits.specs.Chunk.{Chunk, Layout, AllocationError}
+use Rattle.bb_memory_traits.specs.Chunk.{Chunk}
+use Rattle.bb_memory_traits.specs.declared.layout.Layout.{Layout}
+use Rattle.bb_memory_traits.specs.declared.allocator.AllocationError.{AllocationError}
 use Rattle.loan_book.specs.Book.{LoanError, Sample, returns_to_come, Book, chunks_out, IsAt, IsOut, IsPublished, IsUnpublished}
 use Rattle.loan_book.specs.declared.run.LoanReply.TheVariants.{Loaned, Published, Returned, Kept, Out, Refused}
 use Rattle.loan_book.specs.declared.error.LoanError.TheVariants as refused

@@ -3,7 +3,7 @@ use Rattle.std.proofs.Common.{◌≡◌, ℕ, Some, Result, Ok, Err, IsOk, IfOk,
 use Rattle.std.proofs.lemmas.Bool.{false≢true}
 use Rattle.std.specs.Align.{IsLayout}
 use Rattle.std.specs.Result.{result_ok}
-use Rattle.bb_memory_traits.specs.Chunk.{Layout}
+use Rattle.bb_memory_traits.specs.declared.layout.Layout.{Layout}
 use Rattle.bb_memory_traits.proofs.Layouts.{same_layout}
 
 -- what is made of the numbers of a layout is that layout

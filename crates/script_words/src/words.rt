@@ -3,7 +3,8 @@ ghost use Rattle.std.specs.Prelude.{◌≡◌, ◌≢◌, ◌↔◌, ◌^◌, �
 ghost use Rattle.std.specs.Prelude.{IfNone, IfSome, OnOk, codes, length, slice_index};
 ghost use Rattle.std.specs.Fmt.{decimal};
 ghost use Rattle.std.specs.Option.{SomeIff};
-ghost use Rattle.bb_memory_traits.specs.Chunk.{IsRegion, Layout};
+ghost use Rattle.bb_memory_traits.specs.Chunk.{IsRegion};
+ghost use Rattle.bb_memory_traits.specs.declared.layout.Layout.{Layout};
 ghost use Rattle.script_words.specs.Words.{Words, words, words_then, figures_then, text_bytes, list_of, AreWords, StartsWith};
 ghost use Rattle.script_words.specs.Words.{IsParty, region_of, bounds_numbers};
 
