@@ -7,7 +7,8 @@ use Rattle.std.proofs.Math.Seq.{drop-append_seam}
 use Rattle.std.proofs.lemmas.List.Elements.{All-nil}
 use Rattle.atomic_table.specs.Seated.{TableId}
 use Rattle.atomic_table.specs.Table.{Me}
-use Rattle.bb_memory_traits.specs.Chunk.{region_end, Chunk, chunk_end, Layout, AllocationError, OutOfMemory}
+use Rattle.bb_memory_traits.specs.Chunk.{region_end, Chunk, chunk_end}
+use Rattle.bb_memory_bump.specs.Bump.{Layout, AllocationError, OutOfMemory}
 use Rattle.bb_memory_traits.specs.BumpObject.{chunk_at_or_after, next_chunk}
 use Rattle.bb_memory_bump_machine.specs.BumpMachine.{BumpScene, chunk_at}
 use Rattle.bb_memory_bump_machine.specs.BumpLogs.{BumpLog, chunks_won, losses_in, HasPositionFrom, HasPositionUpTo, seen_in}

@@ -9,11 +9,12 @@ use Rattle.atomic_table.specs.Table.{State, Me, keeps, Allows, step, carried_aft
 use Rattle.atomic_table.proofs.Lists.{exchanged}
 use Rattle.std.proofs.lemmas.Option.{same_Some}
 use Rattle.bb_memory_bump_machine.specs.BumpMachine.{BumpScene, OngoingCall, chunk_at, ending, exchange_move, fits}
-use Rattle.bb_memory_bump_machine.specs.BumpMachine.{position_behind, read_move, seeing, BumpStep, Read, Exchange, Load}
-use Rattle.bb_memory_bump_machine.specs.BumpMachine.{BumpOutcome, Sees, RefusedAtRead, Wins, Loses, RefusedAtLoss, Loaded}
+use Rattle.bb_memory_bump_machine.specs.BumpMachine.{position_behind, read_move, seeing}
+use Rattle.bb_memory_bump.specs.SharedBump.{BumpStep, Read, Exchange, Load, BumpOutcome, Sees, RefusedAtRead, Wins, Loses}
+use Rattle.bb_memory_bump.specs.SharedBump.{RefusedAtLoss, Loaded}
 use Rattle.bb_memory_bump_machine.specs.BumpLogs.{BumpLog, entry_of, HasLog, Interleaving, LogsAgree, call_in, greater_of}
 use Rattle.bb_memory_bump_machine.specs.BumpLogs.{position_in, seen_in, with_entry}
-use Rattle.bb_memory_traits.specs.Chunk.{Layout}
+use Rattle.bb_memory_bump.specs.Bump.{Layout}
 use Rattle.bb_memory_lists.proofs.SliceGets.{length-set_at, slice_get-set_same}
 use Rattle.bb_memory_bump_machine.proofs.BumpLogs.{read_agrees, exchange_agrees, load_agrees}
 use Rattle.bb_memory_bump_machine.proofs.BumpPositions.{interleaved, position_within, seen_below}

@@ -2,10 +2,15 @@
 use Rattle.std.specs.Prelude.{◌≡◌, ◌≢◌, ℕ, ◌+◌, ◌<◌, ◌≤◌, true, false, List, [], ◌∷◌, ◌++◌, None, Result, Ok, Err, All, Contains}
 use Rattle.std.specs.Prelude.{Some, length, map, max, slice_get}
 use Rattle.atomic_table.specs.Seated.{TableId}
-use Rattle.bb_memory_traits.specs.Chunk.{Region, Chunk, AreApart, chunk_end, Layout, AllocationError, SizeIsZero, SizeTooLarge}
-use Rattle.bb_memory_traits.specs.Chunk.{AlignmentFailure, OutOfMemory}
-use Rattle.bb_memory_bump_machine.specs.BumpMachine.{BumpScene, chunk_at, fits, Read, Exchange, Load, Sees, RefusedAtRead, Wins}
-use Rattle.bb_memory_bump_machine.specs.BumpMachine.{Loses, RefusedAtLoss, Loaded}
+use Rattle.bb_memory_traits.specs.Chunk.{Region, Chunk, AreApart, chunk_end}
+use Rattle.bb_memory_bump.specs.Bump.{Layout, AllocationError, SizeIsZero, OutOfMemory}
+use Rattle.bb_memory_traits.specs.declared.allocator.AllocationError.TheVariants.{SizeTooLarge, AlignmentFailure}
+use Rattle.bb_memory_bump_machine.specs.BumpMachine.{BumpScene, chunk_at, fits}
+pub use Rattle.bb_memory_bump_machine.specs.declared.steps.bump.BumpStep.{BumpStep}
+pub use Rattle.bb_memory_bump_machine.specs.declared.steps.bump.BumpStep.TheVariants.{Read, Exchange, Load}
+pub use Rattle.bb_memory_bump_machine.specs.declared.steps.bump.BumpOutcome.{BumpOutcome}
+pub use Rattle.bb_memory_bump_machine.specs.declared.steps.bump.BumpOutcome.TheVariants.{Sees, RefusedAtRead, Wins, Loses}
+pub use Rattle.bb_memory_bump_machine.specs.declared.steps.bump.BumpOutcome.TheVariants.{RefusedAtLoss, Loaded}
 use Rattle.bb_memory_bump_machine.specs.BumpLogs.{BumpLog, chunks_won, entry_of, CommonInterleaving, Interleaving, HasLog}
 use Rattle.bb_memory_bump_machine.specs.BumpLogs.{HasPositionFrom, HasPositionUpTo, LogsAgree, call_in, seen_in}
 use Rattle.bb_memory_traits.specs.BumpObject.{MayAllocate, StandsFor}

@@ -1,11 +1,12 @@
 //! An allocator that gives one chunk after another, and takes all of them back at once.
-ghost use Rattle.std.specs.Prelude.{◌≡◌, [], List, All, ◌+◌, ◌<◌, ◌≤◌, ◌%◌, ◌↔◌, ℕ};
-ghost use Rattle.std.specs.Prelude.{IfOk, IfErr, IsTrue, Ok, Some, length, slice_get};
-ghost use Rattle.bb_memory_traits.specs.Chunk.{Region, IsRegion, region_at, Chunk, IsInside, chunk_end, Layout, AllocationError};
-ghost use Rattle.bb_memory_traits.specs.Chunk.{OutOfMemory};
-ghost use Rattle.bb_memory_traits.specs.Object.{AnswersAll, AnswersOnce, GivesOnly, AnswersRun, IsRun, Step, Command, Reply};
+ghost use Rattle.std.specs.Prelude.{◌≡◌, [], List, All, ◌+◌, ◌<◌, ◌≤◌, ◌%◌, ◌↔◌, ℕ, IfOk, IfErr, IsTrue, Ok, Some, length};
+ghost use Rattle.std.specs.Prelude.{slice_get, ◌-◌, true};
+ghost use Rattle.bb_memory_traits.specs.Chunk.{Region, IsRegion, region_at, Chunk, IsInside, chunk_end};
+ghost use Rattle.bb_memory_bump.specs.Bump.{Layout, AllocationError, OutOfMemory, Bump, Frees, Takes, bump_of, IsBump, bump_text};
+ghost use Rattle.bb_memory_traits.specs.Object.{AnswersAll, AnswersOnce, GivesOnly, AnswersRun, IsRun, Step};
+ghost use Rattle.bb_memory_traits.specs.declared.allocator.Command.{Command};
+ghost use Rattle.bb_memory_traits.specs.declared.allocator.Reply.{Reply};
 ghost use Rattle.bb_memory_traits.specs.BumpObject.{MayAllocate, IsInOrder, StandsFor, bump_object, used_space};
-ghost use Rattle.bb_memory_bump.specs.Bump.{Bump, Frees, Takes, bump_of};
 ghost use Rattle.bb_memory_bump.specs.SharedBump.{fresh_party, scene_at};
 
 pub use crate::allocator::{AllocationError, BaseAllocator};
@@ -29,9 +30,6 @@ pub struct BumpAllocator {
 }
 
 impl Model for BumpAllocator {
-    ghost use Rattle.std.specs.Prelude.{◌+◌, ◌-◌, ◌≤◌};
-    ghost use Rattle.bb_memory_bump.specs.Bump.{Bump, IsBump, bump_of};
-
     ghost Value = { Bump };
 
     ghost view = { λ a. bump_of a.start a.size (a.last + 1 - a.start) };
@@ -147,9 +145,6 @@ impl BumpAllocator {
 }
 
 impl fmt::Display for BumpAllocator {
-    ghost use Rattle.std.specs.Prelude.{Some};
-    ghost use Rattle.bb_memory_bump.specs.Bump.{bump_text};
-
     ghost output = { λ bump. Some (bump_text bump) };
 
     fn fmt<W: fmt::Write>(&self, f: &mut fmt::Formatter<W>) -> fmt::Result {
@@ -164,11 +159,6 @@ impl fmt::Display for BumpAllocator {
 }
 
 impl BaseAllocator for BumpAllocator {
-    ghost use Rattle.std.specs.Prelude.{true};
-    ghost use Rattle.bb_memory_traits.specs.Chunk.{Region};
-    ghost use Rattle.bb_memory_traits.specs.BumpObject.{MayAllocate, StandsFor};
-    ghost use Rattle.bb_memory_bump.specs.Bump.{Takes, Frees};
-
     const RELEASE_EMPTIES: bool = true;
 
     ghost RELEASE_EMPTIES = { true };

@@ -8,8 +8,8 @@ ghost use Rattle.bb_memory_bump_machine.specs.BumpLogs.{IsCallRun, OpensWith, ca
 ghost use Rattle.bb_memory_bump.specs.SharedBump.{AgreeAt, AreBothOf, AreFresh, AreInterleaved, BumpParty, HasChunksWithin};
 ghost use Rattle.bb_memory_bump.specs.SharedBump.{HaveChunksApart, HasLoaded, HaveMet, IsAnsweredAt, IsFoundBy, IsInterleaved};
 ghost use Rattle.bb_memory_bump.specs.SharedBump.{IsParty, IsSameParty, IsSharedScene, MayTake, MeetAt, floor_of, greatest_seen};
-ghost use Rattle.bb_memory_bump.specs.SharedBump.{meeting_at, scene_at, seen_by, with_entries};
-ghost use Rattle.bb_memory_bump.specs.SharedBumpRule.{all_parties};
+ghost use Rattle.bb_memory_bump.specs.SharedBump.{meeting_at, scene_at, seen_by, with_entries, SharedBump};
+ghost use Rattle.bb_memory_bump.specs.SharedBumpRule.{all_parties, IsSharedBump};
 ghost use Rattle.bb_memory_seats.specs.Seats.{HasRoomFor};
 
 mod all_parties;
@@ -47,13 +47,7 @@ pub struct SharedBumpAllocator {
 }
 
 impl Model for SharedBumpAllocator {
-    ghost use Rattle.std.specs.Prelude.{◌≡◌};
-    ghost use Rattle.bb_memory_traits.specs.Chunk.{region_at};
-    ghost use Rattle.bb_memory_bump.specs.SharedBump.{SharedBump};
-
     ghost Value = { SharedBump };
-
-    ghost use Rattle.bb_memory_bump.specs.SharedBumpRule.{IsSharedBump};
 
     ghost view = { λ a. a.position };
 

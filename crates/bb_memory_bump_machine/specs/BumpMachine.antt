@@ -10,10 +10,14 @@ pub use Rattle.bb_memory_bump_machine.specs.declared.steps.bump.BumpOutcome.TheV
 pub use Rattle.bb_memory_bump_machine.specs.declared.steps.bump.BumpOutcome.TheVariants.{RefusedAtLoss, RefusedAtRead, Sees, Wins}
 pub use Rattle.bb_memory_bump_machine.specs.declared.steps.bump.BumpStep.{BumpStep}
 pub use Rattle.bb_memory_bump_machine.specs.declared.steps.bump.BumpStep.TheVariants.{Clear, Exchange, Load, Read}
-pub use Rattle.bb_memory_bump_machine.specs.declared.steps.bump_world.OngoingCall.{OngoingCall}
+use Rattle.bb_memory_bump_machine.specs.declared.steps.bump_world.OngoingCall as declared
 pub use Rattle.bb_memory_bump_machine.specs.declared.steps.bump_world.PartyMove.{PartyMove}
 
 -- STATES
+
+-- a call that a party is in: what it asked for, and the position that it has seen
+abbrev pub OngoingCall : Type 0
+OngoingCall = declared.OngoingCall
 
 -- the position, and of each party the call that it is in, or None where it is idle
 pub record BumpState : Type 0 where
