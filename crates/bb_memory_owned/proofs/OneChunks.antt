@@ -3,12 +3,15 @@ use Rattle.std.proofs.Common.{◌≡◌, ℕ, ◌+◌, ◌<◌, ◌≤◌, ◌%�
 use Rattle.std.proofs.Common.{slice_get, slice_set, remove, refl, sym, ◌∙◌, ap, subst, inl, inr, arith}
 use Rattle.std.specs.Option.{ForSome}
 use Rattle.std.proofs.lemmas.Bool.{cases_lt}
-use Rattle.bb_memory_traits.specs.Chunk.{Region, region_end, Chunk, chunk_end, IsInside, first_place, Layout, AllocationError}
-use Rattle.bb_memory_traits.specs.Chunk.{OutOfMemory}
-use Rattle.bb_memory_traits.specs.Object.{IsRun, Step, ResizableStep, AllocationGrowError, AllocationShrinkError, Command, Reply}
+use Rattle.bb_memory_traits.specs.Chunk.{Region, region_end, Chunk, chunk_end, IsInside, first_place}
+use Rattle.bb_memory_owned.specs.OneChunk.{Layout, AllocationError, AllocationGrowError, AllocationShrinkError, OneChunk}
+use Rattle.bb_memory_owned.specs.OneChunk.{HasByteAt, IsOneChunk, IsKept, StandsFor, only_chunk}
+use Rattle.bb_memory_traits.specs.declared.allocator.AllocationError.TheVariants.{OutOfMemory}
+use Rattle.bb_memory_traits.specs.Object.{IsRun, Step, ResizableStep}
+use Rattle.bb_memory_traits.specs.declared.allocator.Command.{Command}
+use Rattle.bb_memory_traits.specs.declared.allocator.Reply.{Reply}
 use Rattle.bb_memory_traits.proofs.LeastPlaces.{least_place-is, least_place-multiple}
 use Rattle.bb_memory_traits.proofs.LiveLists.{sound_from_order}
-use Rattle.bb_memory_owned.specs.OneChunk.{OneChunk, HasByteAt, IsOneChunk, IsKept, StandsFor, only_chunk}
 use Rattle.bb_memory_traits.specs.OneChunkObject.{reserved_at, rest_from, MayAllocate, MayGrow, MayShrink, one_chunk_object}
 use Rattle.bb_memory_traits.specs.declared.allocator.AllocationGrowError.TheVariants as grow
 use Rattle.bb_memory_traits.specs.declared.allocator.AllocationShrinkError.TheVariants as shrink

@@ -1,8 +1,8 @@
 -- Heap blocks: bytes that the language's allocator gave. What the heap may answer, and when: nothing here foretells that
 -- memory is refused. Alignments decide nothing.
 use Rattle.std.specs.Prelude.{◌≡◌, ℕ, ◌-◌, ◌<◌, ◌≤◌, List, ◌++◌, take, replicate, Result, Ok, Err}
-use Rattle.bb_memory_traits.specs.Chunk.{Layout, AllocationError, SizeIsZero, OutOfMemory}
-use Rattle.bb_memory_traits.specs.Object.{AllocationGrowError, AllocationShrinkError}
+use Rattle.bb_memory_owned.specs.OneChunk.{Layout, AllocationError, AllocationGrowError, AllocationShrinkError}
+use Rattle.bb_memory_traits.specs.declared.allocator.AllocationError.TheVariants.{SizeIsZero, OutOfMemory}
 use Rattle.bb_memory_traits.specs.declared.allocator.AllocationGrowError.TheVariants as grow
 use Rattle.bb_memory_traits.specs.declared.allocator.AllocationShrinkError.TheVariants as shrink
 

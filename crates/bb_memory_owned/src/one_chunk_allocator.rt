@@ -1,10 +1,12 @@
 //! An allocator that gives one chunk at a time, which is all of its region from the chunk's place on.
-ghost use Rattle.std.specs.Prelude.{◌≡◌, [], List, ◌+◌, ◌-◌, ◌<◌, ◌≤◌, ◌%◌, ◌↔◌, ℕ, IsTrue, Some, Result};
-ghost use Rattle.bb_memory_traits.specs.Chunk.{Region, IsRegion, region_at, region_end, Chunk, IsInside, chunk_end, Layout};
-ghost use Rattle.bb_memory_traits.specs.Chunk.{AllocationError};
+ghost use Rattle.std.specs.Prelude.{◌≡◌, [], List, ◌+◌, ◌-◌, ◌<◌, ◌≤◌, ◌%◌, ◌↔◌, ℕ, IsTrue, Some, Result, false, refl};
+ghost use Rattle.bb_memory_traits.specs.Chunk.{Region, IsRegion, region_at, region_end, Chunk, IsInside, chunk_end};
+ghost use Rattle.bb_memory_owned.specs.OneChunk.{Layout, AllocationError, AllocationGrowError, AllocationShrinkError, Frees};
+ghost use Rattle.bb_memory_owned.specs.OneChunk.{IsOneChunk, OneChunk, StandsFor, Takes, one_chunk_of, only_chunk, places_differ};
+ghost use Rattle.bb_memory_owned.specs.OneChunk.{covered, kept_is_live};
 ghost use Rattle.bb_memory_traits.specs.Object.{AnswersAll, AnswersOnce, GivesOnly, AnswersRun, IsRun, Step, ResizableStep};
-ghost use Rattle.bb_memory_traits.specs.Object.{AllocationGrowError, AllocationShrinkError, Command, Reply};
-ghost use Rattle.bb_memory_owned.specs.OneChunk.{Frees, IsOneChunk, OneChunk, StandsFor, Takes, one_chunk_of};
+ghost use Rattle.bb_memory_traits.specs.declared.allocator.Command.{Command};
+ghost use Rattle.bb_memory_traits.specs.declared.allocator.Reply.{Reply};
 ghost use Rattle.bb_memory_traits.specs.OneChunkObject.{MayAllocate, MayGrow, MayShrink, reserved_at, one_chunk_object};
 
 pub use crate::allocator::{
@@ -28,8 +30,6 @@ pub struct OneChunkAllocator {
 }
 
 impl Model for OneChunkAllocator {
-    ghost use Rattle.bb_memory_owned.specs.OneChunk.{OneChunk, IsOneChunk, one_chunk_of};
-
     ghost Value = { OneChunk };
 
     ghost view = { λ a. one_chunk_of a.start a.size a.kept_place };
@@ -102,11 +102,6 @@ impl OneChunkAllocator {
 }
 
 impl BaseAllocator for OneChunkAllocator {
-    ghost use Rattle.std.specs.Prelude.{◌≡◌, Some, false};
-    ghost use Rattle.bb_memory_traits.specs.Chunk.{Region};
-    ghost use Rattle.bb_memory_owned.specs.OneChunk.{StandsFor, Takes, Frees, only_chunk};
-    ghost use Rattle.bb_memory_traits.specs.OneChunkObject.{MayAllocate};
-
     const RELEASE_EMPTIES: bool = false;
 
     ghost RELEASE_EMPTIES = { false };
@@ -175,11 +170,6 @@ impl BaseAllocator for OneChunkAllocator {
 }
 
 impl Allocator for OneChunkAllocator {
-    ghost use Rattle.std.specs.Prelude.{refl};
-    ghost use Rattle.bb_memory_traits.specs.Chunk.{Region};
-    ghost use Rattle.bb_memory_owned.specs.OneChunk.{places_differ, covered, kept_is_live};
-    ghost use Rattle.bb_memory_traits.specs.OneChunkObject.{MayGrow, MayShrink, reserved_at};
-
     ghost Figures = { Region };
 
     ghost figures = { λ one. one.region };
