@@ -2,10 +2,11 @@
 use Rattle.std.proofs.Common.{◌≡◌, ℕ, List, codes, Option, None, Some, ap, ◌∙◌}
 use Rattle.std.proofs.lemmas.Option.{none-some, same_Some}
 use Rattle.std.specs.Option.{option_map}
-use Rattle.bb_memory_traits.specs.Object.{Command}
+use Rattle.bb_memory_traits.specs.declared.allocator.Command.{Command}
 use Rattle.bb_memory_traits.specs.declared.allocator.Command.TheVariants.{Allocate, Grow, Shrink}
-use Rattle.bb_memory_bump_machine.specs.BumpMachine.{BumpStep, Read}
-use Rattle.bb_memory_traits.specs.Chunk.{Layout}
+use Rattle.bb_memory_bump_machine.specs.declared.steps.bump.BumpStep.{BumpStep}
+use Rattle.bb_memory_bump_machine.specs.declared.steps.bump.BumpStep.TheVariants.{Read}
+use Rattle.bb_memory_traits.specs.declared.layout.Layout.{Layout}
 use Rattle.script_words.specs.declared.words.Numbers.TheVariants.{Two, Three, Five}
 use Rattle.script_runner.specs.Allocators.{command_words}
 use Rattle.script_runner.specs.Steps.{bump_step_words}

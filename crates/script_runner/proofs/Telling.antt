@@ -5,7 +5,9 @@ use Rattle.std.specs.List.{flat_map}
 use Rattle.std.specs.Prelude.{slice_get, unwrap_or}
 use Rattle.std.proofs.lemmas.List.{append_assoc, append-nil, get_or_default, take_more}
 use Rattle.std.proofs.lemmas.Option.{unwrap_or-slice_get}
-use Rattle.bb_memory_pool_machine.specs.PoolMachine.{holder_in, Flag, Free}
+use Rattle.bb_memory_pool_machine.specs.PoolMachine.{holder_in}
+use Rattle.bb_memory_pool_machine.specs.declared.steps.pool.Flag.{Flag}
+use Rattle.bb_memory_pool_machine.specs.declared.steps.pool.Flag.TheVariants.{Free}
 use Rattle.script_runner.specs.Steps.{holder_text}
 use Rattle.std.proofs.lemmas.Grind.{flat_map-append}
 use Rattle.script_runner.specs.Scripts.{Rules, IsStep, IsTold, Line}

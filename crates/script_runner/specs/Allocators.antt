@@ -2,17 +2,22 @@
 use Rattle.std.specs.Fmt.{decimal}
 use Rattle.std.specs.Prelude.{ℕ, ◌≡◌, List, [], codes, length, true, ◌-◌, ◌++◌, Option, Some, None}
 use Rattle.bb_memory_traits.specs.BumpObject.{bump_object, StandsFor as BumpStandsFor}
-use Rattle.bb_memory_traits.specs.Chunk.{Chunk, IsRegion, region_at, first_place, AllocationError}
+use Rattle.bb_memory_traits.specs.Chunk.{Chunk, IsRegion, region_at, first_place}
+use Rattle.bb_memory_traits.specs.declared.allocator.AllocationError.{AllocationError}
 use Rattle.bb_memory_traits.specs.OneChunkObject.{one_chunk_object}
 use Rattle.bb_memory_traits.specs.PoolObject.{PoolGeometry, IsCut, at_most, pool_object}
-use Rattle.bb_memory_traits.specs.Object.{ResizableStep, Step, IsRun, Command, Reply}
+use Rattle.bb_memory_traits.specs.Object.{ResizableStep, Step, IsRun}
+use Rattle.bb_memory_traits.specs.declared.allocator.Command.{Command}
+use Rattle.bb_memory_traits.specs.declared.allocator.Reply.{Reply}
 use Rattle.bb_memory_traits.specs.declared.allocator.Command.TheVariants.{Allocate, Release, Grow, Shrink}
 use Rattle.bb_memory_bump.specs.Bump.{Bump, bump_text}
 use Rattle.bb_memory_index_set.specs.IndexSets.{index_words}
 use Rattle.bb_memory_owned.specs.OneChunk.{OneChunk, StandsFor as OneChunkStandsFor}
 use Rattle.bb_memory_owned.specs.Pool.{Pool, StandsFor as PoolStandsFor, fresh_pool, CountedPool, counted, reads_after}
 use Rattle.bb_memory_geometry.specs.Geometry.{MayBeCut}
-use Rattle.script_words.specs.Words.{Words, words, words_then, region_of, bounds_numbers, name_line, Bounds, Numbers}
+use Rattle.script_words.specs.Words.{Words, words, words_then, region_of, bounds_numbers, name_line}
+use Rattle.script_words.specs.declared.words.Bounds.{Bounds}
+use Rattle.script_words.specs.declared.words.Numbers.{Numbers}
 use Rattle.script_runner.specs.Scripts.{Rules}
 use Rattle.script_runner.specs.declared.kinds.pool.PoolPlan.{PoolPlan}
 use Rattle.script_words.specs.declared.words.Numbers.TheVariants.{One, Two, Five, Four}

@@ -3,16 +3,19 @@ use Rattle.std.specs.Prelude.{ℕ, ◌≡◌, ◌^◌, ◌<◌, List, [], codes,
 use Rattle.bb_memory_traits.specs.PoolObject.{MayAllocate}
 use Rattle.bb_memory_traits.specs.Object.{IsRun}
 use Rattle.bb_memory_owned.specs.Pool.{CountedPool, StandsFor}
-use Rattle.loan_book.specs.Book.{LoanBook, chunks_out, LoanError}
-use Rattle.loan_book.specs.Calls.{BookStep, LoanCall, LoanReply}
+use Rattle.loan_book.specs.Book.{LoanBook, chunks_out}
+use Rattle.loan_book.specs.Calls.{BookStep}
+use Rattle.loan_book.specs.declared.error.LoanError.{LoanError}
+use Rattle.loan_book.specs.declared.error.LoanError.TheVariants as refused
+use Rattle.loan_book.specs.declared.run.LoanCall.{LoanCall}
 use Rattle.loan_book.specs.declared.run.LoanCall.TheVariants.{Loan, Publish, GiveBack, IsOut}
+use Rattle.loan_book.specs.declared.run.LoanReply.{LoanReply}
+use Rattle.loan_book.specs.declared.run.LoanReply.TheVariants as reply
 use Rattle.script_words.specs.Words.{Words, words, words_then, name_line}
 use Rattle.script_runner.specs.Scripts.{Rules}
 use Rattle.script_runner.specs.Allocators.{refusal_name, IsPoolPlan, pool_numbers, BeginsPool}
 use Rattle.script_runner.specs.declared.kinds.pool.PoolPlan.{PoolPlan}
 use Rattle.script_words.specs.declared.words.Numbers.TheVariants.{One, Two, Three}
-use Rattle.loan_book.specs.declared.error.LoanError.TheVariants as refused
-use Rattle.loan_book.specs.declared.run.LoanReply.TheVariants as reply
 
 -- a number that counts readers has at most 32 bits
 abbrev pub IsCall : LoanCall → Type 0

@@ -4,7 +4,8 @@ use Rattle.std.specs.List.{flat_map}
 use Rattle.std.specs.Prelude.{List, ◌⊎◌, [], ◌∷◌, ℕ, codes, Bool, true, not, ◌&&◌, IsTrue, ◌≡◌, ◌++◌, All, Option, Some}
 use Rattle.std.specs.Prelude.{map, slice_get, take, None}
 use Rattle.std.specs.Str.{bytes_eq}
-use Rattle.script_words.specs.Words.{Words, words, words_text, MayStand, Numbers}
+use Rattle.script_words.specs.Words.{Words, words, words_text, MayStand}
+use Rattle.script_words.specs.declared.words.Numbers.{Numbers}
 use Rattle.script_runner.specs.declared.engine.script.Line.TheVariants.{Command, Show}
 use Rattle.script_runner.specs.declared.status.Status.TheVariants.{Done, Unreadable, InputFailed, OutputFailed, OutOfMemory}
 pub use Rattle.script_runner.specs.declared.engine.script.Line.{Line}

@@ -1,9 +1,9 @@
 //! The trait of the kinds of scripts, and from the lines of a script behind its header to the lines of its replies.
-ghost use Rattle.std.specs.Prelude.{◌≡◌, ◌++◌, ◌∷◌, [], List, ℕ, IfOk, OnOk};
+ghost use Rattle.std.specs.Prelude.{◌≡◌, ◌++◌, ◌∷◌, [], List, ℕ, IfOk, OnOk, Bool, IfSome, Some};
 ghost use Rattle.std.specs.List.{flat_map};
 ghost use Rattle.script_runner.specs.Inputs.{IsOutcome};
-ghost use Rattle.script_words.specs.Words.{MayStand, words_text, lines_of};
-ghost use Rattle.script_runner.specs.Scripts.{kind, header_words, IsPlayed, IsStep};
+ghost use Rattle.script_words.specs.Words.{MayStand, words_text, lines_of, text_bytes};
+ghost use Rattle.script_runner.specs.Scripts.{kind, header_words, IsPlayed, IsStep, Rules};
 
 use crate::engine::script::{Line, read_script};
 use script_words::words::{Numbers, Text};
@@ -11,10 +11,6 @@ use std::alloc::{AllocError, Global};
 
 /// A kind of script: it is made by a header, takes commands, and gives one reply to each.
 pub trait Driven: Drop {
-    ghost use Rattle.std.specs.Prelude.{◌≡◌, ◌++◌, Bool, OnOk, IfOk, IfSome, Some};
-    ghost use Rattle.script_runner.specs.Scripts.{Rules};
-    ghost use Rattle.script_words.specs.Words.{text_bytes};
-
     /// The value that a header names.
     type Header: Drop;
 

@@ -1,6 +1,7 @@
 //! A loan book over a pool that a script drives.
-ghost use Rattle.std.specs.Prelude.{◌≡◌};
-ghost use Rattle.script_runner.specs.LoanPool.{loan_refusal_name};
+ghost use Rattle.std.specs.Prelude.{◌≡◌, false};
+ghost use Rattle.script_runner.specs.LoanPool.{loan_refusal_name, loan_pool_rules};
+ghost use Rattle.std.proofs.Common.{refl};
 
 use crate::engine::driving::Driven;
 use crate::kinds::allocators::{Scripted, refusal};
@@ -14,10 +15,6 @@ use std::alloc::{AllocError, Global};
 pub type LoanPool = LoanBook<PoolAllocator<Global>>;
 
 impl Driven for LoanPool {
-    ghost use Rattle.std.specs.Prelude.{false};
-    ghost use Rattle.std.proofs.Common.{refl};
-    ghost use Rattle.script_runner.specs.LoanPool.{loan_pool_rules};
-
     type Header = PoolPlan;
 
     type Command = LoanCall;
