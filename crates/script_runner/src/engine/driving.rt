@@ -18,15 +18,12 @@ pub trait Driven: Drop {
 
     type Reply: Drop;
 
-    /// Says that a script may show the state.
-    const CAN_SHOW: bool;
-
-    ghost CAN_SHOW: { Bool };
-
     /// The rules of its scripts.
     ghost rules: { Rules Self Self.Header Self.Command Self.Reply };
 
-    ghost shows: { CAN_SHOW ≡ rules.can_show };
+    /// Says that a script may show the state.
+    fn can_show() -> bool
+        ensures { result ≡ rules.can_show };
 
     /// Reads the words of a header.
     fn read_header(name: &[u8], numbers: Numbers) -> Option<Self::Header>

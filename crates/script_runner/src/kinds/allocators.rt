@@ -1,11 +1,10 @@
 //! Allocators that a script drives: what all of them share, a bump, and a one chunk.
-ghost use Rattle.std.specs.Prelude.{◌≡◌, ◌++◌, [], List, Some, OnOk, OnErr, IfOk, IfSome, true};
+ghost use Rattle.std.specs.Prelude.{◌≡◌, ◌++◌, [], List, Some, OnOk, OnErr, IfOk, IfSome};
 ghost use Rattle.script_runner.specs.Allocators.{refusal_name, AllocatorRules, LiveState, live_rules, bump_rules};
 ghost use Rattle.script_runner.specs.Allocators.{one_chunk_rules};
 ghost use Rattle.bb_memory_owned.specs.OneChunk.{StandsFor as OneChunkStandsFor};
 ghost use Rattle.bb_memory_traits.specs.BumpObject.{StandsFor as BumpStandsFor};
 ghost use Rattle.bb_memory_traits.specs.Chunk.{Chunk};
-ghost use Rattle.std.proofs.Common.{refl};
 
 use crate::engine::driving::Driven;
 use bb_memory_bump::bump_allocator::{BumpAllocator, run_bump};
@@ -78,13 +77,11 @@ impl<A: Scripted> Driven for Live<A> {
 
     type Reply = Reply;
 
-    const CAN_SHOW: bool = true;
-
-    ghost CAN_SHOW = { true };
-
     ghost rules = { live_rules A.rules };
 
-    ghost shows = { refl };
+    fn can_show() -> bool {
+        true
+    }
 
     fn read_header(name: &[u8], numbers: Numbers) -> Option<A::Header> {
         A::read_header(name, numbers)

@@ -1,6 +1,4 @@
 //! Machines that a script drives by their steps.
-ghost use Rattle.std.specs.Prelude.{true};
-ghost use Rattle.std.proofs.Common.{refl};
 ghost use Rattle.script_runner.specs.Steps.{bump_step_rules, pool_step_rules};
 
 use crate::engine::driving::Driven;
@@ -18,13 +16,11 @@ impl Driven for BumpWorld {
 
     type Reply = BumpOutcome;
 
-    const CAN_SHOW: bool = true;
-
-    ghost CAN_SHOW = { true };
-
     ghost rules = { bump_step_rules };
 
-    ghost shows = { refl };
+    fn can_show() -> bool {
+        true
+    }
 
     fn read_header(name: &[u8], numbers: Numbers) -> Option<Bounds> {
         region(b"steps-bump", name, numbers)
@@ -90,13 +86,11 @@ impl Driven for PoolWorld {
 
     type Reply = PoolOutcome;
 
-    const CAN_SHOW: bool = true;
-
-    ghost CAN_SHOW = { true };
-
     ghost rules = { pool_step_rules };
 
-    ghost shows = { refl };
+    fn can_show() -> bool {
+        true
+    }
 
     fn read_header(name: &[u8], numbers: Numbers) -> Option<u32> {
         match numbers {
@@ -114,15 +108,13 @@ impl Driven for PoolWorld {
     fn read(name: &[u8], numbers: Numbers) -> Option<PoolStep> {
         match numbers {
             Numbers::One(party) if is(name, b"try") => {
-                Some(PoolStep::Try {
-                    party: party_of(party)?,
-                })
+                let party = party_of(party)?;
+                Some(PoolStep::Try { party })
             }
             Numbers::Two(party, bucket) if is(name, b"give") => {
-                Some(PoolStep::GiveBack {
-                    party: party_of(party)?,
-                    bucket: small(bucket)?,
-                })
+                let party = party_of(party)?;
+                let bucket = small(bucket)?;
+                Some(PoolStep::GiveBack { party, bucket })
             }
             _ => None,
         }
