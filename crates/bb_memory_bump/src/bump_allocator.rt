@@ -3,14 +3,13 @@ ghost use Rattle.std.specs.Prelude.{◌≡◌, [], List, All, ◌+◌, ◌<◌, 
 ghost use Rattle.std.specs.Prelude.{slice_get, ◌-◌, true};
 ghost use Rattle.bb_memory_traits.specs.Chunk.{Region, IsRegion, region_at, Chunk, IsInside, chunk_end};
 ghost use Rattle.bb_memory_bump.specs.Bump.{Layout, AllocationError, OutOfMemory, Bump, Frees, Takes, bump_of, IsBump, bump_text};
-ghost use Rattle.bb_memory_traits.specs.Object.{AnswersAll, AnswersOnce, GivesOnly, AnswersRun, IsRun, Step};
+ghost use Rattle.bb_memory_traits.specs.Object.{AnswersAll, AnswersOnce, GivesOnly, IsRun, Step};
 ghost use Rattle.bb_memory_traits.specs.declared.allocator.Command.{Command};
 ghost use Rattle.bb_memory_traits.specs.declared.allocator.Reply.{Reply};
 ghost use Rattle.bb_memory_traits.specs.BumpObject.{MayAllocate, IsInOrder, StandsFor, bump_object, used_space};
 ghost use Rattle.bb_memory_bump.specs.SharedBump.{fresh_party, scene_at};
 
 pub use crate::allocator::{AllocationError, BaseAllocator};
-use crate::allocator::{Command, Reply, run_base};
 use crate::layout::{Chunk, Layout};
 use crate::region;
 use crate::shared_bump::{BumpParty, SharedBumpAllocator};
@@ -220,23 +219,6 @@ impl BaseAllocator for BumpAllocator {
     ghost releases = { λ bump live position chunk stands at. tt };
 
     ghost sound = { λ bump live stands. stands.sound };
-}
-
-/// Applies the commands in order, as [`run_base`] does: the replies and the live list are a run of the bump object over
-/// the allocator's region, and the list is sound afterwards. The allocator has to stand for the live list. `AllocError` comes
-/// only where memory was refused, and then the allocator and the list are as before.
-pub fn run_bump(
-    allocator: &mut BumpAllocator,
-    live: &mut Vec<Chunk>,
-    commands: &[Command],
-) -> Result<Vec<Reply>, AllocError>
-    requires { StandsFor allocator.old.region allocator.old.used live.old.items }
-    ensures { AnswersRun (λ bump. StandsFor bump.region bump.used) (λ bump. bump.region)
-        (λ region. region) (Step (bump_object allocator.old.region))
-        Takes (λ old _ _ new. Frees old new)
-        commands.now result allocator.old allocator.new live.old.items live.new.items }
-{
-    run_base(allocator, live, commands)
 }
 
 /// Says what the definition of the bump object comes to for every region and every list of commands. There is exactly one answer

@@ -7,10 +7,10 @@ ghost use Rattle.bb_memory_traits.specs.BumpObject.{StandsFor as BumpStandsFor};
 ghost use Rattle.bb_memory_traits.specs.Chunk.{Chunk};
 
 use crate::engine::driving::Driven;
-use bb_memory_bump::bump_allocator::{BumpAllocator, run_bump};
-use bb_memory_owned::one_chunk_allocator::{OneChunkAllocator, run_one_chunk};
+use bb_memory_bump::bump_allocator::BumpAllocator;
+use bb_memory_owned::one_chunk_allocator::OneChunkAllocator;
 use bb_memory_traits::allocator::{
-    AllocationError, AllocationGrowError, AllocationShrinkError, Command, Reply,
+    AllocationError, AllocationGrowError, AllocationShrinkError, Command, Reply, run_base, run_full,
 };
 use bb_memory_traits::layout::Chunk;
 use script_words::words::{Bounds, Figure, Numbers, Text, is, layout, region, write_figures};
@@ -162,7 +162,7 @@ impl Scripted for BumpAllocator {
     }
 
     fn run(&mut self, live: &mut Vec<Chunk>, calls: &[Command]) -> Result<Vec<Reply>, AllocError> {
-        run_bump(self, live, calls)
+        run_base(self, live, calls)
     }
 
     fn write_state(&self, _live: usize, line: &mut Vec<u8>) -> Result<(), AllocError> {
@@ -192,7 +192,7 @@ impl Scripted for OneChunkAllocator {
     }
 
     fn run(&mut self, live: &mut Vec<Chunk>, calls: &[Command]) -> Result<Vec<Reply>, AllocError> {
-        run_one_chunk(self, live, calls)
+        run_full(self, live, calls)
     }
 
     fn write_state(&self, _live: usize, line: &mut Vec<u8>) -> Result<(), AllocError> {
