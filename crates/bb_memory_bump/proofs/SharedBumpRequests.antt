@@ -39,14 +39,7 @@ pub record IsTrying (scene : BumpScene) (number : ℕ) (log : BumpLog) (met : �
 
 read_answers : (region : Region) (found : ℕ) (layout : Layout) (fitting : Bool) → fits region found layout ≡ fitting →
     (read_move region found layout).outcome ≡ (if fitting then Sees found else RefusedAtRead found)
-read_answers region found layout fitting is =
-    ap (λ (b : Bool). (if b then seeing (Sees found) found layout else ending (RefusedAtRead found) found).outcome) is
-    ∙ by_test fitting
-  where
-    by_test : (b : Bool) → (if b then seeing (Sees found) found layout else ending (RefusedAtRead found) found).outcome ≡
-        (if b then Sees found else RefusedAtRead found)
-    by_test true = refl
-    by_test false = refl
+read_answers region found layout fitting is = grind arith
 
 loss_answers : (region : Region) (found : ℕ) (call : OngoingCall) (fitting : Bool) →
     found ≢ call.seen → fits region found call.layout ≡ fitting →
