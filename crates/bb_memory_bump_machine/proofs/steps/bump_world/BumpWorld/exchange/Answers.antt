@@ -1,5 +1,5 @@
-use Rattle.std.proofs.Common.{◌≤◌, ap, subst, Some, IfSome, sym}
-use Rattle.bb_memory_bump_machine.specs.BumpMachine.{PartyMove, IsFitting}
+use Rattle.std.proofs.Common.{ap, subst, Some, sym}
+use Rattle.bb_memory_bump_machine.specs.BumpMachine.{IsFitting}
 use Rattle.bb_memory_bump_machine.specs.BumpWorld.{BumpWorld, world_of}
 use Rattle.bb_memory_bump_machine.proofs.BumpSteps.{each_call-set}
 use Rattle.bb_memory_bump_machine.proofs.steps.bump_world.BumpWorld.exchange.Goals as goal

@@ -1,5 +1,4 @@
-use Rattle.std.proofs.Common.{subst, IfSome, sym}
-use Rattle.bb_memory_bump_machine.specs.BumpMachine.{PartyMove, IsFitting}
+use Rattle.bb_memory_bump_machine.specs.BumpMachine.{IsFitting}
 use Rattle.bb_memory_bump_machine.specs.BumpWorld.{world_of}
 use Rattle.bb_memory_bump_machine.proofs.BumpSteps.{each_call-set}
 use Rattle.bb_memory_bump_machine.proofs.steps.bump_world.BumpWorld.read.Goals as goal
