@@ -31,10 +31,7 @@ taken_weight (Some flag) = if is_taken flag then 1 else 0
 taken_weight None = 0
 
 weight_of_taken : (state : PoolState) (bucket : ℕ) → IsTaken state bucket → taken_weight (slice_get state.flags bucket) ≡ 1
-weight_of_taken state bucket taken = elim taken [
-  | inl held ↦ ap taken_weight held.1
-  | inr detached ↦ ap taken_weight detached.1
-]
+weight_of_taken state bucket taken = grind arith
 
 -- the list has one chunk in each bucket whose flag is taken, and no other
 record Matches (geometry : PoolGeometry) (flags : List Flag) (live : List Chunk) : Type 0 where

@@ -27,12 +27,7 @@ returns-in_err-numbers-clause-none c = rw c.from_residual-in_err-numbers.ensures
     at_most_five other.numbers (omega (arith, more, c.in_err-numbers.ensures.full)))
 
 pub loop-rest-init : goal.loop-rest-init
-loop-rest-init c = record {
-  text = c.split_before.ensures.parts;
-  name_is = c.split_before.ensures.first;
-  numbers_are = tt;
-  rest_starts = c.split_before.ensures.rest;
-}
+loop-rest-init c = grind arith
 
 pub loop-rest-preserved : goal.loop-rest-preserved
 loop-rest-preserved c =
