@@ -73,7 +73,6 @@ impl BumpAllocator {
         }
     }
 
-    /// Where the region starts.
     #[inline]
     pub fn start_address(&self) -> usize
         ensures value { result ≡ self.now.region.start }
@@ -100,7 +99,6 @@ impl BumpAllocator {
         self.start + self.size - (self.last + 1)
     }
 
-    /// How many bytes the region has.
     #[inline]
     pub fn total_space(&self) -> usize
         ensures { result ≡ self.now.region.size }

@@ -179,7 +179,6 @@ impl SharedBumpAllocator {
         }
     }
 
-    /// Where the region starts.
     pub fn start_address(&self) -> usize
         ensures value { result ≡ self.now.scene.region.start }
     {
@@ -271,7 +270,6 @@ impl SharedBumpAllocator {
         BumpAllocator::at_position(start, size, last)
     }
 
-    /// Gives each party a seat of its own.
     fn seat_parties(&self, mut rest: Seat<u8, View>, parties: u32, all: &mut Vec<BumpParty>)
         requires table { rest.table_id ≡ self.now.table }
         requires seat { rest.me ≡ (all_parties self.now.scene, []) }

@@ -81,7 +81,6 @@ impl OneChunkAllocator {
         self.kept_place == Some(place)
     }
 
-    /// Where the region starts.
     #[inline]
     pub fn start_address(&self) -> usize
         ensures value { result ≡ self.now.region.start }

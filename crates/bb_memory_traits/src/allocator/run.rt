@@ -141,7 +141,6 @@ fn apply_shrink<A: Allocator>(
     }
 }
 
-/// Applies one command.
 fn apply_full<A: Allocator>(allocator: &mut A, live: &mut Vec<Chunk>, command: Command) -> Reply
     requires stands { A.stands_for allocator.old live.old.items }
     requires room { vec_len live.old < vec_capacity live.old }

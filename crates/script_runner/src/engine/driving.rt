@@ -25,7 +25,6 @@ pub trait Driven: Drop {
     fn can_show() -> bool
         ensures { result ≡ rules.can_show };
 
-    /// Reads the words of a header.
     fn read_header(name: &[u8], numbers: Numbers) -> Option<Self::Header>
         ensures written { IfSome result (λ header. rules.is_header header
             × (name.now ≡ rules.name) × (numbers ≡ rules.header_numbers header)) }
@@ -36,7 +35,6 @@ pub trait Driven: Drop {
         requires { rules.is_header header }
         ensures { IfOk result (λ driven. rules.starts header driven) };
 
-    /// Reads the words of a command.
     fn read(name: &[u8], numbers: Numbers) -> Option<Self::Command>
         ensures written { IfSome result (λ command. rules.is_command command
             × (name.now ≡ (rules.command_words command).name)
@@ -45,7 +43,6 @@ pub trait Driven: Drop {
             → name.now ≡ (rules.command_words command).name
             → numbers ≡ (rules.command_words command).numbers → result ≡ Some command };
 
-    /// Applies the commands in order.
     fn run(
         &mut self,
         alloc: Global,
@@ -54,7 +51,6 @@ pub trait Driven: Drop {
         ensures { IfOk result (λ replies.
             rules.runs self.old commands.now replies.items self.new) };
 
-    /// Returns the text of a reply.
     fn reply_text(reply: &Self::Reply) -> Text
         ensures { text_bytes result ≡ rules.reply_text reply.now };
 

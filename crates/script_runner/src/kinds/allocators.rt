@@ -29,7 +29,6 @@ pub trait Scripted: Drop {
     /// The allocator stands for this live list.
     ghost stands_for: { Self → List Chunk → Type 0 };
 
-    /// Reads the words of a header.
     fn read_header(name: &[u8], numbers: Numbers) -> Option<Self::Header>
         ensures written { IfSome result (λ header. rules.is_header header
             × (name.now ≡ rules.name) × (numbers ≡ rules.header_numbers header)) }
@@ -41,7 +40,6 @@ pub trait Scripted: Drop {
         ensures starts { IfOk result (λ allocator. rules.starts header allocator) }
         ensures empty { IfOk result (λ allocator. stands_for allocator []) };
 
-    /// Applies the commands in order.
     fn run(&mut self, live: &mut Vec<Chunk>, commands: &[Command]) -> Result<Vec<Reply>, AllocError>
         requires { stands_for self.old live.old.items }
         ensures run { IfOk result (λ replies.
@@ -208,7 +206,6 @@ impl Scripted for OneChunkAllocator {
     }
 }
 
-/// Returns the name of a refused request.
 pub fn refusal(error: AllocationError) -> &'static [u8]
     ensures { result.now ≡ refusal_name error }
 {

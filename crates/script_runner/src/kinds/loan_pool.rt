@@ -10,7 +10,6 @@ use loan_book::{LoanBook, LoanCall, LoanError, LoanReply, run_loans};
 use script_words::words::{Numbers, Text, is, small};
 use std::alloc::{AllocError, Global};
 
-/// A loan book over a pool.
 pub type LoanPool = LoanBook<PoolAllocator<Global>>;
 
 impl Driven for LoanPool {

@@ -81,7 +81,6 @@ impl Scripted for PoolAllocator<Global> {
     }
 }
 
-/// The fixed pool of such scripts.
 pub type Fixed = FixedSizePoolAllocator<512>;
 
 impl Scripted for Fixed {

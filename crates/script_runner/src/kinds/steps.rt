@@ -76,7 +76,6 @@ impl Driven for BumpWorld {
     }
 }
 
-/// The most buckets that a script may ask for.
 const MOST_BUCKETS: usize = 4096;
 
 impl Driven for PoolWorld {
