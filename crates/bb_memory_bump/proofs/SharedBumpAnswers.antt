@@ -4,23 +4,19 @@ use Rattle.std.proofs.Common.{Ok, Err}
 use Rattle.std.specs.Prelude.{IfOk, OnErr, drop, max}
 use Rattle.std.proofs.lemmas.Bool.{leb-false}
 use Rattle.std.proofs.Math.Seq.{drop-append_seam}
-use Rattle.std.proofs.lemmas.List.Elements.{All-nil}
 use Rattle.atomic_table.specs.Seated.{TableId}
 use Rattle.atomic_table.specs.Table.{Me}
 use Rattle.bb_memory_traits.specs.Chunk.{region_end, Chunk, chunk_end}
+use Rattle.bb_memory_bump.specs.Bump.{Layout, AllocationError, OutOfMemory}
 use Rattle.bb_memory_traits.specs.BumpObject.{chunk_at_or_after, next_chunk}
 use Rattle.bb_memory_bump_machine.specs.BumpMachine.{BumpScene, chunk_at}
-use Rattle.bb_memory_bump_machine.specs.BumpLogs.{BumpLog, chunks_won, losses_in, HasPositionFrom, HasPositionUpTo, seen_in}
-use Rattle.bb_memory_traits.specs.declared.layout.Layout.{Layout}
-use Rattle.bb_memory_traits.specs.declared.allocator.AllocationError.{AllocationError}
-use Rattle.bb_memory_traits.specs.declared.allocator.AllocationError.TheVariants.{OutOfMemory}
+use Rattle.bb_memory_bump_machine.specs.BumpLogs.{BumpLog, chunks_won, losses_in, seen_in}
 use Rattle.bb_memory_bump_machine.proofs.BumpBounds.{won_grows}
 use Rattle.bb_memory_traits.proofs.LiveLists.{StandsFor-end}
 use Rattle.bb_memory_seats.specs.Seats.{number_of, view_log}
 use Rattle.bb_memory_bump.specs.SharedBump.{BumpParty, IsAnsweredAt, IsFoundBy, IsRefused, IsWon, MayTake, floor_of, seen_by}
 use Rattle.bb_memory_bump.specs.SharedBump.{with_entries}
 use Rattle.bb_memory_bump.specs.SharedBumpRule.{SeatView, met_by, party_in, HasEnded, HasRefused, HasWon, IsCounted}
-use Rattle.bb_memory_bump.proofs.SharedBumpParties.{entries_added}
 
 -- ENTRIES
 
@@ -39,31 +35,14 @@ nothing_added party added same =
 counted_found : (scene : BumpScene) (log : BumpLog) (met : ℕ) (added : BumpLog) (party : BumpParty) →
     IsCounted scene log met added →
     party.allocator.scene ≡ scene → log ≡ party.log → met ≡ party.met → IsFoundBy party added
-counted_found scene log met added party counted scene_is log_is met_is =
-    subst (λ (x : BumpScene × BumpLog × ℕ). IsFoundBy
-    (record {
-      allocator = record { table = party.allocator.table; scene = x.0 };
-      number = party.number;
-      log = x.1;
-      met = x.2;
-    }) added)
-    (λ i. (sym scene_is i, log_is i, met_is i))
-    record { seen = counted.seen; within = counted.within }
+counted_found scene log met added party counted scene_is log_is met_is = grind arith
 
 -- where no step was made
 pub nothing_found : (party : BumpParty) (added : BumpLog) → party ≡ with_entries party added → IsFoundBy party added
-nothing_found party added same =
-    subst (IsFoundBy party) (nothing_added party added same) record {
-      seen = All-nil (HasPositionFrom (floor_of party) party.allocator.scene.region);
-      within = All-nil (HasPositionUpTo party.allocator.scene.region.size party.allocator.scene.region);
-    }
+nothing_found party added same = grind (arith, nothing_added)
 
 pub nothing_lost : (party : BumpParty) (added : BumpLog) (most : ℕ) → party ≡ with_entries party added → losses_in added ≤ most
-nothing_lost party added most same =
-    subst (λ (entries : BumpLog). losses_in entries ≤ most) (nothing_added party added same) (none most)
-  where
-    none : (most : ℕ) → losses_in [] ≤ most
-    none most = omega arith
+nothing_lost party added most same = grind (arith, nothing_added)
 
 -- REQUESTS THAT MADE STEPS
 
@@ -90,15 +69,11 @@ module _ (scene : BumpScene) (table was : TableId) (number : ℕ) (old new : Me 
 
   then : (added : BumpLog) → HasEnded scene (number_of old.0) (view_log old.0) (met_by old.0) added new →
       party_in table number new.0 ≡ with_entries party added
-  then added ended =
-      entries_added table was number (number_of old.0) scene added old new party same ended.seat.seat.is ended.unchanged
-      view_is scene_is
+  then added ended = grind arith
 
   found_by : (added : BumpLog) → HasEnded scene (number_of old.0) (view_log old.0) (met_by old.0) added new →
       (other : BumpLog) → party_in table number new.0 ≡ with_entries party other → IsFoundBy party other
-  found_by added ended other is =
-      subst (IsFoundBy party) (sym (added_once party added other (sym is ∙ then added ended)))
-      (counted_found scene (view_log old.0) (met_by old.0) added party ended.counted scene_is log_is met_is)
+  found_by added ended other is = grind (arith, added_once)
 
   lost_by : (added : BumpLog) → HasEnded scene (number_of old.0) (view_log old.0) (met_by old.0) added new →
       (other : BumpLog) → party_in table number new.0 ≡ with_entries party other → losses_in other ≤ scene.region.size
@@ -110,10 +85,7 @@ module _ (scene : BumpScene) (table was : TableId) (number : ℕ) (old new : Me 
   won_by : (added : BumpLog) (won : List Chunk) →
       HasEnded scene (number_of old.0) (view_log old.0) (met_by old.0) added new →
       chunks_won added ≡ won → chunks_won (view_log new.0) ≡ chunks_won party.log ++ won
-  won_by added won ended won_is =
-      ap (λ (p : BumpParty). chunks_won p.log) (then added ended)
-      ∙ won_grows party.log added
-      ∙ ap (λ (chunks : List Chunk). chunks_won party.log ++ chunks) won_is
+  won_by added won ended won_is = grind (arith, won_grows)
 
   -- a request of this layout by the party
   module _ (layout : Layout) (asks : 0 < layout.size) (own : number_of old.0 ≡ number) where

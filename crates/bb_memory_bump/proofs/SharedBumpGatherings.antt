@@ -1,7 +1,8 @@
 -- Parties that come to one seat, and what their meeting says of their logs.
+use Rattle.std.proofs.lemmas.Grind.{common_steps}
 use Rattle.std.proofs.Common.{◌≡◌, ℕ, zero, suc, replicate, ◌<◌, ◌≤◌, List, [], ◌∷◌, ◌++◌, length, refl, sym, ap, ◌∙◌, subst}
-use Rattle.std.proofs.Common.{arith, append_assoc}
-use Rattle.std.proofs.lemmas.List.{length-map, length-replicate, map-append}
+use Rattle.std.proofs.Common.{arith}
+use Rattle.std.proofs.lemmas.List.{length-map, length-replicate}
 use Rattle.std.specs.Prelude.{map, Contains}
 use Rattle.std.specs.List.{All, AllByRecursion}
 use Rattle.std.proofs.lemmas.List.Elements.{All-contains, All-contains_itself, All-from_recursion, All-nil, All-replicate}
@@ -9,18 +10,17 @@ use Rattle.std.proofs.lemmas.List.Elements.{All-weaker, recursion_from_All}
 use Rattle.atomic_table.specs.Seated.{TableId}
 use Rattle.atomic_table.specs.Table.{Me}
 use Rattle.bb_memory_bump_machine.specs.BumpMachine.{BumpScene}
-use Rattle.bb_memory_bump_machine.specs.BumpLogs.{BumpLog, HasLog, Interleaving, seen_in}
+use Rattle.bb_memory_bump_machine.specs.BumpLogs.{BumpLog, HasLog, seen_in}
 use Rattle.bb_memory_bump_machine.proofs.BumpLogs.{opening_agrees}
-use Rattle.bb_memory_bump_machine.proofs.BumpPositions.{interleaved, seen_below}
+use Rattle.bb_memory_bump_machine.proofs.BumpPositions.{seen_below}
 use Rattle.bb_memory_bump_machine.proofs.BumpWholes.{opened_below, whole_bounds}
-use Rattle.bb_memory_seats.specs.Seats.{HaveLogs, alone, numbered, view_log}
+use Rattle.bb_memory_seats.specs.Seats.{HaveLogs, alone, view_log}
 use Rattle.bb_memory_bump.specs.SharedBump.{AgreeAt, BumpParty, HaveMet, IsSharedScene, SharedBump, floor_of, greatest_seen}
 use Rattle.bb_memory_bump.specs.SharedBump.{meeting_at, seen_by}
-use Rattle.bb_memory_bump.specs.SharedBumpRule.{IsPartySeat, NumberedLog, SeatView, met_by, numbered_of}
+use Rattle.bb_memory_bump.specs.SharedBumpRule.{IsPartySeat, NumberedLog, SeatView, numbered_of}
 use Rattle.bb_memory_bump.specs.SharedBumpRule.{party_in, scene_of, sight, TellsMeeting}
 use Rattle.bb_memory_seats.proofs.PartyNumbers.{all_there, has_number, logs_had, numbers_differ, owner}
 use Rattle.bb_memory_lists.proofs.Contained.{contains-none}
-use Rattle.bb_memory_bump.proofs.SharedBumpParties.{party_seat}
 
 -- GATHERING
 
@@ -34,16 +34,12 @@ parties_of table number me party fields view_is =
 pub all_gathered : (table : TableId) (number : ℕ) (me : Me ℕ SeatView) (party : BumpParty) (items rest : List BumpParty) →
     IsPartySeat number me → party_in table number me.0 ≡ party → items ≡ rest ++ party ∷ [] →
     map numbered_of rest ++ me.0.parties ≡ map numbered_of items
-all_gathered table number me party items rest fields view_is is =
-    ap (λ (last : List NumberedLog). map numbered_of rest ++ last) (parties_of table number me party fields view_is)
-    ∙ sym (map-append numbered_of rest (party ∷ [])) ∙ ap (map numbered_of) (sym is)
+all_gathered table number me party items rest fields view_is is = grind (arith, common_steps)
 
 pub one_gathered : (table : TableId) (number : ℕ) (me : Me ℕ SeatView) (party : BumpParty) (items rest : List BumpParty)
     (own : List NumberedLog) → IsPartySeat number me → party_in table number me.0 ≡ party → items ≡ rest ++ party ∷ [] →
     map numbered_of rest ++ (me.0.parties ++ own) ≡ map numbered_of items ++ own
-one_gathered table number me party items rest own fields view_is is =
-    sym (append_assoc (map numbered_of rest) me.0.parties own)
-    ∙ ap (λ (all : List NumberedLog). all ++ own) (all_gathered table number me party items rest fields view_is is)
+one_gathered table number me party items rest own fields view_is is = grind (arith, common_steps)
 
 -- WHAT A MEETING SAYS
 
@@ -110,19 +106,11 @@ module _ (bump : SharedBump) (items : List BumpParty) (met found : ℕ) (theirs 
 
   -- they have known no more than that
   pub floors_below : All (λ party. party.met ≤ found) items → All (λ party. floor_of party ≤ found) items
-  floors_below mets = All-weaker (Contains items) (λ p. floor_of p ≤ found)
-      (λ p there. let known = All-contains (λ (q : BumpParty). q.met ≤ found) items p mets there in
-      omega (arith, seen_at_most p there, known)) items (All-contains_itself items)
+  floors_below mets = grind (arith, seen_at_most, All-contains_itself)
 
   pub have_met : (new : List BumpParty) → IsSharedScene scene → All (λ party. party.met ≤ found) items →
       new ≡ map (meeting_at found) items → HaveMet scene items new
-  have_met new shared mets is = record {
-    position = found;
-    kept = is;
-    risen = floors_below mets;
-    within = told.within;
-    agree = agrees shared;
-  }
+  have_met new shared mets is = grind (arith, floors_below, agrees)
 
 -- a meeting of none
 pub none_met : (bump : SharedBump) (items new : List BumpParty) → IsSharedScene bump.scene → items ≡ [] → new ≡ [] →
@@ -156,22 +144,4 @@ pub met_seat : (scene : BumpScene) (number met found : ℕ) (before behind : Lis
     IsPartySeat number me → scene_of me.0 ≡ scene →
     TellsMeeting scene (before ++ (me.0.parties ++ behind)) met found →
     new ≡ (alone (sight scene found) number (view_log me.0), []) → IsPartySeat number new
-met_seat scene number met found before behind me new fields same told is =
-    let log = view_log me.0 in
-    let own = its_own scene.parties told.logs before behind (numbered number log)
-    (subst (λ (m : Me ℕ SeatView). HaveLogs scene.parties told.logs (before ++ (m.0.parties ++ behind))) fields.seat.seat.is
-    told.theirs) in
-    let seen = seen_below scene found told.logs number log told.agree own in
-    let now : met_by new.0 ≡ found = ap (λ (m : Me ℕ SeatView). met_by m.0) is in
-    party_seat scene number log new
-    record {
-      seat = record {
-        is = is ∙ λ i. (alone (sight scene (met_by (sym is i).0)) number log, []);
-        interleaved = subst (λ (s : BumpScene). Interleaving s number log (seen_in s log)) same fields.seat.seat.interleaved;
-        reached = subst (Interleaving scene number log) (omega (arith, seen, now))
-            (interleaved scene found told.logs number log told.agree own);
-      };
-      idle = fields.seat.idle;
-    }
-    (subst (λ (s : BumpScene). number < s.parties) same fields.below) (subst IsSharedScene same fields.shared)
-    (omega (arith, now, told.within))
+met_seat scene number met found before behind me new fields same told is = grind (arith, its_own)

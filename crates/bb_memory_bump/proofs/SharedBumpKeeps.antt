@@ -10,14 +10,11 @@ use Rattle.atomic_table.proofs.Lists.{exchanged}
 use Rattle.std.proofs.lemmas.Option.{same_Some}
 use Rattle.bb_memory_bump_machine.specs.BumpMachine.{BumpScene, OngoingCall, chunk_at, ending, exchange_move, fits}
 use Rattle.bb_memory_bump_machine.specs.BumpMachine.{position_behind, read_move, seeing}
+use Rattle.bb_memory_bump.specs.SharedBump.{BumpStep, Read, Exchange, Load, BumpOutcome, Sees, RefusedAtRead, Wins, Loses}
+use Rattle.bb_memory_bump.specs.SharedBump.{RefusedAtLoss, Loaded}
 use Rattle.bb_memory_bump_machine.specs.BumpLogs.{BumpLog, entry_of, HasLog, Interleaving, LogsAgree, call_in, greater_of}
 use Rattle.bb_memory_bump_machine.specs.BumpLogs.{position_in, seen_in, with_entry}
-use Rattle.bb_memory_traits.specs.declared.layout.Layout.{Layout}
-use Rattle.bb_memory_bump_machine.specs.declared.steps.bump.BumpStep.{BumpStep}
-use Rattle.bb_memory_bump_machine.specs.declared.steps.bump.BumpStep.TheVariants.{Read, Exchange, Load}
-use Rattle.bb_memory_bump_machine.specs.declared.steps.bump.BumpOutcome.{BumpOutcome}
-use Rattle.bb_memory_bump_machine.specs.declared.steps.bump.BumpOutcome.TheVariants.{Sees, RefusedAtRead, Wins, Loses}
-use Rattle.bb_memory_bump_machine.specs.declared.steps.bump.BumpOutcome.TheVariants.{RefusedAtLoss, Loaded}
+use Rattle.bb_memory_bump.specs.Bump.{Layout}
 use Rattle.bb_memory_lists.proofs.SliceGets.{length-set_at, slice_get-set_same}
 use Rattle.bb_memory_bump_machine.proofs.BumpLogs.{read_agrees, exchange_agrees, load_agrees}
 use Rattle.bb_memory_bump_machine.proofs.BumpPositions.{interleaved, position_within, seen_below}

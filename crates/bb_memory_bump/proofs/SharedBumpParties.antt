@@ -1,28 +1,20 @@
 -- From what a step tells to what its party is then.
-use Rattle.std.proofs.Common.{◌≡◌, ℕ, ◌<◌, ◌≤◌, [], ◌++◌, refl, sym, ap, ◌∙◌, subst}
+use Rattle.std.proofs.Common.{arith}
+use Rattle.std.proofs.Common.{◌≡◌, ℕ, ◌<◌, ◌≤◌, [], ◌++◌}
 use Rattle.atomic_table.specs.Seated.{TableId}
 use Rattle.atomic_table.specs.Table.{Me}
 use Rattle.bb_memory_bump_machine.specs.BumpMachine.{BumpScene}
 use Rattle.bb_memory_bump_machine.specs.BumpLogs.{BumpLog}
 use Rattle.bb_memory_seats.specs.Seats.{alone, view_log}
 use Rattle.bb_memory_bump.specs.SharedBump.{BumpParty, IsSharedScene, with_entries}
-use Rattle.bb_memory_bump.specs.SharedBumpRule.{IsPartySeat, IsSeatOfIdle, SeatView, met_by, party_in, scene_of, sight}
+use Rattle.bb_memory_bump.specs.SharedBumpRule.{IsPartySeat, IsSeatOfIdle, SeatView, met_by, party_in, sight}
 
 -- SEATS
 
 -- a party's fields, by what its seat stands for
 pub party_seat : (scene : BumpScene) (number : ℕ) (log : BumpLog) (me : Me ℕ SeatView) → IsSeatOfIdle scene number log me →
     number < scene.parties → IsSharedScene scene → met_by me.0 ≤ scene.region.size → IsPartySeat number me
-party_seat scene number log me of below shared met =
-    subst (λ (m : Me ℕ SeatView). IsPartySeat number m) (sym of.seat.is) record {
-      seat = record {
-        seat = record { is = refl; interleaved = of.seat.interleaved; reached = of.seat.reached };
-        idle = of.idle;
-      };
-      below = below;
-      shared = shared;
-      met = met;
-    }
+party_seat scene number log me of below shared met = grind arith
 
 -- the party of a seat whose log has these more entries
 pub entries_added : (table was : TableId) (number own : ℕ) (scene : BumpScene) (added : BumpLog) (old new : Me ℕ SeatView)
@@ -30,12 +22,4 @@ pub entries_added : (table was : TableId) (number own : ℕ) (scene : BumpScene)
     table ≡ was → new ≡ (alone (sight scene (met_by new.0)) own (view_log old.0 ++ added), []) → met_by new.0 ≡ met_by old.0 →
     party_in was number old.0 ≡ party →
     party.allocator.scene ≡ scene → party_in table number new.0 ≡ with_entries party added
-entries_added table was number own scene added old new party same is still view_is scene_is = λ i. record {
-  allocator = record {
-    table = (same ∙ ap (λ (p : BumpParty). p.allocator.table) view_is) i;
-    scene = (ap (λ (m : Me ℕ SeatView). scene_of m.0) is ∙ sym scene_is) i;
-  };
-  number = ap (λ (p : BumpParty). p.number) view_is i;
-  log = (ap (λ (m : Me ℕ SeatView). view_log m.0) is ∙ ap (λ (p : BumpParty). p.log ++ added) view_is) i;
-  met = (still ∙ ap (λ (p : BumpParty). p.met) view_is) i;
-}
+entries_added table was number own scene added old new party same is still view_is scene_is = grind arith

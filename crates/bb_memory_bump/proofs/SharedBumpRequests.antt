@@ -5,20 +5,17 @@ use Rattle.std.specs.Prelude.{if◌then◌else◌, max}
 use Rattle.std.proofs.lemmas.List.Elements.{All-from_recursion}
 use Rattle.atomic_table.specs.Table.{Me}
 use Rattle.bb_memory_traits.specs.Chunk.{Region, region_end, Chunk, chunk_end}
+use Rattle.bb_memory_bump.specs.Bump.{Layout}
 use Rattle.bb_memory_bump_machine.specs.BumpMachine.{BumpScene, OngoingCall, chunk_at, ending, exchange_move, fits, loss_move}
 use Rattle.bb_memory_bump_machine.specs.BumpMachine.{position_behind, read_move, seeing}
+use Rattle.bb_memory_bump.specs.SharedBump.{Read, Exchange, BumpOutcome, Sees, RefusedAtRead, Wins, Loses, RefusedAtLoss, Tries}
+use Rattle.bb_memory_bump.specs.SharedBump.{at_loss, at_read, by_loss, by_read}
 use Rattle.bb_memory_bump_machine.specs.BumpLogs.{BumpLog, chunks_won, entry_of, is_loss, losses_in, HasPositionFrom}
 use Rattle.bb_memory_bump_machine.specs.BumpLogs.{HasPositionUpTo, call_after, call_in, seen_in}
-use Rattle.bb_memory_traits.specs.declared.layout.Layout.{Layout}
-use Rattle.bb_memory_bump_machine.specs.declared.steps.bump.BumpStep.TheVariants.{Read, Exchange}
-use Rattle.bb_memory_bump_machine.specs.declared.steps.bump.BumpOutcome.{BumpOutcome}
-use Rattle.bb_memory_bump_machine.specs.declared.steps.bump.BumpOutcome.TheVariants.{Sees, RefusedAtRead, Wins, Loses}
-use Rattle.bb_memory_bump_machine.specs.declared.steps.bump.BumpOutcome.TheVariants.{RefusedAtLoss}
 use Rattle.bb_memory_bump_machine.proofs.BumpRuns.{chunk_at-above}
 use Rattle.bb_memory_seats.specs.Seats.{number_of, view_log}
 use Rattle.bb_memory_bump.specs.SharedBumpRule.{IsSeatOf, SeatView, met_by}
 use Rattle.bb_memory_bump.specs.SharedBumpRule.{HasRefused, HasWon, IsCounted, Tells, TellsExchange, TellsRead}
-use Rattle.bb_memory_bump.specs.SharedBump.{Tries, at_loss, at_read, by_loss, by_read}
 use Rattle.bb_memory_bump.proofs.SharedBumpTries.{counted_more, losses_more, won_then}
 use Rattle.bb_memory_bump.proofs.SharedLogs.{call_next, losses_in-cons, seen_next}
 
@@ -42,14 +39,7 @@ pub record IsTrying (scene : BumpScene) (number : ℕ) (log : BumpLog) (met : �
 
 read_answers : (region : Region) (found : ℕ) (layout : Layout) (fitting : Bool) → fits region found layout ≡ fitting →
     (read_move region found layout).outcome ≡ (if fitting then Sees found else RefusedAtRead found)
-read_answers region found layout fitting is =
-    ap (λ (b : Bool). (if b then seeing (Sees found) found layout else ending (RefusedAtRead found) found).outcome) is
-    ∙ by_test fitting
-  where
-    by_test : (b : Bool) → (if b then seeing (Sees found) found layout else ending (RefusedAtRead found) found).outcome ≡
-        (if b then Sees found else RefusedAtRead found)
-    by_test true = refl
-    by_test false = refl
+read_answers region found layout fitting is = grind arith
 
 loss_answers : (region : Region) (found : ℕ) (call : OngoingCall) (fitting : Bool) →
     found ≢ call.seen → fits region found call.layout ≡ fitting →

@@ -1,7 +1,6 @@
 -- How parties go to seats of their own, and two of them to one seat.
-use Rattle.std.proofs.Common.{◌≡◌, ℕ, zero, suc, ◌≤◌, [], ◌∷◌, replicate, refl, set, sym, subst, arith, inl, inr}
-use mathlib.Core.Option.{some, some-injective, some-ne-none}
-use lib.ListN.{get_elem?}
+use Rattle.std.proofs.Common.{◌≡◌, ℕ, zero, suc, ◌≤◌, [], ◌∷◌, replicate, refl, set, sym, subst, arith}
+use mathlib.Core.Option.{some-injective, some-ne-none}
 use Rattle.atomic_table.proofs.Lists.{at_set}
 use Rattle.std.specs.List.{AllByRecursion}
 use Rattle.std.proofs.lemmas.List.{length-replicate}
@@ -32,26 +31,7 @@ gives_first scene seat view state rule at =
 
 pub gathers : (scene : BumpScene) (seat other : ℕ) (view guest : SeatView) →
     Joins (WordsAndLogsAgree scene) seat view other guest (gathered view guest) nobody
-gathers scene seat other view guest state rule at apart there =
-    let both = gathered view guest in
-    let was : get_elem? state.views other ≡ some guest = elim (at_set state.views seat other both guest there) [
-      | inl here ↦ absurd (apart here.0)
-      | inr elsewhere ↦ elsewhere.1
-    ] in
-    let own = rule.met seat view at in
-    let theirs = rule.met other guest was in
-    let first = met_set state.views seat both rule.position rule.position rule.met (omega arith) (omega (arith, own, theirs)) in
-    record {
-      position = rule.position;
-      logs = rule.logs;
-      agree = rule.agree;
-      words = rule.words;
-      opened = rule.opened;
-      one_a_party = rule.one_a_party;
-      seated = seated_joined scene.parties rule.logs state.views seat view other guest both.scene nobody.scene []
-          rule.seated at apart there;
-      met = met_set (set state.views seat both) other nobody rule.position rule.position first (omega arith) (omega arith);
-    }
+gathers scene seat other view guest state rule at apart there = grind (arith, at_set, seated_joined)
 
 all_empty : (count : ℕ) → AllByRecursion (λ (log : BumpLog). log ≡ []) (replicate count [])
 all_empty zero = tt

@@ -1,32 +1,24 @@
 -- One more entry of a request: what it finds, loses and wins.
+use Rattle.std.proofs.lemmas.Grind.{common_steps}
 use Rattle.std.proofs.Common.{◌≡◌, ℕ, ◌+◌, ◌≤◌, List, [], ◌∷◌, ◌++◌, ap, ◌∙◌, arith}
 use Rattle.std.specs.Prelude.{if◌then◌else◌, max}
-use Rattle.std.proofs.lemmas.List.Elements.{All-push}
-use Rattle.std.proofs.lemmas.List.Sums.{sum_by-append}
 use Rattle.bb_memory_traits.specs.Chunk.{Chunk}
 use Rattle.bb_memory_bump_machine.specs.BumpMachine.{BumpScene}
 use Rattle.bb_memory_bump_machine.specs.BumpLogs.{BumpEntry, BumpLog, chunks_won, is_loss, losses_in, HasPositionFrom}
 use Rattle.bb_memory_bump_machine.specs.BumpLogs.{HasPositionUpTo, seen_in}
 use Rattle.bb_memory_bump_machine.proofs.BumpBounds.{won_grows}
 use Rattle.bb_memory_bump.specs.SharedBumpRule.{IsCounted}
-use Rattle.bb_memory_bump.proofs.SharedLogs.{losses_in-cons}
 
 pub losses_more : (tried : BumpLog) (entry : BumpEntry) →
     losses_in (tried ++ entry ∷ []) ≡ losses_in tried + (if is_loss entry.outcome then 1 else 0)
-losses_more tried entry =
-    let both = sum_by-append (λ (e : BumpEntry). if is_loss e.outcome then 1 else 0) tried (entry ∷ []) in
-    let one = losses_in-cons entry [] in omega arith
+losses_more tried entry = grind (arith, common_steps)
 
 pub counted_more : (scene : BumpScene) (log : BumpLog) (met : ℕ) (tried : BumpLog) (entry : BumpEntry) →
     IsCounted scene log met tried →
     HasPositionFrom (max (seen_in scene log) met) scene.region entry → HasPositionUpTo scene.region.size scene.region entry →
     losses_in tried + (if is_loss entry.outcome then 1 else 0) ≤ scene.region.size →
     IsCounted scene log met (tried ++ entry ∷ [])
-counted_more scene log met tried entry counted from up_to few = record {
-  seen = All-push (HasPositionFrom (max (seen_in scene log) met) scene.region) tried entry counted.seen from;
-  within = All-push (HasPositionUpTo scene.region.size scene.region) tried entry counted.within up_to;
-  losses = let more = losses_more tried entry in omega (arith, more, few);
-}
+counted_more scene log met tried entry counted from up_to few = grind (arith, common_steps)
 
 pub won_then : (tried : BumpLog) (entry : BumpEntry) → chunks_won tried ≡ [] →
     chunks_won (tried ++ entry ∷ []) ≡ chunks_won (entry ∷ [])

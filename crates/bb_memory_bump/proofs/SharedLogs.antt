@@ -3,10 +3,9 @@ use Rattle.std.proofs.Common.{◌≡◌, ◌+◌, [], ◌∷◌, ◌++◌, None}
 use Rattle.std.specs.Prelude.{if◌then◌else◌}
 use Rattle.std.proofs.lemmas.List.Sums.{sum_by-cons}
 use Rattle.bb_memory_bump_machine.specs.BumpMachine.{BumpScene}
+use Rattle.bb_memory_bump.specs.SharedBump.{BumpStep, BumpOutcome}
 use Rattle.bb_memory_bump_machine.specs.BumpLogs.{BumpEntry, BumpLog, entry_of, losses_in, is_loss, call_after, call_in}
 use Rattle.bb_memory_bump_machine.specs.BumpLogs.{greater_of, position_in, seen_in}
-use Rattle.bb_memory_bump_machine.specs.declared.steps.bump.BumpStep.{BumpStep}
-use Rattle.bb_memory_bump_machine.specs.declared.steps.bump.BumpOutcome.{BumpOutcome}
 use Rattle.bb_memory_bump_machine.proofs.BumpBounds.{call_grows, seen_grows}
 
 -- the call of a party whose log has one more entry

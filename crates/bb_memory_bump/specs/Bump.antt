@@ -2,11 +2,11 @@
 use Rattle.std.specs.Prelude.{◌≡◌, ℕ, ◌+◌, ◌<◌, ◌≤◌, ◌↔◌, ◌++◌, [], List, Result, Err, IsOk, IfOk, OnErr, codes}
 use Rattle.std.specs.Fmt.{decimal}
 use Rattle.bb_memory_traits.specs.Chunk.{Region, IsRegion, region_at, region_end, Chunk, chunk_end}
+pub use Rattle.bb_memory_traits.specs.declared.layout.Layout.{Layout}
+pub use Rattle.bb_memory_traits.specs.declared.allocator.AllocationError.{AllocationError}
+pub use Rattle.bb_memory_traits.specs.declared.allocator.AllocationError.TheVariants.{OutOfMemory, SizeIsZero}
 use Rattle.bb_memory_traits.specs.LeastPlace.{least_place}
 use Rattle.bb_memory_traits.specs.BumpObject.{StandsFor, chunk_at_or_after}
-use Rattle.bb_memory_traits.specs.declared.layout.Layout.{Layout}
-use Rattle.bb_memory_traits.specs.declared.allocator.AllocationError.{AllocationError}
-use Rattle.bb_memory_traits.specs.declared.allocator.AllocationError.TheVariants.{OutOfMemory, SizeIsZero}
 
 -- the bump's region, and how much of it is used
 pub record Bump : Type 0 where

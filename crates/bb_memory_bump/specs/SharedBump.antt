@@ -3,17 +3,17 @@ use Rattle.std.specs.Prelude.{◌≡◌, ◌≢◌, ℕ, ◌+◌, ◌<◌, ◌�
 use Rattle.std.specs.Prelude.{Some, length, map, max, slice_get}
 use Rattle.atomic_table.specs.Seated.{TableId}
 use Rattle.bb_memory_traits.specs.Chunk.{Region, Chunk, AreApart, chunk_end}
+use Rattle.bb_memory_bump.specs.Bump.{Layout, AllocationError, SizeIsZero, OutOfMemory}
+use Rattle.bb_memory_traits.specs.declared.allocator.AllocationError.TheVariants.{SizeTooLarge, AlignmentFailure}
 use Rattle.bb_memory_bump_machine.specs.BumpMachine.{BumpScene, chunk_at, fits}
+pub use Rattle.bb_memory_bump_machine.specs.declared.steps.bump.BumpStep.{BumpStep}
+pub use Rattle.bb_memory_bump_machine.specs.declared.steps.bump.BumpStep.TheVariants.{Read, Exchange, Load}
+pub use Rattle.bb_memory_bump_machine.specs.declared.steps.bump.BumpOutcome.{BumpOutcome}
+pub use Rattle.bb_memory_bump_machine.specs.declared.steps.bump.BumpOutcome.TheVariants.{Sees, RefusedAtRead, Wins, Loses}
+pub use Rattle.bb_memory_bump_machine.specs.declared.steps.bump.BumpOutcome.TheVariants.{RefusedAtLoss, Loaded}
 use Rattle.bb_memory_bump_machine.specs.BumpLogs.{BumpLog, chunks_won, entry_of, CommonInterleaving, Interleaving, HasLog}
 use Rattle.bb_memory_bump_machine.specs.BumpLogs.{HasPositionFrom, HasPositionUpTo, LogsAgree, call_in, seen_in}
 use Rattle.bb_memory_traits.specs.BumpObject.{MayAllocate, StandsFor}
-use Rattle.bb_memory_traits.specs.declared.layout.Layout.{Layout}
-use Rattle.bb_memory_traits.specs.declared.allocator.AllocationError.{AllocationError}
-use Rattle.bb_memory_traits.specs.declared.allocator.AllocationError.TheVariants.{SizeIsZero, SizeTooLarge, AlignmentFailure}
-use Rattle.bb_memory_traits.specs.declared.allocator.AllocationError.TheVariants.{OutOfMemory}
-use Rattle.bb_memory_bump_machine.specs.declared.steps.bump.BumpStep.TheVariants.{Read, Exchange, Load}
-use Rattle.bb_memory_bump_machine.specs.declared.steps.bump.BumpOutcome.TheVariants.{Sees, RefusedAtRead, Wins, Loses}
-use Rattle.bb_memory_bump_machine.specs.declared.steps.bump.BumpOutcome.TheVariants.{RefusedAtLoss, Loaded}
 
 -- a shared bump: which one it is, and where its machine began: its region, the position at `share`, and how many parties it has
 pub record SharedBump : Type 0 where

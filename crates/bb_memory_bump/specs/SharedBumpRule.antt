@@ -7,18 +7,14 @@ use lib.ListN.{get_elem?}
 use Rattle.atomic_table.specs.Seated.{TableId}
 use Rattle.atomic_table.specs.Table.{State, Me, Step}
 use Rattle.bb_memory_traits.specs.Chunk.{IsRegion, region_at, Region, region_end, Chunk, IsInside, chunk_end}
+use Rattle.bb_memory_bump.specs.Bump.{Layout}
 use Rattle.bb_memory_bump_machine.specs.BumpMachine.{BumpScene, OngoingCall, chunk_at, fits, read_move, exchange_move}
+use Rattle.bb_memory_bump.specs.SharedBump.{BumpStep, Read, Exchange, Load, BumpOutcome, Loaded, BumpParty, IsSharedScene}
+use Rattle.bb_memory_bump.specs.SharedBump.{SharedBump, scene_at, HasChunksWithin, HaveChunksApart, IsRefused, IsWon}
 use Rattle.bb_memory_bump_machine.specs.BumpLogs.{BumpEntry, BumpLog, Interleaving, LogsAgree, call_in, seen_in, chunks_won}
 use Rattle.bb_memory_bump_machine.specs.BumpLogs.{entry_of, losses_in, HasPositionFrom, CommonInterleaving, HasPositionUpTo}
 use Rattle.bb_memory_seats.specs.Seats.{AreSeated, IsAt, Numbered, Seat, alone, fresh_from, number_of, numbered}
 use Rattle.bb_memory_seats.specs.Seats.{standing_for, view_log, HaveLogs, times_in}
-use Rattle.bb_memory_bump.specs.SharedBump.{BumpParty, IsSharedScene, SharedBump, scene_at, HasChunksWithin, HaveChunksApart}
-use Rattle.bb_memory_bump.specs.SharedBump.{IsRefused, IsWon}
-use Rattle.bb_memory_traits.specs.declared.layout.Layout.{Layout}
-use Rattle.bb_memory_bump_machine.specs.declared.steps.bump.BumpStep.{BumpStep}
-use Rattle.bb_memory_bump_machine.specs.declared.steps.bump.BumpStep.TheVariants.{Read, Exchange, Load}
-use Rattle.bb_memory_bump_machine.specs.declared.steps.bump.BumpOutcome.{BumpOutcome}
-use Rattle.bb_memory_bump_machine.specs.declared.steps.bump.BumpOutcome.TheVariants.{Loaded}
 
 -- SEATS
 

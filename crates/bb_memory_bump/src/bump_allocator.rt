@@ -1,19 +1,15 @@
 //! An allocator that gives one chunk after another, and takes all of them back at once.
-ghost use Rattle.std.specs.Prelude.{◌≡◌, [], List, All, ◌+◌, ◌<◌, ◌≤◌, ◌%◌, ◌↔◌, ℕ};
-ghost use Rattle.std.specs.Prelude.{IfOk, IfErr, IsTrue, Ok, Some, length, slice_get};
+ghost use Rattle.std.specs.Prelude.{◌≡◌, [], List, All, ◌+◌, ◌<◌, ◌≤◌, ◌%◌, ◌↔◌, ℕ, IfOk, IfErr, IsTrue, Ok, Some, length};
+ghost use Rattle.std.specs.Prelude.{slice_get, ◌-◌, true};
 ghost use Rattle.bb_memory_traits.specs.Chunk.{Region, IsRegion, region_at, Chunk, IsInside, chunk_end};
-ghost use Rattle.bb_memory_traits.specs.Object.{AnswersAll, AnswersOnce, GivesOnly, AnswersRun, IsRun, Step};
-ghost use Rattle.bb_memory_traits.specs.BumpObject.{MayAllocate, IsInOrder, StandsFor, bump_object, used_space};
-ghost use Rattle.bb_memory_traits.specs.declared.layout.Layout.{Layout};
-ghost use Rattle.bb_memory_traits.specs.declared.allocator.AllocationError.{AllocationError};
+ghost use Rattle.bb_memory_bump.specs.Bump.{Layout, AllocationError, OutOfMemory, Bump, Frees, Takes, bump_of, IsBump, bump_text};
+ghost use Rattle.bb_memory_traits.specs.Object.{AnswersAll, AnswersOnce, GivesOnly, IsRun, Step};
 ghost use Rattle.bb_memory_traits.specs.declared.allocator.Command.{Command};
 ghost use Rattle.bb_memory_traits.specs.declared.allocator.Reply.{Reply};
-ghost use Rattle.bb_memory_traits.specs.declared.allocator.AllocationError.TheVariants.{OutOfMemory};
-ghost use Rattle.bb_memory_bump.specs.Bump.{Bump, Frees, Takes, bump_of};
+ghost use Rattle.bb_memory_traits.specs.BumpObject.{MayAllocate, IsInOrder, StandsFor, bump_object, used_space};
 ghost use Rattle.bb_memory_bump.specs.SharedBump.{fresh_party, scene_at};
 
 pub use crate::allocator::{AllocationError, BaseAllocator};
-use crate::allocator::{Command, Reply, run_base};
 use crate::layout::{Chunk, Layout};
 use crate::region;
 use crate::shared_bump::{BumpParty, SharedBumpAllocator};
@@ -33,9 +29,6 @@ pub struct BumpAllocator {
 }
 
 impl Model for BumpAllocator {
-    ghost use Rattle.std.specs.Prelude.{◌+◌, ◌-◌, ◌≤◌};
-    ghost use Rattle.bb_memory_bump.specs.Bump.{Bump, IsBump, bump_of};
-
     ghost Value = { Bump };
 
     ghost view = { λ a. bump_of a.start a.size (a.last + 1 - a.start) };
@@ -80,7 +73,6 @@ impl BumpAllocator {
         }
     }
 
-    /// Where the region starts.
     #[inline]
     pub fn start_address(&self) -> usize
         ensures value { result ≡ self.now.region.start }
@@ -107,7 +99,6 @@ impl BumpAllocator {
         self.start + self.size - (self.last + 1)
     }
 
-    /// How many bytes the region has.
     #[inline]
     pub fn total_space(&self) -> usize
         ensures { result ≡ self.now.region.size }
@@ -151,9 +142,6 @@ impl BumpAllocator {
 }
 
 impl fmt::Display for BumpAllocator {
-    ghost use Rattle.std.specs.Prelude.{Some};
-    ghost use Rattle.bb_memory_bump.specs.Bump.{bump_text};
-
     ghost output = { λ bump. Some (bump_text bump) };
 
     fn fmt<W: fmt::Write>(&self, f: &mut fmt::Formatter<W>) -> fmt::Result {
@@ -168,11 +156,6 @@ impl fmt::Display for BumpAllocator {
 }
 
 impl BaseAllocator for BumpAllocator {
-    ghost use Rattle.std.specs.Prelude.{true};
-    ghost use Rattle.bb_memory_traits.specs.Chunk.{Region};
-    ghost use Rattle.bb_memory_traits.specs.BumpObject.{MayAllocate, StandsFor};
-    ghost use Rattle.bb_memory_bump.specs.Bump.{Takes, Frees};
-
     const RELEASE_EMPTIES: bool = true;
 
     ghost RELEASE_EMPTIES = { true };
@@ -234,23 +217,6 @@ impl BaseAllocator for BumpAllocator {
     ghost releases = { λ bump live position chunk stands at. tt };
 
     ghost sound = { λ bump live stands. stands.sound };
-}
-
-/// Applies the commands in order, as [`run_base`] does: the replies and the live list are a run of the bump object over
-/// the allocator's region, and the list is sound afterwards. The allocator has to stand for the live list. `AllocError` comes
-/// only where memory was refused, and then the allocator and the list are as before.
-pub fn run_bump(
-    allocator: &mut BumpAllocator,
-    live: &mut Vec<Chunk>,
-    commands: &[Command],
-) -> Result<Vec<Reply>, AllocError>
-    requires { StandsFor allocator.old.region allocator.old.used live.old.items }
-    ensures { AnswersRun (λ bump. StandsFor bump.region bump.used) (λ bump. bump.region)
-        (λ region. region) (Step (bump_object allocator.old.region))
-        Takes (λ old _ _ new. Frees old new)
-        commands.now result allocator.old allocator.new live.old.items live.new.items }
-{
-    run_base(allocator, live, commands)
 }
 
 /// Says what the definition of the bump object comes to for every region and every list of commands. There is exactly one answer

@@ -8,8 +8,8 @@ ghost use Rattle.bb_memory_bump_machine.specs.BumpLogs.{IsCallRun, OpensWith, ca
 ghost use Rattle.bb_memory_bump.specs.SharedBump.{AgreeAt, AreBothOf, AreFresh, AreInterleaved, BumpParty, HasChunksWithin};
 ghost use Rattle.bb_memory_bump.specs.SharedBump.{HaveChunksApart, HasLoaded, HaveMet, IsAnsweredAt, IsFoundBy, IsInterleaved};
 ghost use Rattle.bb_memory_bump.specs.SharedBump.{IsParty, IsSameParty, IsSharedScene, MayTake, MeetAt, floor_of, greatest_seen};
-ghost use Rattle.bb_memory_bump.specs.SharedBump.{meeting_at, scene_at, seen_by, with_entries};
-ghost use Rattle.bb_memory_bump.specs.SharedBumpRule.{all_parties};
+ghost use Rattle.bb_memory_bump.specs.SharedBump.{meeting_at, scene_at, seen_by, with_entries, SharedBump};
+ghost use Rattle.bb_memory_bump.specs.SharedBumpRule.{all_parties, IsSharedBump};
 ghost use Rattle.bb_memory_seats.specs.Seats.{HasRoomFor};
 
 mod all_parties;
@@ -47,13 +47,7 @@ pub struct SharedBumpAllocator {
 }
 
 impl Model for SharedBumpAllocator {
-    ghost use Rattle.std.specs.Prelude.{◌≡◌};
-    ghost use Rattle.bb_memory_traits.specs.Chunk.{region_at};
-    ghost use Rattle.bb_memory_bump.specs.SharedBump.{SharedBump};
-
     ghost Value = { SharedBump };
-
-    ghost use Rattle.bb_memory_bump.specs.SharedBumpRule.{IsSharedBump};
 
     ghost view = { λ a. a.position };
 
@@ -185,7 +179,6 @@ impl SharedBumpAllocator {
         }
     }
 
-    /// Where the region starts.
     pub fn start_address(&self) -> usize
         ensures value { result ≡ self.now.scene.region.start }
     {
@@ -277,7 +270,6 @@ impl SharedBumpAllocator {
         BumpAllocator::at_position(start, size, last)
     }
 
-    /// Gives each party a seat of its own.
     fn seat_parties(&self, mut rest: Seat<u8, View>, parties: u32, all: &mut Vec<BumpParty>)
         requires table { rest.table_id ≡ self.now.table }
         requires seat { rest.me ≡ (all_parties self.now.scene, []) }

@@ -1,4 +1,5 @@
 -- Lists of steps that are all allowed: they have no clear, and no step of a party that isn't there.
+use Rattle.std.proofs.lemmas.Grind.{common_steps}
 use Rattle.std.proofs.Common.{◌≡◌, ◌≢◌, ℕ, ◌<◌, ◌≤◌, List, [], ◌∷◌, length, refl, sym, ap, ◌∙◌, arith, Bool, true, false, Option}
 use Rattle.std.proofs.Common.{Some, None}
 use Rattle.std.specs.Prelude.{slice_get, if◌then◌else◌}
@@ -7,7 +8,7 @@ use Rattle.std.proofs.lemmas.Option.{slice_get_within}
 use Rattle.std.proofs.lemmas.List.{length-replicate, length-set}
 use Rattle.std.proofs.lemmas.List.Elements.{All-head, All-nil, All-tail}
 use Rattle.bb_memory_traits.specs.Chunk.{Region}
-use Rattle.bb_memory_bump_machine.specs.BumpMachine.{OngoingCall, BumpState, BumpMove, BumpScene, opening_state, bump_step}
+use Rattle.bb_memory_bump_machine.specs.BumpMachine.{OngoingCall, BumpState, BumpMove, BumpScene, bump_step}
 use Rattle.bb_memory_bump_machine.specs.BumpMachine.{BumpStep, Read, Exchange, Load, Clear}
 use Rattle.bb_memory_bump_machine.specs.BumpLogs.{BumpEntry, BumpLog, entry_at, bump_history, history_of, is_by, entries_by}
 use Rattle.bb_memory_bump_machine.specs.BumpLogs.{log_of, HasNoClear, IsAllowed, AllAllowed}
@@ -20,9 +21,7 @@ none_allowed = All-nil (λ (entry : BumpEntry). IsAllowed entry.outcome)
 -- steps that are all allowed begin with one that is, and go on so
 pub first_allowed : (region : Region) (state : BumpState) (step : BumpStep) (steps : List BumpStep) →
     AllAllowed (bump_history region state (step ∷ steps)) → IsAllowed (bump_step region state step).outcome
-first_allowed region state step steps allowed =
-    All-head (λ (entry : BumpEntry). IsAllowed entry.outcome) (entry_at region state step)
-    (bump_history region (bump_step region state step).state steps) allowed
+first_allowed region state step steps allowed = grind (arith, common_steps, All-head)
 
 pub rest_allowed : (region : Region) (state : BumpState) (step : BumpStep) (steps : List BumpStep) →
     AllAllowed (bump_history region state (step ∷ steps)) →
@@ -109,6 +108,4 @@ none_by region state (step ∷ steps) party past allowed =
 -- a party that was not made has no step that is allowed
 pub nobody_else : (scene : BumpScene) (steps : List BumpStep) (party : ℕ) → scene.parties ≤ party →
     AllAllowed (history_of scene steps) → log_of scene steps party ≡ []
-nobody_else scene steps party past allowed =
-    let made : length (opening_state scene).calls ≡ scene.parties = length-replicate scene.parties None in
-    none_by scene.region (opening_state scene) steps party (omega (arith, made, past)) allowed
+nobody_else scene steps party past allowed = grind (arith, common_steps, length-replicate, none_by, party)

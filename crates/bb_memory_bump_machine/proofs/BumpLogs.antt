@@ -1,25 +1,25 @@
 -- A party's log says what the party is in, and a step adds to it alone.
+use Rattle.std.proofs.lemmas.Grind.{common_steps}
 use Rattle.std.proofs.Common.{◌≡◌, ℕ, ◌<◌, List, [], ◌∷◌, ◌++◌, refl, sym, ap, ◌∙◌, subst, arith, Bool, true, false, Option}
 use Rattle.std.proofs.Common.{Some, None}
-use Rattle.std.specs.Prelude.{slice_get, ◌==◌, if◌then◌else◌, option_map}
+use Rattle.std.specs.Prelude.{slice_get, ◌==◌, if◌then◌else◌}
 use Rattle.std.specs.List.{All}
 use Rattle.std.proofs.lemmas.Bool.{eq-eqb, ne_eqb}
 use Rattle.std.proofs.lemmas.List.Elements.{All-push}
 use Rattle.std.proofs.lemmas.Option.{slice_get_within, get_or_from_slice_get}
 use Rattle.bb_memory_traits.specs.Chunk.{Region}
-use Rattle.bb_memory_traits.specs.declared.layout.Layout.{Layout}
-use Rattle.bb_memory_bump_machine.specs.BumpMachine.{OngoingCall, BumpState, BumpMove, PartyMove, BumpScene, opening_state}
-use Rattle.bb_memory_bump_machine.specs.BumpMachine.{read_move, exchange_move, passed, moved, read, exchange, load, bump_step}
-use Rattle.bb_memory_bump_machine.specs.BumpMachine.{bump_after, left_by, BumpStep, Read, Exchange, Load, Loaded}
+use Rattle.bb_memory_bump_machine.specs.BumpMachine.{Layout, OngoingCall, BumpState, BumpMove, PartyMove, BumpScene}
+use Rattle.bb_memory_bump_machine.specs.BumpMachine.{opening_state, read_move, exchange_move, passed, moved, read, exchange, load}
+use Rattle.bb_memory_bump_machine.specs.BumpMachine.{bump_step, bump_after, left_by, BumpStep, Read, Exchange, Load, Loaded}
 use Rattle.bb_memory_bump_machine.specs.BumpLogs.{BumpEntry, BumpLog, entry_of, entry_at, bump_history, history_of, is_by}
-use Rattle.bb_memory_bump_machine.specs.BumpLogs.{entries_by, log_of, seen_at, call_after, call_through, call_in, IsAllowed}
+use Rattle.bb_memory_bump_machine.specs.BumpLogs.{entries_by, log_of, call_after, call_through, call_in, IsAllowed}
 use Rattle.bb_memory_bump_machine.specs.BumpLogs.{AllAllowed, HasLog, LogsAgree, with_entry}
 use Rattle.bb_memory_lists.proofs.SliceGets.{slice_get-replicate}
 use Rattle.bb_memory_lists.proofs.Logs.{logs-push}
 use Rattle.bb_memory_bump_machine.proofs.BumpAllowed.{none_allowed}
 use Rattle.bb_memory_bump_machine.proofs.BumpSteps.{StepView, ReadView, ExchangeView, step_view, read_move_view}
 use Rattle.bb_memory_bump_machine.proofs.BumpSteps.{exchange_move_view, reads, sees, refuses_read, exchanges, wins, loses}
-use Rattle.bb_memory_bump_machine.proofs.BumpSteps.{refuses_loss, others_stay, written, one_there}
+use Rattle.bb_memory_bump_machine.proofs.BumpSteps.{refuses_loss, others_stay, written}
 
 -- THE CALL OF A PARTY
 
@@ -32,9 +32,7 @@ own_call region state step move party now (reads other layout turn idle asks (se
 own_call region state step move party now (reads other layout turn idle asks (refuses_read fit)) by at =
     written state other party None None by idle
 own_call region state step move party now (exchanges other call turn is (loses apart fit)) by at =
-    written state other party (Some call) turn.call by is
-    ∙ ap (λ (ongoing : Option OngoingCall). Some (option_map (seen_at state.position) ongoing))
-    (one_there state other party (Some call) now by is at)
+    grind (arith, common_steps, written)
 own_call region state step move party now (exchanges other call turn is (wins same)) by at =
     written state other party (Some call) None by is
 own_call region state step move party now (exchanges other call turn is (refuses_loss apart fit)) by at =
@@ -78,8 +76,7 @@ history-push : (region : Region) (state : BumpState) (steps : List BumpStep) (st
     bump_history region state steps ++ entry_at region (bump_after region state steps) step ∷ []
 history-push region state [] step = refl
 history-push region state (first ∷ steps) step =
-    ap (λ (history : BumpLog). entry_at region state first ∷ history)
-    (history-push region (bump_step region state first).state steps step)
+    grind (arith, common_steps, history-push region (bump_step region state first).state steps step)
 
 after-push : (region : Region) (state : BumpState) (steps : List BumpStep) (step : BumpStep) →
     bump_after region state (steps ++ step ∷ []) ≡ (bump_step region (bump_after region state steps) step).state

@@ -1,4 +1,5 @@
 -- How often a party loses while no clear comes.
+use Rattle.std.proofs.lemmas.Grind.{common_steps}
 use Rattle.std.proofs.Common.{◌≡◌, ◌≢◌, ℕ, ◌+◌, ◌<◌, ◌≤◌, List, [], ◌∷◌, ◌++◌, refl, sym, ap, ◌∙◌, subst, arith, Bool, true}
 use Rattle.std.proofs.Common.{false, Some, None}
 use Rattle.std.specs.Prelude.{if◌then◌else◌, count_by}
@@ -9,7 +10,7 @@ use Rattle.bb_memory_traits.specs.Chunk.{Region}
 use Rattle.bb_memory_bump_machine.specs.BumpMachine.{OngoingCall, BumpState, BumpMove, PartyMove, BumpScene, IsIdle, IsInCall}
 use Rattle.bb_memory_bump_machine.specs.BumpMachine.{opening_state, bump_step, bump_after, left_by, moved, BumpStep, BumpOutcome}
 use Rattle.bb_memory_bump_machine.specs.BumpMachine.{Exchange}
-use Rattle.bb_memory_bump_machine.specs.BumpLogs.{BumpEntry, BumpLog, entry_at, bump_history, stretch_after, outcome_after}
+use Rattle.bb_memory_bump_machine.specs.BumpLogs.{BumpEntry, BumpLog, bump_history, stretch_after, outcome_after}
 use Rattle.bb_memory_bump_machine.specs.BumpLogs.{entries_by, is_by, HasNoClear, is_loss, is_beginning, IsLossAt, losses_in}
 use Rattle.bb_memory_bump_machine.specs.BumpLogs.{calls_begun_in}
 use Rattle.bb_memory_lists.proofs.SliceGets.{slice_get-set_same}
@@ -74,9 +75,7 @@ weight own counted = if own then (if counted then 1 else 0) else 0
 exchange_turn : (region : Region) (state : BumpState) (party : ℕ) (call : OngoingCall) (turn : PartyMove) →
     IsInCall state party call → call.seen ≤ state.position → ExchangeView region state.position call turn →
     CallTurn (moved state party turn).state party call (weight true (is_loss turn.outcome))
-exchange_turn region state party call turn is below (wins same) =
-    ends (slice_get-set_same state.calls party None (Some call) is)
-    (omega (arith, chunk_at-above region state.position call.layout))
+exchange_turn region state party call turn is below (wins same) = grind (arith, common_steps, slice_get-set_same, chunk_at-above)
 exchange_turn region state party call turn is below (loses apart fit) =
     goes_on (record { layout = call.layout; seen = state.position })
     (slice_get-set_same state.calls party turn.call (Some call) is) (grind (arith, apart))
@@ -152,9 +151,7 @@ module _ (region : Region) (party : ℕ) where
       counted_from counted state (step ∷ steps) ≡ weight (is_by party step) (counted (bump_step region state step).outcome)
       + counted_from counted (bump_step region state step).state steps
   unfolding counted_from
-  counted_from-cons counted state step steps =
-      count_own (is_by party step) (λ entry. counted entry.outcome) (entry_at region state step)
-      (entries_by party (bump_history region (bump_step region state step).state steps))
+  counted_from-cons counted state step steps = grind (arith, common_steps, count_own)
 
   counted_from-nil : (counted : BumpOutcome → Bool) (state : BumpState) → counted_from counted state [] ≡ 0
   unfolding counted_from
@@ -252,10 +249,4 @@ pub losses_raise : (scene : BumpScene) (before stretch : List BumpStep) (party p
     IsIdle (left_by scene before) party → HasNoClear stretch → IsInCall (left_by scene (before ++ stretch)) party call →
     IsLossAt position (outcome_after scene (before ++ stretch) (Exchange party)) → call.seen < position
 losses_raise scene before stretch party position call within idle none is lost =
-    let state = left_by scene (before ++ stretch) in
-    let later =
-    stretch_sees scene.region (left_by scene before) stretch party none (idle_sees (left_by scene before) party idle) in
-    let below = subst (λ (state : BumpState). SeesNoMore state party)
-    (sym (bump_after-append scene.region (opening_state scene) before stretch)) later in
-    loss_raises scene.region state (bump_step scene.region state (Exchange party)) party position call
-    (step_view scene.region state (Exchange party)) is (below call is) lost
+    grind (arith, common_steps, stretch_sees, idle_sees, bump_after-append)

@@ -96,13 +96,7 @@ module _ (scene : BumpScene) (position : ℕ) (logs : List BumpLog) (party : ℕ
 pub both_interleaved : (scene : BumpScene) (position : ℕ) (logs : List BumpLog) (party : ℕ) (log : BumpLog) (other : ℕ)
     (other_log : BumpLog) → LogsAgree scene position logs → HasLog logs party log → HasLog logs other other_log →
     CommonInterleaving scene party log other other_log position
-both_interleaved scene position logs party log other other_log agree at other_at = record {
-  steps = agree.steps;
-  allowed = agree.allowed;
-  leaves = agree.leaves;
-  logged = agree.each party log at;
-  other_logged = agree.each other other_log other_at;
-}
+both_interleaved scene position logs party log other other_log agree at other_at = grind arith
 
 pub interleaving_stands : (scene : BumpScene) (position party : ℕ) (log : BumpLog) (live : List Chunk)
     (interleaving : Interleaving scene party log position) →

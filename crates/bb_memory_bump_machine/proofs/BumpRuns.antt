@@ -3,12 +3,12 @@ use Rattle.std.proofs.Common.{◌≡◌, ℕ, ◌+◌, ◌<◌, ◌≤◌, List,
 use Rattle.std.proofs.Common.{false, Option, Some, None, Ok, Err}
 use Rattle.std.proofs.lemmas.Bool.{leb-true, leb-false}
 use Rattle.bb_memory_traits.specs.Chunk.{Region, region_end, Chunk, chunk_end}
-use Rattle.bb_memory_traits.specs.declared.layout.Layout.{Layout}
+use Rattle.bb_memory_bump_machine.specs.BumpMachine.{Layout, BumpState, BumpMove, BumpScene, AllFitting, chunk_at, fits}
+use Rattle.bb_memory_bump_machine.specs.BumpMachine.{position_behind, opening_state, bump_step, bump_after, left_by, BumpStep}
+use Rattle.bb_memory_bump_machine.specs.BumpMachine.{Wins, RefusedAtLoss}
 use Rattle.bb_memory_traits.specs.declared.allocator.AllocationError.TheVariants.{OutOfMemory}
 use Rattle.bb_memory_traits.specs.Object.{appended}
 use Rattle.bb_memory_traits.specs.BumpObject.{StandsFor, chunk_at_or_after, next_chunk, used_space}
-use Rattle.bb_memory_bump_machine.specs.BumpMachine.{BumpState, BumpMove, BumpScene, AllFitting, chunk_at, fits, position_behind}
-use Rattle.bb_memory_bump_machine.specs.BumpMachine.{opening_state, bump_step, bump_after, left_by, BumpStep, Wins, RefusedAtLoss}
 use Rattle.bb_memory_bump_machine.specs.BumpLogs.{BumpCall, Allocate, ClearAll, IsCallRun, left_by_calls, layout_in, asked_by}
 use Rattle.bb_memory_bump_machine.specs.BumpLogs.{decided, bump_calls, calls_of, calls_after, OpensWith, live_after}
 use Rattle.bb_memory_traits.proofs.LeastPlaces.{least_place-is}

@@ -1,16 +1,15 @@
 -- What a step of the bump machine may do, case by case.
-use Rattle.std.proofs.Common.{◌≡◌, ◌≢◌, ℕ, ◌<◌, List, refl, sym, ap, ◌∙◌, subst, arith, Bool, true, false, Option, Some, None}
-use Rattle.std.proofs.Common.{inl, inr}
+use Rattle.std.proofs.lemmas.Grind.{common_steps}
+use Rattle.std.proofs.Common.{◌≡◌, ◌≢◌, ℕ, ◌<◌, List, refl, sym, ap, ◌∙◌, arith, Bool, true, false, Option, Some, None}
 use Rattle.std.specs.Prelude.{slice_get, slice_set, ◌==◌, if◌then◌else◌, IfSome}
 use Rattle.std.proofs.lemmas.Bool.{eqb-true, eqb-false}
 use Rattle.std.proofs.lemmas.Option.{same_Some}
 use Rattle.bb_memory_traits.specs.Chunk.{Region}
-use Rattle.bb_memory_traits.specs.declared.layout.Layout.{Layout}
-use Rattle.bb_memory_bump_machine.specs.BumpMachine.{OngoingCall, BumpState, BumpMove, PartyMove, IsIdle, IsInCall, IsFitting}
-use Rattle.bb_memory_bump_machine.specs.BumpMachine.{AllFitting, chunk_at, fits, position_behind, ending, seeing, read_move}
-use Rattle.bb_memory_bump_machine.specs.BumpMachine.{exchange_move, passed, moved, read, exchange, load, bump_step, BumpStep}
-use Rattle.bb_memory_bump_machine.specs.BumpMachine.{Read, Exchange, Load, Clear, Sees, RefusedAtRead, Wins, Loses, RefusedAtLoss}
-use Rattle.bb_memory_bump_machine.specs.BumpMachine.{Loaded, Cleared}
+use Rattle.bb_memory_bump_machine.specs.BumpMachine.{Layout, OngoingCall, BumpState, BumpMove, PartyMove, IsIdle, IsInCall}
+use Rattle.bb_memory_bump_machine.specs.BumpMachine.{IsFitting, AllFitting, chunk_at, fits, position_behind, ending, seeing}
+use Rattle.bb_memory_bump_machine.specs.BumpMachine.{read_move, exchange_move, passed, moved, read, exchange, load, bump_step}
+use Rattle.bb_memory_bump_machine.specs.BumpMachine.{BumpStep, Read, Exchange, Load, Clear, Sees, RefusedAtRead, Wins, Loses}
+use Rattle.bb_memory_bump_machine.specs.BumpMachine.{RefusedAtLoss, Loaded, Cleared}
 use Rattle.bb_memory_bump_machine.specs.BumpLogs.{is_by}
 use Rattle.bb_memory_lists.proofs.SliceGets.{slice_get-set, slice_get-set_other, slice_get-set_same}
 
@@ -107,9 +106,7 @@ others_stay region state step move party _ by = refl
 -- what is written to a party's place is then there
 pub written : (state : BumpState) (other party : ℕ) (was now : Option OngoingCall) → (other == party) ≡ true →
     slice_get state.calls other ≡ Some was → slice_get (slice_set state.calls other now) party ≡ Some now
-written state other party was now by is =
-    ap (slice_get (slice_set state.calls other now)) (sym (eqb-true other party by))
-    ∙ slice_get-set_same state.calls other now was is
+written state other party was now by is = grind (arith, common_steps, eqb-true, slice_get-set_same)
 
 -- a party is in one thing alone
 pub one_there : (state : BumpState) (other party : ℕ) (one now : Option OngoingCall) → (other == party) ≡ true →
@@ -123,15 +120,8 @@ one_there state other party one now by is at =
 pub each_call-set : (P : OngoingCall → Type 0) (calls : List (Option OngoingCall)) (party other : ℕ) (now : Option OngoingCall) →
     ((call : OngoingCall) → slice_get calls other ≡ Some (Some call) → P call) → IfSome now P →
     (call : OngoingCall) → slice_get (slice_set calls party now) other ≡ Some (Some call) → P call
-each_call-set P calls party other None old new call is = elim (slice_get-set calls party other None (Some call) is) [
-  | inl before ↦ old call before
-  | inr now ↦ let none : None ≡ Some call = now.1 in absurd (cc)
-]
-each_call-set P calls party other (Some written) old new call is =
-    elim (slice_get-set calls party other (Some written) (Some call) is) [
-      | inl before ↦ old call before
-      | inr now ↦ subst P (same_Some written call now.1) new
-    ]
+each_call-set P calls party other None old new call is = grind (arith, common_steps, slice_get-set)
+each_call-set P calls party other (Some written) old new call is = grind (arith, common_steps, slice_get-set, written, same_Some)
 
 -- each call fits after a step
 pub all_fitting-step : (region : Region) (state : BumpState) (step : BumpStep) (move : BumpMove) →

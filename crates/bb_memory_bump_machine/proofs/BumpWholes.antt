@@ -12,9 +12,9 @@ use Rattle.bb_memory_bump_machine.specs.BumpLogs.{BumpEntry, BumpLog, entry_at, 
 use Rattle.bb_memory_bump_machine.specs.BumpLogs.{chunks_won, log_of, AllAllowed, HasLog, LogsAgree, HasPositionUpTo, position_in}
 use Rattle.bb_memory_bump_machine.specs.BumpLogs.{greater_of, greatest_in, seen_in}
 use Rattle.bb_memory_bump_machine.proofs.BumpSteps.{step_view}
-pub use Rattle.bb_memory_bump_machine.proofs.BumpAllowed.{owner_of}
 use Rattle.bb_memory_bump_machine.proofs.BumpAllowed.{first_allowed, rest_allowed, parties_stay}
 use Rattle.bb_memory_bump_machine.proofs.BumpPositions.{step_leaves, below_greater, greater_below, seen_below}
+pub use Rattle.bb_memory_bump_machine.proofs.BumpAllowed.{owner_of}
 
 -- WHAT A LOG HAS SEEN
 

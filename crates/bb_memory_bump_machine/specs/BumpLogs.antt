@@ -2,12 +2,11 @@
 use Rattle.std.specs.Prelude.{ℕ, ◌≡◌, ◌==◌, Bool, true, false, List, [], ◌∷◌, ◌++◌, filter, map, count_by, Option, Some, None}
 use Rattle.std.specs.Prelude.{All, IfSome, ◌≤◌, fold, option_map, slice_get, slice_set, max, Result, Ok, Err}
 use Rattle.bb_memory_traits.specs.Chunk.{Region, Chunk}
-use Rattle.bb_memory_traits.specs.declared.layout.Layout.{Layout}
+use Rattle.bb_memory_bump_machine.specs.BumpMachine.{Layout, BumpScene, BumpState, opening_state, left_by, bump_step, BumpStep}
+use Rattle.bb_memory_bump_machine.specs.BumpMachine.{Read, Exchange, Load, Clear, BumpOutcome, Sees, Wins, Loses, RefusedAtLoss}
+use Rattle.bb_memory_bump_machine.specs.BumpMachine.{OngoingCall, position_behind, RefusedAtRead, Loaded, Cleared, Passed}
 use Rattle.bb_memory_traits.specs.declared.allocator.AllocationError.{AllocationError}
 use Rattle.bb_memory_traits.specs.declared.allocator.AllocationError.TheVariants.{OutOfMemory}
-use Rattle.bb_memory_bump_machine.specs.BumpMachine.{BumpScene, BumpState, opening_state, left_by, bump_step, BumpStep, Read}
-use Rattle.bb_memory_bump_machine.specs.BumpMachine.{Exchange, Load, Clear, BumpOutcome, Sees, Wins, Loses, RefusedAtLoss}
-use Rattle.bb_memory_bump_machine.specs.BumpMachine.{OngoingCall, position_behind, RefusedAtRead, Loaded, Cleared, Passed}
 use Rattle.bb_memory_traits.specs.Object.{Allocates, appended}
 use Rattle.bb_memory_traits.specs.BumpObject.{bump_object, StandsFor}
 

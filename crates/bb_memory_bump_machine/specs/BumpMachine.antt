@@ -3,20 +3,21 @@
 use Rattle.std.specs.Prelude.{ℕ, ◌≡◌, ◌+◌, ◌-◌, ◌<◌, ◌==◌, nat_le, Bool, true, List, [], ◌∷◌}
 use Rattle.std.specs.Prelude.{Option, Some, None, if◌then◌else◌, slice_get, slice_set, replicate}
 use Rattle.bb_memory_traits.specs.Chunk.{Region, region_end, Chunk, chunk_end}
-use Rattle.bb_memory_traits.specs.declared.layout.Layout.{Layout}
+pub use Rattle.bb_memory_traits.specs.declared.layout.Layout.{Layout}
 use Rattle.bb_memory_traits.specs.BumpObject.{chunk_at_or_after}
 pub use Rattle.bb_memory_bump_machine.specs.declared.steps.bump.BumpOutcome.{BumpOutcome}
 pub use Rattle.bb_memory_bump_machine.specs.declared.steps.bump.BumpOutcome.TheVariants.{Cleared, Loaded, Loses, Passed}
 pub use Rattle.bb_memory_bump_machine.specs.declared.steps.bump.BumpOutcome.TheVariants.{RefusedAtLoss, RefusedAtRead, Sees, Wins}
 pub use Rattle.bb_memory_bump_machine.specs.declared.steps.bump.BumpStep.{BumpStep}
 pub use Rattle.bb_memory_bump_machine.specs.declared.steps.bump.BumpStep.TheVariants.{Clear, Exchange, Load, Read}
+use Rattle.bb_memory_bump_machine.specs.declared.steps.bump_world.OngoingCall as declared
+pub use Rattle.bb_memory_bump_machine.specs.declared.steps.bump_world.PartyMove.{PartyMove}
 
 -- STATES
 
 -- a call that a party is in: what it asked for, and the position that it has seen
-pub record OngoingCall : Type 0 where
-  pub layout : Layout
-  pub seen : ℕ
+abbrev pub OngoingCall : Type 0
+OngoingCall = declared.OngoingCall
 
 -- the position, and of each party the call that it is in, or None where it is idle
 pub record BumpState : Type 0 where
@@ -62,12 +63,6 @@ abbrev pub AllFitting : Region → BumpState → Type 0
 AllFitting region state = (party : ℕ) (call : OngoingCall) → IsInCall state party call → IsFitting region call
 
 -- STEPS
-
--- the answer to a step of a party, and the position and the party's call after it
-pub record PartyMove : Type 0 where
-  pub outcome : BumpOutcome
-  pub position : ℕ
-  pub call : Option OngoingCall
 
 abbrev pub ending : BumpOutcome → ℕ → PartyMove
 ending outcome position = record { outcome = outcome; position = position; call = None }

@@ -1,10 +1,9 @@
 -- A set of numbers without the one that is aside: its bit is set, and it is free.
 use Rattle.std.proofs.Common.{◌≡◌, ◌≢◌, ℕ, ◌-◌, ◌/◌, ◌<◌, ◌≤◌, true, false, Bool, List, length, set, get_or, sym, ◌∙◌, ap}
-use Rattle.std.proofs.Common.{inl, inr, arith, length-set, eqb, eq-eqb}
-use Rattle.std.proofs.lemmas.Bool.{ne_eqb, false≢true}
+use Rattle.std.proofs.Common.{arith, length-set, eqb}
 use Rattle.std.proofs.lemmas.List.{set-set, set_comm, set-get_or, set_past}
 use Rattle.std.proofs.lemmas.Option.{slice_get-get_or, slice_get_within}
-use Rattle.std.specs.Prelude.{slice_get, IsTrue, ◌↔◌, not, Some}
+use Rattle.std.specs.Prelude.{IsTrue, ◌↔◌, not, Some}
 use Rattle.bb_memory_lists.proofs.SliceGets.{slice_get-set, slice_get-set_same, slice_get-set_other}
 use Rattle.bb_memory_index_set.specs.IndexSets.{Has, Lacks, IsAside, IsTally, index_words, less_aside, numbers_of}
 use Rattle.bb_memory_index_set.specs.IndexSets.{AreIndexWords, SetsBit}
@@ -20,15 +19,7 @@ aside_lacks numbers aside has = slice_get-set_same numbers aside false true has
 -- a number of the set is another than the one that is aside, and its bit is set
 pub others_have : (numbers : List Bool) (aside number : ℕ) → Has (less_aside numbers aside) number →
     (number ≢ aside) × Has numbers number
-others_have numbers aside number has = elim (slice_get-set numbers aside number false true has) [
-  | inl bit ↦ (
-    λ same.
-        let lacks = aside_lacks numbers aside (ap (slice_get numbers) (sym same) ∙ bit) in
-        let e : Some false ≡ Some true = sym lacks ∙ ap (slice_get (less_aside numbers aside)) (sym same) ∙ has in cc,
-    bit,
-  )
-  | inr it ↦ absurd (false≢true it.1)
-]
+others_have numbers aside number has = grind (arith, slice_get-set, aside_lacks)
 
 -- a number whose bit is set is in the set, if it isn't aside
 others_in : (numbers : List Bool) (aside number : ℕ) → number ≢ aside → Has numbers number → Has (less_aside numbers aside) number
@@ -37,10 +28,7 @@ others_in numbers aside number apart has = slice_get-set_other numbers aside num
 -- a number whose bit is set is in the set where it isn't aside, and only there
 pub apart_in : (numbers : List Bool) (aside number : ℕ) → Has numbers number →
     IsTrue (not (eqb aside number)) ↔ Has (less_aside numbers aside) number
-apart_in numbers aside number has = (
-  λ told. others_in numbers aside number (λ same. false≢true (sym (ap not (eq-eqb aside number (sym same))) ∙ told)) has,
-  λ both. ap not (ne_eqb aside number (λ same. (others_have numbers aside number both).0 (sym same))),
-)
+apart_in numbers aside number has = grind (arith, others_in, others_have)
 
 -- where none is aside, each number whose bit is set is in the set
 pub less_none : (bound : ℕ) (words : List ℕ) (aside : ℕ) → bound ≤ aside →
@@ -65,9 +53,7 @@ word_count bound words held aside is are = omega (arith, are.count, length-held 
 pub has_bound : (bound : ℕ) (words : List ℕ) (held : List Bool) (aside number : ℕ) →
     less_aside (numbers_of bound words) aside ≡ held → AreIndexWords bound words → number < length held →
     (number < bound) × (number / 64 < length words)
-has_bound bound words held aside number is are within =
-    let below : number < bound = omega (arith, within, length-held bound words held aside is) in
-    (below, omega (arith, are.count))
+has_bound bound words held aside number is are within = grind (arith, length-held)
 
 -- a taking of the number that is aside: the numbers whose bit is set are the set with this one
 pub given : (numbers held : List Bool) (aside : ℕ) → less_aside numbers aside ≡ held → Has numbers aside →
@@ -84,9 +70,7 @@ given numbers held aside is has =
 -- a release: another number is aside, and the bit of the one that was is cleared
 pub swapped : (numbers held : List Bool) (aside number : ℕ) → less_aside numbers aside ≡ held → Has held number →
     less_aside (less_aside numbers number) aside ≡ less_aside held number
-swapped numbers held aside number is has =
-    set_comm numbers number aside false false (others_have numbers aside number (rw is has)).0
-    ∙ ap (λ (l : List Bool). less_aside l number) is
+swapped numbers held aside number is has = grind (arith, set_comm)
 
 -- the words where a number of the set was put back: its bit is cleared, and the one that is aside stays there
 pub record IsPutBack (bound : ℕ) (words new : List ℕ) (aside number : ℕ) : Type 0 where

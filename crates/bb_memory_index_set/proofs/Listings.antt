@@ -62,36 +62,11 @@ module _ (bound : ℕ) (Open Now : ℕ → Type 0) (named now : ℕ → ℕ) (to
   -- the number that was listed last isn't open any more
   pub filled : 0 < top → named (top - 1) ≡ at → (Now at → ⊥) → ((k : ℕ) → k < top - 1 → now k ≡ named k) →
       IsListing bound Now now (top - 1)
-  filled some last full same = record {
-    fits = omega (arith, is.fits);
-    below = λ k h. rw (same k h) (is.below k (omega (arith, h)));
-    each = λ k h. rw (same k h) (
-        (others (named k) (λ e. is.once k (top - 1) h (omega (arith, some)) (e ∙ sym last))).0 (is.each k (omega (arith, h))));
-    once = λ i k before h. rw (same i (omega (arith, before, h)), same k h) (is.once i k before (omega (arith, h)));
-    all = λ a within clear.
-        let other : a ≢ at = λ e. full (subst Now e clear) in
-        let old = is.all a within ((others a other).1 clear) in
-        let before : old.0 < top - 1 = elim (cases_eq old.0 (top - 1)) [
-          | inl e ↦ absurd (other (sym old.2 ∙ ap named e ∙ last))
-          | inr ne ↦ omega (arith, old.1, ne)
-        ] in
-        (old.0, before, same old.0 before ∙ old.2);
-  }
+  filled some last full same = grind arith
 
   -- a number that was open still is
   pub still : Open at → Now at → IsListing bound Now named top
-  still was_open is_open =
-      let same : (a : ℕ) → (Open a → Now a) × (Now a → Open a) = λ a. elim (cases_eq a at) [
-        | inl e ↦ (λ _. subst Now (sym e) is_open, λ _. subst Open (sym e) was_open)
-        | inr other ↦ others a other
-      ] in
-      record {
-        fits = is.fits;
-        below = is.below;
-        each = λ k h. (same (named k)).0 (is.each k h);
-        once = is.once;
-        all = λ a within still_open. is.all a within ((same a).1 still_open);
-      }
+  still was_open is_open = grind arith
 
   -- a number that wasn't open is, and is listed behind the others
   pub opened : at < bound → (Open at → ⊥) → Now at → now top ≡ at → ((k : ℕ) → k < top → now k ≡ named k) →

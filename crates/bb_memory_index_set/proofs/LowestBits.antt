@@ -1,8 +1,7 @@
 -- The lowest clear bit of a word, the word with that bit set, and a set of numbers with that bit's number.
 use Rattle.std.proofs.Common.{◌≡◌, ℕ, zero, suc, ◌+◌, ◌*◌, ◌/◌, ◌%◌, ◌^◌, ◌<◌, true, false, eqb, List, length, get_or, set, sym}
-use Rattle.std.proofs.Common.{◌∙◌, ap, inl, inr, arith, eq-eqb, w64}
-use Rattle.std.proofs.lemmas.Bool.{cases_lt}
-use Rattle.std.proofs.lemmas.Nat.Bits.{bit_at-trailing_ones, bit_at-suc, bit_at_lowest, bit_at_or, bit_at-lt}
+use Rattle.std.proofs.Common.{◌∙◌, ap, arith, w64}
+use Rattle.std.proofs.lemmas.Nat.Bits.{bit_at-trailing_ones, bit_at-suc, bit_at_lowest, bit_at_or}
 use Rattle.std.specs.Prelude.{bit_or}
 use Rattle.std.specs.Int.{bit_at, trailing_ones}
 use Rattle.bb_memory_index_set.specs.IndexSets.{Lacks, AreIndexWords, has_bit, numbers_of, SetsBit}
@@ -17,9 +16,7 @@ half_odd n odd = omega (arith, odd)
 
 -- in the next number the lowest clear bit is set
 next_same : (bit n : ℕ) → bit_at n bit ≡ 0 → ((i : ℕ) → i < bit → bit_at n i ≡ 1) → bit_at (n + 1) bit ≡ 1
-next_same zero n clear ones =
-    let even : n % 2 ≡ 0 = sym (bit_at_lowest n) ∙ clear in
-    bit_at_lowest (n + 1) ∙ omega (arith, even)
+next_same zero n clear ones = grind arith
 next_same (suc bit) n clear ones =
     let odd : n % 2 ≡ 1 = sym (bit_at_lowest n) ∙ ones 0 (omega arith) in
     bit_at-suc (n + 1) bit ∙ ap (λ m. bit_at m bit) (half_odd n odd)
@@ -28,9 +25,7 @@ next_same (suc bit) n clear ones =
 -- and the bits above it stay
 next_above : (bit n i : ℕ) → bit_at n bit ≡ 0 → ((i : ℕ) → i < bit → bit_at n i ≡ 1) → bit < i → bit_at (n + 1) i ≡ bit_at n i
 next_above bit n zero clear ones above = absurd (omega (arith, above))
-next_above zero n (suc i) clear ones above =
-    let even : n % 2 ≡ 0 = sym (bit_at_lowest n) ∙ clear in
-    bit_at-suc (n + 1) i ∙ ap (λ m. bit_at m i) (half_even n even) ∙ sym (bit_at-suc n i)
+next_above zero n (suc i) clear ones above = grind (arith, bit_at-suc)
 next_above (suc bit) n (suc i) clear ones above =
     let odd : n % 2 ≡ 1 = sym (bit_at_lowest n) ∙ ones 0 (omega arith) in
     bit_at-suc (n + 1) i ∙ ap (λ m. bit_at m i) (half_odd n odd)
@@ -41,22 +36,7 @@ next_above (suc bit) n (suc i) clear ones above =
 -- a number or the next has the lowest clear bit more, and no other
 next_or : (word bit : ℕ) → bit_at word bit ≡ 0 → ((i : ℕ) → i < bit → bit_at word i ≡ 1) →
     Changes word (bit_or word (word + 1)) bit true
-next_or word bit clear ones = (
-  let next = next_same bit word clear ones in
-      let both = bit_at_or word (word + 1) bit in
-      eq-eqb _ 1 (omega (arith, both, next, clear)),
-  λ i within other.
-      let both = bit_at_or word (word + 1) i in
-      elim (cases_lt i bit) [
-        | inl below ↦
-            let one = ones i below in
-            let low = bit_at-lt (word + 1) i in
-            omega (arith, both, one, low)
-        | inr not ↦
-            let same = next_above bit word i clear ones (omega (arith, not, other)) in
-            omega (arith, both, same)
-      ],
-)
+next_or word bit clear ones = grind (arith, next_same, bit_at_or, next_above)
 
 -- the number of the lowest clear bit of a word, and the words with that bit set
 pub lowest_set : (words : List ℕ) (at word : ℕ) → at < length words → word ≡ get_or words at 0 → word + 1 < 2 ^ 64 →

@@ -1,6 +1,6 @@
 -- Flags of the numbers that are in a set, and the others as the first entries of an array.
 use Rattle.std.proofs.Common.{◌≡◌, ◌≢◌, ℕ, zero, suc, ◌+◌, ◌-◌, ◌≤◌, ◌<◌, Bool, true, false, List, [], ◌∷◌, length, get_or, set}
-use Rattle.std.proofs.Common.{take, replicate, refl, ap, sym, ◌∙◌, arith, inl, inr, length-set, get_or-set_same, get_or-set_other}
+use Rattle.std.proofs.Common.{take, replicate, refl, sym, ◌∙◌, arith, length-set, get_or-set_same, get_or-set_other}
 use Rattle.std.specs.Prelude.{Some, slice_get, IsTrue, ◌↔◌}
 use Rattle.std.proofs.lemmas.List.{length-take-le, length-replicate}
 use Rattle.std.proofs.lemmas.Option.{slice_get_within, slice_get-get_or}
@@ -31,20 +31,11 @@ module _ (room bound : ℕ) (held : List Bool) (free : List ℕ) (left : ℕ) (i
 
   -- with no entry left every number is in the set
   pub all_held : left ≡ 0 → IsFull (take bound held)
-  all_held none n below =
-      let inside : n < bound = omega (arith, below, length-flags) in
-      elim (has_or_lacks (take bound held) n below) [
-        | inl has ↦ has
-        | inr lacks ↦
-            let entry = is.listing.all n inside (sym (slice_get-take bound held n inside) ∙ lacks) in
-            absurd (omega (arith, entry.1, none))
-      ]
+  all_held none n below = grind (arith, length-flags, has_or_lacks, slice_get-take)
 
   -- else the last entry is a number that isn't in it
   pub lacked : 0 < left → (get_or free (left - 1) 0 < bound) × Lacks (take bound held) (get_or free (left - 1) 0)
-  lacked some =
-      let below = is.listing.below (left - 1) (omega arith) in
-      (below, slice_get-take bound held (get_or free (left - 1) 0) below ∙ is.listing.each (left - 1) (omega arith))
+  lacked some = grind (arith, slice_get-take)
 
   -- that number is taken off, and its flag is set
   pub taken_off : 0 < left → AreFlags room bound (set held (get_or free (left - 1) 0) true) free (left - 1)
@@ -83,10 +74,7 @@ module _ (room bound : ℕ) (held : List Bool) (free : List ℕ) (left : ℕ) (i
 
   -- a number's flag says whether it is in the set
   pub has_flag : (number : ℕ) → number < bound → IsTrue (get_or held number false) ↔ Has (take bound held) number
-  has_flag number below =
-      let told = slice_get-take bound held number below
-      ∙ slice_get-get_or held number false (omega (arith, below, is.len, is.fits)) in
-      (λ set. told ∙ ap Some set, λ has. let e : Some (get_or held number false) ≡ Some true = sym told ∙ has in cc)
+  has_flag number below = grind (arith, slice_get-take, slice_get-get_or)
 
 -- none is set at first, and every number is an entry
 pub flags_fresh : (room bound : ℕ) (free : List ℕ) → bound ≤ room → length free ≡ room →

@@ -1,4 +1,5 @@
 -- Words of 64 bits as a set of numbers.
+use Rattle.std.proofs.lemmas.Grind.{common_steps}
 use Rattle.std.proofs.Common.{◌≡◌, ◌≢◌, ℕ, ◌-◌, ◌*◌, ◌/◌, ◌%◌, ◌^◌, ◌<◌, ◌≤◌, Bool, true, false, eqb, List, length, replicate}
 use Rattle.std.proofs.Common.{get_or, set, sym, ◌∙◌, ap, inl, inr, arith, ext_get_or, length-set, get_or-set_same}
 use Rattle.std.proofs.Common.{get_or-set_other, eq-eqb, w64}
@@ -39,18 +40,7 @@ clear_bit word bit low =
 -- a number's bit changes with that bit of its word
 pub change : (words : List ℕ) (number new : ℕ) (flag : Bool) → number / 64 < length words →
     Changes (get_or words (number / 64) 0) new (number % 64) flag → SetsBit words number flag (set words (number / 64) new)
-change words number new flag within changes = record {
-  len = length-set words (number / 64) new;
-  set = ap (λ x. eqb (bit_at x (number % 64)) 1) (get_or-set_same words (number / 64) new 0 within) ∙ changes.0;
-  others = λ n other. elim (cases_eq (n / 64) (number / 64)) [
-    | inl row ↦
-        ap (λ x. eqb (bit_at (get_or (set words (number / 64) new) x 0) (n % 64)) 1) row
-        ∙ ap (λ x. eqb (bit_at x (n % 64)) 1) (get_or-set_same words (number / 64) new 0 within)
-        ∙ ap (λ x. eqb x 1) (changes.1 (n % 64) (omega arith) (λ same. other (omega arith)))
-        ∙ ap (λ x. eqb (bit_at (get_or words x 0) (n % 64)) 1) (sym row)
-    | inr apart ↦ ap (λ x. eqb (bit_at x (n % 64)) 1) (get_or-set_other words (number / 64) (n / 64) new 0 apart)
-  ];
-}
+change words number new flag within changes = grind (arith, common_steps)
 
 -- a number's bit is cleared in its word
 pub cleared : (words : List ℕ) (number : ℕ) → number / 64 < length words →
@@ -102,9 +92,7 @@ full_words bound words are full n below =
 -- the bit of a number below the bound says whether it is in the set
 pub bit_tells : (bound : ℕ) (words : List ℕ) (number : ℕ) → number < bound →
     IsTrue (has_bit words number) ↔ Has (numbers_of bound words) number
-bit_tells bound words number below =
-    let told = slice_get-numbers_of bound words number below in
-    (λ set. told ∙ ap Some set, λ has. let e : Some (has_bit words number) ≡ Some true = sym told ∙ has in cc)
+bit_tells bound words number below = grind (arith, slice_get-numbers_of)
 
 -- a number of the set has a word
 pub has_word : (bound : ℕ) (words : List ℕ) (number : ℕ) → AreIndexWords bound words → Has (numbers_of bound words) number →
@@ -118,11 +106,7 @@ has_word bound words number are has =
 pub released : (bound : ℕ) (words new : List ℕ) (number : ℕ) → AreIndexWords bound words → Has (numbers_of bound words) number →
     SetsBit words number false new →
     AreIndexWords bound new × (numbers_of bound new ≡ set (numbers_of bound words) number false)
-released bound words new number are has sets =
-    let there = has_word bound words number are has in (
-      AreIndexWords-set bound words new number false there.0 sets are,
-      numbers_of-set bound words new number false there.0 sets,
-    )
+released bound words new number are has sets = grind (arith, has_word, numbers_of-set)
 
 -- a number whose bit is clear isn't in the set
 pub lacks : (bound : ℕ) (words : List ℕ) (number : ℕ) → AreIndexWords bound words → number / 64 < length words →

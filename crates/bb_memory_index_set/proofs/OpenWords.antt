@@ -1,4 +1,5 @@
 -- The words that aren't full, the one in hand and the listed ones: after a taking and after a release.
+use Rattle.std.proofs.lemmas.Grind.{common_steps}
 use Rattle.std.proofs.Common.{◌≡◌, ◌≢◌, ℕ, ◌+◌, ◌-◌, ◌^◌, ◌<◌, ◌≤◌, List, length, get_or, set, sym, ◌∙◌, ap, if◌then◌else◌, inl}
 use Rattle.std.proofs.Common.{inr, arith, eq-eqb, get_or-set_same, get_or-set_other, length-set, w64, ◌*◌, true}
 use Rattle.std.proofs.lemmas.Bool.{cases_eq, ne_eqb}
@@ -24,11 +25,7 @@ under_word listed hand top k other = ap (λ b. if b then hand else get_or listed
 -- where none is open, every number is in the set
 pub none_open : (bound : ℕ) (words listed : List ℕ) (hand top : ℕ) → IsWordSet bound words listed hand top → top ≡ 0 →
     IsFull (numbers_of bound words)
-none_open bound words listed hand top is none =
-    full_words bound words is.are (λ at within. elim (cases_eq (get_or words at 0) (2 ^ 64 - 1)) [
-      | inl full ↦ full
-      | inr not ↦ let there = is.listing.all at within not in absurd (omega (arith, there.1, none))
-    ])
+none_open bound words listed hand top is none = grind (arith, full_words)
 
 -- else the word in hand is open
 pub hand_open : (words listed : List ℕ) (hand top : ℕ) →
@@ -126,14 +123,7 @@ set_opened bound words listed new named hand top at is are puts within full not_
 -- the list with the word in hand at its end
 pub named_hand : (listed : List ℕ) (hand top k : ℕ) → k < top → top ≤ length listed →
     get_or (set listed (top - 1) hand) k 0 ≡ open_word listed hand top k
-named_hand listed hand top k h room = elim (cases_eq (k + 1) top) [
-  | inl e ↦
-      let place : k ≡ top - 1 = omega (arith, e) in
-      ap (λ x. get_or (set listed (top - 1) hand) x 0) place ∙ get_or-set_same listed (top - 1) hand 0 (omega (arith, h, room))
-      ∙ sym (top_word listed hand top k e)
-  | inr other ↦
-      get_or-set_other listed (top - 1) k hand 0 (omega (arith, h, other)) ∙ sym (under_word listed hand top k other)
-]
+named_hand listed hand top k h room = grind (arith, common_steps)
 
 -- a release of a number whose word wasn't full, and is named already
 pub set_still : (bound : ℕ) (words listed new left : List ℕ) (hand top at : ℕ) → IsWordSet bound words listed hand top →
@@ -179,9 +169,4 @@ fresh_set bound count words zero listed same is are none room named =
 pub named_more : (listed : List ℕ) (count k : ℕ) → 0 < k → k - 1 < length listed →
     ((j : ℕ) → j + 1 < k → get_or listed j 0 ≡ count - 1 - j) →
     (j : ℕ) → j + 1 < k + 1 → get_or (set listed (k - 1) (count - k)) j 0 ≡ count - 1 - j
-named_more listed count k some room named j below = elim (cases_eq j (k - 1)) [
-  | inl e ↦
-      ap (λ x. get_or (set listed (k - 1) (count - k)) x 0) e ∙ get_or-set_same listed (k - 1) (count - k) 0 room
-      ∙ omega (arith, e, some)
-  | inr other ↦ get_or-set_other listed (k - 1) j (count - k) 0 other ∙ named j (omega (arith, other, below))
-]
+named_more listed count k some room named j below = grind (arith, common_steps)

@@ -1,4 +1,5 @@
 -- How many members a set of numbers has, and the greatest number of them that it had.
+use Rattle.std.proofs.lemmas.Grind.{common_steps}
 use Rattle.std.proofs.Common.{◌≡◌, ℕ, zero, suc, ◌+◌, ◌-◌, ◌<◌, ◌≤◌, max, min, Bool, true, false, List, [], ◌∷◌, length}
 use Rattle.std.proofs.Common.{replicate, get_or, set, refl, sym, ap, arith, length-set}
 use Rattle.std.proofs.lemmas.List.Sums.{count_by-le-length, sum_by-cons, sum_by-set}
@@ -39,18 +40,7 @@ some_member (false ∷ numbers) some =
 -- a number is taken
 pub tally-taken : (numbers : List Bool) (count most i : ℕ) → IsTally numbers count most → Lacks numbers i →
     IsTally (set numbers i true) (count + 1) (max most (count + 1))
-tally-taken numbers count most i is lacks = record {
-  members = omega (arith, is.members, member_count-taken numbers i lacks);
-  few = omega arith;
-  within = omega (
-    arith,
-    is.members,
-    is.within,
-    member_count-taken numbers i lacks,
-    length-set numbers i true,
-    count_by-le-length (λ (held : Bool). held) (set numbers i true),
-  );
-}
+tally-taken numbers count most i is lacks = grind (arith, member_count-taken, length-set, count_by-le-length)
 
 -- where a number isn't in the set, not all are counted
 pub tally-room : (numbers : List Bool) (count most i : ℕ) → IsTally numbers count most → Lacks numbers i →
@@ -61,11 +51,7 @@ tally-room numbers count most i is lacks =
 -- a number of it is given back
 pub tally-released : (numbers : List Bool) (count most i : ℕ) → IsTally numbers count most → Has numbers i →
     IsTally (set numbers i false) (count - 1) most
-tally-released numbers count most i is has = record {
-  members = omega (arith, is.members, member_count-released numbers i has);
-  few = omega (arith, is.few);
-  within = omega (arith, is.within, length-set numbers i false);
-}
+tally-released numbers count most i is has = grind (arith, member_count-released, length-set)
 
 -- where it has a member, it is counted
 pub tally-some : (numbers : List Bool) (count most i : ℕ) → IsTally numbers count most → Has numbers i → 1 ≤ count
@@ -107,6 +93,4 @@ left-released bound left least i numbers new is has after =
 -- all are left
 pub left-fresh : (bound : ℕ) (numbers : List Bool) → numbers ≡ replicate bound false →
     IsTally numbers (bound - bound) (bound - bound)
-left-fresh bound numbers none =
-    let zero : bound - bound ≡ 0 = omega arith in
-    rw (none, zero) (tally-fresh bound)
+left-fresh bound numbers none = grind (arith, common_steps)

@@ -3,6 +3,10 @@
 //! [`words::Words`] takes memory once, for a bit a number and a list of the words that have a clear bit; [`flags::Flags`] takes
 //! none, and has an array with a flag a number. Both keep a list of where a number is free, so that no taking looks further than
 //! one place.
+ghost use Rattle.std.specs.Prelude.{◌≡◌, ◌<◌, ◌↔◌, ℕ, Bool, true, false, List, ◌≤◌, length, max, min, slice_set, IsTrue, IfSome};
+ghost use Rattle.std.specs.Prelude.{IfNone};
+ghost use Rattle.bb_memory_index_set.specs.IndexSets.{Has, Lacks, IsFull, member_count};
+
 pub mod flags;
 pub mod index_words;
 pub mod words;
@@ -11,10 +15,6 @@ pub use crate::index_set::index_words::Counter;
 
 /// A set of numbers below a bound. It is empty when it is made.
 pub trait IndexSet: Drop {
-    ghost use Rattle.std.specs.Prelude.{◌≡◌, ◌<◌, ◌↔◌, ℕ, Bool, true, false, List};
-    ghost use Rattle.std.specs.Prelude.{◌≤◌, length, max, min, slice_set, IsTrue, IfSome, IfNone};
-    ghost use Rattle.bb_memory_index_set.specs.IndexSets.{Has, Lacks, IsFull, member_count};
-
     /// A flag for each number below the bound: whether it is in the set.
     ghost numbers: { Self → List Bool };
 

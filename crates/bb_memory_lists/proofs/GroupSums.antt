@@ -1,6 +1,7 @@
 -- Sums of a measure over items that are of groups, each group with a number.
+use Rattle.std.proofs.lemmas.Grind.{common_steps}
 use Rattle.std.proofs.Common.{◌≡◌, ℕ, zero, suc, ◌+◌, ◌-◌, ◌≤◌, cond, List, [], ◌∷◌, length, get_or, set}
-use Rattle.std.proofs.Common.{refl, sym, ap, subst, ◌∙◌, arith}
+use Rattle.std.proofs.Common.{refl, ap, arith}
 use mathlib.Core.Logic.{⊎_elim}
 use Rattle.std.specs.Prelude.{◌==◌, sum, sum_by}
 use Rattle.std.proofs.lemmas.Bool.{cases_eq, cases_lt, eq-eqb, ne_eqb}
@@ -53,15 +54,7 @@ module _ {X : Type 0} (group measure : X → ℕ) where
   without x sums = less sums (group x) (measure x)
 
   left : (x : X) (sums : List ℕ) (number : ℕ) → get_or (without x sums) number 0 ≡ get_or sums number 0 - share number x
-  left x sums number = ⊎_elim
-      (λ same. subst (λ k. get_or (without x sums) k 0 ≡ get_or sums k 0 - share k x) same
-      (less-there sums (group x) (measure x) ∙ ap (λ n. get_or sums (group x) 0 - n) (sym (own x))))
-      (λ differ.
-      let none = other x number differ in
-      let still = get_or-set_other sums (group x) number (get_or sums (group x) 0 - measure x) 0
-      (λ same. differ (sym same)) in
-      omega (arith, none, still))
-      (cases_eq (group x) number)
+  left x sums number = grind (arith, common_steps, get_or, less-there, own, other, get_or-set_other, cases_eq)
 
   pub within : (xs : List X) (bounds : List ℕ) → ((number : ℕ) → sum_by (share number) xs ≤ get_or bounds number 0) →
       sum_by measure xs ≤ sum bounds

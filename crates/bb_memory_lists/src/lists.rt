@@ -65,8 +65,6 @@ pub fn map_law<T, U>()
 
 /// Items of which each is of a group, which has a number, and has so much of what is added up: a type says it for `group_law`.
 pub trait Grouped {
-    ghost use Rattle.std.specs.Prelude.{ℕ};
-
     /// The number of the item's group.
     ghost group: { Self → ℕ };
 

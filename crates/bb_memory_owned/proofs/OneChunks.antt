@@ -1,24 +1,22 @@
 -- What the one-chunk object answers, and the live lists of at most one chunk that it goes on to.
+use Rattle.std.proofs.lemmas.Grind.{common_steps}
 use Rattle.std.proofs.Common.{◌≡◌, ℕ, ◌+◌, ◌<◌, ◌≤◌, ◌%◌, List, [], ◌∷◌, ◌++◌, Option, Some, None, Result, Ok, Err, length}
 use Rattle.std.proofs.Common.{slice_get, slice_set, remove, refl, sym, ◌∙◌, ap, subst, inl, inr, arith}
 use Rattle.std.specs.Option.{ForSome}
 use Rattle.std.proofs.lemmas.Bool.{cases_lt}
 use Rattle.bb_memory_traits.specs.Chunk.{Region, region_end, Chunk, chunk_end, IsInside, first_place}
-use Rattle.bb_memory_traits.specs.Object.{IsRun, Step, ResizableStep}
-use Rattle.bb_memory_traits.specs.declared.layout.Layout.{Layout}
-use Rattle.bb_memory_traits.specs.declared.allocator.AllocationError.{AllocationError}
+use Rattle.bb_memory_owned.specs.OneChunk.{Layout, AllocationError, AllocationGrowError, AllocationShrinkError, OneChunk}
+use Rattle.bb_memory_owned.specs.OneChunk.{HasByteAt, IsOneChunk, IsKept, StandsFor, only_chunk}
 use Rattle.bb_memory_traits.specs.declared.allocator.AllocationError.TheVariants.{OutOfMemory}
-use Rattle.bb_memory_traits.specs.declared.allocator.AllocationGrowError.{AllocationGrowError}
-use Rattle.bb_memory_traits.specs.declared.allocator.AllocationGrowError.TheVariants as grow
-use Rattle.bb_memory_traits.specs.declared.allocator.AllocationShrinkError.{AllocationShrinkError}
-use Rattle.bb_memory_traits.specs.declared.allocator.AllocationShrinkError.TheVariants as shrink
+use Rattle.bb_memory_traits.specs.Object.{IsRun, Step, ResizableStep}
 use Rattle.bb_memory_traits.specs.declared.allocator.Command.{Command}
 use Rattle.bb_memory_traits.specs.declared.allocator.Reply.{Reply}
 use Rattle.bb_memory_traits.proofs.LeastPlaces.{least_place-is, least_place-multiple}
 use Rattle.bb_memory_traits.proofs.LiveLists.{sound_from_order}
-use Rattle.bb_memory_owned.proofs.KeptRuns as kept_runs
-use Rattle.bb_memory_owned.specs.OneChunk.{OneChunk, HasByteAt, IsOneChunk, IsKept, StandsFor, only_chunk}
 use Rattle.bb_memory_traits.specs.OneChunkObject.{reserved_at, rest_from, MayAllocate, MayGrow, MayShrink, one_chunk_object}
+use Rattle.bb_memory_traits.specs.declared.allocator.AllocationGrowError.TheVariants as grow
+use Rattle.bb_memory_traits.specs.declared.allocator.AllocationShrinkError.TheVariants as shrink
+use Rattle.bb_memory_owned.proofs.KeptRuns as kept_runs
 
 abbrev one_of : Region → Option ℕ → OneChunk
 one_of region kept = record { region = region; kept = kept }
@@ -30,10 +28,7 @@ StandsFor-empty region = record { sound = sound_from_order region region.start [
 -- a chunk inside is out
 StandsFor-one : (region : Region) (chunk : Chunk) → IsInside region chunk →
     StandsFor (one_of region (Some chunk.place)) (chunk ∷ [])
-StandsFor-one region chunk inside = record {
-  sound = sound_from_order region region.start (chunk ∷ []) (omega arith) (inside.above, tt) inside.below;
-  keeps = (chunk, refl, refl);
-}
+StandsFor-one region chunk inside = grind arith
 
 -- what there is from a place inside on lies inside
 rest-inside : (region : Region) (place : ℕ) → HasByteAt region place → IsInside region (rest_from region place)
@@ -127,27 +122,16 @@ answer-aligned region live layout chunk told =
 -- it begins inside the region
 answer-byte : (region : Region) (live : List Chunk) (layout : Layout) (chunk : Chunk) →
     MayAllocate region live layout (Ok chunk) → HasByteAt region chunk.place
-answer-byte region live layout chunk told =
-    let place = ap (λ (k : Chunk). k.place) told.2 in
-    let least = least_place-is region.start layout.align layout.valid.positive in
-    let begins = told.1.begins in
-    record { above = omega (arith, least.above, place); below = omega (arith, place) }
+answer-byte region live layout chunk told = grind (arith, common_steps, least_place-is)
 
 -- it isn't empty, and ends where the region does
 pub answer-whole : (region : Region) (live : List Chunk) (layout : Layout) (chunk : Chunk) →
     MayAllocate region live layout (Ok chunk) → (0 < chunk.len) × (chunk_end chunk ≡ region_end region)
-answer-whole region live layout chunk told =
-    let begins = told.1.begins in
-    let place = ap (λ (k : Chunk). k.place) told.2 in
-    let len = ap (λ (k : Chunk). k.len) told.2 in
-    (omega (arith, place, len), omega (arith, place, len))
+answer-whole region live layout chunk told = grind arith
 
 pub answer-inside : (region : Region) (live : List Chunk) (layout : Layout) (chunk : Chunk) →
     MayAllocate region live layout (Ok chunk) → IsInside region chunk
-answer-inside region live layout chunk told =
-    let byte = answer-byte region live layout chunk told in
-    let whole = answer-whole region live layout chunk told in
-    record { above = byte.above; below = omega (arith, whole.1) }
+answer-inside region live layout chunk told = grind (arith, common_steps, answer-byte, answer-whole)
 
 -- it has at least the asked size
 pub answer-long : (region : Region) (live : List Chunk) (layout : Layout) (chunk : Chunk) →
@@ -186,10 +170,7 @@ resized_list region live position chunk resized is at place below =
 removed : (kept : Option ℕ) (live : List Chunk) (position : ℕ) → IsKept kept live → position < length live →
     remove live position ≡ []
 removed None live position empty within = absurd (let none = ap length empty in omega arith)
-removed (Some place) live position (one, is, same) within =
-    let single = ap length is in
-    let first : position ≡ 0 = omega arith in
-    ap (λ n. remove live n) first ∙ ap (λ (l : List Chunk). remove l 0) is
+removed (Some place) live position (one, is, same) within = grind arith
 
 -- each step leads from such a list to such a list
 kept_lists : (region : Region) → kept_runs.IsKept (one_chunk_object region) (IsOneChunkList region)

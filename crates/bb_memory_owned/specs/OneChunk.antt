@@ -4,11 +4,13 @@ use Rattle.std.specs.Prelude.{OnErr, zero, suc, length, slice_get}
 use Rattle.std.specs.Option.{ForSome}
 use Rattle.bb_memory_traits.specs.Chunk.{Region, IsRegion, region_at, region_end, Chunk, chunk_end, first_place, IsInside}
 use Rattle.bb_memory_traits.specs.Chunk.{IsSound}
+pub use Rattle.bb_memory_traits.specs.declared.layout.Layout.{Layout}
+pub use Rattle.bb_memory_traits.specs.declared.allocator.AllocationError.{AllocationError}
+pub use Rattle.bb_memory_traits.specs.declared.allocator.AllocationGrowError.{AllocationGrowError}
+pub use Rattle.bb_memory_traits.specs.declared.allocator.AllocationShrinkError.{AllocationShrinkError}
+use Rattle.bb_memory_traits.specs.declared.allocator.AllocationError.TheVariants.{OutOfMemory}
 use Rattle.bb_memory_traits.specs.OneChunkObject.{HasRoom, LacksRoom, reserved_at}
 use Rattle.bb_memory_traits.specs.Object.{PlacesDiffer}
-use Rattle.bb_memory_traits.specs.declared.layout.Layout.{Layout}
-use Rattle.bb_memory_traits.specs.declared.allocator.AllocationError.{AllocationError}
-use Rattle.bb_memory_traits.specs.declared.allocator.AllocationError.TheVariants.{OutOfMemory}
 use Rattle.std.proofs.Common.{arith, ap, refl, ◌∙◌}
 use Rattle.bb_memory_lists.proofs.Positions.{All-at}
 

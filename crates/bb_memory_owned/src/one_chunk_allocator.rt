@@ -1,24 +1,20 @@
 //! An allocator that gives one chunk at a time, which is all of its region from the chunk's place on.
-ghost use Rattle.std.specs.Prelude.{◌≡◌, [], List, ◌+◌, ◌-◌, ◌<◌, ◌≤◌, ◌%◌, ◌↔◌, ℕ, IsTrue, Some, Result};
+ghost use Rattle.std.specs.Prelude.{◌≡◌, [], List, ◌+◌, ◌-◌, ◌<◌, ◌≤◌, ◌%◌, ◌↔◌, ℕ, IsTrue, Some, Result, false, refl};
 ghost use Rattle.bb_memory_traits.specs.Chunk.{Region, IsRegion, region_at, region_end, Chunk, IsInside, chunk_end};
-ghost use Rattle.bb_memory_traits.specs.Object.{AnswersAll, AnswersOnce, GivesOnly, AnswersRun, IsRun, Step, ResizableStep};
-ghost use Rattle.bb_memory_traits.specs.declared.layout.Layout.{Layout};
-ghost use Rattle.bb_memory_traits.specs.declared.allocator.AllocationError.{AllocationError};
-ghost use Rattle.bb_memory_traits.specs.declared.allocator.AllocationGrowError.{AllocationGrowError};
-ghost use Rattle.bb_memory_traits.specs.declared.allocator.AllocationShrinkError.{AllocationShrinkError};
+ghost use Rattle.bb_memory_owned.specs.OneChunk.{Layout, AllocationError, AllocationGrowError, AllocationShrinkError, Frees};
+ghost use Rattle.bb_memory_owned.specs.OneChunk.{IsOneChunk, OneChunk, StandsFor, Takes, one_chunk_of, only_chunk, places_differ};
+ghost use Rattle.bb_memory_owned.specs.OneChunk.{covered, kept_is_live};
+ghost use Rattle.bb_memory_traits.specs.Object.{AnswersAll, AnswersOnce, GivesOnly, IsRun, Step, ResizableStep};
 ghost use Rattle.bb_memory_traits.specs.declared.allocator.Command.{Command};
 ghost use Rattle.bb_memory_traits.specs.declared.allocator.Reply.{Reply};
-ghost use Rattle.bb_memory_owned.specs.OneChunk.{Frees, IsOneChunk, OneChunk, StandsFor, Takes, one_chunk_of};
 ghost use Rattle.bb_memory_traits.specs.OneChunkObject.{MayAllocate, MayGrow, MayShrink, reserved_at, one_chunk_object};
 
 pub use crate::allocator::{
     AllocationError, AllocationGrowError, AllocationShrinkError, Allocator, BaseAllocator,
 };
-use crate::allocator::{Command, Reply, run_full};
 use crate::layout::Chunk;
 pub use crate::layout::Layout;
 use crate::region;
-use std::alloc::AllocError;
 use std::marker::Model;
 
 /// Gives one chunk at a time: all of the region from the first suitable place on. It can be resized in place.
@@ -32,8 +28,6 @@ pub struct OneChunkAllocator {
 }
 
 impl Model for OneChunkAllocator {
-    ghost use Rattle.bb_memory_owned.specs.OneChunk.{OneChunk, IsOneChunk, one_chunk_of};
-
     ghost Value = { OneChunk };
 
     ghost view = { λ a. one_chunk_of a.start a.size a.kept_place };
@@ -87,7 +81,6 @@ impl OneChunkAllocator {
         self.kept_place == Some(place)
     }
 
-    /// Where the region starts.
     #[inline]
     pub fn start_address(&self) -> usize
         ensures value { result ≡ self.now.region.start }
@@ -106,11 +99,6 @@ impl OneChunkAllocator {
 }
 
 impl BaseAllocator for OneChunkAllocator {
-    ghost use Rattle.std.specs.Prelude.{◌≡◌, Some, false};
-    ghost use Rattle.bb_memory_traits.specs.Chunk.{Region};
-    ghost use Rattle.bb_memory_owned.specs.OneChunk.{StandsFor, Takes, Frees, only_chunk};
-    ghost use Rattle.bb_memory_traits.specs.OneChunkObject.{MayAllocate};
-
     const RELEASE_EMPTIES: bool = false;
 
     ghost RELEASE_EMPTIES = { false };
@@ -179,11 +167,6 @@ impl BaseAllocator for OneChunkAllocator {
 }
 
 impl Allocator for OneChunkAllocator {
-    ghost use Rattle.std.specs.Prelude.{refl};
-    ghost use Rattle.bb_memory_traits.specs.Chunk.{Region};
-    ghost use Rattle.bb_memory_owned.specs.OneChunk.{places_differ, covered, kept_is_live};
-    ghost use Rattle.bb_memory_traits.specs.OneChunkObject.{MayGrow, MayShrink, reserved_at};
-
     ghost Figures = { Region };
 
     ghost figures = { λ one. one.region };
@@ -265,23 +248,6 @@ impl Allocator for OneChunkAllocator {
 
     ghost only_live = { λ one live place stands out.
         kept_is_live one.kept live place stands.keeps out };
-}
-
-/// Applies the commands in order, as [`run_full`] does: the replies and the live list are a run of the one-chunk object over
-/// the allocator's region, and the list is sound afterwards. The allocator has to stand for the live list. `AllocError` comes
-/// only where memory was refused, and then the allocator and the list are as before.
-pub fn run_one_chunk(
-    allocator: &mut OneChunkAllocator,
-    live: &mut Vec<Chunk>,
-    commands: &[Command],
-) -> Result<Vec<Reply>, AllocError>
-    requires { StandsFor allocator.old live.old.items }
-    ensures { AnswersRun StandsFor (λ one. one.region) (λ region. region)
-        (ResizableStep (one_chunk_object allocator.old.region))
-        Takes (λ old _ _ new. Frees old new)
-        commands.now result allocator.old allocator.new live.old.items live.new.items }
-{
-    run_full(allocator, live, commands)
 }
 
 /// Says what the definition of the one-chunk object says of every region and every list of commands. There is exactly one answer

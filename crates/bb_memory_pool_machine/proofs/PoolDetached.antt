@@ -1,9 +1,9 @@
 -- Which steps of the pool machine leave a detached bucket.
+use Rattle.std.proofs.lemmas.Grind.{common_steps}
 use Rattle.std.proofs.Common.{◌≡◌, ℕ, zero, suc, ◌<◌, ◌≤◌, List, [], ◌∷◌, length, refl, sym, ap, ◌∙◌, arith, Option}
 use Rattle.std.proofs.Common.{None, inl, inr}
 use Rattle.std.specs.Prelude.{◌⊎◌, Any, slice_set}
 use Rattle.std.proofs.lemmas.Bool.{cases_eq}
-use Rattle.std.proofs.lemmas.Option.{same_Some}
 use Rattle.std.proofs.lemmas.List.{length-replicate}
 use Rattle.bb_memory_pool_machine.specs.PoolMachine.{PoolScene, PoolState, PoolMove, IsFlag, IsHolder, IsDetached, IsTaken}
 use Rattle.bb_memory_pool_machine.specs.PoolMachine.{pool_step, pool_after, opening_state, left_by, Flag, Free, HeldBy}
@@ -35,12 +35,8 @@ none_taken_at_opening scene bucket taken = elim taken [
 detached_set : (state : PoolState) (at bucket : ℕ) (before after : Flag) → IsFlag state at before →
     ((sender : ℕ) → ¬ (after ≡ DetachedBy sender)) → IsDetachedIn (slice_set state.flags at after) bucket →
     IsDetached state bucket
-detached_set state at bucket before after there another (sender, now) = elim (cases_eq at bucket) [
-  | inl same ↦
-      absurd (another sender (same_Some after (DetachedBy sender)
-      (sym (slice_get-set_at state.flags at bucket after before same there) ∙ now)))
-  | inr apart ↦ (sender, sym (slice_get-set_apart state.flags at bucket after apart) ∙ now)
-]
+detached_set state at bucket before after there another (sender, now) =
+    grind (arith, common_steps, slice_get-set_at, slice_get-set_apart)
 
 -- the step detaches this bucket, where there are two parties at least
 record DetachesThis (state : PoolState) (move : PoolMove) (bucket : ℕ) : Type 0 where

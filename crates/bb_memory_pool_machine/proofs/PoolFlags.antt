@@ -1,9 +1,10 @@
 -- A pool's flags, and which of them are taken.
+use Rattle.std.proofs.Common.{arith}
+use Rattle.std.proofs.lemmas.Grind.{common_steps}
 use Rattle.std.proofs.Common.{◌≡◌, ℕ, ◌<◌, length, List, [], ◌∷◌, map, refl, sym, ap, ◌∙◌, subst, Bool, true, Option, Some, None}
 use Rattle.std.proofs.Common.{inl, inr}
 use Rattle.std.specs.Prelude.{◌⊎◌, option_map, slice_get}
-use Rattle.std.proofs.lemmas.Bool.{cases_eq}
-use Rattle.std.proofs.lemmas.Option.{same_Some, slice_get-map, slice_get_within}
+use Rattle.std.proofs.lemmas.Option.{slice_get-map, slice_get_within}
 use Rattle.bb_memory_pool_machine.specs.PoolMachine.{PoolScene, PoolState, PoolMove, PoolStep, IsFlag, IsTaken, Flag, Free}
 use Rattle.bb_memory_pool_machine.specs.PoolMachine.{DetachedBy, HeldBy, NamesMade, left_by, opening_state, pool_after}
 use Rattle.bb_memory_pool_machine.specs.PoolMachine.{pool_step, with_flag}
@@ -29,17 +30,11 @@ module _ (state : PoolState) (flags : List Bool) (bucket : ℕ) (same : map is_t
 
   -- and the other way round
   pub flag_from_taken : IsTaken state bucket → slice_get flags bucket ≡ Some true
-  flag_from_taken taken = sym shown_at ∙ elim taken [
-    | inl held ↦ ap (option_map is_taken) held.1
-    | inr detached ↦ ap (option_map is_taken) detached.1
-  ]
+  flag_from_taken taken = grind (arith, common_steps, shown_at)
 
 -- its bucket is there
 pub taken_within : (state : PoolState) (bucket : ℕ) → IsTaken state bucket → bucket < length state.flags
-taken_within state bucket taken = elim taken [
-  | inl held ↦ slice_get_within state.flags bucket (HeldBy held.0) held.1
-  | inr detached ↦ slice_get_within state.flags bucket (DetachedBy detached.0) detached.1
-]
+taken_within state bucket taken = grind (arith, common_steps, slice_get_within)
 
 -- WHOM FLAGS NAME
 
@@ -49,12 +44,8 @@ AllNameMade state = (bucket : ℕ) (flag : Flag) → slice_get state.flags bucke
 -- a flag is set that names a party of the machine, or none
 named_set : (state : PoolState) (at : ℕ) (before after : Flag) → IsFlag state at before → AllNameMade state →
     NamesMade (length state.calls) after → AllNameMade (with_flag state at after)
-named_set state at before after there named made bucket flag is = elim (cases_eq at bucket) [
-  | inl same ↦
-      subst (NamesMade (length state.calls))
-      (same_Some after flag (sym (slice_get-set_at state.flags at bucket after before same there) ∙ is)) made
-  | inr apart ↦ named bucket flag (sym (slice_get-set_apart state.flags at bucket after apart) ∙ is)
-]
+named_set state at before after there named made bucket flag is =
+    grind (arith, common_steps, slice_get-set_at, slice_get-set_apart)
 
 -- who takes a step is one of them
 there_is : (state : PoolState) (party : ℕ) (pass : Option ℕ) → slice_get state.calls party ≡ Some pass →

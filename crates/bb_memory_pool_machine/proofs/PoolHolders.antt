@@ -1,8 +1,10 @@
 -- Who holds a bucket stands in the logs.
+use Rattle.std.proofs.Common.{arith}
+use Rattle.std.proofs.lemmas.Grind.{common_steps}
 use Rattle.std.proofs.Common.{◌≡◌, ℕ, List, [], ◌∷◌, ◌↔◌, replicate, refl, sym, ap, ◌∙◌, subst, Bool, true, false, Option}
-use Rattle.std.proofs.Common.{Some, None, inl, inr}
+use Rattle.std.proofs.Common.{Some, None}
 use Rattle.std.specs.Prelude.{slice_get, slice_set, ◌==◌, if◌then◌else◌, fold}
-use Rattle.std.proofs.lemmas.Bool.{cases_eq, eqb-true}
+use Rattle.std.proofs.lemmas.Bool.{eqb-true}
 use Rattle.std.proofs.lemmas.Option.{same_Some}
 use Rattle.bb_memory_pool_machine.specs.PoolMachine.{PoolScene, PoolState, PoolMove, IsFlag, IsHolder, IsDetached, pool_step}
 use Rattle.bb_memory_pool_machine.specs.PoolMachine.{pool_after, opening_state, left_by, PoolOutcome, Flag, Free, HeldBy}
@@ -32,16 +34,8 @@ held_set : (state : PoolState) (at bucket party other : ℕ) (held now : Bool) (
     held ≡ is_holder party (slice_get state.flags bucket) →
     (if other == party then (if at == bucket then now else held) else held)
     ≡ is_holder party (slice_get (slice_set state.flags at after) bucket)
-held_set state at bucket party other held now before after there here was = elim (cases_eq at bucket) [
-  | inl same ↦
-      ap (λ (b : Bool). if other == party then (if b then now else held) else held) (test_same at bucket same)
-      ∙ here (was ∙ ap (is_holder party) (slice_get-same state.flags at bucket (Some before) same there))
-      ∙ sym (ap (is_holder party) (slice_get-set_at state.flags at bucket after before same there))
-  | inr apart ↦
-      ap (λ (b : Bool). if other == party then (if b then now else held) else held) (test_apart at bucket apart)
-      ∙ either_way (other == party) held ∙ was
-      ∙ sym (ap (is_holder party) (slice_get-set_apart state.flags at bucket after apart))
-]
+held_set state at bucket party other held now before after there here was =
+    grind (arith, common_steps, test_same, slice_get-same, slice_get-set_at, test_apart, either_way, slice_get-set_apart)
 
 when_taken : (mine held : Bool) → held ≡ false → (if mine then true else held) ≡ mine
 when_taken true held e = refl
@@ -123,10 +117,7 @@ same_holder state bucket party other one two =
 -- no two parties hold one bucket
 pub one_holder : (scene : PoolScene) (steps : List PoolStep) (party other bucket : ℕ) →
     IsHeldAfter (log_of scene steps party) bucket → IsHeldAfter (log_of scene steps other) bucket → party ≡ other
-one_holder scene steps party other bucket mine yours =
-    let one = (holder_in_log scene steps party bucket).1 mine in
-    let two = (holder_in_log scene steps other bucket).1 yours in
-    same_holder (left_by scene steps) bucket party other one two
+one_holder scene steps party other bucket mine yours = grind (arith, common_steps, holder_in_log, same_holder)
 
 not_detached : (sender party : ℕ) → ¬ (DetachedBy sender ≡ HeldBy party)
 not_detached sender party same = absurd (cc)

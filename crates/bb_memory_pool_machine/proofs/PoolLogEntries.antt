@@ -1,8 +1,9 @@
 -- A party's log says where its pass is, and a step of the party adds to it alone.
+use Rattle.std.proofs.Common.{arith}
+use Rattle.std.proofs.lemmas.Grind.{common_steps}
 use Rattle.std.proofs.Common.{◌≡◌, ℕ, ◌+◌, ◌<◌, List, [], ◌∷◌, ◌++◌, refl, sym, ap, ◌∙◌, subst}
-use Rattle.std.proofs.Common.{Bool, Option, Some, None, inl, inr}
+use Rattle.std.proofs.Common.{Option, Some, None}
 use Rattle.std.specs.Prelude.{slice_get, slice_set, ◌==◌, if◌then◌else◌, All}
-use Rattle.std.proofs.lemmas.Bool.{cases_eq}
 use Rattle.std.proofs.lemmas.List.Elements.{All-push}
 use Rattle.bb_memory_pool_machine.specs.PoolMachine.{PoolScene, PoolState, PoolMove, pool_step, pool_after, opening_state}
 use Rattle.bb_memory_pool_machine.specs.PoolMachine.{left_by, Flag, PoolStep, PoolOutcome}
@@ -19,14 +20,8 @@ use Rattle.bb_memory_pool_machine.proofs.PoolHolders.{either_way, steps_fold}
 pass-set : (state : PoolState) (other party bucket : ℕ) (before after : Option ℕ) → IsNext state other bucket →
     slice_get state.calls party ≡ Some before →
     slice_get (slice_set state.calls other after) party ≡ Some (if other == party then after else before)
-pass-set state other party bucket before after next there = elim (cases_eq other party) [
-  | inl same ↦
-      slice_get-set_at state.calls other party after next.pass same next.there
-      ∙ ap (λ (b : Bool). Some (if b then after else before)) (sym (test_same other party same))
-  | inr apart ↦
-      slice_get-set_apart state.calls other party after apart ∙ there
-      ∙ ap (λ (b : Bool). Some (if b then after else before)) (sym (test_apart other party apart))
-]
+pass-set state other party bucket before after next there =
+    grind (arith, common_steps, slice_get-set_at, test_same, slice_get-set_apart, test_apart)
 
 -- where a party's pass is after any step
 abbrev pass_by : ℕ → Option ℕ → PoolStep → PoolOutcome → Option ℕ

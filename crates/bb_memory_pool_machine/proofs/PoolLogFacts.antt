@@ -1,4 +1,5 @@
 -- What follows where a pool's flags and logs agree.
+use Rattle.std.proofs.lemmas.Grind.{common_steps}
 use Rattle.std.proofs.Common.{◌≡◌, ℕ, ◌<◌, ◌≤◌, List, [], ◌∷◌, length, refl, sym, ap, ◌∙◌, subst}
 use Rattle.std.proofs.Common.{arith, Bool, true, false, Option, Some, None, inl, inr}
 use Rattle.std.specs.Prelude.{◌⊎◌, ◌==◌, slice_get, if◌then◌else◌}
@@ -190,14 +191,7 @@ taken_is_held_alone scene flags logs log bucket agree one at flag taken is =
 -- a bucket's flag may be found so
 pub may_be_found : (scene : PoolScene) (flags : List Flag) (logs : List PoolLog) (bucket : ℕ) → LogsAgree scene flags logs →
     (flag : Flag) → slice_get flags bucket ≡ Some flag → MayBeFound scene bucket flag
-may_be_found scene flags logs bucket agree flag is =
-    let there = machine_flag scene flags logs bucket agree flag is in
-    record {
-      steps = agree.steps;
-      allowed = agree.allowed;
-      there = there;
-      made = names_made scene agree.steps bucket flag there;
-    }
+may_be_found scene flags logs bucket agree flag is = grind (arith, common_steps, there, machine_flag, names_made)
 
 pub length-flags : (scene : PoolScene) (flags : List Flag) (logs : List PoolLog) →
     LogsAgree scene flags logs → length flags ≡ scene.geometry.buckets
@@ -216,9 +210,4 @@ interleaved_log scene flags logs party log agree at =
 pub interleaved_logs : (scene : PoolScene) (flags : List Flag) (logs : List PoolLog) (party : ℕ) (log : PoolLog)
     (other : ℕ) (other_log : PoolLog) → LogsAgree scene flags logs → HasLog logs party log →
     HasLog logs other other_log → CommonInterleaving scene party log other other_log
-interleaved_logs scene flags logs party log other other_log agree at other_at = record {
-  steps = agree.steps;
-  allowed = agree.allowed;
-  logged = agree.each party log at;
-  other_logged = agree.each other other_log other_at;
-}
+interleaved_logs scene flags logs party log other other_log agree at other_at = grind arith

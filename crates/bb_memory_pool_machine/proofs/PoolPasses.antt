@@ -1,4 +1,5 @@
 -- What a refused pass has met, and what a miss has.
+use Rattle.std.proofs.lemmas.Grind.{common_steps}
 use Rattle.std.proofs.Common.{◌≡◌, ℕ, zero, suc, ◌+◌, ◌<◌, ◌≤◌, ◌⊎◌, List, [], ◌∷◌, length, refl, sym, ap, ◌∙◌, subst}
 use Rattle.std.proofs.Common.{arith, Option, Some, None, inl, inr}
 use Rattle.std.specs.Prelude.{slice_get, slice_set, take, unwrap_or}
@@ -42,24 +43,13 @@ below_or_at m n less = grind arith
 at_refusal : (state : PoolState) (step : PoolStep) (move : PoolMove) (party last bucket : ℕ) →
     StepKind state step move → step ≡ Try party → move.outcome ≡ RefusedAtLoss last → bucket < length state.flags →
     (bucket < progress_of (slice_get state.calls party)) ⊎ IsLossAt bucket move.outcome
-at_refusal state step move party last bucket (is_refused other lost next taken none) by refusal below =
-    let same : other ≡ party = cc in
-    let at = progress_next state other party lost same next in
-    elim (below_or_at bucket lost (omega arith)) [
-      | inl before ↦ inl (omega arith)
-      | inr same ↦ inr same
-    ]
+at_refusal state step move party last bucket (is_refused other lost next taken none) by refusal below = grind arith
 at_refusal state step move party last bucket _ by refusal below = absurd (cc)
 
 -- a pass that is over has lost none
 over : (state : PoolState) (other party bucket next : ℕ) → IsNext state other next →
     bucket < progress_of (slice_get (slice_set state.calls other None) party) → bucket < progress_of (slice_get state.calls party)
-over state other party bucket at next less = elim (cases_eq other party) [
-  | inl same ↦
-      let none = ap progress_of (slice_get-set_at state.calls other party None next.pass same next.there) in
-      absurd (omega (arith, none, less))
-  | inr apart ↦ omega (arith, ap progress_of (slice_get-set_apart state.calls other party None apart), less)
-]
+over state other party bucket at next less = grind (arith, common_steps, cases_eq, slice_get-set_at, slice_get-set_apart)
 
 -- what a pass has lost after a step was lost before the step, or is lost at it
 at_progress : (state : PoolState) (step : PoolStep) (move : PoolMove) (party bucket : ℕ) →
@@ -71,20 +61,8 @@ at_progress state step move party bucket (is_refused other lost next taken none)
     inl (over state other party bucket lost next less)
 at_progress state step move party bucket (takes_at other taken idle free) less =
     inl (over state other party bucket 0 (next_of_idle state other idle) less)
-at_progress state step move party bucket (loses other lost next taken more) less = elim (cases_eq other party) [
-  | inl same ↦
-      let after = slice_get-set_at state.calls other party (Some (lost + 1)) next.pass same next.there in
-      let now : progress_of (slice_get (slice_set state.calls other (Some (lost + 1))) party) ≡ lost + 1 =
-      ap progress_of after in
-      let before = progress_next state other party lost same next in
-      elim (below_or_at bucket lost (omega arith))
-      as (λ _. (bucket < progress_of (slice_get state.calls party)) ⊎ ((Try other ≡ Try party) × (lost ≡ bucket))) [
-        | inl below ↦ inl (omega (arith, before, below))
-        | inr at ↦ inr (ap Try same, at)
-      ]
-  | inr apart ↦
-      inl (omega (arith, ap progress_of (slice_get-set_apart state.calls other party (Some (lost + 1)) apart), less))
-]
+at_progress state step move party bucket (loses other lost next taken more) less =
+    grind (arith, common_steps, slice_get-set_at, progress_next, below_or_at, slice_get-set_apart)
 at_progress state step move party bucket _ less = inl less
 
 -- what is lost is taken
@@ -126,11 +104,7 @@ entry_parts step other outcome found same =
 
 loses_first : (state : PoolState) (step : PoolStep) (steps : List PoolStep) (party bucket : ℕ) → step ≡ Try party →
     IsLossAt bucket (pool_step state step).outcome → LosesAt (pool_history state (step ∷ steps)) party bucket 0
-loses_first state step steps party bucket by lost = record {
-  outcome = (pool_step state step).outcome;
-  there = ap (λ (s : PoolStep). Some (entry_of s (pool_step state step).outcome)) by;
-  loss = lost;
-}
+loses_first state step steps party bucket by lost = grind arith
 
 loses_later : (state : PoolState) (step : PoolStep) (steps : List PoolStep) (party bucket k : ℕ) →
     LosesAt (pool_history (pool_step state step).state steps) party bucket k →

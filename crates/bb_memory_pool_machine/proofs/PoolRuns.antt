@@ -8,15 +8,14 @@ use Rattle.std.proofs.lemmas.Option.{slice_get_within}
 use Rattle.std.proofs.lemmas.List.{drop-map, length-set, length-replicate}
 use Rattle.std.proofs.lemmas.List.Elements.{recursion_from_All}
 use Rattle.bb_memory_traits.specs.Chunk.{Chunk, IsSound}
-use Rattle.bb_memory_traits.specs.declared.layout.Layout.{Layout}
+use Rattle.bb_memory_pool_machine.specs.PoolLogs.{Layout, PoolLog, PoolEntry, history_of, pool_history, outcomes_of, is_taken}
+use Rattle.bb_memory_pool_machine.specs.PoolLogs.{IsCallRun, PoolCall, AreAsked, IsPoolRun}
 use Rattle.bb_memory_traits.specs.Object.{IsRun}
 use Rattle.bb_memory_traits.specs.PoolObject.{PoolGeometry, bucket_place, IsPoolGeometry, IsAt, IsHeld, IsWithin}
 use Rattle.bb_memory_traits.specs.PoolObject.{MayGive, chunk_in}
 use Rattle.bb_memory_pool_machine.specs.PoolMachine.{PoolScene, PoolState, PoolMove, IsFlag, IsTaken, pool_step}
 use Rattle.bb_memory_pool_machine.specs.PoolMachine.{pool_after, opening_state, left_by, Flag, Free, HeldBy, DetachedBy}
 use Rattle.bb_memory_pool_machine.specs.PoolMachine.{PoolStep, PoolOutcome}
-use Rattle.bb_memory_pool_machine.specs.PoolLogs.{PoolLog, PoolEntry, history_of, pool_history, outcomes_of, is_taken, IsCallRun}
-use Rattle.bb_memory_pool_machine.specs.PoolLogs.{PoolCall, AreAsked, IsPoolRun}
 use Rattle.bb_memory_lists.proofs.SliceGets.{replicated-figure, slice_get-same, slice_get-set_apart, slice_get-set_at}
 use Rattle.bb_memory_pool_machine.proofs.PoolFlags.{taken_within}
 use Rattle.bb_memory_traits.proofs.PoolGeometries.{bucket_place-apart}
@@ -32,10 +31,7 @@ taken_weight (Some flag) = if is_taken flag then 1 else 0
 taken_weight None = 0
 
 weight_of_taken : (state : PoolState) (bucket : ℕ) → IsTaken state bucket → taken_weight (slice_get state.flags bucket) ≡ 1
-weight_of_taken state bucket taken = elim taken [
-  | inl held ↦ ap taken_weight held.1
-  | inr detached ↦ ap taken_weight detached.1
-]
+weight_of_taken state bucket taken = grind arith
 
 -- the list has one chunk in each bucket whose flag is taken, and no other
 record Matches (geometry : PoolGeometry) (flags : List Flag) (live : List Chunk) : Type 0 where

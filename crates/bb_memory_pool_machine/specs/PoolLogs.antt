@@ -6,7 +6,7 @@ use Rattle.bb_memory_pool_machine.specs.PoolMachine.{TryAt, Detach, Attach, Give
 use Rattle.bb_memory_pool_machine.specs.PoolMachine.{DetachedBy, Takes, Loses, RefusedAtLoss, Gives, Passed, Detaches, Attaches}
 use Rattle.bb_memory_pool_machine.specs.PoolMachine.{IsFlag, IsInCall, Misses, NamesMade}
 use Rattle.bb_memory_traits.specs.Chunk.{Chunk}
-use Rattle.bb_memory_traits.specs.declared.layout.Layout.{Layout}
+pub use Rattle.bb_memory_traits.specs.declared.layout.Layout.{Layout}
 use Rattle.bb_memory_traits.specs.Object.{Allocates, Releases, IsRun}
 use Rattle.bb_memory_traits.specs.PoolObject.{PoolGeometry, bucket_place, IsAt, IsHeld, IsWithin, chunk_in, pool_object}
 

@@ -18,17 +18,10 @@ IsPoolWorld world = length world.flags < 2 ^ 32
 abbrev pub opened : ℕ → ℕ → PoolWorld
 opened buckets parties = all_free buckets parties
 
--- the machine's answer to a step, and the world after it
-abbrev pub outcome_of : PoolWorld → PoolStep → PoolOutcome
-outcome_of world step = (pool_step world step).outcome
-
-abbrev pub after_step : PoolWorld → PoolStep → PoolWorld
-after_step world step = (pool_step world step).state
-
 -- the answer of a call that takes a step, and the world after it
 pub record Steps (old : PoolWorld) (step : PoolStep) (answer : PoolOutcome) (new : PoolWorld) : Type 0 where
-  pub outcome : answer ≡ outcome_of old step
-  pub state : new ≡ after_step old step
+  pub outcome : answer ≡ (pool_step old step).outcome
+  pub state : new ≡ (pool_step old step).state
 
 abbrev pub outcomes_of : PoolWorld → List PoolStep → List PoolOutcome
 outcomes_of world steps = histories.outcomes_of (histories.pool_history world steps)

@@ -1,7 +1,8 @@
 -- The numbers of parties that stand in one list: where no number that was made stands there twice, they are different ones, and
 -- where the parties are as many as were made, each number stands there.
+use Rattle.std.proofs.lemmas.Grind.{common_steps}
 use Rattle.std.proofs.Common.{◌≡◌, ◌≢◌, ℕ, zero, suc, ◌+◌, ◌<◌, ◌≤◌, List, [], ◌∷◌, Some, length}
-use Rattle.std.proofs.Common.{refl, sym, ap, ◌∙◌, subst, arith, inl, inr}
+use Rattle.std.proofs.Common.{refl, ap, subst, arith, inl, inr}
 use Rattle.std.specs.Prelude.{Contains, map, slice_get}
 use Rattle.std.specs.List.{AllByRecursion}
 use Rattle.std.proofs.lemmas.Bool.{cases_eq}
@@ -74,13 +75,7 @@ counted-few (suc made) missing parties below none once =
 pub all_there : {E : Type 0} (made : ℕ) (logs : List (List E)) (parties : List (Numbered E)) → HaveLogs made logs parties →
     ((number : ℕ) → number < made → times_in number parties ≤ 1) → length parties ≡ made →
     (number : ℕ) → number < made → 1 ≤ times_in number parties
-all_there made logs parties have once long number below =
-    elim (cases_eq (times_in number parties) 0) [
-      | inl none ↦
-          let few = counted-few made number parties below none once in
-          let all = counted-all made logs parties have in absurd (omega arith)
-      | inr there ↦ grind (arith, there)
-    ]
+all_there made logs parties have once long number below = grind (arith, common_steps, cases_eq, counted-few, counted-all)
 
 -- NUMBERS
 
@@ -99,13 +94,8 @@ module _ {P E : Type 0} (of : P → Numbered E) where
       i ≢ j → number one ≡ number other → 2 ≤ times_in (number one) (map of items)
   stands_twice [] i j one other at at_other apart same = absurd (cc)
   stands_twice (party ∷ items) zero zero one other at at_other apart same = absurd (apart refl)
-  stands_twice (party ∷ items) zero (suc j) one other at at_other apart same =
-      let own = one_same (number party) (number one) (ap number (same_Some party one at)) in
-      let rest = subst (λ (n : ℕ). 1 ≤ times_in n (map of items)) (sym same) (stands_once items j other at_other) in
-      omega arith
-  stands_twice (party ∷ items) (suc i) zero one other at at_other apart same =
-      let own = one_same (number party) (number one) (ap number (same_Some party other at_other) ∙ sym same) in
-      let rest = stands_once items i one at in omega arith
+  stands_twice (party ∷ items) zero (suc j) one other at at_other apart same = grind (arith, common_steps, stands_once)
+  stands_twice (party ∷ items) (suc i) zero one other at at_other apart same = grind (arith, common_steps, stands_once)
   stands_twice (party ∷ items) (suc i) (suc j) one other at at_other apart same =
       let rest = stands_twice items i j one other at at_other (λ is. apart (ap suc is)) same in omega arith
 

@@ -1,4 +1,5 @@
 -- How parties stand in the views of seats: each in one, while seats are dealt, joined and split, and while one party steps.
+use Rattle.std.proofs.lemmas.Grind.{common_steps}
 use Rattle.std.proofs.Common.{◌≡◌, ◌≢◌, ℕ, zero, suc, ◌+◌, ◌-◌, ◌<◌, ◌≤◌, List, [], ◌∷◌, ◌++◌, length, set}
 use Rattle.std.proofs.Common.{replicate, Some, eqb, ne_eqb, eq-eqb, refl, sym, ap, ◌∙◌, subst, arith, inl, inr}
 use Rattle.std.specs.Prelude.{slice_get, slice_set}
@@ -62,9 +63,7 @@ times_in-own number log = let one = one_same number number refl in omega arith
 -- two parties that each stand once in a list are two
 pub two_parties : {E : Type 0} (one other : Numbered E) (parties : List (Numbered E)) →
     times_in one.number (one ∷ other ∷ parties) ≤ 1 → one.number ≢ other.number
-two_parties one other parties most same =
-    let first = one_same one.number one.number refl in
-    let second = one_same other.number one.number (sym same) in omega arith
+two_parties one other parties most same = grind arith
 
 -- LOGS
 
@@ -140,29 +139,14 @@ module _ {S E : Type 0} (made : ℕ) (logs : List (List E)) (views : List (Seat 
   -- where a view is set whose parties have their logs, those of each have theirs
   set_known : (new : Seat S E) → AreSeated made logs views → Known new → (other : ℕ) (found : Seat S E) →
       get_elem? (set views seat new) other ≡ some found → Known found
-  set_known new seated is other found there = elim (at_set views seat other new found there) [
-    | inl here ↦ subst Known here.1 is
-    | inr elsewhere ↦ seated.known other found elsewhere.1
-  ]
+  set_known new seated is other found there = grind (arith, common_steps, at_set)
 
   -- a view is split in two where each party goes to one of the two
   pub seated_split : (view left right : Seat S E) →
       ((number : ℕ) → times_in number left.parties + times_in number right.parties ≡ times_in number view.parties) →
       (Known view → Known left × Known right) → AreSeated made logs views → get_elem? views seat ≡ some view →
       AreSeated made logs (set views seat left ++ right ∷ [])
-  seated_split view left right count parts seated at =
-      let own = parts (seated.known seat view at) in
-      let first : List (Seat S E) = set views seat left in record {
-        known = λ other found there. elim (at_snoc first right found other there) [
-          | inl before ↦ set_known left seated own.0 other found before
-          | inr last ↦ subst Known last own.1
-        ];
-        once = λ number below.
-            let pushed = total-push (standing number) first right in
-            let placed = total-set (standing number) views seat view left at in
-            let same = count number in
-            let one = seated.once number below in omega arith;
-      }
+  seated_split view left right count parts seated at = grind (arith, common_steps, at_snoc, set_known, total-push, total-set)
 
   pub seated_others : (view : Seat S E) → AreSeated made logs views → get_elem? views seat ≡ some view →
       AreSeated made logs (set views seat (others_of view) ++ first_of view ∷ [])
@@ -177,36 +161,12 @@ module _ {S E : Type 0} (made : ℕ) (logs : List (List E)) (views : List (Seat 
       get_elem? (set views seat both) other ≡ some guest →
       AreSeated made logs (set (set views seat both) other (standing_for none []))
   seated_joined view other guest scene none items seated at apart there =
-      let both : Seat S E = seat_of scene (guest.parties ++ view.parties) items in
-      let spent : Seat S E = standing_for none [] in
-      let first : List (Seat S E) = set views seat both in
-      let was : get_elem? views other ≡ some guest = elim (at_set views seat other both guest there) [
-        | inl here ↦ absurd (apart here.0)
-        | inr elsewhere ↦ elsewhere.1
-      ] in
-      let all = have-append made logs guest.parties view.parties (seated.known other guest was) (seated.known seat view at) in
-      record {
-        known = λ third found is. elim (at_set first other third spent found is) [
-          | inl here ↦ subst Known here.1 tt
-          | inr rest ↦ set_known both seated all third found rest.1
-        ];
-        once = λ number below.
-            let placed = total-set (standing number) views seat view both at in
-            let emptied = total-set (standing number) first other guest spent there in
-            let same = times_in-append number guest.parties view.parties in
-            let one = seated.once number below in omega arith;
-      }
+      grind (arith, common_steps, at_set, have-append, set_known, total-set, times_in-append)
 
   -- a view becomes another with the same parties
   pub seated_again : (view : Seat S E) (scene : S) → AreSeated made logs views → get_elem? views seat ≡ some view →
       AreSeated made logs (set views seat (standing_for scene view.parties))
-  seated_again view scene seated at =
-      let new : Seat S E = standing_for scene view.parties in record {
-        known = set_known new seated (seated.known seat view at);
-        once = λ number below.
-            let placed = total-set (standing number) views seat view new at in
-            let one = seated.once number below in omega arith;
-      }
+  seated_again view scene seated at = grind (arith, common_steps, set_known, total-set)
 
   -- no party stands twice in one view
   pub once_in : (view : Seat S E) → AreSeated made logs views → get_elem? views seat ≡ some view → (number : ℕ) →
@@ -219,16 +179,7 @@ module _ {S E : Type 0} (made : ℕ) (logs : List (List E)) (views : List (Seat 
 pub seated_entered : {S E : Type 0} (made : ℕ) (logs : List (List E)) (views : List (Seat S E)) (view : Seat S E) →
     HaveLogs made logs view.parties → ((number : ℕ) → times_in number view.parties ≡ 0) → AreSeated made logs views →
     AreSeated made logs (views ++ view ∷ [])
-seated_entered {S = S} {E = E} made logs views view have none seated = record {
-  known = λ other found there. elim (at_snoc views view found other there) [
-    | inl before ↦ seated.known other found before
-    | inr last ↦ subst (λ (v : Seat S E). HaveLogs made logs v.parties) last have
-  ];
-  once = λ number below.
-      let pushed = total-push (standing number) views view in
-      let no_more = none number in
-      let one = seated.once number below in omega arith;
-}
+seated_entered {S = S} {E = E} made logs views view have none seated = grind (arith, common_steps, at_snoc, total-push)
 
 -- THE OPENING
 
@@ -263,16 +214,7 @@ fresh_once E number from (suc count) low high =
 -- all parties stand in the first seat
 pub seated_opening : {S : Type 0} (E : Type 0) (made : ℕ) (scene : S) →
     AreSeated {S = S} {E = E} made (replicate made []) (standing_for scene (fresh_from 0 made) ∷ [])
-seated_opening {S = S} E made scene = record {
-  known = first;
-  once = λ number below. let one = fresh_once E number 0 made (omega arith) (omega arith) in omega arith;
-}
-  where
-    first : (seat : ℕ) (view : Seat S E) → get_elem? (standing_for scene (fresh_from 0 made) ∷ []) seat ≡ some view →
-        HaveLogs {E = E} made (replicate made []) view.parties
-    first zero view is = subst (λ (v : Seat S E). HaveLogs {E = E} made (replicate made []) v.parties) (some-injective _ _ is)
-        (fresh_have E made 0 made (omega arith))
-    first (suc seat) view is = absurd (some-ne-none view (sym is))
+seated_opening {S = S} E made scene = grind (arith, common_steps, fresh_once, fresh_have)
 
 -- DEALING
 

@@ -1,4 +1,5 @@
 -- The bytes of a chunk: of one that is apart from the one that is written over, and in two parts.
+use Rattle.std.proofs.lemmas.Grind.{common_steps}
 use Rattle.std.proofs.Common.{arith, ◌≡◌, ℕ, ◌+◌, ◌-◌, ◌≤◌, ◌⊎◌, inl, inr, List, ◌++◌, take, drop, sym, ap, ◌∙◌, ⊎_elim}
 use Rattle.std.proofs.Math.Seq.{take-add}
 use Rattle.std.proofs.lemmas.Bool.{cases_lt}
@@ -16,9 +17,7 @@ part-before xs i n m within =
 
 -- a part that begins at or behind m is a part of what is behind m
 part-behind : (xs : List ℕ) (i n m : ℕ) → m ≤ i → take n (drop i xs) ≡ take n (drop (i - m) (drop m xs))
-part-behind xs i n m after =
-    let sum : m + (i - m) ≡ i = omega arith in
-    ap (λ l. take n l) (ap (λ k. drop k xs) (sym sum) ∙ sym (drop-drop (i - m) m xs))
+part-behind xs i n m after = grind (arith, common_steps, drop-drop)
 
 same-before : (xs ys : List ℕ) (i n m : ℕ) → i + n ≤ m → take m ys ≡ take m xs → take n (drop i ys) ≡ take n (drop i xs)
 same-before xs ys i n m within same =
@@ -48,10 +47,7 @@ either one other apart =
 
 -- a chunk's bytes, as many as it is long
 pub span : (held : HeldBytes) (chunk : Chunk) → bytes_in held chunk ≡ take chunk.len (drop (chunk.place - held.start) held.bytes)
-span held chunk =
-    let i : ℕ = chunk.place - held.start in
-    let len : (i + chunk.len) - i ≡ chunk.len = omega arith in
-    ap (λ n. take n (drop i held.bytes)) len
+span held chunk = grind arith
 
 pub apart-kept : (old new : HeldBytes) (chunk other : Chunk) (bytes : List ℕ) → ChangesOnly old new chunk bytes →
     IsInside (held_region old) chunk → IsInside (held_region old) other → AreApart chunk other →

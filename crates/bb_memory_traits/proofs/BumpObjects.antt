@@ -1,19 +1,18 @@
 -- What the bump object answers, and which lists it goes on to.
+use Rattle.std.proofs.lemmas.Grind.{common_steps}
 use Rattle.std.proofs.Common.{◌≡◌, ℕ, ◌-◌, ◌≤◌, ◌%◌, List, [], ◌∷◌, ◌++◌, Result, Ok, Err, sym, ◌∙◌, ap, subst, refl, inl, inr}
 use Rattle.std.proofs.Common.{arith}
 use Rattle.std.specs.List.{All}
 use Rattle.std.proofs.lemmas.Bool.{cases_lt}
 use Rattle.bb_memory_traits.specs.Chunk.{Region, region_end, Chunk, chunk_end, IsInside, Layout, AllocationError, SizeIsZero}
 use Rattle.bb_memory_traits.specs.Chunk.{SizeTooLarge, AlignmentFailure, OutOfMemory}
-use Rattle.bb_memory_traits.specs.Object.{Step, IsRun}
+use Rattle.bb_memory_traits.specs.Object.{Step, IsRun, Command, Reply}
 use Rattle.bb_memory_traits.specs.BumpObject.{end_of_last, next_chunk, MayAllocate, bump_object, IsInOrder, StandsFor}
-use Rattle.bb_memory_traits.specs.declared.allocator.Command.{Command}
 use Rattle.bb_memory_traits.specs.declared.allocator.Command.TheVariants.{Allocate, Release, Grow, Shrink}
-use Rattle.bb_memory_traits.specs.declared.allocator.Reply.{Reply}
-use Rattle.bb_memory_traits.specs.declared.allocator.Reply.TheVariants as reply
 use Rattle.bb_memory_traits.proofs.LeastPlaces.{least_place-is, least_place-multiple}
 use Rattle.bb_memory_traits.proofs.LiveLists.{all_end_by, StandsFor-push, StandsFor-empty, end_of_last-above}
 use Rattle.bb_memory_traits.proofs.Runs.{IsRun-keeps}
+use Rattle.bb_memory_traits.specs.declared.allocator.Reply.TheVariants as reply
 
 -- there is an answer to each request
 pub some_answer : (region : Region) (live : List Chunk) (layout : Layout) →
@@ -50,16 +49,12 @@ one_answer region live layout one (Err AlignmentFailure) first second = absurd s
 -- a chunk that is given begins at or after the end of the last one
 pub answer-after : (region : Region) (live : List Chunk) (layout : Layout) (chunk : Chunk) →
     MayAllocate region live layout (Ok chunk) → end_of_last region.start live ≤ chunk.place
-answer-after region live layout chunk told =
-    let place = least_place-is (end_of_last region.start live) layout.align layout.valid.positive in
-    omega (arith, place.above, ap (λ (k : Chunk). k.place) told.2)
+answer-after region live layout chunk told = grind (arith, common_steps, least_place-is)
 
 -- it begins at a multiple of the alignment
 pub answer-aligned : (region : Region) (live : List Chunk) (layout : Layout) (chunk : Chunk) →
     MayAllocate region live layout (Ok chunk) → chunk.place % layout.align ≡ 0
-answer-aligned region live layout chunk told =
-    ap (λ (k : Chunk). k.place % layout.align) told.2
-    ∙ least_place-multiple (end_of_last region.start live) layout.align layout.valid.positive
+answer-aligned region live layout chunk told = grind (arith, common_steps, least_place-multiple)
 
 -- it has the asked size
 pub answer-len : (region : Region) (live : List Chunk) (layout : Layout) (chunk : Chunk) →
@@ -69,10 +64,7 @@ answer-len region live layout chunk told = ap (λ (k : Chunk). k.len) told.2
 -- it is inside the region, where the list is in order
 pub answer-inside : (region : Region) (live : List Chunk) (layout : Layout) (chunk : Chunk) →
     IsInOrder region.start live → MayAllocate region live layout (Ok chunk) → IsInside region chunk
-answer-inside region live layout chunk ordered told = record {
-  above = omega (arith, answer-after region live layout chunk told, end_of_last-above region.start live ordered);
-  below = told.1;
-}
+answer-inside region live layout chunk ordered told = grind (arith, common_steps, answer-after, end_of_last-above)
 
 -- it begins at or after the end of each chunk of a list in order
 pub answer-after_all : (region : Region) (live : List Chunk) (layout : Layout) (chunk : Chunk) →

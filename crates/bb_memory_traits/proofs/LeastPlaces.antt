@@ -1,7 +1,8 @@
 -- The least place is what its name says, and a mask computes it.
+use Rattle.std.proofs.lemmas.Grind.{common_steps}
 use Rattle.std.proofs.Common.{◌≡◌, ℕ, ◌+◌, ◌-◌, ◌*◌, ◌/◌, ◌%◌, ◌^◌, ◌<◌, ◌≤◌, bit_and, bit_or, pow_pos}
 use Rattle.std.proofs.Common.{arith, ap, sym, ◌∙◌, inl, inr, mul-le-mul_right, div-add-mod'}
-use Rattle.std.proofs.Math.Nat.{add-mod_right, mod-eq_of_lt, mod-le, mod_self}
+use Rattle.std.proofs.Math.Nat.{add-mod_right, mod-le}
 use Rattle.std.proofs.lemmas.Bool.{cases_lt}
 use Rattle.std.proofs.lemmas.Nat.{and_mask, mod-mul-add, le-div}
 use Rattle.std.specs.Int.{IsPowerOfTwo}
@@ -12,17 +13,12 @@ use Rattle.bb_memory_traits.proofs.PowersOfTwo.{power_of_two-positive, power_of_
 -- a multiple stays where it is
 least_place-stays : (v align : ℕ) → 0 < align → v % align ≡ 0 → least_place v align ≡ v
 unfolding least_place
-least_place-stays v align positive none =
-    let all : align - v % align ≡ align = omega (arith, none) in
-    let nothing : (align - v % align) % align ≡ 0 = ap (λ n. n % align) all ∙ mod_self align in
-    omega (arith, nothing)
+least_place-stays v align positive none = grind arith
 
 -- any other number goes up by what its rest lacks
 least_place-raises : (v align : ℕ) → 0 < align → 0 < v % align → least_place v align ≡ v + (align - v % align)
 unfolding least_place
-least_place-raises v align positive some =
-    let lack : (align - v % align) % align ≡ align - v % align = mod-eq_of_lt (omega arith) in
-    omega (arith, lack)
+least_place-raises v align positive some = grind arith
 
 -- a number that is a multiple and a small rest has that rest
 rest_of : (n k align rest : ℕ) → n ≡ k * align + rest → rest < align → n % align ≡ rest
@@ -45,14 +41,7 @@ least_place-quotient v align positive = omega (arith, least_place-rounds v align
 
 -- a multiple that isn't below a number isn't below the least place
 least_place-below : (v align k : ℕ) → 0 < align → v ≤ k * align → least_place v align ≤ k * align
-least_place-below v align k positive above =
-    let quotient = least_place-quotient v align positive in
-    let whole = div-add-mod' (v + (align - 1)) align in
-    elim (cases_lt k ((v + (align - 1)) / align)) [
-      | inl less ↦ let more = mul-le-mul_right {m = k + 1} {n = (v + (align - 1)) / align} align (omega arith) in
-          absurd (omega (arith, more))
-      | inr most ↦ omega (arith, quotient, mul-le-mul_right align most)
-    ]
+least_place-below v align k positive above = grind (arith, common_steps, least_place-quotient, div-add-mod')
 
 -- the least place is the least multiple that isn't below the number
 pub least_place-is : (v align : ℕ) → 0 < align → IsLeastPlace v align (least_place v align)
@@ -64,23 +53,15 @@ least_place-is v align positive = record {
 
 -- there is one least multiple alone
 pub least_place-unique : (v align p : ℕ) → 0 < align → IsLeastPlace v align p → p ≡ least_place v align
-least_place-unique v align p positive is =
-    let place = least_place-is v align positive in
-    let low = is.least place.multiple.0 (omega (arith, place.above, place.multiple.1)) in
-    let high = place.least is.multiple.0 (omega (arith, is.above, is.multiple.1)) in
-    omega (arith, low, high, place.multiple.1, is.multiple.1)
+least_place-unique v align p positive is = grind (arith, common_steps, least_place-is)
 
 -- the least place has no rest
 pub least_place-multiple : (v align : ℕ) → 0 < align → least_place v align % align ≡ 0
-least_place-multiple v align positive =
-    let place = least_place-is v align positive in
-    rest_of (least_place v align) place.multiple.0 align 0 (omega (arith, place.multiple.1)) positive
+least_place-multiple v align positive = grind (arith, common_steps, least_place-is, rest_of)
 
 -- a multiple that is less than an alignment above the number isn't above the least place
 pub least_place-beyond : (v align k : ℕ) → 0 < align → k * align ≤ v + (align - 1) → k * align ≤ least_place v align
-least_place-beyond v align k positive near =
-    let most = le-div k (v + (align - 1)) align positive near in
-    omega (arith, least_place-quotient v align positive, mul-le-mul_right align most)
+least_place-beyond v align k positive near = grind (arith, common_steps, le-div, least_place-quotient, mul-le-mul_right)
 
 -- the address before the least place has the low bits of the mask set, and the others of the address before the number
 pub least_place-behind : (v align : ℕ) → IsPowerOfTwo align → 0 < v → bit_or (v - 1) (align - 1) + 1 ≡ least_place v align

@@ -109,11 +109,7 @@ StandsFor-push region position live chunk stands after below =
 
 -- nothing is live
 pub StandsFor-empty : (region : Region) → StandsFor region 0 []
-StandsFor-empty region = record {
-  sound = sound_from_order region region.start [] (omega arith) tt (omega arith);
-  in_order = tt;
-  used = omega arith;
-}
+StandsFor-empty region = grind arith
 
 -- a position inside the region stands for the list of nothing, or of one chunk that is all of what is used
 pub stands_for_some : (region : Region) (position : ℕ) → position ≤ region.size →

@@ -1,5 +1,6 @@
 -- Where the buckets of a pool are.
-use Rattle.std.proofs.Common.{◌≡◌, ◌≢◌, ℕ, ◌+◌, ◌-◌, ◌*◌, ◌/◌, ◌%◌, ◌<◌, ◌≤◌, ap, sym, ◌∙◌, arith, inl, inr, mul-le-mul_right}
+use Rattle.std.proofs.lemmas.Grind.{common_steps}
+use Rattle.std.proofs.Common.{◌≡◌, ◌≢◌, ℕ, ◌+◌, ◌-◌, ◌*◌, ◌/◌, ◌%◌, ◌<◌, ◌≤◌, ap, sym, ◌∙◌, arith, mul-le-mul_right}
 use Rattle.std.proofs.lemmas.Bool.{cases_lt}
 use Rattle.std.proofs.lemmas.Nat.{le-div, div-add-mod', mod-mul-add}
 use Rattle.std.proofs.Math.Nat.{mul_assoc, mul-add-mod_self_right}
@@ -23,26 +24,12 @@ bucket_place-after geometry i j below = omega (arith, mul-le-mul_right {m = i + 
 -- two buckets have different places
 pub bucket_place-apart : (geometry : PoolGeometry) → IsPoolGeometry geometry → (i j : ℕ) → i ≢ j →
     bucket_place geometry i ≢ bucket_place geometry j
-bucket_place-apart geometry is i j apart same =
-    let wide = stride-above geometry.bucket in
-    elim (cases_lt i j) [
-      | inl below ↦ omega (arith, bucket_place-after geometry i j below, is.filled, wide, same)
-      | inr above ↦
-          let more : j < i = omega arith in
-          omega (arith, bucket_place-after geometry j i more, is.filled, wide, same)
-    ]
+bucket_place-apart geometry is i j apart same = grind (arith, common_steps, stride-above, cases_lt, bucket_place-after)
 
 -- the buckets that a region has room for are those below a quotient
 pub room-quotient : (region : Region) (bucket : Layout) → 0 < bucket.size →
     FillsRegion (pool_geometry region bucket ((region_end region - first_place region bucket) / stride bucket))
-room-quotient region bucket filled i =
-    let positive : 0 < stride bucket = omega (arith, stride-above bucket) in
-    let room : ℕ = region_end region - first_place region bucket in (
-      λ below.
-          let least = mul-le-mul_right {m = i + 1} {n = room / stride bucket} (stride bucket) (omega arith) in
-          omega (arith, least, div-add-mod' room (stride bucket)),
-      λ fits. omega (arith, le-div (i + 1) room (stride bucket) positive (omega arith)),
-    )
+room-quotient region bucket filled i = grind (arith, common_steps, stride-above, mul-le-mul_right, div-add-mod', le-div)
 
 -- each region has a geometry with just the buckets that it has room for
 pub some_geometry : (region : Region) (bucket : Layout) → 0 < bucket.size →

@@ -146,10 +146,7 @@ count_at-push_other place live chunk apart = omega (arith, count_at-append place
 
 count_at-without : (place q position : ℕ) (live : List Chunk) → IsAt live position q →
     count_at place (remove live position) + one_if (q == place) ≡ count_at place live
-count_at-without place q position [] at = absurd (nothing_there position at)
-  where
-    nothing_there : (position : ℕ) → IsAt [] position q → ⊥
-    nothing_there position at = let e = at.there in cc
+count_at-without place q position [] at = grind arith
 count_at-without place q zero (c ∷ live) at =
     let placed = ap (λ (x : Chunk). x.place) (same_Some c at.chunk at.there) ∙ at.placed in
     omega (arith, ap (λ (n : ℕ). one_if (n == place)) placed)

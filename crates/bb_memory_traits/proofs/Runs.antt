@@ -1,12 +1,11 @@
 -- Runs, one step longer, and what each step of one keeps.
-use Rattle.std.proofs.Common.{◌≡◌, ℕ, zero, suc, List, [], ◌∷◌, ◌++◌, length, refl, sym, ap, ◌∙◌, subst, arith}
+use Rattle.std.proofs.lemmas.Grind.{common_steps}
+use Rattle.std.proofs.Common.{◌≡◌, ℕ, zero, suc, List, [], ◌∷◌, ◌++◌, length, refl, sym, ap, subst, arith}
 use Rattle.std.proofs.lemmas.List.Sums.{fold_push}
 use Rattle.std.specs.Prelude.{Result}
 use Rattle.bb_memory_traits.specs.Chunk.{AllocationError, Chunk, Layout}
-use Rattle.bb_memory_traits.specs.Object.{AllocatorStep, IsRun, EachGiven, note_after_command, note_after_run}
-use Rattle.bb_memory_traits.specs.declared.allocator.Command.{Command}
+use Rattle.bb_memory_traits.specs.Object.{AllocatorStep, IsRun, EachGiven, note_after_command, note_after_run, Command, Reply}
 use Rattle.bb_memory_traits.specs.declared.allocator.Command.TheVariants.{Allocate}
-use Rattle.bb_memory_traits.specs.declared.allocator.Reply.{Reply}
 use Rattle.bb_memory_traits.specs.declared.allocator.Reply.TheVariants as reply
 
 -- a run goes on by one step
@@ -46,9 +45,7 @@ IsRun-keeps step P keeps old new (c ∷ commands) [] holds none = absurd none
 pub note-push : {Note : Type 0} (after : Layout → Note → Note) (old : Note) (commands : List Command) (mid new : Note)
     (command : Command) → mid ≡ note_after_run after old commands → new ≡ note_after_command after mid command →
     new ≡ note_after_run after old (commands ++ command ∷ [])
-note-push after old commands mid new command so_far last =
-    last ∙ ap (λ note. note_after_command after note command) so_far
-    ∙ sym (fold_push (note_after_command after) old commands command)
+note-push after old commands mid new command so_far last = grind (arith, common_steps, fold_push)
 
 -- what is said of each chunk that was given, of one command more
 pub EachGiven-push : (Suits : Layout → Chunk → Type 0) (commands : List Command) (replies : List Reply)

@@ -2,12 +2,12 @@
 use Rattle.std.specs.Prelude.{◌≡◌, ℕ, ◌<◌, Bool, true, false, List, [], ◌∷◌, ◌++◌, length, remove, Result, Ok, Err, ◌+◌, ◌≤◌}
 use Rattle.std.specs.Prelude.{fold, Some, slice_get, Vec, vec_len, vec_capacity, IfOk, OnOk, OnErr, ◌≢◌, ◌%◌, AllPairs, slice_set}
 use Rattle.bb_memory_traits.specs.Chunk.{Chunk, Layout, AllocationError, Region, Fits, IsSound}
-use Rattle.bb_memory_traits.specs.declared.allocator.Command.{Command}
 use Rattle.bb_memory_traits.specs.declared.allocator.Command.TheVariants.{Allocate, Release, Grow, Shrink}
-use Rattle.bb_memory_traits.specs.declared.allocator.Reply.{Reply}
+pub use Rattle.bb_memory_traits.specs.declared.allocator.Command.{Command}
+pub use Rattle.bb_memory_traits.specs.declared.allocator.Reply.{Reply}
 use Rattle.bb_memory_traits.specs.declared.allocator.Reply.TheVariants as reply
-use Rattle.bb_memory_traits.specs.declared.allocator.AllocationGrowError.{AllocationGrowError}
-use Rattle.bb_memory_traits.specs.declared.allocator.AllocationShrinkError.{AllocationShrinkError}
+pub use Rattle.bb_memory_traits.specs.declared.allocator.AllocationGrowError.{AllocationGrowError}
+pub use Rattle.bb_memory_traits.specs.declared.allocator.AllocationShrinkError.{AllocationShrinkError}
 
 pub record Object : Type 1 where
   -- a release gives back all chunks at once, or one

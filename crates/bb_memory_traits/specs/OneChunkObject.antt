@@ -2,10 +2,8 @@
 use Rattle.std.specs.Prelude.{◌≡◌, ◌≢◌, ℕ, ◌+◌, ◌-◌, ◌≤◌, ◌<◌, ◌⊎◌, List, [], Result, Ok, Err}
 use Rattle.bb_memory_traits.specs.Chunk.{Region, region_end, Chunk, Layout, AllocationError, SizeIsZero, SizeTooLarge}
 use Rattle.bb_memory_traits.specs.Chunk.{AlignmentFailure, OutOfMemory, first_place}
-use Rattle.bb_memory_traits.specs.Object.{ResizableObject, resizable_object_of}
-use Rattle.bb_memory_traits.specs.declared.allocator.AllocationGrowError.{AllocationGrowError}
+use Rattle.bb_memory_traits.specs.Object.{ResizableObject, resizable_object_of, AllocationGrowError, AllocationShrinkError}
 use Rattle.bb_memory_traits.specs.declared.allocator.AllocationGrowError.TheVariants as grow
-use Rattle.bb_memory_traits.specs.declared.allocator.AllocationShrinkError.{AllocationShrinkError}
 use Rattle.bb_memory_traits.specs.declared.allocator.AllocationShrinkError.TheVariants as shrink
 
 -- how much there is from a place to the region's end

@@ -1,7 +1,7 @@
 -- Promises of calls that ask for a chunk or for a longer one: all that `allocate` and `grow` say.
 use Rattle.std.specs.Prelude.{◌≡◌, ℕ, ◌%◌, ◌<◌, ◌≤◌, List, [], ◌∷◌, ◌++◌, Some, Result, IfOk, OnErr, slice_get, slice_set}
 use Rattle.bb_memory_traits.specs.Chunk.{Region, Chunk, IsInside, Layout, AllocationError, Fits}
-use Rattle.bb_memory_traits.specs.declared.allocator.AllocationGrowError.{AllocationGrowError}
+use Rattle.bb_memory_traits.specs.Object.{AllocationGrowError}
 
 -- `old` was asked for a chunk of the layout, gave this answer, and is `new` then. The words are those of `BaseAllocator`.
 pub record Requested {Allocator Geometry Note : Type 0} (stands_for : Allocator → List Chunk → Type 0)

@@ -1,4 +1,11 @@
 //! The promises of allocators over a region, and runs of commands over any of them.
+ghost use Rattle.std.specs.Prelude.{◌≡◌, ◌∷◌, ◌++◌, ◌≤◌, ◌%◌, ℕ, Some, [], List, Result, Ok, Bool, IfOk, OnErr, slice_get, ◌<◌};
+ghost use Rattle.std.specs.Prelude.{false, slice_set};
+ghost use Rattle.bb_memory_traits.specs.Chunk.{Region, IsRegion, Chunk, IsInside, Layout, AllocationError, IsSound};
+ghost use Rattle.bb_memory_traits.specs.Object.{released, PlacesDiffer, AllocationGrowError, AllocationShrinkError};
+ghost use Rattle.bb_memory_traits.specs.Request.{Requested, Grown};
+ghost use Rattle.bb_memory_traits.specs.HeldBytes.{held_region, ZeroesAnswered, part_behind};
+
 mod run;
 
 use crate::layout::{Chunk, Layout};
@@ -92,12 +99,6 @@ pub enum Reply {
 /// The answers that it may give are stated by an object that holds live chunks alone (`geometry`, `may_allocate`), so that a
 /// crate may bring an allocator with an object of its own.
 pub trait BaseAllocator {
-    ghost use Rattle.std.specs.Prelude.{◌≡◌, ◌∷◌, ◌++◌, ◌≤◌, ◌%◌, ℕ, Some, [], List, Result, Ok, Bool, IfOk, OnErr, slice_get};
-    ghost use Rattle.bb_memory_traits.specs.Chunk.{Region, IsRegion, Chunk, IsInside, Layout, AllocationError, IsSound};
-    ghost use Rattle.bb_memory_traits.specs.Object.{released};
-    ghost use Rattle.bb_memory_traits.specs.Request.{Requested};
-    ghost use Rattle.bb_memory_traits.specs.HeldBytes.{held_region, ZeroesAnswered};
-
     /// True where a release gives back all chunks at once.
     const RELEASE_EMPTIES: bool;
 
@@ -213,14 +214,6 @@ pub trait BaseAllocator {
 /// chunks of a list that it stands for have the same place. A resize never changes the allocator: what may be used of
 /// the part that is reserved for a chunk is told by the answer alone.
 pub trait Allocator: BaseAllocator {
-    ghost use Rattle.std.specs.Prelude.{◌≡◌, ◌<◌, ◌≤◌, ◌%◌, ℕ, false, List, Some, Result, IfOk, OnErr, slice_get, slice_set};
-    ghost use Rattle.bb_memory_traits.specs.Chunk.{Chunk, IsInside, Layout};
-    ghost use Rattle.bb_memory_traits.specs.HeldBytes.{held_region, part_behind, ZeroesAnswered};
-    ghost use Rattle.bb_memory_traits.specs.Request.{Grown};
-    ghost use Rattle.bb_memory_traits.specs.Object.{PlacesDiffer};
-    ghost use Rattle.bb_memory_traits.specs.declared.allocator.AllocationGrowError.{AllocationGrowError};
-    ghost use Rattle.bb_memory_traits.specs.declared.allocator.AllocationShrinkError.{AllocationShrinkError};
-
     /// The figures that the answers to resizes depend on. The geometry fixes them, by the law `fixed`.
     ghost Figures: { Type 0 };
 

@@ -3,14 +3,12 @@ use Rattle.std.proofs.Common.{◌≡◌, ℕ, ◌-◌, ◌<◌, refl, sym, subst
 use Rattle.bb_memory_traits.specs.Chunk.{Chunk}
 use Rattle.loan_book.specs.declared.error.LoanError.TheVariants.{Size, IdsExhausted, Memory, Allocation}
 use Rattle.loan_book.specs.declared.error.LoanError.TheVariants.{UnknownSample, AlreadyPublished, NoReaders}
-use Rattle.loan_book.specs.declared.run.LoanCall.{LoanCall}
-use Rattle.loan_book.specs.declared.run.LoanCall.TheVariants as call
-use Rattle.loan_book.specs.declared.run.LoanReply.{LoanReply}
-use Rattle.loan_book.specs.declared.run.LoanReply.TheVariants as reply
+use Rattle.loan_book.specs.Calls.{LoanCall, LoanReply, Answers, with_sample, with_returns, without, BookStep, id_of}
 use Rattle.loan_book.specs.Book.{Sample, returns_to_come, Book, IsBook, IsAt, IsOut}
-use Rattle.loan_book.specs.Calls.{Answers, with_sample, with_returns, without, BookStep, id_of}
 use Rattle.loan_book.proofs.Books.{IsBook-push, IsBook-set, IsBook-remove}
 use Rattle.std.proofs.lemmas.Option.{slice_get_within}
+use Rattle.loan_book.specs.declared.run.LoanCall.TheVariants as call
+use Rattle.loan_book.specs.declared.run.LoanReply.TheVariants as reply
 
 -- a call that gives back a sample that is out
 abbrev pub Returns : Book → LoanCall → Type 0

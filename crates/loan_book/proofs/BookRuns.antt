@@ -1,4 +1,5 @@
 -- What a run of calls does to one sample: to one that is out before, and to one that a call of the run loans or publishes.
+use Rattle.std.proofs.lemmas.Grind.{common_steps}
 use Rattle.std.proofs.Common.{◌≡◌, ◌≢◌, ℕ, zero, suc, ◌+◌, ◌-◌, ◌<◌, Bool, true, false, cond, List, [], ◌∷◌, drop, slice_get}
 use Rattle.std.proofs.Common.{refl, ap, sym, ◌∙◌, subst, arith, Option, None, Some}
 use Rattle.std.specs.Prelude.{◌↔◌}
@@ -6,16 +7,15 @@ use Rattle.std.proofs.lemmas.Bool.Decides.{nat_tests}
 use Rattle.std.proofs.lemmas.List.Sums.{sum_by-cons}
 use Rattle.bb_memory_traits.specs.Chunk.{Chunk}
 use Rattle.bb_memory_traits.specs.Object.{IsRun}
-use Rattle.loan_book.specs.declared.run.LoanCall.{LoanCall}
-use Rattle.loan_book.specs.declared.run.LoanCall.TheVariants as call
-use Rattle.loan_book.specs.declared.run.LoanReply.{LoanReply}
-use Rattle.loan_book.specs.declared.run.LoanReply.TheVariants as reply
+use Rattle.loan_book.specs.Calls.{LoanCall, LoanReply, Answers, with_returns, without, BookStep, is_return_of, returns_in}
+use Rattle.loan_book.specs.Calls.{is_publish_of, publishes_in}
 use Rattle.loan_book.specs.Book.{returns_to_come, Book, IsBook, IsAt, IsOut, HasReturns, IsUnpublished}
-use Rattle.loan_book.specs.Calls.{Answers, with_returns, without, BookStep, is_return_of, returns_in, is_publish_of, publishes_in}
 use Rattle.loan_book.proofs.Books.{sample-waits}
 use Rattle.loan_book.proofs.BookLeads.{Change, no_change, one_loan, one_publish, one_less, last_one, change_of, step-sound}
 use Rattle.loan_book.proofs.BookSteps.{HasOrIsGone, push-keeps, set-keeps, own-set, own-push, own-remove, remove-keeps}
 use Rattle.loan_book.proofs.BookSteps.{one_returns}
+use Rattle.loan_book.specs.declared.run.LoanCall.TheVariants as call
+use Rattle.loan_book.specs.declared.run.LoanReply.TheVariants as reply
 
 -- how often a call counts
 abbrev once : Bool → ℕ
@@ -59,9 +59,7 @@ module _ (old : Book) (is : IsBook old) (id : ℕ) where
   -- a return of the sample itself, which is out
   change-own : {new : Book} {made : LoanCall} {told : LoanReply} (returns : Option ℕ) → Change old made told new →
       is_return_of id made ≡ true → HasReturns old id returns → HasOrIsGone new id (after (returns_to_come returns - 1))
-  change-own returns (no_change (call.GiveBack other) told no_id none) own has =
-      let same : other ≡ id = grind (arith, nat_tests) in
-      absurd (none (subst (IsOut old) (sym same) (has.0, has.1, has.2)))
+  change-own returns (no_change (call.GiveBack other) told no_id none) own has = grind arith
   change-own returns (no_change made told no_id none) own has = cc
   change-own returns (one_loan size given chunk numbered) own has = cc
   change-own returns (one_publish other readers i sample at unpublished some) own has = cc
@@ -143,9 +141,7 @@ module _ (may : Answers) (new : Book) (id : ℕ) where
       let one : once (is_return_of id made) ≡ 1 = ap once own in
       (λ out. let some = still.0 out in absurd (omega arith), λ nothing. absurd (omega arith))
   run-first old mid made calls told replies is unpublished step rest none further false true other own =
-      let counted = sum_by-cons (λ x. once (is_publish_of id x)) made calls in
-      let one : once (is_publish_of id made) ≡ 1 = ap once own in
-      absurd (omega arith)
+      grind (arith, common_steps, sum_by-cons)
   run-first old mid made calls told replies is unpublished step rest none further false false other another =
       let publishes = sum_by-cons (λ x. once (is_publish_of id x)) made calls in
       let returns = sum_by-cons (λ x. once (is_return_of id x)) made calls in
@@ -184,9 +180,11 @@ module _ (may : Answers) (new : Book) (id : ℕ) where
       run-returns mid calls replies readers (step-sound may old mid made told is step)
       (subst (λ book. HasReturns book id (Some readers)) (sym set) (own-set old id position sample readers at)) rest
   run-published old (made ∷ calls) (told ∷ replies) (suc i) readers is (mid, step, rest) called replied =
-      let next : suc i + 1 ≡ suc (i + 1) = omega arith in
-      subst (λ k. IsOut new id ↔ (returns_in id (drop k (made ∷ calls)) < readers)) (sym next)
-      (run-published mid calls replies i readers (step-sound may old mid made told is step) rest called replied)
+      grind (
+        arith,
+        common_steps,
+        run-published mid calls replies i readers (step-sound may old mid made told is step) rest called replied,
+      )
 
   -- a reply that loans is one to a request
   loaned-step : (old mid : Book) (made : LoanCall) (calls : List LoanCall) (replies : List LoanReply) (chunk : Chunk) →
@@ -204,9 +202,7 @@ module _ (may : Answers) (new : Book) (id : ℕ) where
   run-loaned old calls [] i chunk is run replied none = absurd (cc)
   run-loaned old [] (told ∷ replies) i chunk is run replied none = absurd run
   run-loaned old (made ∷ calls) (told ∷ replies) zero chunk is (mid, step, rest) replied none =
-      let its_reply : told ≡ reply.Loaned id chunk = cc in
-      loaned-step old mid made calls replies chunk (step-sound may old mid made told is step)
-      (subst (λ (k : LoanReply). BookStep may old made k mid) its_reply step) none rest
+      grind (arith, common_steps, loaned-step, step-sound)
   run-loaned old (made ∷ calls) (told ∷ replies) (suc i) chunk is (mid, step, rest) replied none =
       let next : suc i + 1 ≡ suc (i + 1) = omega arith in
       let none_behind = subst (λ k. publishes_in id (drop k (made ∷ calls)) ≡ 0) next none in

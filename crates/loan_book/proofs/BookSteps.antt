@@ -1,12 +1,13 @@
 -- What a step of a book keeps, and what it does to one sample.
-use Rattle.std.proofs.Common.{◌≡◌, ◌≢◌, ℕ, ◌<◌, length, refl, ap, sym, ◌∙◌, subst, arith, Some, None, Option, inl, inr}
+use Rattle.std.proofs.lemmas.Grind.{common_steps}
+use Rattle.std.proofs.Common.{◌≡◌, ◌≢◌, ℕ, ◌<◌, length, refl, ap, sym, ◌∙◌, subst, arith, Some, None, Option}
 use Rattle.std.specs.Prelude.{slice_get}
 use Rattle.std.proofs.lemmas.Option.{slice_get_within, get_or_from_slice_get}
 use Rattle.bb_memory_traits.specs.Chunk.{Chunk}
 use Rattle.bb_memory_lists.proofs.SliceGets.{slice_get-set, slice_get-set_other, slice_get-set_same}
+use Rattle.bb_memory_lists.proofs.SliceGets.{slice_get-last, slice_get-push, slice_get-pushed}
 use Rattle.loan_book.specs.Book.{Sample, Book, IsBook, IsAt, IsOut, HasReturns, IsPublished, IsUnpublished}
 use Rattle.loan_book.specs.Calls.{with_sample, with_returns, without}
-use Rattle.bb_memory_lists.proofs.SliceGets.{slice_get-last, slice_get-push, slice_get-pushed}
 use Rattle.bb_memory_lists.proofs.Positions.{slice_get-removed, slice_get-unremoved}
 
 -- a sample of one id is before no other sample of that id
@@ -61,14 +62,7 @@ HasOrIsGone book id (Some returns) = HasReturns book id returns
 -- one more sample
 pub push-keeps : (book : Book) (chunk : Chunk) (id : ℕ) (left : Option (Option ℕ)) → HasOrIsGone book id left →
     HasOrIsGone (with_sample book chunk) id left
-push-keeps book chunk id None (gone, used) = (
-  λ (i, sample, there). let fresh : Sample = record { id = book.loaned; chunk = chunk; returns = None } in
-      elim (slice_get-pushed book.out i sample fresh there.at) [
-        | inl old ↦ gone (i, sample, record { at = old; has_id = there.has_id })
-        | inr new ↦ let numbered = ap (λ (s : Sample). s.id) new in omega (arith, there.has_id)
-      ],
-  omega arith,
-)
+push-keeps book chunk id None (gone, used) = grind (arith, common_steps, slice_get-pushed)
 push-keeps book chunk id (Some left) (i, sample, here, waits) =
     let fresh : Sample = record { id = book.loaned; chunk = chunk; returns = None } in
     (i, sample, record { at = slice_get-push book.out i sample fresh here.at; has_id = here.has_id }, waits)
@@ -82,12 +76,7 @@ own-push book id chunk its_id =
 -- a sample that is out after a change of one was out before it
 was_out_before_set : (book : Book) (id other position : ℕ) (sample : Sample) (returns : ℕ) → IsAt book other position sample →
     IsOut (with_returns book position sample returns) id → IsOut book id
-was_out_before_set book id other position sample returns here (i, found, there) =
-    let waiting : Sample = record sample { returns = Some returns } in
-    elim (slice_get-set book.out position i waiting found there.at) [
-      | inl old ↦ (i, found, record { at = old; has_id = there.has_id })
-      | inr (same, new) ↦ (position, sample, record { at = here.at; has_id = ap (λ (s : Sample). s.id) new ∙ there.has_id })
-    ]
+was_out_before_set book id other position sample returns here (i, found, there) = grind (arith, common_steps, slice_get-set)
 
 -- another sample is set
 pub set-keeps : (book : Book) (id other position : ℕ) (sample : Sample) (returns : ℕ) (left : Option (Option ℕ)) →

@@ -1,4 +1,5 @@
 -- Books: the chunks of their samples, what each change keeps, and that the allocator stands for the chunks that are out.
+use Rattle.std.proofs.lemmas.Grind.{common_steps}
 use Rattle.std.proofs.Common.{◌≡◌, ℕ, suc, ◌+◌, ◌<◌, ◌^◌, true, false, List, [], ◌∷◌, ◌++◌, length, get_or, take, drop}
 use Rattle.std.proofs.Common.{refl, ap, sym, subst, ◌∙◌, arith, Option, Some, None}
 use Rattle.std.specs.Prelude.{slice_get, slice_set, map, remove}
@@ -50,16 +51,7 @@ sample-waits book position sample is at =
     subst (λ (s : Sample). 0 < returns_to_come s.returns) (get_or_from_slice_get book.out position sample sample at) waits
 
 pub IsBook-push : (book : Book) (chunk : Chunk) → IsBook book → IsBook (with_sample book chunk)
-IsBook-push book chunk is =
-    let sample : Sample = record { id = book.loaned; chunk = chunk; returns = None } in
-    record {
-      rising = all_pairs_push (λ one other. one.id < other.id) book.out sample is.rising is.loaned;
-      loaned = All-push (λ s. s.id < book.loaned + 1) book.out sample
-          (All-weaker (λ s. s.id < book.loaned) (λ s. s.id < book.loaned + 1)
-          (λ s below. omega (arith, below)) book.out is.loaned)
-          (omega arith);
-      waiting = All-push (λ s. 0 < returns_to_come s.returns) book.out sample is.waiting (omega arith);
-    }
+IsBook-push book chunk is = grind (arith, common_steps, all_pairs_push, All-push, All-weaker)
 
 pub IsBook-set : (book : Book) (position : ℕ) (sample : Sample) (returns : ℕ) → slice_get book.out position ≡ Some sample →
     0 < returns → IsBook book → IsBook (with_returns book position sample returns)
@@ -118,14 +110,7 @@ module _ {A : Type 0} (stands_for : A → List Chunk → Type 0) where
       IsLoanBook stands_for allocator next out → stands_for left (chunks_of out ++ chunk ∷ []) →
       IsLoanBook stands_for left after new
   IsLoanBook-loaned allocator left next after out new id chunk was goes_on pushed is stands =
-      let book : Book = record { loaned = id; out = out } in
-      let is_book : IsBook book = subst (λ (n : Option ℕ). IsBook (book_of n out)) was is.book in
-      let one_more = next_loaned id after (is.next_fits id was) goes_on in
-      rw pushed (record {
-        stands = subst (stands_for left) (sym (chunks-push out (fresh_sample id chunk))) stands;
-        book = rw one_more (IsBook-push book chunk is_book);
-        next_fits = next_fits id after goes_on;
-      })
+      grind (arith, common_steps, next_fits)
 
   pub IsLoanBook-set : (allocator : A) (next : Option ℕ) (out : List Sample) (position : ℕ) (sample : Sample) (returns : ℕ) →
       slice_get out position ≡ Some sample → 0 < returns → IsLoanBook stands_for allocator next out →

@@ -1,13 +1,12 @@
 -- Which ids a run of calls gives, and how many.
+use Rattle.std.proofs.lemmas.Grind.{common_steps}
 use Rattle.std.proofs.Common.{◌≡◌, ℕ, suc, ◌+◌, List, [], ◌∷◌, length, refl, ap, sym, subst, ◌∙◌, arith, add-zero, Option, None}
 use Rattle.std.proofs.Common.{Some}
 use Rattle.std.specs.List.{range_with_len, cons_option}
 use Rattle.std.proofs.lemmas.List.FromFn.{length-range_with_len}
 use Rattle.bb_memory_traits.specs.Object.{IsRun}
-use Rattle.loan_book.specs.declared.run.LoanCall.{LoanCall}
-use Rattle.loan_book.specs.declared.run.LoanReply.{LoanReply}
+use Rattle.loan_book.specs.Calls.{LoanCall, LoanReply, Answers, BookStep, id_of, ids_in}
 use Rattle.loan_book.specs.Book.{Book}
-use Rattle.loan_book.specs.Calls.{Answers, BookStep, id_of, ids_in}
 use Rattle.loan_book.proofs.BookLeads.{Change, no_change, one_loan, change_of}
 
 -- a call that gives an id gives the number of loans, and counts one; another leaves the number
@@ -46,7 +45,4 @@ count-run may_allocate old new (call ∷ calls) [] none = absurd none
 pub run-ids : (may_allocate : Answers) (old new : Book) (calls : List LoanCall) (replies : List LoanReply) →
     IsRun (BookStep may_allocate) old calls replies new →
     (new.loaned ≡ old.loaned + length (ids_in replies)) × (ids_in replies ≡ range_with_len old.loaned (length (ids_in replies)))
-run-ids may_allocate old new calls replies run =
-    let (n, counted, up) = count-run may_allocate old new calls replies run in
-    let many = sym (ap length up ∙ length-range_with_len old.loaned n) in
-    (counted ∙ ap (λ k. old.loaned + k) many, up ∙ ap (λ k. range_with_len old.loaned k) many)
+run-ids may_allocate old new calls replies run = grind (arith, common_steps, count-run, length-range_with_len)

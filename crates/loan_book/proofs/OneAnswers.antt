@@ -1,10 +1,10 @@
 -- Each call has one answer alone, or leads to one book at least.
-use Rattle.std.proofs.Common.{◌≡◌, ℕ, ◌<◌, ◌-◌, Bool, true, false, refl, ap, sym, ◌∙◌, subst, arith, Result, Ok, Err}
+use Rattle.std.proofs.lemmas.Grind.{common_steps}
+use Rattle.std.proofs.Common.{◌≡◌, ℕ, ◌<◌, Bool, true, false, refl, ap, sym, ◌∙◌, subst, arith, Result, Ok, Err}
 use Rattle.std.specs.Prelude.{◌↔◌}
 use Rattle.bb_memory_traits.specs.Chunk.{Chunk}
-use Rattle.loan_book.specs.declared.error.LoanError.{LoanError}
+use Rattle.loan_book.specs.Book.{LoanError, Sample, returns_to_come, Book, IsBook, IsAt, IsOut, IsPublished, IsUnpublished}
 use Rattle.loan_book.specs.declared.error.LoanError.TheVariants.{UnknownSample, AlreadyPublished, NoReaders}
-use Rattle.loan_book.specs.Book.{Sample, returns_to_come, Book, IsBook, IsAt, IsOut, IsPublished, IsUnpublished}
 use Rattle.loan_book.specs.Calls.{Answers, Loans, Publishes, GivesBack, with_returns, without}
 use Rattle.loan_book.proofs.BookSteps.{one_position, one_sample, unpublished-nowhere}
 
@@ -67,11 +67,8 @@ module _ (book : Book) (is : IsBook book) (id readers : ℕ) where
       let come = to_come i j sample found at there in absurd (omega arith)
   give-one (Ok false) (Ok true) new next (i, sample, at, more, same) (j, found, there, last, same_too) =
       let come = to_come i j sample found at there in absurd (omega arith)
-  give-one (Ok false) (Ok false) new next (i, sample, at, more, same) (j, found, there, more_too, same_too) = (
-    refl,
-    same ∙ ap (λ n. with_returns book i sample (n - 1)) (to_come i j sample found at there)
-        ∙ same-set i j (returns_to_come found.returns - 1) sample found at there ∙ sym same_too,
-  )
+  give-one (Ok false) (Ok false) new next (i, sample, at, more, same) (j, found, there, more_too, same_too) =
+      grind (arith, common_steps, to_come, same-set)
   give-one one other new next first second = grind (arith, first, second)
 
 -- each refusal comes exactly where its cause holds
@@ -87,9 +84,4 @@ publish-refusal book is id readers answer new step error =
 pub publish-one : (book : Book) (is : IsBook book) (id readers : ℕ) (one other : Result (Unit {0}) LoanError) (new next : Book) →
     Publishes book id readers one new → Publishes book id readers other next → (one ≡ other) × (new ≡ next)
 publish-one book is id readers one other new next first second =
-    let same = one-cause book is id readers one other (publish-cause book id readers one new first)
-    (publish-cause book id readers other next second) in (
-      same,
-      publish-one_book book is id readers one new next first
-          (subst (λ a. Publishes book id readers a next) (sym same) second),
-    )
+    grind (arith, common_steps, one-cause, publish-cause, publish-one_book)

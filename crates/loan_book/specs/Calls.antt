@@ -4,13 +4,12 @@ use Rattle.std.specs.Prelude.{Option, Some, None, Result, Ok, Err, remove, slice
 use Rattle.bb_memory_traits.specs.Chunk.{Chunk}
 use Rattle.bb_memory_traits.specs.declared.layout.Layout.{Layout}
 use Rattle.bb_memory_traits.specs.declared.allocator.AllocationError.{AllocationError}
-use Rattle.loan_book.specs.declared.error.LoanError.{LoanError}
-use Rattle.loan_book.specs.declared.error.LoanError.TheVariants as refused
-use Rattle.loan_book.specs.declared.run.LoanCall.{LoanCall}
-use Rattle.loan_book.specs.declared.run.LoanCall.TheVariants as call
-use Rattle.loan_book.specs.declared.run.LoanReply.{LoanReply}
+use Rattle.loan_book.specs.Book.{LoanError, Sample, returns_to_come, Book, chunks_out, IsAt, IsOut, IsPublished, IsUnpublished}
 use Rattle.loan_book.specs.declared.run.LoanReply.TheVariants.{Loaned, Published, Returned, Kept, Out, Refused}
-use Rattle.loan_book.specs.Book.{Sample, returns_to_come, Book, chunks_out, IsAt, IsOut, IsPublished, IsUnpublished}
+use Rattle.loan_book.specs.declared.error.LoanError.TheVariants as refused
+pub use Rattle.loan_book.specs.declared.run.LoanCall.{LoanCall}
+use Rattle.loan_book.specs.declared.run.LoanCall.TheVariants as call
+pub use Rattle.loan_book.specs.declared.run.LoanReply.{LoanReply}
 
 -- answers that an allocator may give to a request on a live list
 abbrev pub Answers : Type 1

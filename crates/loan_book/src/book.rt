@@ -2,9 +2,9 @@
 ghost use Rattle.std.specs.Prelude.{◌≡◌, ◌↔◌, ◌<◌, ◌≤◌, ◌^◌, ℕ, false, [], List, Result};
 ghost use Rattle.std.specs.Prelude.{length, slice_get, Some, IfErr, IfOk, OnOk, OnErr, IfSome, IfNone, IsTrue};
 ghost use Rattle.bb_memory_traits.specs.Chunk.{Chunk, IsSound};
-ghost use Rattle.loan_book.specs.declared.error.LoanError.{LoanError};
-ghost use Rattle.loan_book.specs.Book.{Sample, returns_to_come, Book, IsBook, chunks_out, IsAt, IsOut, HasReturns, IsPublished};
-ghost use Rattle.loan_book.specs.Book.{IsUnpublished, IsAllocators, IsAskedOnce, StillStands};
+ghost use Rattle.loan_book.specs.Book.{LoanError, Sample, returns_to_come, Book, IsBook, chunks_out, IsAt, IsOut, HasReturns};
+ghost use Rattle.loan_book.specs.Book.{IsPublished, IsUnpublished, IsAllocators, IsAskedOnce, StillStands, LoanBook, IsLoanBook};
+ghost use Rattle.loan_book.specs.Book.{book_of};
 ghost use Rattle.loan_book.specs.Calls.{Loans, Publishes, GivesBack, with_returns, without};
 
 use crate::error::LoanError;
@@ -39,8 +39,6 @@ pub struct LoanBook<A: Allocator> {
 }
 
 impl<A: Allocator> Model for LoanBook<A> {
-    ghost use Rattle.loan_book.specs.Book.{LoanBook, IsLoanBook, book_of};
-
     ghost Value = { LoanBook A };
 
     ghost view = { λ b. record { allocator = b.allocator; book = book_of b.next b.out.items } };

@@ -1,10 +1,7 @@
 //! Laws of every book and every answer. Nothing here does anything: each contract is a law.
 ghost use Rattle.std.specs.Prelude.{◌≡◌, ◌↔◌, ℕ, Bool, Result, IsTrue};
-ghost use Rattle.loan_book.specs.declared.error.LoanError.{LoanError};
-ghost use Rattle.loan_book.specs.declared.run.LoanCall.{LoanCall};
-ghost use Rattle.loan_book.specs.declared.run.LoanReply.{LoanReply};
-ghost use Rattle.loan_book.specs.Book.{Book, IsBook};
-ghost use Rattle.loan_book.specs.Calls.{Publishes, GivesBack};
+ghost use Rattle.loan_book.specs.Book.{LoanError, Book, IsBook};
+ghost use Rattle.loan_book.specs.Calls.{LoanCall, LoanReply, Publishes, GivesBack};
 
 use crate::error::LoanError;
 use crate::run::{LoanCall, LoanReply};

@@ -44,7 +44,6 @@ pub enum LoanReply {
     Refused(LoanError),
 }
 
-/// Makes one call.
 fn apply<A: Allocator>(book: &mut LoanBook<A>, call: LoanCall) -> LoanReply
     ensures step { BookStep (A.may_allocate (A.geometry book.old.allocator))
         book.old.book call result book.new.book }

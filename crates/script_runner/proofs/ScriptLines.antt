@@ -7,8 +7,7 @@ use Rattle.std.proofs.lemmas.List.Elements.{All-map, All-weaker}
 use Rattle.std.proofs.lemmas.Option.{none-some}
 use Rattle.script_words.proofs.LineWords.{words_same}
 use Rattle.script_words.specs.Words.{Words, AreWords}
-use Rattle.script_runner.specs.Scripts.{Rules, IsLine, line_text, IsLineText, IsFirstUnreadable}
-use Rattle.script_runner.specs.declared.engine.script.Line.{Line}
+use Rattle.script_runner.specs.Scripts.{Rules, IsLine, line_text, IsLineText, IsFirstUnreadable, Line}
 use Rattle.script_runner.specs.declared.engine.script.Line.TheVariants.{Command, Show}
 
 -- what stands after a list

@@ -4,9 +4,8 @@ use Rattle.std.proofs.Common.{drop, length, Option, Some, None, true, inl, inr, 
 use Rattle.std.specs.Io.KnownBytes.{Appends, Keeps}
 use Rattle.std.proofs.lemmas.List.{append_assoc, append-nil, take-append-drop, take_rest}
 use Rattle.script_runner.specs.Inputs.{Ends, IsAnswered, IsOutput, IsUnreadable, IsLeft}
-use Rattle.script_runner.specs.declared.status.Status.{Status}
+use Rattle.script_runner.specs.Scripts.{Status, AppendsPart, Sends}
 use Rattle.script_runner.specs.declared.status.Status.TheVariants.{Done, Unreadable, OutputFailed, OutOfMemory}
-use Rattle.script_runner.specs.Scripts.{AppendsPart, Sends}
 use Rattle.script_words.specs.Words.{unreadable_text}
 
 -- known bytes grow by no byte

@@ -9,10 +9,9 @@ use Rattle.std.proofs.lemmas.Slice.Eq.{bytes_eq-Decides}
 use Rattle.script_words.proofs.LineWords.{words_same}
 use Rattle.script_runner.specs.declared.engine.driving.Outcome.{Outcome}
 use Rattle.script_runner.specs.declared.engine.driving.Outcome.TheVariants.{Answered, Unreadable, OutOfMemory}
-use Rattle.script_runner.specs.declared.engine.script.Line.{Line}
-use Rattle.script_words.specs.Words.{Words, MayStand, AreWords, words_text}
-use Rattle.script_runner.specs.Scripts.{Rules, Kind, kind, SomeOf, header_words, is_new, IsLineText, IsFirstUnreadable}
+use Rattle.script_runner.specs.Scripts.{Line, Rules, Kind, kind, SomeOf, header_words, is_new, IsLineText, IsFirstUnreadable}
 use Rattle.script_runner.specs.Scripts.{AreScript, IsPlayed}
+use Rattle.script_words.specs.Words.{Words, MayStand, AreWords, words_text}
 use Rattle.script_runner.specs.Inputs.{HasHeader, IsScriptOf, IsAnsweredBy, IsOutcome, AreReadable, IsUnreadableAt}
 
 -- the first line is of this kind

@@ -10,8 +10,7 @@ use Rattle.bb_memory_pool_machine.specs.declared.steps.pool.Flag.{Flag}
 use Rattle.bb_memory_pool_machine.specs.declared.steps.pool.Flag.TheVariants.{Free}
 use Rattle.script_runner.specs.Steps.{holder_text}
 use Rattle.std.proofs.lemmas.Grind.{flat_map-append}
-use Rattle.script_runner.specs.Scripts.{Rules, IsStep, IsTold}
-use Rattle.script_runner.specs.declared.engine.script.Line.{Line}
+use Rattle.script_runner.specs.Scripts.{Rules, IsStep, IsTold, Line}
 
 -- the texts of one item more
 flat_map_push : {X : Type 0} (text_of : X → List ℕ) (before grown : List X) (item : X) → grown ≡ before ++ item ∷ []

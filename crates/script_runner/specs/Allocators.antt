@@ -3,28 +3,28 @@ use Rattle.std.specs.Fmt.{decimal}
 use Rattle.std.specs.Prelude.{ℕ, ◌≡◌, List, [], codes, length, true, ◌-◌, ◌++◌, Option, Some, None}
 use Rattle.bb_memory_traits.specs.BumpObject.{bump_object, StandsFor as BumpStandsFor}
 use Rattle.bb_memory_traits.specs.Chunk.{Chunk, IsRegion, region_at, first_place}
+use Rattle.bb_memory_traits.specs.declared.allocator.AllocationError.{AllocationError}
 use Rattle.bb_memory_traits.specs.OneChunkObject.{one_chunk_object}
 use Rattle.bb_memory_traits.specs.PoolObject.{PoolGeometry, IsCut, at_most, pool_object}
 use Rattle.bb_memory_traits.specs.Object.{ResizableStep, Step, IsRun}
-use Rattle.bb_memory_traits.specs.declared.allocator.AllocationError.{AllocationError}
-use Rattle.bb_memory_traits.specs.declared.allocator.AllocationError.TheVariants as refused
-use Rattle.bb_memory_traits.specs.declared.allocator.AllocationGrowError.TheVariants as grow
-use Rattle.bb_memory_traits.specs.declared.allocator.AllocationShrinkError.TheVariants as shrink
 use Rattle.bb_memory_traits.specs.declared.allocator.Command.{Command}
-use Rattle.bb_memory_traits.specs.declared.allocator.Command.TheVariants.{Allocate, Release, Grow, Shrink}
 use Rattle.bb_memory_traits.specs.declared.allocator.Reply.{Reply}
-use Rattle.bb_memory_traits.specs.declared.allocator.Reply.TheVariants as reply
+use Rattle.bb_memory_traits.specs.declared.allocator.Command.TheVariants.{Allocate, Release, Grow, Shrink}
 use Rattle.bb_memory_bump.specs.Bump.{Bump, bump_text}
 use Rattle.bb_memory_index_set.specs.IndexSets.{index_words}
 use Rattle.bb_memory_owned.specs.OneChunk.{OneChunk, StandsFor as OneChunkStandsFor}
 use Rattle.bb_memory_owned.specs.Pool.{Pool, StandsFor as PoolStandsFor, fresh_pool, CountedPool, counted, reads_after}
 use Rattle.bb_memory_geometry.specs.Geometry.{MayBeCut}
 use Rattle.script_words.specs.Words.{Words, words, words_then, region_of, bounds_numbers, name_line}
-use Rattle.script_runner.specs.Scripts.{Rules}
-use Rattle.script_runner.specs.declared.kinds.pool.PoolPlan.{PoolPlan}
 use Rattle.script_words.specs.declared.words.Bounds.{Bounds}
 use Rattle.script_words.specs.declared.words.Numbers.{Numbers}
+use Rattle.script_runner.specs.Scripts.{Rules}
+use Rattle.script_runner.specs.declared.kinds.pool.PoolPlan.{PoolPlan}
 use Rattle.script_words.specs.declared.words.Numbers.TheVariants.{One, Two, Five, Four}
+use Rattle.bb_memory_traits.specs.declared.allocator.AllocationError.TheVariants as refused
+use Rattle.bb_memory_traits.specs.declared.allocator.AllocationGrowError.TheVariants as grow
+use Rattle.bb_memory_traits.specs.declared.allocator.AllocationShrinkError.TheVariants as shrink
+use Rattle.bb_memory_traits.specs.declared.allocator.Reply.TheVariants as reply
 
 abbrev pub command_words : Command → Words
 command_words (Allocate layout) = words (codes "alloc") (Two layout.size layout.align)
@@ -78,12 +78,13 @@ live_rules rules = record {
   state_text = λ state. rules.state_text state.allocator (length state.live);
 }
 
--- the replies are a run of the bump object over the bump's region, and the bump stands for the list that the run leaves
-pub record BumpRuns (old : Bump) (live : List Chunk) (commands : List Command)
-    (replies : List Reply) (new : Bump) (left : List Chunk) : Type 0 where
-  pub run : IsRun (Step (bump_object old.region)) live commands replies left
-  pub region : new.region ≡ old.region
-  pub stands : BumpStandsFor new.region new.used left
+-- the replies are a run over the allocator's geometry, which stays, and the allocator stands for the list that the run leaves
+pub record Runs {A G : Type 0} (geometry_of : A → G) (Steps : G → List Chunk → Command → Reply → List Chunk → Type 0)
+    (stands_for : A → List Chunk → Type 0) (old : A) (live : List Chunk) (commands : List Command)
+    (replies : List Reply) (new : A) (left : List Chunk) : Type 0 where
+  pub run : IsRun (Steps (geometry_of old)) live commands replies left
+  pub geometry : geometry_of new ≡ geometry_of old
+  pub stands : stands_for new left
 
 abbrev pub bump_rules : AllocatorRules Bump Bounds
 bump_rules = record {
@@ -91,18 +92,11 @@ bump_rules = record {
   is_header = λ bounds. IsRegion (region_of bounds);
   header_numbers = bounds_numbers;
   starts = λ bounds bump. bump ≡ record { region = region_of bounds; used = 0 };
-  runs = BumpRuns;
+  runs = Runs (λ bump. bump.region) (λ region. Step (bump_object region)) (λ bump. BumpStandsFor bump.region bump.used);
   state_text = λ bump _. (bump_text bump ++ codes "\n") ++ (codes "used " ++ (decimal bump.used
       ++ (codes " free " ++ (decimal (bump.region.size - bump.used)
       ++ (codes " total " ++ (decimal bump.region.size ++ codes "\n"))))));
 }
-
--- the replies are a run of the one-chunk object over its region, and it stands for the list that the run leaves
-pub record OneChunkRuns (old : OneChunk) (live : List Chunk) (commands : List Command)
-    (replies : List Reply) (new : OneChunk) (left : List Chunk) : Type 0 where
-  pub run : IsRun (ResizableStep (one_chunk_object old.region)) live commands replies left
-  pub region : new.region ≡ old.region
-  pub stands : OneChunkStandsFor new left
 
 abbrev pub available_text : Option ℕ → List ℕ
 available_text None = codes " available yes\n"
@@ -114,7 +108,7 @@ one_chunk_rules = record {
   is_header = λ bounds. IsRegion (region_of bounds);
   header_numbers = bounds_numbers;
   starts = λ bounds one. one ≡ record { region = region_of bounds; kept = None };
-  runs = OneChunkRuns;
+  runs = Runs (λ one. one.region) (λ region. ResizableStep (one_chunk_object region)) OneChunkStandsFor;
   state_text = λ one _. codes "one start " ++ (decimal one.region.start
       ++ (codes " size " ++ (decimal one.region.size ++ available_text one.kept)));
 }
@@ -130,12 +124,8 @@ abbrev pub BeginsPool : PoolPlan → CountedPool → Type 0
 BeginsPool plan pool = (geometry : PoolGeometry) × IsCut (region_at plan.start plan.size) plan.bucket geometry
     × (pool ≡ counted (fresh_pool geometry) 0 0)
 
--- the replies are a run of the pool object over the pool's geometry, and the pool stands for the list that the run leaves
-pub record PoolRuns (old : Pool) (live : List Chunk) (commands : List Command)
-    (replies : List Reply) (new : Pool) (left : List Chunk) : Type 0 where
-  pub run : IsRun (ResizableStep (pool_object old.geometry)) live commands replies left
-  pub geometry : new.geometry ≡ old.geometry
-  pub stands : PoolStandsFor new left
+abbrev pub PoolRuns : Pool → List Chunk → List Command → List Reply → Pool → List Chunk → Type 0
+PoolRuns = Runs (λ pool. pool.geometry) (λ geometry. ResizableStep (pool_object geometry)) PoolStandsFor
 
 -- the replies are such a run, and what was read is what the last request among the commands reads, if there is one
 pub record CountedPoolRuns (old : CountedPool) (live : List Chunk) (commands : List Command)

@@ -1,16 +1,14 @@
 -- What is written of an input.
 use Rattle.std.specs.Io.KnownBytes.{Keeps, Appends}
 use Rattle.std.specs.Prelude.{ℕ, ◌≡◌, ◌≢◌, ◌-◌, ◌⊎◌, List, [], ◌∷◌, All, Option, IfSome, take}
-use Rattle.script_runner.specs.Scripts.{Kind, kind, SomeOf, header_words, Begins, AreScript, IsPlayed, IsLineText}
+use Rattle.script_runner.specs.Scripts.{Kind, kind, SomeOf, header_words, Begins, AreScript, IsPlayed, IsLineText, Line, Status}
 use Rattle.script_words.specs.Words.{MayStand, words_text, lines_of, unreadable_text}
 use Rattle.script_runner.specs.Allocators.{live_rules, bump_rules, one_chunk_rules, fixed_rules, pool_rules}
 use Rattle.script_runner.specs.Steps.{bump_step_rules, pool_step_rules}
 use Rattle.script_runner.specs.LoanPool.{loan_pool_rules}
 use Rattle.script_runner.specs.declared.engine.driving.Outcome.{Outcome}
-use Rattle.script_runner.specs.declared.engine.driving.Outcome.TheVariants as outcome
-use Rattle.script_runner.specs.declared.engine.script.Line.{Line}
-use Rattle.script_runner.specs.declared.status.Status.{Status}
 use Rattle.script_runner.specs.declared.status.Status.TheVariants.{Done, Unreadable, InputFailed, OutOfMemory, OutputFailed}
+use Rattle.script_runner.specs.declared.engine.driving.Outcome.TheVariants as outcome
 
 -- the lines are a first line of this kind, that says this of what is to be made, and the rest
 pub record HasHeader (kind : Kind) (lines : List (List ℕ)) (header : kind.Header) (rest : List (List ℕ)) : Type 0 where

@@ -5,11 +5,11 @@ use Rattle.std.specs.Prelude.{List, ◌⊎◌, [], ◌∷◌, ℕ, codes, Bool, 
 use Rattle.std.specs.Prelude.{map, slice_get, take, None}
 use Rattle.std.specs.Str.{bytes_eq}
 use Rattle.script_words.specs.Words.{Words, words, words_text, MayStand}
-use Rattle.script_runner.specs.declared.engine.script.Line.{Line}
-use Rattle.script_runner.specs.declared.engine.script.Line.TheVariants.{Command, Show}
-use Rattle.script_runner.specs.declared.status.Status.{Status}
-use Rattle.script_runner.specs.declared.status.Status.TheVariants.{Done, Unreadable, InputFailed, OutputFailed, OutOfMemory}
 use Rattle.script_words.specs.declared.words.Numbers.{Numbers}
+use Rattle.script_runner.specs.declared.engine.script.Line.TheVariants.{Command, Show}
+use Rattle.script_runner.specs.declared.status.Status.TheVariants.{Done, Unreadable, InputFailed, OutputFailed, OutOfMemory}
+pub use Rattle.script_runner.specs.declared.engine.script.Line.{Line}
+pub use Rattle.script_runner.specs.declared.status.Status.{Status}
 
 -- the rules of the scripts that drive what has states S, is made by headers O, and takes commands C, each with a reply R
 pub record Rules (S O C R : Type 0) : Type 1 where

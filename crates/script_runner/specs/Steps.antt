@@ -1,22 +1,22 @@
 -- Scripts that take the steps of a machine: of a bump, or of a pool.
 use Rattle.std.specs.List.{flat_map}
 use Rattle.std.specs.Prelude.{ℕ, ◌≡◌, List, codes, true, [], ◌++◌, ◌^◌, ◌<◌, ◌≤◌, Option, Some, None}
-use Rattle.bb_memory_bump_machine.specs.BumpWorld as bump_world
 use Rattle.bb_memory_traits.specs.Chunk.{IsRegion}
 use Rattle.bb_memory_pool_machine.specs.PoolMachine.{holder_in}
-use Rattle.bb_memory_pool_machine.specs.PoolWorld as pool_world
-use Rattle.bb_memory_bump_machine.specs.declared.steps.bump.BumpOutcome.{BumpOutcome}
-use Rattle.bb_memory_bump_machine.specs.declared.steps.bump.BumpOutcome.TheVariants as bump
-use Rattle.bb_memory_bump_machine.specs.declared.steps.bump.BumpStep.{BumpStep}
-use Rattle.bb_memory_bump_machine.specs.declared.steps.bump.BumpStep.TheVariants.{Read, Exchange, Load, Clear}
 use Rattle.bb_memory_pool_machine.specs.declared.steps.pool.PoolOutcome.{PoolOutcome}
-use Rattle.bb_memory_pool_machine.specs.declared.steps.pool.PoolOutcome.TheVariants as pool
 use Rattle.bb_memory_pool_machine.specs.declared.steps.pool.PoolStep.{PoolStep}
 use Rattle.bb_memory_pool_machine.specs.declared.steps.pool.PoolStep.TheVariants.{Try, GiveBack}
+use Rattle.bb_memory_bump_machine.specs.declared.steps.bump.BumpOutcome.{BumpOutcome}
+use Rattle.bb_memory_bump_machine.specs.declared.steps.bump.BumpStep.{BumpStep}
+use Rattle.bb_memory_bump_machine.specs.declared.steps.bump.BumpStep.TheVariants.{Read, Exchange, Load, Clear}
 use Rattle.script_words.specs.Words.{Words, words, words_then, IsParty, region_of, bounds_numbers, words_text, name_line}
-use Rattle.script_runner.specs.Scripts.{Rules}
 use Rattle.script_words.specs.declared.words.Bounds.{Bounds}
+use Rattle.script_runner.specs.Scripts.{Rules}
 use Rattle.script_words.specs.declared.words.Numbers.TheVariants.{Zero, One, Two, Three}
+use Rattle.bb_memory_bump_machine.specs.BumpWorld as bump_world
+use Rattle.bb_memory_pool_machine.specs.PoolWorld as pool_world
+use Rattle.bb_memory_bump_machine.specs.declared.steps.bump.BumpOutcome.TheVariants as bump
+use Rattle.bb_memory_pool_machine.specs.declared.steps.pool.PoolOutcome.TheVariants as pool
 
 -- the step's party is one of the parties
 abbrev pub IsBumpStep : BumpStep → Type 0

@@ -1,12 +1,13 @@
 //! The kinds of scripts.
+ghost use Rattle.std.specs.Prelude.{◌≡◌, ◌∷◌, List, true, []};
+ghost use Rattle.script_runner.specs.Inputs.{IsOutcome};
+ghost use Rattle.script_words.specs.Words.{words, words_text, MayStand, lines_of};
+ghost use Rattle.script_runner.specs.Scripts.{Kind, are_apart, kind};
 
 pub mod allocators;
-pub mod bump;
-pub mod bump_steps;
 pub mod loan_pool;
-pub mod one_chunk;
 pub mod pool;
-pub mod pool_steps;
+pub mod steps;
 
 use crate::engine::driving::{Driven, Outcome, drive};
 use crate::kinds::allocators::Live;
@@ -34,11 +35,6 @@ pub type AllKinds = (
 
 /// Kinds of scripts, one after another.
 pub trait Kinds {
-    ghost use Rattle.std.specs.Prelude.{◌≡◌, ◌∷◌, List, true};
-    ghost use Rattle.script_runner.specs.Inputs.{IsOutcome};
-    ghost use Rattle.script_words.specs.Words.{words, words_text, MayStand, lines_of};
-    ghost use Rattle.script_runner.specs.Scripts.{Kind, are_apart};
-
     ghost table: { List Kind };
 
     /// Checks and runs the script of a first line of these words and the bytes behind it.
@@ -49,8 +45,6 @@ pub trait Kinds {
 }
 
 impl Kinds for () {
-    ghost use Rattle.std.specs.Prelude.{[]};
-
     ghost table = { [] };
 
     fn run(_: Global, _: &[u8], _: Numbers, _: &[u8]) -> Outcome {
@@ -59,9 +53,6 @@ impl Kinds for () {
 }
 
 impl<K: Driven, Others: Kinds> Kinds for (K, Others) {
-    ghost use Rattle.std.specs.Prelude.{◌∷◌};
-    ghost use Rattle.script_runner.specs.Scripts.{kind};
-
     ghost table = { kind K.rules ∷ Others.table };
 
     fn run(alloc: Global, name: &[u8], numbers: Numbers, rest: &[u8]) -> Outcome {

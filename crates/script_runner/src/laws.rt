@@ -1,6 +1,6 @@
 //! Laws of every input and every status. Nothing here does anything: each contract is a law.
 ghost use Rattle.std.specs.Prelude.{◌≡◌, ◌↔◌, List, ℕ, IsTrue};
-ghost use Rattle.script_runner.specs.declared.status.Status.{Status};
+ghost use Rattle.script_runner.specs.Scripts.{Status};
 ghost use Rattle.script_words.specs.Words.{lines_of, AreLines};
 
 use crate::status::Status;

@@ -7,8 +7,7 @@
 //!   every input and every status.
 //! - `engine`, what all kinds of scripts share. `driving` says what a kind of script has to have, and runs a script of a kind;
 //!   `script` cuts the input into lines and reads them.
-//! - `kinds`, the table of the kinds and a file for each: the allocators, over what `allocators` shares; `bump_steps` and
-//!   `pool_steps`, the twins; `loan_pool`.
+//! - `kinds`, the table of the kinds: `allocators` and `pool`, `steps` for both machines, `loan_pool`.
 //!
 //! The words of a line are those of crate `script_words`.
 #![tactic(auto)]

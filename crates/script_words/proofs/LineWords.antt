@@ -1,4 +1,5 @@
 -- The words of a line: there is one way only to read them.
+use Rattle.std.proofs.lemmas.Grind.{common_steps}
 use Rattle.std.proofs.Common.{arith, false, ◌==◌, ◌≡◌, ◌≢◌, ℕ, ◌<◌, ◌^◌, List, [], ◌∷◌, ◌++◌, All, refl, sym, ap, ap₂, ◌∙◌}
 use Rattle.std.proofs.Common.{length, take, take_all, drop, ◌-◌}
 use Rattle.std.specs.Fmt.{decimal}
@@ -7,8 +8,7 @@ use Rattle.std.proofs.lemmas.List.{append_assoc, append-nil, get_or_default}
 use Rattle.std.proofs.lemmas.List.Elements.{All-tail}
 use Rattle.std.proofs.lemmas.Str.Parse.{digit_at}
 use Rattle.script_words.proofs.Numbers.{own}
-use Rattle.script_words.specs.Words.{Words, AreNumbers, AreWords, StartsWith, list_of, numbers_text}
-use Rattle.script_words.specs.declared.words.Numbers.{Numbers}
+use Rattle.script_words.specs.Words.{Words, AreNumbers, AreWords, StartsWith, list_of, numbers_text, Numbers}
 use Rattle.script_words.specs.declared.words.Numbers.TheVariants.{Zero, One, Two, Three, Four, Five}
 
 -- no byte of the text is this one
@@ -86,11 +86,7 @@ one_more : (ns all field after : List ℕ) → AreNumbers ns → AreNumbers all 
     → numbers_text all ≡ numbers_text ns ++ 32 ∷ (field ++ after)
     → (n : ℕ) × (n < 2 ^ 64) × (field ≡ decimal n) × (length ns < length all)
 one_more [] [] field after h h' w s e = absurd (cc)
-one_more [] (n ∷ all) field after h h' w s e =
-    let tails : decimal n ++ numbers_text all ≡ field ++ after = cc in
-    let parts =
-    split_same 32 (decimal n) field (numbers_text all) after (spaceless_decimal n h'.0) w (numbers_start all) s tails in
-    (n, h'.0, sym parts.0, omega arith)
+one_more [] (n ∷ all) field after h h' w s e = grind (arith, common_steps, split_same, spaceless_decimal, numbers_start)
 one_more (m ∷ ns) [] field after h h' w s e = absurd (cc)
 one_more (m ∷ ns) (n ∷ all) field after h h' w s e =
     let text : List ℕ = field ++ after in
@@ -136,10 +132,7 @@ space_first (b ∷ rest) front after s some e = ap₂ ◌∷◌ s (sym (take_all
 numbers_push : (ns : List ℕ) (n : ℕ) (after : List ℕ)
     → numbers_text ns ++ 32 ∷ (decimal n ++ after) ≡ numbers_text (ns ++ n ∷ []) ++ after
 numbers_push [] n after = ap (λ l. 32 ∷ (l ++ after)) (sym (append-nil (decimal n)))
-numbers_push (m ∷ ns) n after =
-    ap (λ l. 32 ∷ l) (append_assoc (decimal m) (numbers_text ns) (32 ∷ (decimal n ++ after))
-    ∙ (ap (λ l. decimal m ++ l) (numbers_push ns n after)
-    ∙ sym (append_assoc (decimal m) (numbers_text (ns ++ n ∷ [])) after)))
+numbers_push (m ∷ ns) n after = grind (arith, common_steps, numbers_push ns n after, append_assoc)
 
 -- and may be written
 AreNumbers-push : (ns : List ℕ) (n : ℕ) → AreNumbers ns → n < 2 ^ 64 → AreNumbers (ns ++ n ∷ [])

@@ -3,12 +3,12 @@ use Rattle.std.specs.Fmt.{decimal}
 use Rattle.std.specs.List.{flat_map, onto_first}
 use Rattle.std.specs.Prelude.{ℕ, ◌≡◌, ◌≢◌, ◌==◌, if◌then◌else◌, List, [], ◌∷◌, ◌++◌, All, Contains, ◌⊎◌, ◌^◌, ◌<◌, codes}
 use Rattle.bb_memory_traits.specs.Chunk.{Region, region_at}
-use Rattle.script_words.specs.declared.words.Bounds.{Bounds}
 use Rattle.script_words.specs.declared.words.Figure.{Figure}
-use Rattle.script_words.specs.declared.words.Numbers.{Numbers}
 use Rattle.script_words.specs.declared.words.Numbers.TheVariants.{Zero, One, Two, Three, Four, Five}
 use Rattle.script_words.specs.declared.words.Text.{Text}
 use Rattle.script_words.specs.declared.words.Text.TheVariants.{Name, Line, Refused}
+pub use Rattle.script_words.specs.declared.words.Bounds.{Bounds}
+pub use Rattle.script_words.specs.declared.words.Numbers.{Numbers}
 
 -- the lines of an input: a line feed ends each, and the last may do without
 abbrev pub lines_of : List ℕ → List (List ℕ)

@@ -16,7 +16,6 @@ use std::io::Write;
 /// The number of parties in scripts of steps.
 pub const PARTIES: u32 = 64;
 
-/// The numbers of a line.
 #[derive(Clone, Copy)]
 pub enum Numbers {
     Zero,
@@ -129,7 +128,6 @@ pub enum Text {
 }
 
 impl Text {
-    /// Adds the bytes of the line.
     pub fn write(self, line: &mut Vec<u8>) -> Result<(), AllocError>
         ensures { OnOk result (line.new.items ≡ line.old.items ++ text_bytes self) }
     {
@@ -180,7 +178,6 @@ pub fn write_figures(figures: &[Figure], end: &[u8], line: &mut Vec<u8>) -> Resu
     line.extend_from_slice(end)
 }
 
-/// Writes a label, and a number behind it.
 fn write_figure(label: &[u8], value: usize, line: &mut Vec<u8>) -> Result<(), AllocError>
     ensures { OnOk result (line.new.items ≡ line.old.items ++ (label.now ++ decimal value)) }
 {
@@ -188,14 +185,12 @@ fn write_figure(label: &[u8], value: usize, line: &mut Vec<u8>) -> Result<(), Al
     write!(line, "{value}").map_err(|_| AllocError)
 }
 
-/// Tests that a name is this text.
 pub fn is(name: &[u8], text: &[u8]) -> bool
     ensures { IsTrue result ↔ (name.now ≡ text.now) }
 {
     name == text
 }
 
-/// Returns the layout of these numbers, where there is one.
 pub fn layout(size: usize, align: usize) -> Option<Layout>
     ensures made { IfSome result (λ layout. (layout.size ≡ size) × (layout.align ≡ align)) }
     ensures each { (layout : Layout) → layout.size ≡ size → layout.align ≡ align
@@ -226,7 +221,6 @@ pub fn region(kind: &[u8], name: &[u8], numbers: Numbers) -> Option<Bounds>
     }
 }
 
-/// Returns the party of this number, where there is one.
 pub fn party_of(number: usize) -> Option<u32>
     ensures { SomeIff result (IsParty number) number }
 {

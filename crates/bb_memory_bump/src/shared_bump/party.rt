@@ -1,6 +1,7 @@
 //! Parties, each of which is one user's right to step on a shared bump.
 ghost use Rattle.std.specs.Prelude.{◌≡◌};
-ghost use Rattle.bb_memory_bump.specs.SharedBump.{IsParty};
+ghost use Rattle.bb_memory_bump.specs.SharedBump.{IsParty, BumpParty};
+ghost use Rattle.bb_memory_bump.specs.SharedBumpRule.{IsPartySeat, party_in};
 
 use super::rule::View;
 use atomic_table::Seat;
@@ -15,9 +16,6 @@ pub struct BumpParty {
 }
 
 impl Model for BumpParty {
-    ghost use Rattle.bb_memory_bump.specs.SharedBump.{BumpParty};
-    ghost use Rattle.bb_memory_bump.specs.SharedBumpRule.{IsPartySeat, party_in};
-
     ghost Value = { BumpParty };
 
     ghost view = { λ p. party_in p.seat.table_id p.number p.seat.me.0 };

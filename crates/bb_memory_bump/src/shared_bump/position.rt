@@ -9,7 +9,8 @@ ghost use Rattle.bb_memory_bump_machine.specs.BumpLogs.{call_in};
 ghost use Rattle.bb_memory_seats.specs.Seats.{IsDealt, MayGather, Stays, number_of, view_log};
 ghost use Rattle.bb_memory_bump.specs.SharedBumpRule.{IsIdleAt, IsSeatAt, StandsAt, all_parties, gathered, meeting_of, met_by};
 ghost use Rattle.bb_memory_bump.specs.SharedBumpRule.{scene_of, MayAsk, TellsExchange, TellsLoad, TellsMeeting, TellsRead};
-ghost use Rattle.bb_memory_bump.specs.SharedBumpRule.{TellsTwo};
+ghost use Rattle.bb_memory_bump.specs.SharedBumpRule.{TellsTwo, HasOneWord};
+ghost use Rattle.bb_memory_bump.specs.SharedBump.{SharedBump};
 
 use super::rule::{
     Agreement, Asked, Exchanges, Gather, GiveFirst, Loads, Meets, Reads, Scene, View,
@@ -26,10 +27,6 @@ pub(super) struct Position {
 }
 
 impl Model for Position {
-    ghost use Rattle.std.specs.Prelude.{◌≡◌};
-    ghost use Rattle.bb_memory_bump.specs.SharedBump.{SharedBump};
-    ghost use Rattle.bb_memory_bump.specs.SharedBumpRule.{HasOneWord};
-
     ghost Value = { SharedBump };
 
     ghost view = { λ p. record { table = p.table.shared.table_id; scene = p.table.shared.key } };

@@ -1,4 +1,13 @@
 //! The rule of a shared bump's word, the steps on it, and how seats are dealt.
+ghost use Rattle.bb_memory_traits.specs.Chunk.{region_at};
+ghost use Rattle.bb_memory_bump.specs.Bump.{Layout};
+ghost use Rattle.bb_memory_bump_machine.specs.BumpMachine.{BumpScene};
+ghost use Rattle.bb_memory_bump.specs.SharedBump.{scene_at};
+ghost use Rattle.bb_memory_bump.specs.SharedBumpRule.{SeatView, nobody, WordsAndLogsAgree, all_parties, reads, exchanges, loads};
+ghost use Rattle.bb_memory_bump.specs.SharedBumpRule.{meets, gathered};
+ghost use Rattle.std.specs.Prelude.{Option, None};
+ghost use Rattle.bb_memory_seats.specs.Seats.{first_of, others_of};
+
 use atomic_table::{Join, Play, Split, TableRule};
 use std::marker::{Brand, Model, PhantomData};
 
@@ -12,10 +21,6 @@ pub(crate) struct Scene {
 }
 
 impl Model for Scene {
-    ghost use Rattle.bb_memory_traits.specs.Chunk.{region_at};
-    ghost use Rattle.bb_memory_bump_machine.specs.BumpMachine.{BumpScene};
-    ghost use Rattle.bb_memory_bump.specs.SharedBump.{scene_at};
-
     ghost Value = { BumpScene };
 
     ghost view = { λ s. scene_at (region_at s.start s.size) s.opening s.parties };
@@ -25,8 +30,6 @@ impl Model for Scene {
 pub(crate) struct View {}
 
 impl Model for View {
-    ghost use Rattle.bb_memory_bump.specs.SharedBumpRule.{SeatView, nobody};
-
     ghost Value = { SeatView };
 
     ghost view = { λ v. nobody };
@@ -36,8 +39,6 @@ impl Model for View {
 pub(crate) struct Agreement;
 
 impl TableRule<u8, View, Scene> for Agreement {
-    ghost use Rattle.bb_memory_bump.specs.SharedBumpRule.{WordsAndLogsAgree, all_parties};
-
     ghost holds = { WordsAndLogsAgree };
 
     ghost first = { all_parties };
@@ -45,15 +46,10 @@ impl TableRule<u8, View, Scene> for Agreement {
 
 /// The layout of a request, which a load can't be told.
 pub(crate) trait Asked {
-    ghost use Rattle.std.specs.Prelude.{Option};
-    ghost use Rattle.bb_memory_traits.specs.declared.layout.Layout.{Layout};
-
     ghost layout: { Option Layout };
 }
 
 impl Asked for Brand {
-    ghost use Rattle.std.specs.Prelude.{None};
-
     ghost layout = { None };
 }
 
@@ -63,8 +59,6 @@ pub(crate) struct Reads<L> {
 }
 
 impl<L: Asked> Play<u8, View> for Reads<L> {
-    ghost use Rattle.bb_memory_bump.specs.SharedBumpRule.{reads};
-
     ghost then = { reads L.layout };
 }
 
@@ -72,8 +66,6 @@ impl<L: Asked> Play<u8, View> for Reads<L> {
 pub(crate) struct Exchanges;
 
 impl Play<u8, View> for Exchanges {
-    ghost use Rattle.bb_memory_bump.specs.SharedBumpRule.{exchanges};
-
     ghost then = { exchanges };
 }
 
@@ -81,8 +73,6 @@ impl Play<u8, View> for Exchanges {
 pub(crate) struct Loads;
 
 impl Play<u8, View> for Loads {
-    ghost use Rattle.bb_memory_bump.specs.SharedBumpRule.{loads};
-
     ghost then = { loads };
 }
 
@@ -90,8 +80,6 @@ impl Play<u8, View> for Loads {
 pub(crate) struct Meets;
 
 impl Play<u8, View> for Meets {
-    ghost use Rattle.bb_memory_bump.specs.SharedBumpRule.{meets};
-
     ghost then = { meets };
 }
 
@@ -99,8 +87,6 @@ impl Play<u8, View> for Meets {
 pub(crate) struct GiveFirst;
 
 impl Split<View> for GiveFirst {
-    ghost use Rattle.bb_memory_seats.specs.Seats.{first_of, others_of};
-
     ghost left = { others_of };
 
     ghost right = { first_of };
@@ -110,8 +96,6 @@ impl Split<View> for GiveFirst {
 pub(crate) struct Gather;
 
 impl Join<View> for Gather {
-    ghost use Rattle.bb_memory_bump.specs.SharedBumpRule.{gathered, nobody};
-
     ghost both = { gathered };
 
     ghost spent = { nobody };

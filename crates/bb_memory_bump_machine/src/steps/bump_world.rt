@@ -2,8 +2,9 @@
 ghost use Rattle.std.specs.Prelude.{◌≡◌, ◌<◌, IfOk, IsSome, Some, slice_get, length};
 ghost use Rattle.bb_memory_traits.specs.Chunk.{Region, IsRegion};
 ghost use Rattle.bb_memory_bump_machine.specs.BumpMachine.{OngoingCall, IsFitting, PartyMove, ending, seeing, read_move};
-ghost use Rattle.bb_memory_bump_machine.specs.BumpMachine.{exchange_move, read, exchange, load};
-ghost use Rattle.bb_memory_bump_machine.specs.BumpWorld.{IsMove, IsPositionIn, Replays, Steps, in_state, opened};
+ghost use Rattle.bb_memory_bump_machine.specs.BumpMachine.{exchange_move, Exchange, Load, Read};
+ghost use Rattle.bb_memory_bump_machine.specs.BumpWorld.{IsMove, IsPositionIn, Replays, Steps, opened, BumpWorld, IsBumpWorld};
+ghost use Rattle.bb_memory_bump_machine.specs.BumpWorld.{world_of};
 
 use super::{BumpOutcome, BumpStep};
 use bb_memory_traits::layout::{Chunk, Layout};
@@ -17,32 +18,12 @@ struct OngoingCall {
     seen: usize,
 }
 
-impl Model for OngoingCall {
-    ghost use Rattle.bb_memory_bump_machine.specs.BumpMachine.{OngoingCall};
-
-    ghost Value = { OngoingCall };
-
-    ghost view = { λ call. record { layout = call.layout; seen = call.seen } };
-
-    ghost inverse = { λ call. record { layout = call.layout; seen = call.seen } };
-}
-
 /// The answer of a party's step, and the position and the party's call after it.
 #[derive(Clone, Copy)]
 struct PartyMove {
     outcome: BumpOutcome,
     position: usize,
     call: Option<OngoingCall>,
-}
-
-impl Model for PartyMove {
-    ghost use Rattle.bb_memory_bump_machine.specs.BumpMachine.{PartyMove};
-
-    ghost Value = { PartyMove };
-
-    ghost view = { λ m. record { outcome = m.outcome; position = m.position; call = m.call } };
-
-    ghost inverse = { λ m. record { outcome = m.outcome; position = m.position; call = m.call } };
 }
 
 impl PartyMove {
@@ -112,8 +93,6 @@ pub struct BumpWorld {
 }
 
 impl Model for BumpWorld {
-    ghost use Rattle.bb_memory_bump_machine.specs.BumpWorld.{BumpWorld, IsBumpWorld, world_of};
-
     ghost Value = { BumpWorld };
 
     ghost view = { λ w. world_of w.start w.size w.position w.calls.items };
@@ -191,31 +170,21 @@ impl BumpWorld {
 
     /// An idle party reads the position.
     fn read(&mut self, party: usize, layout: Layout) -> BumpOutcome
-        ensures outcome { let now = slice_get self.old.state.calls party in
-            result ≡ (read self.old.region self.old.state party layout now).outcome }
-        ensures state { let now = slice_get self.old.state.calls party in
-            self.new
-            ≡ in_state self.old (read self.old.region self.old.state party layout now).state }
+        ensures { Steps self.old (Read party layout) result self.new }
     {
         match self.call_of(party) {
-            Some(None) => {
-                if layout.size() == 0 {
-                    return BumpOutcome::Passed;
-                }
+            Some(None) if layout.size() != 0 => {
                 let turn = PartyMove::of_read(self.start, self.size, self.position, layout);
                 self.calls[party] = turn.call;
                 turn.outcome
             }
-            Some(Some(_)) | None => BumpOutcome::Passed,
+            _ => BumpOutcome::Passed,
         }
     }
 
     /// A party in a call puts the end of its chunk in the position's place.
     fn exchange(&mut self, party: usize) -> BumpOutcome
-        ensures outcome { let now = slice_get self.old.state.calls party in
-            result ≡ (exchange self.old.region self.old.state party now).outcome }
-        ensures state { let now = slice_get self.old.state.calls party in
-            self.new ≡ in_state self.old (exchange self.old.region self.old.state party now).state }
+        ensures { Steps self.old (Exchange party) result self.new }
     {
         match self.call_of(party) {
             Some(Some(call)) => {
@@ -230,8 +199,7 @@ impl BumpWorld {
 
     /// An idle party reads how much is used.
     fn load(&self, party: usize) -> BumpOutcome
-        ensures { let now = slice_get self.now.state.calls party in
-            result ≡ (load self.now.state now).outcome }
+        ensures { Steps self.now (Load party) result self.now }
     {
         match self.call_of(party) {
             Some(None) => BumpOutcome::Loaded(self.position),

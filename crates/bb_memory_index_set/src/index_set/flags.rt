@@ -1,6 +1,6 @@
 //! A set of numbers as an array of flags, with an array of the numbers that aren't in it, which takes no memory.
-ghost use Rattle.std.specs.Prelude.{◌≡◌, ◌≤◌, min};
-ghost use Rattle.bb_memory_index_set.specs.IndexSets.{fresh_set};
+ghost use Rattle.std.specs.Prelude.{◌≡◌, ◌≤◌, min, ◌-◌, take};
+ghost use Rattle.bb_memory_index_set.specs.IndexSets.{fresh_set, AreFlags, IsTally, NumberSet, number_set};
 
 use crate::index_set::{Counter, IndexSet};
 use std::marker::Model;
@@ -22,9 +22,6 @@ pub struct Flags<const N: usize> {
 }
 
 impl<const N: usize> Model for Flags<N> {
-    ghost use Rattle.std.specs.Prelude.{◌-◌, ◌≤◌, take};
-    ghost use Rattle.bb_memory_index_set.specs.IndexSets.{AreFlags, IsTally, NumberSet, number_set};
-
     ghost Value = { NumberSet };
 
     ghost view = { λ a. number_set (take a.bound a.held) (a.bound - a.least) };

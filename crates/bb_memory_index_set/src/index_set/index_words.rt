@@ -4,7 +4,7 @@
 //! make a new one.
 ghost use Rattle.std.specs.Prelude.{◌≡◌, ◌≢◌, ℕ, ◌+◌, ◌-◌, ◌/◌, ◌^◌, ◌<◌, ◌≤◌, false, IsTrue};
 ghost use Rattle.std.specs.Prelude.{IsFalse, length, replicate, slice_index, slice_set, IfOk};
-ghost use Rattle.bb_memory_index_set.specs.IndexSets.{SetsBit, PutsAt, has_bit};
+ghost use Rattle.bb_memory_index_set.specs.IndexSets.{SetsBit, PutsAt, has_bit, Slots, slots_of};
 
 use std::alloc::{AllocError, Allocator};
 use std::marker::Model;
@@ -16,8 +16,6 @@ pub struct Counter {
 }
 
 impl Model for Counter {
-    ghost use Rattle.std.specs.Prelude.{ℕ};
-
     ghost Value = { ℕ };
 
     ghost view = { λ a. a.count };
@@ -52,9 +50,6 @@ pub struct IndexWords<A: Allocator> {
 }
 
 impl<A: Allocator> Model for IndexWords<A> {
-    ghost use Rattle.std.specs.Prelude.{◌≤◌, length};
-    ghost use Rattle.bb_memory_index_set.specs.IndexSets.{Slots, slots_of};
-
     ghost Value = { Slots };
 
     ghost view = { λ a. slots_of a.count a.slots.items };

@@ -1,6 +1,7 @@
 //! A set of numbers as words of 64 bits.
 ghost use Rattle.std.specs.Prelude.{◌≡◌, false, slice_set, IfOk};
-ghost use Rattle.bb_memory_index_set.specs.IndexSets.{Has, fresh_set};
+ghost use Rattle.bb_memory_index_set.specs.IndexSets.{Has, fresh_set, NumberSet, number_set, less_aside, numbers_of, IsAside};
+ghost use Rattle.bb_memory_index_set.specs.IndexSets.{IsTally, IsWordSet, index_words};
 
 use crate::index_set::index_words::IndexWords;
 use crate::index_set::{Counter, IndexSet};
@@ -33,9 +34,6 @@ pub struct Words<A: Allocator> {
 }
 
 impl<A: Allocator> Model for Words<A> {
-    ghost use Rattle.bb_memory_index_set.specs.IndexSets.{NumberSet, number_set, less_aside, numbers_of};
-    ghost use Rattle.bb_memory_index_set.specs.IndexSets.{IsAside, IsTally, IsWordSet};
-
     ghost Value = { NumberSet };
 
     ghost view = { λ a. number_set (less_aside (numbers_of a.bound a.words.words) a.aside) a.most };
@@ -92,8 +90,6 @@ impl<A: Allocator> Words<A> {
 }
 
 impl<A: Allocator> IndexSet for Words<A> {
-    ghost use Rattle.bb_memory_index_set.specs.IndexSets.{index_words};
-
     ghost numbers = { λ set. set.numbers };
 
     ghost most = { λ set. set.most };

@@ -1,13 +1,12 @@
 //! The pool machine's steps, and what holds of every list of them.
 ghost use Rattle.std.specs.Prelude.{◌≡◌, ◌<◌, ◌↔◌, ℕ, List, Some, drop, take};
 ghost use Rattle.bb_memory_traits.specs.Chunk.{Region, Chunk, IsSound};
-ghost use Rattle.bb_memory_traits.specs.declared.layout.Layout.{Layout};
+ghost use Rattle.bb_memory_pool_machine.specs.PoolLogs.{Layout, history_of, log_of, IsRefusedAt, LosesAt, MissesAt, AreAsked};
+ghost use Rattle.bb_memory_pool_machine.specs.PoolLogs.{FoundHeld, IsCallRun, IsHeldInRun, IsPoolRun, WasDetached, IsHeldAfter};
 ghost use Rattle.bb_memory_traits.specs.PoolObject.{PoolGeometry, pool_geometry, FillsRegion, IsPoolGeometry, at_most, IsHeld};
 ghost use Rattle.bb_memory_pool_machine.specs.PoolMachine.{PoolScene, IsHolder, IsDetached, IsTaken, left_by};
 ghost use Rattle.bb_memory_pool_machine.specs.PoolMachine.{PoolStep, Try, GiveBack, TryAt, Detach, Attach, Takes, Gives, Misses};
 ghost use Rattle.bb_memory_pool_machine.specs.PoolMachine.{Detaches, Attaches};
-ghost use Rattle.bb_memory_pool_machine.specs.PoolLogs.{history_of, log_of, IsRefusedAt, LosesAt, MissesAt, AreAsked, FoundHeld};
-ghost use Rattle.bb_memory_pool_machine.specs.PoolLogs.{IsCallRun, IsHeldInRun, IsPoolRun, WasDetached, IsHeldAfter};
 
 /// The state of a bucket's flag. A flag is taken where it isn't free.
 #[derive(Debug, Clone, Copy, PartialEq, Eq)]

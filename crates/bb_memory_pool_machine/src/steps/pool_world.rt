@@ -1,8 +1,7 @@
 //! A pool machine that can be run: of each bucket its flag, and of each party the bucket that its pass tries next.
 ghost use Rattle.std.specs.Prelude.{◌≡◌, ◌<◌, IsSome, IfOk, length, slice_get};
-ghost use Rattle.bb_memory_pool_machine.specs.PoolMachine.{holder_of, try_flag, try_next, give_flag, try_at, try_one};
-ghost use Rattle.bb_memory_pool_machine.specs.PoolMachine.{detach_flag, attach_flag, attach, give_detached, give_detached_flag};
-ghost use Rattle.bb_memory_pool_machine.specs.PoolWorld.{Replays, Steps, opened};
+ghost use Rattle.bb_memory_pool_machine.specs.PoolMachine.{holder_of, Attach, Detach, GiveBack, GiveBackDetached, Try, TryAt};
+ghost use Rattle.bb_memory_pool_machine.specs.PoolWorld.{Replays, Steps, opened, PoolWorld, IsPoolWorld, world_of};
 
 use super::{Flag, PoolOutcome, PoolStep};
 use std::alloc::{AllocError, Global};
@@ -19,8 +18,6 @@ pub struct PoolWorld {
 }
 
 impl Model for PoolWorld {
-    ghost use Rattle.bb_memory_pool_machine.specs.PoolWorld.{PoolWorld, IsPoolWorld, world_of};
-
     ghost Value = { PoolWorld };
 
     ghost view = { λ w. world_of w.flags.items w.calls.items };
@@ -49,7 +46,7 @@ impl PoolWorld {
     {
         match step {
             PoolStep::Try { party } => self.try_next(party),
-            PoolStep::GiveBack { party, bucket } => self.give_flag(party, bucket),
+            PoolStep::GiveBack { party, bucket } => self.give_back(party, bucket),
             PoolStep::TryAt { party, bucket } => self.try_at(party, bucket),
             PoolStep::Detach { party, bucket } => self.detach(party, bucket),
             PoolStep::Attach { party, bucket } => self.attach(party, bucket),
@@ -90,25 +87,12 @@ impl PoolWorld {
 
     /// A party tries the next bucket of its pass.
     fn try_next(&mut self, party: u32) -> PoolOutcome
-        ensures outcome { let pass = slice_get self.old.calls party in
-            result ≡ (try_next self.old party pass).outcome }
-        ensures state { let pass = slice_get self.old.calls party in
-            self.new ≡ (try_next self.old party pass).state }
+        ensures { Steps self.old (Try party) result self.new }
     {
-        match found_at(&self.calls, party as usize) {
-            Some(pass) => self.try_flag(party, pass.unwrap_or(0)),
-            None => PoolOutcome::Passed,
-        }
-    }
-
-    /// A party tries the flag of a bucket.
-    fn try_flag(&mut self, party: u32, bucket: u32) -> PoolOutcome
-        requires { party < length self.old.calls }
-        ensures outcome { let flag = slice_get self.old.flags bucket in
-            result ≡ (try_flag self.old party bucket flag).outcome }
-        ensures state { let flag = slice_get self.old.flags bucket in
-            self.new ≡ (try_flag self.old party bucket flag).state }
-    {
+        let Some(pass) = found_at(&self.calls, party as usize) else {
+            return PoolOutcome::Passed;
+        };
+        let bucket = pass.unwrap_or(0);
         match found_at(&self.flags, bucket as usize) {
             Some(Flag::Free) => {
                 self.flags[bucket as usize] = Flag::HeldBy(party);
@@ -129,46 +113,25 @@ impl PoolWorld {
     }
 
     /// A party gives back a bucket.
-    fn give_flag(&mut self, party: u32, bucket: u32) -> PoolOutcome
-        ensures outcome { let flag = slice_get self.old.flags bucket in
-            result ≡ (give_flag self.old party bucket flag).outcome }
-        ensures state { let flag = slice_get self.old.flags bucket in
-            self.new ≡ (give_flag self.old party bucket flag).state }
+    fn give_back(&mut self, party: u32, bucket: u32) -> PoolOutcome
+        ensures { Steps self.old (GiveBack party bucket) result self.new }
     {
         match found_at(&self.flags, bucket as usize) {
-            Some(Flag::HeldBy(holder)) => {
-                if holder == party {
-                    self.flags[bucket as usize] = Flag::Free;
-                    PoolOutcome::Gives(bucket)
-                } else {
-                    PoolOutcome::Passed
-                }
+            Some(Flag::HeldBy(holder)) if holder == party => {
+                self.flags[bucket as usize] = Flag::Free;
+                PoolOutcome::Gives(bucket)
             }
-            Some(Flag::Free | Flag::DetachedBy(_)) | None => PoolOutcome::Passed,
+            _ => PoolOutcome::Passed,
         }
     }
 
     /// A party tries one bucket, as it may where it is in no pass.
     fn try_at(&mut self, party: u32, bucket: u32) -> PoolOutcome
-        ensures outcome { let pass = slice_get self.old.calls party in
-            result ≡ (try_at self.old party bucket pass).outcome }
-        ensures state { let pass = slice_get self.old.calls party in
-            self.new ≡ (try_at self.old party bucket pass).state }
+        ensures { Steps self.old (TryAt party bucket) result self.new }
     {
-        match found_at(&self.calls, party as usize) {
-            Some(None) => self.try_one(party, bucket),
-            Some(Some(_)) | None => PoolOutcome::Passed,
-        }
-    }
-
-    /// A party that is in no pass tries the flag of a bucket.
-    fn try_one(&mut self, party: u32, bucket: u32) -> PoolOutcome
-        requires { party < length self.old.calls }
-        ensures outcome { let flag = slice_get self.old.flags bucket in
-            result ≡ (try_one self.old party bucket flag).outcome }
-        ensures state { let flag = slice_get self.old.flags bucket in
-            self.new ≡ (try_one self.old party bucket flag).state }
-    {
+        let Some(None) = found_at(&self.calls, party as usize) else {
+            return PoolOutcome::Passed;
+        };
         match found_at(&self.flags, bucket as usize) {
             Some(Flag::Free) => {
                 self.flags[bucket as usize] = Flag::HeldBy(party);
@@ -182,79 +145,46 @@ impl PoolWorld {
 
     /// A party detaches a bucket, as it may where it holds it, and there is another party.
     fn detach(&mut self, party: u32, bucket: u32) -> PoolOutcome
-        ensures outcome { let flag = slice_get self.old.flags bucket in
-            result ≡ (detach_flag self.old party bucket flag).outcome }
-        ensures state { let flag = slice_get self.old.flags bucket in
-            self.new ≡ (detach_flag self.old party bucket flag).state }
+        ensures { Steps self.old (Detach party bucket) result self.new }
     {
         match found_at(&self.flags, bucket as usize) {
-            Some(Flag::HeldBy(holder)) => {
-                if holder == party && 1 < self.calls.len() {
-                    self.flags[bucket as usize] = Flag::DetachedBy(party);
-                    PoolOutcome::Detaches(bucket)
-                } else {
-                    PoolOutcome::Passed
-                }
+            Some(Flag::HeldBy(holder)) if holder == party && 1 < self.calls.len() => {
+                self.flags[bucket as usize] = Flag::DetachedBy(party);
+                PoolOutcome::Detaches(bucket)
             }
-            Some(Flag::Free | Flag::DetachedBy(_)) | None => PoolOutcome::Passed,
+            _ => PoolOutcome::Passed,
         }
     }
 
     /// A party attaches a bucket, as it may where it is in no pass, and the bucket is detached.
     fn attach(&mut self, party: u32, bucket: u32) -> PoolOutcome
-        ensures outcome { let pass = slice_get self.old.calls party in
-            result ≡ (attach self.old party bucket pass).outcome }
-        ensures state { let pass = slice_get self.old.calls party in
-            self.new ≡ (attach self.old party bucket pass).state }
+        ensures { Steps self.old (Attach party bucket) result self.new }
     {
-        match found_at(&self.calls, party as usize) {
-            Some(None) => self.attach_flag(party, bucket),
-            Some(Some(_)) | None => PoolOutcome::Passed,
-        }
-    }
-
-    /// A party that is in no pass attaches a bucket, as it may where the bucket is detached.
-    fn attach_flag(&mut self, party: u32, bucket: u32) -> PoolOutcome
-        ensures outcome { let flag = slice_get self.old.flags bucket in
-            result ≡ (attach_flag self.old party bucket flag).outcome }
-        ensures state { let flag = slice_get self.old.flags bucket in
-            self.new ≡ (attach_flag self.old party bucket flag).state }
-    {
+        let Some(None) = found_at(&self.calls, party as usize) else {
+            return PoolOutcome::Passed;
+        };
         match found_at(&self.flags, bucket as usize) {
             Some(Flag::DetachedBy(_)) => {
                 self.flags[bucket as usize] = Flag::HeldBy(party);
                 PoolOutcome::Attaches(bucket)
             }
-            Some(Flag::Free | Flag::HeldBy(_)) | None => PoolOutcome::Passed,
+            _ => PoolOutcome::Passed,
         }
     }
 
     /// A party gives back a detached bucket, as it may where it is in no pass.
     fn give_detached(&mut self, party: u32, bucket: u32) -> PoolOutcome
-        ensures outcome { let pass = slice_get self.old.calls party in
-            result ≡ (give_detached self.old bucket pass).outcome }
-        ensures state { let pass = slice_get self.old.calls party in
-            self.new ≡ (give_detached self.old bucket pass).state }
+        ensures { Steps self.old (GiveBackDetached party bucket) result self.new }
     {
-        match found_at(&self.calls, party as usize) {
-            Some(None) => self.give_detached_flag(bucket),
-            Some(Some(_)) | None => PoolOutcome::Passed,
-        }
-    }
-
-    /// Gives back a bucket that is detached.
-    fn give_detached_flag(&mut self, bucket: u32) -> PoolOutcome
-        ensures outcome { let flag = slice_get self.old.flags bucket in
-            result ≡ (give_detached_flag self.old bucket flag).outcome }
-        ensures state { let flag = slice_get self.old.flags bucket in
-            self.new ≡ (give_detached_flag self.old bucket flag).state }
-    {
+        let Some(None) = found_at(&self.calls, party as usize) else {
+            return PoolOutcome::Passed;
+        };
         match found_at(&self.flags, bucket as usize) {
             Some(Flag::DetachedBy(_)) => {
                 self.flags[bucket as usize] = Flag::Free;
                 PoolOutcome::Gives(bucket)
             }
-            Some(Flag::Free | Flag::HeldBy(_)) | None => PoolOutcome::Passed,
+            _ => PoolOutcome::Passed,
         }
     }
 }

@@ -8,52 +8,6 @@ use super::{Allocator, BaseAllocator, Command, Reply};
 use crate::layout::{Chunk, Layout};
 use std::alloc::AllocError;
 
-/// Asks for a chunk, and appends it to the live list.
-fn apply_request<A: BaseAllocator>(
-    allocator: &mut A,
-    live: &mut Vec<Chunk>,
-    layout: Layout,
-) -> Reply
-    requires stands { A.stands_for allocator.old live.old.items }
-    requires room { vec_len live.old < vec_capacity live.old }
-    ensures { Applies A.stands_for A.geometry A.region_of A.note A.note_after
-        (AllocatorStep (Step (object_of A.RELEASE_EMPTIES
-        (A.may_allocate (A.geometry allocator.old)))) A.takes A.frees)
-        (Command.Allocate layout) result allocator.old allocator.new live.old live.new }
-{
-    match allocator.allocate(layout) {
-        Ok(chunk) => {
-            live.push_reserved(chunk);
-            Reply::Chunk(chunk)
-        }
-        Err(error) => Reply::Refused(error),
-    }
-}
-
-/// Gives back the chunk at a position, and takes it, or all chunks, out of the live list.
-fn apply_release<A: BaseAllocator>(
-    allocator: &mut A,
-    live: &mut Vec<Chunk>,
-    position: usize,
-) -> Reply
-    requires stands { A.stands_for allocator.old live.old.items }
-    ensures { Applies A.stands_for A.geometry A.region_of A.note A.note_after
-        (AllocatorStep (Step (object_of A.RELEASE_EMPTIES
-        (A.may_allocate (A.geometry allocator.old)))) A.takes A.frees)
-        (Command.Release position) result allocator.old allocator.new live.old live.new }
-{
-    let Some(chunk) = live.get(position).copied() else {
-        return Reply::Passed;
-    };
-    allocator.deallocate(chunk.place(), Layout::empty());
-    if A::RELEASE_EMPTIES {
-        live.clear();
-    } else {
-        live.remove(position);
-    }
-    Reply::Released
-}
-
 /// Applies one command. A resize is passed over.
 fn apply_base<A: BaseAllocator>(allocator: &mut A, live: &mut Vec<Chunk>, command: Command) -> Reply
     requires stands { A.stands_for allocator.old live.old.items }
@@ -64,8 +18,25 @@ fn apply_base<A: BaseAllocator>(allocator: &mut A, live: &mut Vec<Chunk>, comman
         command result allocator.old allocator.new live.old live.new }
 {
     match command {
-        Command::Allocate(layout) => apply_request(allocator, live, layout),
-        Command::Release(position) => apply_release(allocator, live, position),
+        Command::Allocate(layout) => match allocator.allocate(layout) {
+            Ok(chunk) => {
+                live.push_reserved(chunk);
+                Reply::Chunk(chunk)
+            }
+            Err(error) => Reply::Refused(error),
+        },
+        Command::Release(position) => {
+            let Some(chunk) = live.get(position).copied() else {
+                return Reply::Passed;
+            };
+            allocator.deallocate(chunk.place(), Layout::empty());
+            if A::RELEASE_EMPTIES {
+                live.clear();
+            } else {
+                live.remove(position);
+            }
+            Reply::Released
+        }
         Command::Grow(..) | Command::Shrink(..) => Reply::Passed,
     }
 }
@@ -170,7 +141,6 @@ fn apply_shrink<A: Allocator>(
     }
 }
 
-/// Applies one command.
 fn apply_full<A: Allocator>(allocator: &mut A, live: &mut Vec<Chunk>, command: Command) -> Reply
     requires stands { A.stands_for allocator.old live.old.items }
     requires room { vec_len live.old < vec_capacity live.old }

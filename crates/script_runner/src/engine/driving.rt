@@ -1,9 +1,9 @@
 //! The trait of the kinds of scripts, and from the lines of a script behind its header to the lines of its replies.
-ghost use Rattle.std.specs.Prelude.{◌≡◌, ◌++◌, ◌∷◌, [], List, ℕ, IfOk, OnOk};
+ghost use Rattle.std.specs.Prelude.{◌≡◌, ◌++◌, ◌∷◌, [], List, ℕ, IfOk, OnOk, Bool, IfSome, Some};
 ghost use Rattle.std.specs.List.{flat_map};
 ghost use Rattle.script_runner.specs.Inputs.{IsOutcome};
-ghost use Rattle.script_words.specs.Words.{MayStand, words_text, lines_of};
-ghost use Rattle.script_runner.specs.Scripts.{kind, header_words, IsPlayed, IsStep};
+ghost use Rattle.script_words.specs.Words.{MayStand, words_text, lines_of, text_bytes};
+ghost use Rattle.script_runner.specs.Scripts.{kind, header_words, IsPlayed, IsStep, Rules};
 
 use crate::engine::script::{Line, read_script};
 use script_words::words::{Numbers, Text};
@@ -11,10 +11,6 @@ use std::alloc::{AllocError, Global};
 
 /// A kind of script: it is made by a header, takes commands, and gives one reply to each.
 pub trait Driven: Drop {
-    ghost use Rattle.std.specs.Prelude.{◌≡◌, ◌++◌, Bool, OnOk, IfOk, IfSome, Some};
-    ghost use Rattle.script_runner.specs.Scripts.{Rules};
-    ghost use Rattle.script_words.specs.Words.{text_bytes};
-
     /// The value that a header names.
     type Header: Drop;
 
@@ -22,17 +18,13 @@ pub trait Driven: Drop {
 
     type Reply: Drop;
 
-    /// Says that a script may show the state.
-    const CAN_SHOW: bool;
-
-    ghost CAN_SHOW: { Bool };
-
     /// The rules of its scripts.
     ghost rules: { Rules Self Self.Header Self.Command Self.Reply };
 
-    ghost shows: { CAN_SHOW ≡ rules.can_show };
+    /// Says that a script may show the state.
+    fn can_show() -> bool
+        ensures { result ≡ rules.can_show };
 
-    /// Reads the words of a header.
     fn read_header(name: &[u8], numbers: Numbers) -> Option<Self::Header>
         ensures written { IfSome result (λ header. rules.is_header header
             × (name.now ≡ rules.name) × (numbers ≡ rules.header_numbers header)) }
@@ -43,7 +35,6 @@ pub trait Driven: Drop {
         requires { rules.is_header header }
         ensures { IfOk result (λ driven. rules.starts header driven) };
 
-    /// Reads the words of a command.
     fn read(name: &[u8], numbers: Numbers) -> Option<Self::Command>
         ensures written { IfSome result (λ command. rules.is_command command
             × (name.now ≡ (rules.command_words command).name)
@@ -52,7 +43,6 @@ pub trait Driven: Drop {
             → name.now ≡ (rules.command_words command).name
             → numbers ≡ (rules.command_words command).numbers → result ≡ Some command };
 
-    /// Applies the commands in order.
     fn run(
         &mut self,
         alloc: Global,
@@ -61,7 +51,6 @@ pub trait Driven: Drop {
         ensures { IfOk result (λ replies.
             rules.runs self.old commands.now replies.items self.new) };
 
-    /// Returns the text of a reply.
     fn reply_text(reply: &Self::Reply) -> Text
         ensures { text_bytes result ≡ rules.reply_text reply.now };
 

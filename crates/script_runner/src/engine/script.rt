@@ -45,7 +45,7 @@ fn read_line<K: Driven>(text: &[u8]) -> Option<Line<K::Command>>
         × (text.now ≡ line_text K.rules line)) }
     ensures unreadable { IfNone result (¬ IsLineText K.rules text.now) }
 {
-    if K::CAN_SHOW && is(text, b"show") {
+    if K::can_show() && is(text, b"show") {
         return Some(Line::Show);
     }
     let (name, numbers) = words(text)?;

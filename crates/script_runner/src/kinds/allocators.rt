@@ -1,22 +1,25 @@
-//! Allocators that a script drives: what all of them share.
-ghost use Rattle.std.specs.Prelude.{◌≡◌};
-ghost use Rattle.script_runner.specs.Allocators.{refusal_name};
+//! Allocators that a script drives: what all of them share, a bump, and a one chunk.
+ghost use Rattle.std.specs.Prelude.{◌≡◌, ◌++◌, [], List, Some, OnOk, OnErr, IfOk, IfSome};
+ghost use Rattle.script_runner.specs.Allocators.{refusal_name, AllocatorRules, LiveState, live_rules, bump_rules};
+ghost use Rattle.script_runner.specs.Allocators.{one_chunk_rules};
+ghost use Rattle.bb_memory_owned.specs.OneChunk.{StandsFor as OneChunkStandsFor};
+ghost use Rattle.bb_memory_traits.specs.BumpObject.{StandsFor as BumpStandsFor};
+ghost use Rattle.bb_memory_traits.specs.Chunk.{Chunk};
 
 use crate::engine::driving::Driven;
+use bb_memory_bump::bump_allocator::BumpAllocator;
+use bb_memory_owned::one_chunk_allocator::OneChunkAllocator;
 use bb_memory_traits::allocator::{
-    AllocationError, AllocationGrowError, AllocationShrinkError, Command, Reply,
+    AllocationError, AllocationGrowError, AllocationShrinkError, Command, Reply, run_base, run_full,
 };
 use bb_memory_traits::layout::Chunk;
-use script_words::words::{Numbers, Text, is, layout};
+use script_words::words::{Bounds, Figure, Numbers, Text, is, layout, region, write_figures};
 use std::alloc::{AllocError, Global};
+use std::io::Write;
 use std::marker::Model;
 
 /// An allocator that a script drives: how it is made by a header, run, and shown.
 pub trait Scripted: Drop {
-    ghost use Rattle.std.specs.Prelude.{◌≡◌, ◌++◌, [], List, Some, OnOk, OnErr, IfOk, IfSome};
-    ghost use Rattle.bb_memory_traits.specs.Chunk.{Chunk};
-    ghost use Rattle.script_runner.specs.Allocators.{AllocatorRules};
-
     /// The value that a header names.
     type Header: Drop;
 
@@ -26,7 +29,6 @@ pub trait Scripted: Drop {
     /// The allocator stands for this live list.
     ghost stands_for: { Self → List Chunk → Type 0 };
 
-    /// Reads the words of a header.
     fn read_header(name: &[u8], numbers: Numbers) -> Option<Self::Header>
         ensures written { IfSome result (λ header. rules.is_header header
             × (name.now ≡ rules.name) × (numbers ≡ rules.header_numbers header)) }
@@ -38,7 +40,6 @@ pub trait Scripted: Drop {
         ensures starts { IfOk result (λ allocator. rules.starts header allocator) }
         ensures empty { IfOk result (λ allocator. stands_for allocator []) };
 
-    /// Applies the commands in order.
     fn run(&mut self, live: &mut Vec<Chunk>, commands: &[Command]) -> Result<Vec<Reply>, AllocError>
         requires { stands_for self.old live.old.items }
         ensures run { IfOk result (λ replies.
@@ -60,8 +61,6 @@ pub struct Live<A: Scripted> {
 }
 
 impl<A: Scripted> Model for Live<A> {
-    ghost use Rattle.script_runner.specs.Allocators.{LiveState};
-
     ghost Value = { LiveState A };
 
     ghost view = { λ a. record { allocator = a.allocator; live = a.live.items } };
@@ -70,23 +69,17 @@ impl<A: Scripted> Model for Live<A> {
 }
 
 impl<A: Scripted> Driven for Live<A> {
-    ghost use Rattle.std.specs.Prelude.{true};
-    ghost use Rattle.std.proofs.Common.{refl};
-    ghost use Rattle.script_runner.specs.Allocators.{live_rules};
-
     type Header = A::Header;
 
     type Command = Command;
 
     type Reply = Reply;
 
-    const CAN_SHOW: bool = true;
-
-    ghost CAN_SHOW = { true };
-
     ghost rules = { live_rules A.rules };
 
-    ghost shows = { refl };
+    fn can_show() -> bool {
+        true
+    }
 
     fn read_header(name: &[u8], numbers: Numbers) -> Option<A::Header> {
         A::read_header(name, numbers)
@@ -151,7 +144,68 @@ impl<A: Scripted> Driven for Live<A> {
     }
 }
 
-/// Returns the name of a refused request.
+impl Scripted for BumpAllocator {
+    type Header = Bounds;
+
+    ghost rules = { bump_rules };
+
+    ghost stands_for = { λ bump. BumpStandsFor bump.region bump.used };
+
+    fn read_header(name: &[u8], numbers: Numbers) -> Option<Bounds> {
+        region(b"bump", name, numbers)
+    }
+
+    fn make(_alloc: Global, header: Bounds) -> Result<Self, AllocError> {
+        Ok(BumpAllocator::new(header.start, header.size))
+    }
+
+    fn run(&mut self, live: &mut Vec<Chunk>, calls: &[Command]) -> Result<Vec<Reply>, AllocError> {
+        run_base(self, live, calls)
+    }
+
+    fn write_state(&self, _live: usize, line: &mut Vec<u8>) -> Result<(), AllocError> {
+        writeln!(line, "{self}").map_err(|_| AllocError)?;
+        let figures = [
+            Figure(b"used ", self.used_space()),
+            Figure(b" free ", self.free_space()),
+            Figure(b" total ", self.total_space()),
+        ];
+        write_figures(&figures, b"\n", line)
+    }
+}
+
+impl Scripted for OneChunkAllocator {
+    type Header = Bounds;
+
+    ghost rules = { one_chunk_rules };
+
+    ghost stands_for = { OneChunkStandsFor };
+
+    fn read_header(name: &[u8], numbers: Numbers) -> Option<Bounds> {
+        region(b"one", name, numbers)
+    }
+
+    fn make(_alloc: Global, header: Bounds) -> Result<Self, AllocError> {
+        Ok(OneChunkAllocator::new(header.start, header.size))
+    }
+
+    fn run(&mut self, live: &mut Vec<Chunk>, calls: &[Command]) -> Result<Vec<Reply>, AllocError> {
+        run_full(self, live, calls)
+    }
+
+    fn write_state(&self, _live: usize, line: &mut Vec<u8>) -> Result<(), AllocError> {
+        let figures = [
+            Figure(b"one start ", self.start_address()),
+            Figure(b" size ", self.size()),
+        ];
+        if self.has_chunk_available() {
+            write_figures(&figures, b" available yes\n", line)
+        } else {
+            write_figures(&figures, b" available no\n", line)
+        }
+    }
+}
+
 pub fn refusal(error: AllocationError) -> &'static [u8]
     ensures { result.now ≡ refusal_name error }
 {

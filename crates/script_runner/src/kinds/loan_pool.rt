@@ -1,6 +1,6 @@
 //! A loan book over a pool that a script drives.
 ghost use Rattle.std.specs.Prelude.{◌≡◌};
-ghost use Rattle.script_runner.specs.LoanPool.{loan_refusal_name};
+ghost use Rattle.script_runner.specs.LoanPool.{loan_refusal_name, loan_pool_rules};
 
 use crate::engine::driving::Driven;
 use crate::kinds::allocators::{Scripted, refusal};
@@ -10,27 +10,20 @@ use loan_book::{LoanBook, LoanCall, LoanError, LoanReply, run_loans};
 use script_words::words::{Numbers, Text, is, small};
 use std::alloc::{AllocError, Global};
 
-/// A loan book over a pool.
 pub type LoanPool = LoanBook<PoolAllocator<Global>>;
 
 impl Driven for LoanPool {
-    ghost use Rattle.std.specs.Prelude.{false};
-    ghost use Rattle.std.proofs.Common.{refl};
-    ghost use Rattle.script_runner.specs.LoanPool.{loan_pool_rules};
-
     type Header = PoolPlan;
 
     type Command = LoanCall;
 
     type Reply = LoanReply;
 
-    const CAN_SHOW: bool = false;
-
-    ghost CAN_SHOW = { false };
-
     ghost rules = { loan_pool_rules };
 
-    ghost shows = { refl };
+    fn can_show() -> bool {
+        false
+    }
 
     fn read_header(name: &[u8], numbers: Numbers) -> Option<PoolPlan> {
         pool_plan(b"loan-pool", name, numbers)
@@ -38,8 +31,7 @@ impl Driven for LoanPool {
 
     fn make(alloc: Global, header: PoolPlan) -> Result<Self, AllocError> {
         let pool = <PoolAllocator<Global> as Scripted>::make(alloc, header)?;
-        let book = LoanBook::new(alloc, pool);
-        Ok(book)
+        Ok(LoanBook::new(alloc, pool))
     }
 
     fn read(name: &[u8], numbers: Numbers) -> Option<LoanCall> {

@@ -1,6 +1,7 @@
 //! A pool that a script drives, and a fixed one.
 ghost use Rattle.std.specs.Prelude.{◌≡◌, IfSome, Some};
-ghost use Rattle.script_runner.specs.Allocators.{IsPoolPlan, pool_numbers};
+ghost use Rattle.script_runner.specs.Allocators.{IsPoolPlan, pool_numbers, pool_rules, fixed_rules};
+ghost use Rattle.bb_memory_owned.specs.Pool.{StandsFor};
 
 use crate::kinds::allocators::Scripted;
 use bb_memory_owned::pool_allocator::{
@@ -44,9 +45,6 @@ pub fn pool_plan(kind: &[u8], name: &[u8], numbers: Numbers) -> Option<PoolPlan>
 }
 
 impl Scripted for PoolAllocator<Global> {
-    ghost use Rattle.bb_memory_owned.specs.Pool.{StandsFor};
-    ghost use Rattle.script_runner.specs.Allocators.{pool_rules};
-
     type Header = PoolPlan;
 
     ghost rules = { pool_rules };
@@ -83,13 +81,9 @@ impl Scripted for PoolAllocator<Global> {
     }
 }
 
-/// The fixed pool of such scripts.
 pub type Fixed = FixedSizePoolAllocator<512>;
 
 impl Scripted for Fixed {
-    ghost use Rattle.bb_memory_owned.specs.Pool.{StandsFor};
-    ghost use Rattle.script_runner.specs.Allocators.{fixed_rules};
-
     type Header = PoolPlan;
 
     ghost rules = { fixed_rules };

@@ -1,19 +1,14 @@
-use Rattle.std.proofs.Common.{◌+◌, ◌-◌, ◌%◌, ◌≤◌, ◌^◌, bit_and, ap, ◌∙◌, arith}
+use Rattle.std.proofs.lemmas.Grind.{common_steps}
+use Rattle.std.proofs.Common.{◌%◌, bit_and, ap, ◌∙◌, arith}
 use Rattle.bb_memory_traits.proofs.PowersOfTwo.{power_of_two-positive}
 use Rattle.bb_memory_traits.proofs.LeastPlaces.{least_place-is, least_place-multiple, least_place-masked, least_place-too_far}
 use Rattle.bb_memory_traits.proofs.layout.round_up.Goals as goal
 
 pub returns-in_err-checked_add-clause-value : goal.returns-in_err-checked_add-clause-value
-returns-in_err-checked_add-clause-value c =
-    let overflows : 2 ^ 64 ≤ c.args.v + (c.args.align - 1) = omega (arith, c.in_err-checked_add.ensures) in
-    let far = least_place-too_far c.args.v c.args.align c.requires c.ranges.align.fits overflows in
-    rw c.from_residual.ensures (λ below. omega (arith, far))
+returns-in_err-checked_add-clause-value c = grind (arith, common_steps, least_place-too_far)
 
 pub returns-clause-value : goal.returns-clause-value
-returns-clause-value c =
-    let sum = c.in_ok-checked_add.ensures in
-    let masked = least_place-masked c.args.v c.args.align c.requires c.ranges.align.fits sum.0 in
-    (masked.0, ap (λ n. bit_and n (2 ^ 64 - 1 - (c.args.align - 1))) sum.1 ∙ masked.1)
+returns-clause-value c = grind (arith, common_steps, least_place-masked, bit_and)
 
 pub returns-clause-above : goal.returns-clause-above
 returns-clause-above c =

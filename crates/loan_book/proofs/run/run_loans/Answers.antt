@@ -1,33 +1,13 @@
-use Rattle.std.proofs.Common.{rules, ◌≡◌, ◌+◌, ◌∷◌, ◌++◌, [], take, take_all, get_or, ◌∙◌, subst, arith}
+use Rattle.std.proofs.lemmas.Grind.{common_steps}
+use Rattle.std.proofs.Common.{rules, ◌≡◌, take, take_all, get_or, arith}
 use Rattle.std.proofs.lemmas.List.{take_more}
 use Rattle.bb_memory_traits.proofs.Runs.{IsRun-push}
-use Rattle.loan_book.specs.declared.run.LoanCall.TheVariants.{Loan}
-use Rattle.loan_book.specs.Calls.{BookStep}
 use Rattle.loan_book.proofs.BookRuns.{run-returns, run-unpublished, run-published, run-loaned}
 use Rattle.loan_book.proofs.LoanedIds.{run-ids}
 use Rattle.loan_book.proofs.run.run_loans.Goals as goal
 
 pub loop-call-preserved : goal.loop-call-preserved
-loop-call-preserved g c =
-    let A = g.A.BaseAllocator in
-    let calls = c.args.calls.now in
-    let i = c.loop-call.call-index in
-    let call = get_or calls i (Loan 0) in
-    let done : take (i + 1) calls ≡ take i calls ++ call ∷ [] = take_more calls i (Loan 0) (omega arith) in
-    let reply = c.apply-reply.result in
-    let before = c.loop-call.book.book in
-    let after = c.apply-reply.new.book.book in
-    let step_at = λ (geometry : A.Geometry). BookStep (A.may_allocate geometry) in
-    let step = subst (λ geometry. step_at geometry before call reply after)
-    c.loop-call.invariant.geometry c.apply-reply.ensures.step in
-    record {
-      run = rw (done, c.push_reserved.ensures.items)
-          (IsRun-push (step_at (A.geometry c.args.book.now.allocator)) c.args.book.now.book before after
-          (take i calls) c.loop-call.replies.items call reply c.loop-call.invariant.run step);
-      geometry = c.apply-reply.ensures.geometry ∙ c.loop-call.invariant.geometry;
-      told = omega arith;
-      space = omega arith;
-    }
+loop-call-preserved g c = grind (arith, common_steps, get_or, take_more, IsRun-push)
 
 pub returns : goal.returns
 returns g c =

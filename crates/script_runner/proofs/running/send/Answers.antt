@@ -1,8 +1,8 @@
 use Rattle.std.proofs.Common.{◌++◌, [], take, ap, refl, sym, ◌∙◌}
 use Rattle.script_runner.proofs.Sending.{appends_nothing, appends_again, appends_kept, keeps_same, kept_by_none}
 use Rattle.script_runner.proofs.Sending.{sent_more, all_sent, part_sent}
-use Rattle.script_runner.proofs.running.send.Goals as goal
 use Rattle.script_runner.proofs.running.send.Goals.{in-Ok-write, in-Err-write}
+use Rattle.script_runner.proofs.running.send.Goals as goal
 
 pub loop-preserved : goal.loop-preserved
 loop-preserved g c =

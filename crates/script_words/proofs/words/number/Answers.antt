@@ -1,3 +1,5 @@
+use Rattle.std.proofs.Common.{arith}
+use Rattle.std.proofs.lemmas.Grind.{common_steps}
 use Rattle.std.proofs.Common.{◌∙◌, rules}
 use Rattle.script_words.proofs.Numbers.{IsPlain-writes, read_writes, read_gives, decimal_text}
 use Rattle.script_words.proofs.words.number.Goals as goal
@@ -8,10 +10,7 @@ returns-then-not-is_plain-clause-each c n small e =
     search rules
 
 pub returns-in-Ok-clause-written : goal.returns-in-Ok-clause-written
-returns-in-Ok-clause-written c =
-    let plain = c.is_plain.ensures.0 c.if-not-is_plain.false in
-    let text = c.in-Ok.ensures.cases.0 in
-    rw c.ok.ensures.value (read_writes c.args.field.now c.parse.result plain (rw text at c.parse.ensures.value.0))
+returns-in-Ok-clause-written c = grind (arith, common_steps, read_writes)
 
 pub returns-in-Ok-clause-each : goal.returns-in-Ok-clause-each
 returns-in-Ok-clause-each c n small e =

@@ -2,8 +2,8 @@ use Rattle.std.proofs.Common.{◌++◌, ◌∷◌, arith}
 use Rattle.std.proofs.lemmas.Option.{none-some}
 use Rattle.script_words.specs.Words.{list_of}
 use Rattle.script_words.proofs.LineWords.{SoFar, next_number, at_most_five, space_first, so_more}
-use Rattle.script_words.proofs.words.words.Goals as goal
 use Rattle.script_words.proofs.words.words.Goals.{After-number}
+use Rattle.script_words.proofs.words.words.Goals as goal
 
 -- the line so far, and its next field
 so_far : (c : After-number) → SoFar c.args.line.now c.split_before.result.0.now (list_of c.loop-rest.numbers)
@@ -27,12 +27,7 @@ returns-in_err-numbers-clause-none c = rw c.from_residual-in_err-numbers.ensures
     at_most_five other.numbers (omega (arith, more, c.in_err-numbers.ensures.full)))
 
 pub loop-rest-init : goal.loop-rest-init
-loop-rest-init c = record {
-  text = c.split_before.ensures.parts;
-  name_is = c.split_before.ensures.first;
-  numbers_are = tt;
-  rest_starts = c.split_before.ensures.rest;
-}
+loop-rest-init c = grind arith
 
 pub loop-rest-preserved : goal.loop-rest-preserved
 loop-rest-preserved c =

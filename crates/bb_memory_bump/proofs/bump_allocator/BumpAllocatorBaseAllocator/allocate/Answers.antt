@@ -1,36 +1,15 @@
-use Rattle.std.proofs.Common.{◌≡◌, ◌+◌, ◌-◌, ◌<◌, ◌≤◌, ◌++◌, ◌∷◌, [], arith, ap, sym, ◌∙◌, subst}
-use Rattle.bb_memory_traits.specs.Chunk.{region_end, Chunk, chunk_end}
-use Rattle.bb_memory_traits.specs.BumpObject.{StandsFor, chunk_at_or_after, next_chunk}
+use Rattle.std.proofs.Common.{◌≡◌, ◌+◌, ◌-◌, ◌++◌, ◌∷◌, [], arith, ap, sym, ◌∙◌, subst}
+use Rattle.bb_memory_traits.specs.Chunk.{Chunk, chunk_end}
+use Rattle.bb_memory_traits.specs.BumpObject.{StandsFor}
 use Rattle.bb_memory_traits.proofs.LiveLists.{StandsFor-end, StandsFor-push}
 use Rattle.bb_memory_bump.specs.Bump.{Bump, bump_of}
 use Rattle.bb_memory_bump.proofs.bump_allocator.BumpAllocatorBaseAllocator.allocate.Goals as goal
 
 pub returns-in_default-clause-answer : goal.returns-in_default-clause-answer
-returns-in_default-clause-answer c = λ live stands.
-    let layout = c.args.layout in
-    let bump = bump_of c.self.inside.start c.self.inside.size (c.self.inside.last + 1 - c.self.inside.start) in
-    let here = subst (λ (b : Bump). StandsFor b.region b.used live) (sym c.self.view_is) stands in
-    let back : bump.region.start + bump.used ≡ c.self.inside.last + 1 = omega (arith, c.self.invariant.1) in
-    let end = sym back ∙ StandsFor-end bump.region bump.used live here in
-    let same = ap (λ v. chunk_end (chunk_at_or_after v layout)) end in
-    subst (λ (b : Bump). (0 < layout.size) × (region_end b.region < chunk_end (next_chunk b.region live layout))) c.self.view_is
-    (omega arith, omega (arith, c.in_default.ensures.value, same))
+returns-in_default-clause-answer c = grind (arith, StandsFor-end)
 
 pub returns-clause-answer : goal.returns-clause-answer
-returns-clause-answer c = λ live stands.
-    let layout = c.args.layout in
-    let chunk = c.in-Some.chunk in
-    let bump = bump_of c.self.inside.start c.self.inside.size (c.self.inside.last + 1 - c.self.inside.start) in
-    let here = subst (λ (b : Bump). StandsFor b.region b.used live) (sym c.self.view_is) stands in
-    let back : bump.region.start + bump.used ≡ c.self.inside.last + 1 = omega (arith, c.self.invariant.1) in
-    let end = sym back ∙ StandsFor-end bump.region bump.used live here in
-    let told = c.in-Some.ensures.value in
-    subst (λ (b : Bump). (0 < layout.size) × (chunk_end chunk ≤ region_end b.region) × (chunk ≡ next_chunk b.region live layout))
-    c.self.view_is (
-      omega arith,
-      omega (arith, told.0, ap (λ (k : Chunk). chunk_end k) told.1),
-      told.1 ∙ ap (λ v. chunk_at_or_after v layout) end,
-    )
+returns-clause-answer c = grind (arith, StandsFor-end)
 
 pub returns-clause-appended : goal.returns-clause-appended
 returns-clause-appended c = λ live stands.

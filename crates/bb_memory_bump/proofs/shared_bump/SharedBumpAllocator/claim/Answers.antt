@@ -5,24 +5,10 @@ use Rattle.bb_memory_bump.proofs.SharedBumpRequests.{begins, goes_on, raises, re
 use Rattle.bb_memory_bump.proofs.shared_bump.SharedBumpAllocator.claim.Goals as goal
 
 pub returns-in-None-clause-call : goal.returns-in-None-clause-call
-returns-in-None-clause-call g c =
-    let me = c.args.seat.now.me in record {
-      table = c.read-seen.ensures.table;
-      step = refused_at_once c.args.self.now.scene (number_of me.0)
-          (view_log me.0) (met_by me.0) c.args.layout c.read-seen.result c.read-seen.new.seat.me
-          (rw c.self.view_is at c.read-seen.ensures.step) c.in-None.ensures.fits;
-    }
+returns-in-None-clause-call g c = grind (arith, refused_at_once)
 
 pub loop-seen-init : goal.loop-seen-init
-loop-seen-init g c =
-    let me = c.args.seat.now.me in record {
-      table = c.read-seen.ensures.table;
-      trying = begins c.args.self.now.scene (number_of me.0) (view_log me.0) (met_by me.0) c.args.layout c.read-seen.result
-          c.read-seen.new.seat.me (rw c.self.view_is at c.read-seen.ensures.step) c.in-Some.ensures.fits.fitting;
-      placed = c.in-Some.ensures.fits.placed;
-      inside = c.in-Some.ensures.fits.inside;
-      aligned = c.in-Some.ensures.fits.aligned;
-    }
+loop-seen-init g c = grind (arith, begins)
 
 pub returns-then-found-seen-clause-call : goal.returns-then-found-seen-clause-call
 returns-then-found-seen-clause-call g c =

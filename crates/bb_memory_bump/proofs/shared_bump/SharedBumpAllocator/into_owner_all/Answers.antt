@@ -1,18 +1,17 @@
+use Rattle.std.proofs.lemmas.Grind.{common_steps}
 use Rattle.std.proofs.Common.{[], rules, ◌≡◌, ◌∷◌, ◌++◌, ◌≤◌, sym, subst, arith}
 use Rattle.std.specs.Prelude.{All, map}
 use Rattle.std.proofs.lemmas.List.Elements.{All-push, All-weaker}
 use Rattle.bb_memory_bump.specs.SharedBump.{BumpParty}
 use Rattle.bb_memory_bump.specs.SharedBumpRule.{met_by, numbered_of, TellsMeeting}
 use Rattle.bb_memory_bump_machine.proofs.OwnChunks.{agreed_stands}
-use Rattle.bb_memory_bump.proofs.SharedBumpGatherings.{agrees, all_gathered, floors_below}
+use Rattle.bb_memory_bump.proofs.SharedBumpGatherings.{agrees, floors_below}
 use Rattle.bb_memory_bump.proofs.shared_bump.SharedBumpAllocator.into_owner_all.Goals as goal
 
 -- all parties have come to the last one's seat
 told : (c : goal.After-at_position) → TellsMeeting c.args.self.scene (map numbered_of c.args.parties.items)
     (met_by c.gather_rest.new.seat.me.0) c.at_position.result.used
-told c =
-    let come : c.args.parties.items ≡ c.pop.new.self.items ++ c.unwrap-party.result ∷ [] = search rules in
-    let all = all_gathered _ _ _ _ _ c.pop.new.self.items c.party.invariant c.party.view_is come in search rules
+told c = grind (arith, common_steps)
 
 pub returns-clause-agree : goal.returns-clause-agree
 returns-clause-agree c = agrees c.args.self c.args.parties.items (met_by c.gather_rest.new.seat.me.0) c.at_position.result.used

@@ -1,4 +1,4 @@
-use Rattle.std.proofs.Common.{[], rules, rules, ◌∷◌, ◌++◌, ◌≡◌, ◌≤◌, ap, sym, subst, ◌∙◌, arith}
+use Rattle.std.proofs.Common.{[], rules, ◌∷◌, ◌++◌, ◌≡◌, ◌≤◌, ap, sym, subst, ◌∙◌, arith}
 use Rattle.std.specs.Prelude.{All, map}
 use Rattle.std.proofs.lemmas.List.{map-append}
 use Rattle.std.proofs.lemmas.List.Elements.{All-map, All-push}
@@ -48,7 +48,4 @@ returns-in-Some c =
     }
 
 pub returns-in_default-clause-met : goal.returns-in_default-clause-met
-returns-in_default-clause-met c =
-    let none : c.args.parties.now.items ≡ [] = search rules in
-    let none_new : c.pop.new.self.items ≡ [] = search rules in
-    none_met c.args.self.now _ _ (search rules) none none_new
+returns-in_default-clause-met c = grind (arith, none_met)

@@ -1,18 +1,10 @@
 use Rattle.std.proofs.Common.{◌%◌, ap, ◌∙◌, arith}
 use Rattle.bb_memory_traits.specs.Chunk.{Chunk}
 use Rattle.bb_memory_traits.proofs.Layouts.{multiple}
-use Rattle.bb_memory_owned.specs.OneChunk.{OneChunk}
-use Rattle.bb_memory_traits.specs.OneChunkObject.{reserved_at, rest_from}
 use Rattle.bb_memory_owned.proofs.one_chunk_allocator.OneChunkAllocatorAllocator.grow.Goals as goal
 
 pub returns-clause-value : goal.returns-clause-value
-returns-clause-value c =
-    let reserved = ap (λ (one : OneChunk). reserved_at one.region c.args.place) c.self.view_is in (
-      omega arith,
-      omega arith,
-      omega (arith, reserved),
-      c.chunk_between.ensures ∙ ap (λ (one : OneChunk). rest_from one.region c.args.place) c.self.view_is,
-    )
+returns-clause-value c = grind arith
 
 pub returns-clause-answer : goal.returns-clause-answer
 returns-clause-answer c live position chunk stands is there = returns-clause-value c

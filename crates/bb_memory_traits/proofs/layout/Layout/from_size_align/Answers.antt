@@ -1,3 +1,4 @@
+use Rattle.std.proofs.lemmas.Grind.{common_steps}
 use Rattle.std.proofs.Common.{sym, arith}
 use Rattle.bb_memory_traits.proofs.Layouts.{valid-up_to, usual-accepted}
 use Rattle.bb_memory_traits.proofs.layout.Layout.from_size_align.Goals as goal
@@ -7,20 +8,14 @@ overflow_sub-align c =
     (valid-up_to c.args.size c.args.align (sym c.if-not-is_power_of_two.ensures) c.ranges.align.fits).0
 
 pub invariant_of-result : goal.invariant_of-result
-invariant_of-result c =
-    let valid = (valid-up_to c.args.size c.args.align (sym c.if-not-is_power_of_two.ensures) c.ranges.align.fits).1 in
-    record { valid = valid.1 (omega (arith, c.if-size-align.false)) }
+invariant_of-result c = grind (arith, common_steps, valid-up_to)
 
 pub returns-then-not-is_power_of_two-clause-usual : goal.returns-then-not-is_power_of_two-clause-usual
 returns-then-not-is_power_of_two-clause-usual c = λ usual.
     let power = (usual-accepted c.args.size c.args.align usual).power_of_two in absurd (cc)
 
 pub returns-then-size-align-clause-accepted : goal.returns-then-size-align-clause-accepted
-returns-then-size-align-clause-accepted c =
-    let valid = (valid-up_to c.args.size c.args.align (sym c.if-not-is_power_of_two.ensures) c.ranges.align.fits).1 in
-    ((λ ok. cc), (λ layout. absurd (omega (arith, c.if-size-align.true, valid.0 layout))))
+returns-then-size-align-clause-accepted c = grind (arith, common_steps, valid-up_to)
 
 pub returns-then-size-align-clause-usual : goal.returns-then-size-align-clause-usual
-returns-then-size-align-clause-usual c = λ usual.
-    let valid = (valid-up_to c.args.size c.args.align (sym c.if-not-is_power_of_two.ensures) c.ranges.align.fits).1 in
-    absurd (omega (arith, c.if-size-align.true, valid.0 (usual-accepted c.args.size c.args.align usual)))
+returns-then-size-align-clause-usual c = grind arith

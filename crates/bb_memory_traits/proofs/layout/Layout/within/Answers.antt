@@ -1,14 +1,13 @@
-use Rattle.std.proofs.Common.{refl, sym, ◌∙◌}
+use Rattle.std.proofs.Common.{arith}
+use Rattle.std.proofs.lemmas.Grind.{common_steps}
+use Rattle.std.proofs.Common.{sym}
 use Rattle.std.proofs.lemmas.Bool.{false≢true}
 use Rattle.bb_memory_traits.proofs.PowersOfTwo.{power_of_two-from_test, power_of_two-test}
 use Rattle.bb_memory_traits.proofs.Layouts.{within-valid}
 use Rattle.bb_memory_traits.proofs.layout.Layout.within.Goals as goal
 
 pub returns-then-not-is_power_of_two-clause-some : goal.returns-then-not-is_power_of_two-clause-some
-returns-then-not-is_power_of_two-clause-some c = (
-  λ wrong. absurd (false≢true wrong),
-  λ within. absurd (false≢true (c.if-not-is_power_of_two.ensures ∙ power_of_two-test c.args.align within.2)),
-)
+returns-then-not-is_power_of_two-clause-some c = grind (arith, common_steps, false≢true, power_of_two-test)
 
 pub invariant_of-result : goal.invariant_of-result
 invariant_of-result c = record {
@@ -17,11 +16,4 @@ invariant_of-result c = record {
 }
 
 pub returns-clause-some : goal.returns-clause-some
-returns-clause-some c = (
-  λ _. (
-    c.if-size-self.false,
-    c.if-align-self.false,
-    power_of_two-from_test c.args.align (sym c.if-not-is_power_of_two.ensures),
-  ),
-  λ _. refl,
-)
+returns-clause-some c = grind (arith, common_steps, power_of_two-from_test)

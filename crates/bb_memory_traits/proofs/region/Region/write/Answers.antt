@@ -1,13 +1,12 @@
-use Rattle.std.proofs.Common.{rules, ◌≡◌}
+use Rattle.std.proofs.Common.{arith}
+use Rattle.std.proofs.lemmas.Grind.{common_steps}
 use Rattle.bb_memory_traits.proofs.Written.{written-changes}
 use Rattle.bb_memory_traits.proofs.ApartBytes.{apart-kept, extended-bytes}
 use Rattle.bb_memory_traits.proofs.LiveBytes.{others_kept, contents_set, contents_given}
 use Rattle.bb_memory_traits.proofs.region.Region.write.Goals as goal
 
 pub returns-clause-changes : goal.returns-clause-changes
-returns-clause-changes c =
-    let copied : c.copy_from_slice.new.self ≡ c.args.bytes.now = search rules in
-    rw copied (written-changes c.args.self.now c.args.c c.args.bytes.now c.requires.inside c.requires.len)
+returns-clause-changes c = grind (arith, common_steps, written-changes)
 
 pub returns-clause-apart : goal.returns-clause-apart
 returns-clause-apart c = λ other within apart.

@@ -1,11 +1,11 @@
-use Rattle.std.proofs.Common.{◌≡◌, ℕ, ◌<◌, ◌≤◌, ◌^◌, subst, sym, refl, arith, inl, inr, Option, Some, None, Result, Err}
+use Rattle.std.proofs.lemmas.Grind.{common_steps}
+use Rattle.std.proofs.Common.{◌≡◌, ℕ, ◌<◌, ◌≤◌, ◌^◌, subst, sym, refl, arith, Option, Some, None, Result, Err}
 use Rattle.std.specs.Prelude.{◌↔◌}
 use Rattle.std.specs.Align.{IsLayout}
 use Rattle.std.proofs.lemmas.Bool.{cases_lt, false≢true}
 use Rattle.bb_memory_traits.specs.Chunk.{Chunk}
-use Rattle.loan_book.specs.declared.error.LoanError.{LoanError}
+use Rattle.loan_book.specs.Book.{LoanError, chunks_of, loaned_before}
 use Rattle.loan_book.specs.declared.error.LoanError.TheVariants.{Size, IdsExhausted}
-use Rattle.loan_book.specs.Book.{chunks_of, loaned_before}
 use Rattle.loan_book.proofs.Books.{IsLoanBook-loaned, next_loaned}
 use Rattle.bb_memory_traits.specs.LeastPlace.{least_place}
 use Rattle.bb_memory_traits.proofs.Layouts.{layout-plain}
@@ -19,11 +19,7 @@ least_place-of_one size = least_place-unique size 1 size (omega arith)
 
 -- a size below 2 ^ 63 is one that a layout of alignment 1 has
 too_large : (size : ℕ) → ¬ IsLayout size 1 → 2 ^ 63 ≤ size
-too_large size refused = elim (cases_lt size (2 ^ 63)) [
-  | inl below ↦ absurd
-      (refused ((layout-plain size 1).1 ((0, refl), subst (λ p. p < 2 ^ 63) (least_place-of_one size) below)))
-  | inr above ↦ above
-]
+too_large size refused = grind (arith, common_steps, cases_lt, layout-plain, least_place-of_one)
 
 small : (size : ℕ) → IsLayout size 1 → size < 2 ^ 63
 small size layout = subst (λ p. p < 2 ^ 63) (sym (least_place-of_one size)) ((layout-plain size 1).0 layout).1
@@ -102,14 +98,7 @@ returns-then-is_err g c =
     }
 
 pub invariant_of-self-in-Ok-allocate : goal.invariant_of-self-in-Ok-allocate
-invariant_of-self-in-Ok-allocate g c =
-    let out = c.self.inside.out.items in
-    let chunk = c.in-Ok-allocate.chunk in
-    let pushed = rw c.reserve.ensures.items at c.push_back_reserved.ensures.items in
-    IsLoanBook-loaned g.A.BaseAllocator.stands_for c.self.inside.allocator c.allocate.new.self c.self.inside.next
-    c.checked_add-self-inside.result out c.push_back_reserved.new.self.items c.in-Some.id chunk
-    c.in-Some.is c.checked_add-self-inside.ensures pushed c.self.invariant
-    (c.in-Ok-allocate.ensures.appended (chunks_of out) c.self.invariant.stands)
+invariant_of-self-in-Ok-allocate g c = grind (arith, common_steps, IsLoanBook-loaned)
 
 pub returns-in-Ok-allocate : goal.returns-in-Ok-allocate
 returns-in-Ok-allocate g c =

@@ -1,3 +1,4 @@
+use Rattle.std.proofs.Common.{arith}
 use Rattle.std.proofs.Common.{◌∙◌, sym, subst, refl, Some, Ok, Err}
 use Rattle.loan_book.specs.declared.error.LoanError.TheVariants.{UnknownSample, AlreadyPublished, NoReaders}
 use Rattle.loan_book.specs.Book.{Book, HasReturns}
@@ -8,20 +9,7 @@ use Rattle.loan_book.proofs.OneAnswers.{publish-refusal}
 use Rattle.loan_book.proofs.book.LoanBook.publish.Goals as goal
 
 pub returns-in_default : goal.returns-in_default
-returns-in_default g c =
-    let book = c.args.self.now.book in
-    let answer : Publishes book c.args.id c.args.readers (Err UnknownSample) book = (c.in_default.ensures.absent, refl) in
-    let refusal = publish-refusal book c.in_default.ensures.book c.args.id c.args.readers (Err UnknownSample) book answer in
-    record {
-      answer = answer;
-      unknown_sample = refusal UnknownSample;
-      already_published = refusal AlreadyPublished;
-      no_readers = refusal NoReaders;
-      stands = rw (← c.self.view_is) record { stands = c.self.invariant.stands; geometry = refl };
-      waits = tt;
-      same_allocator = refl;
-      unchanged = refl;
-    }
+returns-in_default g c = grind arith
 
 pub returns-then-is_some : goal.returns-then-is_some
 returns-then-is_some g c =

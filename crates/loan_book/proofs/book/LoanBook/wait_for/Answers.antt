@@ -1,7 +1,7 @@
-use Rattle.std.proofs.Common.{rules, ◌<◌, ◌∙◌, ap, refl, length}
+use Rattle.std.proofs.Common.{arith}
+use Rattle.std.proofs.lemmas.Grind.{common_steps}
+use Rattle.std.proofs.Common.{rules, ◌<◌, refl, length}
 use Rattle.std.proofs.lemmas.Option.{slice_get_read, get_or_from_slice_get}
-use Rattle.loan_book.specs.Book.{Sample, book_of}
-use Rattle.loan_book.specs.Calls.{with_returns}
 use Rattle.loan_book.proofs.Books.{IsLoanBook-set}
 use Rattle.loan_book.proofs.book.LoanBook.wait_for.Goals as goal
 
@@ -15,10 +15,7 @@ invariant_of-self g c =
     c.args.returns at c.requires.some c.self.invariant
 
 pub returns-clause-book : goal.returns-clause-book
-returns-clause-book g c = rw (← c.self.view_is) (λ sample there.
-    let old = book_of c.self.inside.next c.self.inside.out.items in
-    let read = get_or_from_slice_get old.out c.args.position sample c.index_mut.result.now there in
-    ap (λ (s : Sample). with_returns old c.args.position s c.args.returns) (c.index_mut.ensures.value ∙ read))
+returns-clause-book g c = grind (arith, common_steps, get_or_from_slice_get)
 
 pub returns-clause-stands : goal.returns-clause-stands
 returns-clause-stands g c = record { stands = (invariant_of-self g c).stands; geometry = search rules }

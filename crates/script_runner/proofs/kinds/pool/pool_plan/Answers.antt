@@ -3,8 +3,8 @@ use Rattle.std.proofs.lemmas.Option.{none-some, same_Some}
 use Rattle.script_runner.specs.declared.kinds.pool.PoolPlan.{PoolPlan}
 use Rattle.script_words.specs.declared.words.Numbers.TheVariants.{Four}
 use Rattle.script_runner.specs.Allocators.{IsPoolPlan, pool_numbers}
-use Rattle.script_runner.proofs.kinds.pool.pool_plan.Goals as goal
 use Rattle.script_runner.proofs.kinds.pool.pool_plan.Goals.{After-can_make}
+use Rattle.script_runner.proofs.kinds.pool.pool_plan.Goals as goal
 
 pub returns-in_err-bucket-in-Four-clause-each : goal.returns-in_err-bucket-in-Four-clause-each
 returns-in_err-bucket-in-Four-clause-each c plan is name numbers =

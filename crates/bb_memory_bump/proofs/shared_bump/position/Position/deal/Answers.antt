@@ -1,10 +1,6 @@
-use Rattle.std.proofs.Common.{sym, ap, ◌∙◌, arith}
+use Rattle.std.proofs.Common.{arith}
 use Rattle.bb_memory_bump.proofs.SharedBumpSeats.{gives_first}
 use Rattle.bb_memory_bump.proofs.shared_bump.position.Position.deal.Goals as goal
 
 pub split_seat-requires : goal.split_seat-requires
-split_seat-requires c = (
-  c.requires ∙ sym (ap (λ b. b.table) c.self.view_is),
-  omega (arith, c.self.invariant.words),
-  gives_first c.self.inside.table.shared.key c.args.rest.now.id c.args.rest.now.me.0,
-)
+split_seat-requires c = grind (arith, gives_first)

@@ -1,13 +1,12 @@
-use Rattle.std.proofs.Common.{ap, sym, ◌∙◌, subst, slice_get, IsSome}
+use Rattle.std.proofs.Common.{arith}
+use Rattle.std.proofs.Common.{sym, ◌∙◌, subst, IsSome}
 use Rattle.bb_memory_bump_machine.specs.BumpMachine.{AllFitting}
 use Rattle.bb_memory_bump_machine.specs.BumpWorld.{BumpWorld}
 use Rattle.bb_memory_lists.proofs.SliceGets.{slice_get-some}
 use Rattle.bb_memory_bump_machine.proofs.steps.bump_world.BumpWorld.call_of.Goals as goal
 
 pub returns-clause-value : goal.returns-clause-value
-returns-clause-value c =
-    c.call_at.ensures ∙ ap (λ calls. slice_get calls c.args.party) c.deref.ensures.value
-    ∙ ap (λ (world : BumpWorld). slice_get world.state.calls c.args.party) c.self.view_is
+returns-clause-value c = grind arith
 
 pub returns-clause-fitting : goal.returns-clause-fitting
 returns-clause-fitting c call is =

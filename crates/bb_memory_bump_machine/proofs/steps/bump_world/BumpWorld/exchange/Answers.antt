@@ -1,5 +1,5 @@
-use Rattle.std.proofs.Common.{◌≤◌, ap, subst, Some, IfSome, sym}
-use Rattle.bb_memory_bump_machine.specs.BumpMachine.{PartyMove, IsFitting}
+use Rattle.std.proofs.Common.{ap, subst, Some, sym}
+use Rattle.bb_memory_bump_machine.specs.BumpMachine.{IsFitting}
 use Rattle.bb_memory_bump_machine.specs.BumpWorld.{BumpWorld, world_of}
 use Rattle.bb_memory_bump_machine.proofs.BumpSteps.{each_call-set}
 use Rattle.bb_memory_bump_machine.proofs.steps.bump_world.BumpWorld.exchange.Goals as goal
@@ -12,11 +12,9 @@ of_exchange-turn-requires-clause-call c =
 pub invariant_of-self : goal.invariant_of-self
 invariant_of-self c =
     let old = world_of c.self.inside.start c.self.inside.size c.self.inside.position c.self.inside.calls.items in
-    let left = sym c.turn.view_is in
     record {
       region = c.self.invariant.region;
-      within = subst (λ (turn : PartyMove). turn.position ≤ old.region.size) left c.of_exchange-turn.ensures.within;
-      fitting = λ other. each_call-set (IsFitting old.region) old.state.calls c.args.party other c.turn.inside.call
-          (c.self.invariant.fitting other)
-          (subst (λ (turn : PartyMove). IfSome turn.call (IsFitting old.region)) left c.of_exchange-turn.ensures.fitting);
+      within = c.of_exchange-turn.ensures.within;
+      fitting = λ other. each_call-set (IsFitting old.region) old.state.calls c.args.party other c.of_exchange-turn.result.call
+          (c.self.invariant.fitting other) c.of_exchange-turn.ensures.fitting;
     }

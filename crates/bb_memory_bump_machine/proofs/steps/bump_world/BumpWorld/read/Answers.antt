@@ -1,5 +1,4 @@
-use Rattle.std.proofs.Common.{subst, IfSome, sym}
-use Rattle.bb_memory_bump_machine.specs.BumpMachine.{PartyMove, IsFitting}
+use Rattle.bb_memory_bump_machine.specs.BumpMachine.{IsFitting}
 use Rattle.bb_memory_bump_machine.specs.BumpWorld.{world_of}
 use Rattle.bb_memory_bump_machine.proofs.BumpSteps.{each_call-set}
 use Rattle.bb_memory_bump_machine.proofs.steps.bump_world.BumpWorld.read.Goals as goal
@@ -10,7 +9,6 @@ invariant_of-self c =
     record {
       region = c.self.invariant.region;
       within = c.self.invariant.within;
-      fitting = λ other. each_call-set (IsFitting old.region) old.state.calls c.args.party other c.turn.inside.call
-          (c.self.invariant.fitting other) (subst (λ (turn : PartyMove). IfSome turn.call (IsFitting old.region))
-          (sym c.turn.view_is) c.of_read-turn.ensures.fitting);
+      fitting = λ other. each_call-set (IsFitting old.region) old.state.calls c.args.party other c.of_read-turn.result.call
+          (c.self.invariant.fitting other) c.of_read-turn.ensures.fitting;
     }

@@ -1,6 +1,5 @@
-use Rattle.std.proofs.Common.{arith, ap, false, ◌∙◌, ◌-◌, ◌≡◌, Bool, List}
+use Rattle.std.proofs.Common.{arith, false}
 use Rattle.std.proofs.lemmas.List.{take-replicate}
-use Rattle.bb_memory_index_set.specs.IndexSets.{number_set}
 use Rattle.bb_memory_index_set.proofs.NumberFlags.{flags_fresh}
 use Rattle.bb_memory_index_set.proofs.Tallies.{left-fresh}
 use Rattle.bb_memory_index_set.proofs.index_set.flags.Flags.new.Goals as goal
@@ -15,7 +14,4 @@ invariant_of-result g c =
     )
 
 pub returns : goal.returns
-returns g c =
-    let none : c.args.bound - c.args.bound ≡ 0 = omega arith in
-    ap (λ (l : List Bool). number_set l (c.args.bound - c.args.bound)) (take-replicate c.args.bound g.row.N false c.requires)
-    ∙ ap (number_set _) none
+returns g c = grind (arith, take-replicate)

@@ -1,3 +1,4 @@
+use Rattle.std.proofs.lemmas.Grind.{common_steps}
 use Rattle.std.proofs.Common.{arith, false}
 use Rattle.std.proofs.Math.Seq.{take-set-lt}
 use Rattle.bb_memory_index_set.proofs.NumberFlags.{put_behind}
@@ -30,6 +31,4 @@ invariant_of-self g c =
     )
 
 pub returns-clause-released : goal.returns-clause-released
-returns-clause-released g c =
-    let put = put_behind g.row.N _ _ _ _ c.self.invariant.0 c.args.number (rw (← c.self.view_is) at c.requires) in
-    rw (← c.self.view_is) (take-set-lt c.self.inside.bound c.self.inside.held c.args.number false put.0)
+returns-clause-released g c = grind (arith, common_steps, take-set-lt)

@@ -12,9 +12,7 @@ pub returns-clause-lacked : goal.returns-clause-lacked
 returns-clause-lacked g c = rw (← c.self.view_is) (lacked g.row.N _ _ _ _ c.self.invariant.0 (omega arith)).1
 
 pub returns-clause-taken : goal.returns-clause-taken
-returns-clause-taken g c =
-    rw (← c.self.view_is) (take-set-lt c.self.inside.bound c.self.inside.held _ true
-    (lacked g.row.N _ _ _ _ c.self.invariant.0 (omega arith)).0)
+returns-clause-taken g c = grind (arith, take-set-lt)
 
 pub returns-clause-most : goal.returns-clause-most
 returns-clause-most g c =

@@ -1,5 +1,6 @@
-use Rattle.std.proofs.Common.{◌≡◌, ◌/◌, ◌%◌, ◌<◌, ◌∙◌, arith, sym, length, get_or, take}
-use Rattle.std.proofs.Common.{get_or-set_same, get_or-set_other, length-set}
+use Rattle.std.proofs.lemmas.Grind.{common_steps}
+use Rattle.std.proofs.Common.{◌≡◌, ◌/◌, ◌<◌, ◌∙◌, arith, sym, length, get_or, take}
+use Rattle.std.proofs.Common.{get_or-set_same}
 use Rattle.std.proofs.lemmas.List.{get_or_default, get_or-take, length-take-le}
 use Rattle.std.proofs.Math.Seq.{take-set-lt}
 use Rattle.bb_memory_index_set.proofs.NumberWords.{cleared, cleared_is_open}
@@ -20,27 +21,7 @@ returns-clause-bit g c =
     rw (← c.self.view_is, read, take-set-lt) (cleared (take count items) number within)
 
 pub returns-clause-others : goal.returns-clause-others
-returns-clause-others g c =
-    let items = c.self.inside.slots.items in
-    let count = c.self.inside.count in
-    let at = c.args.number / 64 in
-    let within = rw (← c.self.view_is) at c.requires in
-    let len : length (take count items) ≡ count = length-take-le count items c.self.invariant in
-    let low : at < count = omega (arith, within, len) in
-    rw (← c.self.view_is, take-set-lt) record {
-      len = length-set (take count items) at _;
-      others = λ other apart. get_or-set_other (take count items) at other _ 0 apart;
-    }
+returns-clause-others g c = grind (arith, common_steps)
 
 pub returns-clause-not_full : goal.returns-clause-not_full
-returns-clause-not_full g c =
-    let items = c.self.inside.slots.items in
-    let count = c.self.inside.count in
-    let number = c.args.number in
-    let within = rw (← c.self.view_is) at c.requires in
-    let len : length (take count items) ≡ count = length-take-le count items c.self.invariant in
-    let low : number / 64 < count = omega (arith, within, len) in
-    λ full.
-    let same = rw take-set-lt at full in
-    cleared_is_open c.index-word.result.now (number % 64) (omega arith)
-    (sym (get_or-set_same (take count items) (number / 64) _ 0 within) ∙ same)
+returns-clause-not_full g c = grind (arith, length-take-le, take-set-lt, cleared_is_open, get_or-set_same)

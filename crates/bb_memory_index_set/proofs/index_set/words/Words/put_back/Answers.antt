@@ -4,8 +4,8 @@ use Rattle.bb_memory_index_set.proofs.NumberWords.{has_word}
 use Rattle.bb_memory_index_set.proofs.OpenWords.{set_opened, set_still, named_hand}
 use Rattle.bb_memory_index_set.proofs.Listings.{room_left}
 use Rattle.bb_memory_index_set.proofs.Tallies.{tally-some}
-use Rattle.bb_memory_index_set.proofs.index_set.words.Words.put_back.Goals as goal
 use Rattle.bb_memory_index_set.proofs.index_set.words.Words.put_back.Goals.{then-self-gt0, else-self-gt0}
+use Rattle.bb_memory_index_set.proofs.index_set.words.Words.put_back.Goals as goal
 
 pub overflow_sub-self : goal.overflow_sub-self
 overflow_sub-self g c =
@@ -14,10 +14,7 @@ overflow_sub-self g c =
     tally-some _ inside.count inside.most c.args.number c.self.invariant.2 has
 
 pub clear-was_full-requires : goal.clear-was_full-requires
-clear-was_full-requires g c =
-    let inside = c.self.inside in
-    let has = (others_have _ inside.aside c.args.number (rw (← c.self.view_is) at c.requires)).1 in
-    (has_word inside.bound inside.words.words c.args.number c.self.invariant.0.are has).1
+clear-was_full-requires g c = grind (arith, others_have, has_word)
 
 pub list-requires : goal.list-requires
 list-requires g c =

@@ -1,5 +1,4 @@
-use Rattle.std.proofs.Common.{◌∙◌, sym, ap, arith}
-use Rattle.bb_memory_index_set.specs.IndexSets.{numbers_of, member_count}
+use Rattle.std.proofs.Common.{arith}
 use Rattle.bb_memory_index_set.proofs.AsideNumbers.{less_none}
 use Rattle.bb_memory_index_set.proofs.Tallies.{member_count-released, tally-some}
 use Rattle.bb_memory_index_set.proofs.index_set.words.WordsIndexSet.len.Goals as goal
@@ -11,14 +10,7 @@ overflow_sub-result g c =
     tally-some _ inside.count inside.most inside.aside c.self.invariant.2 has
 
 pub returns-then-self : goal.returns-then-self
-returns-then-self g c =
-    let inside = c.self.inside in
-    let has = c.self.invariant.1 (omega (arith, c.if-self.true)) in
-    let less = member_count-released (numbers_of inside.bound inside.words.words) inside.aside has in
-    rw (← c.self.view_is) (omega (arith, c.self.invariant.2.members, less))
+returns-then-self g c = grind (arith, member_count-released)
 
 pub returns-else-self : goal.returns-else-self
-returns-else-self g c =
-    let inside = c.self.inside in
-    rw (← c.self.view_is) (c.self.invariant.2.members
-    ∙ ap member_count (sym (less_none inside.bound inside.words.words inside.aside c.if-self.false)))
+returns-else-self g c = grind (arith, less_none)

@@ -1,12 +1,12 @@
-use Rattle.std.proofs.Common.{◌-◌, ◌^◌, ◌<◌, ◌∙◌, ap, sym, arith, max}
+use Rattle.std.proofs.Common.{◌<◌, ◌∙◌, ap, sym, arith, max}
 use Rattle.bb_memory_index_set.specs.IndexSets.{NumberSet, member_count, numbers_of}
 use Rattle.bb_memory_index_set.proofs.AsideNumbers.{given, less_none}
 use Rattle.bb_memory_index_set.proofs.NumberWords.{length-numbers_of}
 use Rattle.bb_memory_index_set.proofs.OpenWords.{hand_open, hand_taken, none_open, set_left, set_filled}
-use Rattle.bb_memory_index_set.proofs.Tallies.{tally-most, tally-room, tally-taken}
-use Rattle.bb_memory_index_set.proofs.index_set.words.WordsIndexSet.take.Goals as goal
+use Rattle.bb_memory_index_set.proofs.Tallies.{tally-room, tally-taken}
 use Rattle.bb_memory_index_set.proofs.index_set.words.WordsIndexSet.take.Goals.{then-left+then-self-gt0-2}
 use Rattle.bb_memory_index_set.proofs.index_set.words.WordsIndexSet.take.Goals.{then-left+else-self-gt0-2, else-left}
+use Rattle.bb_memory_index_set.proofs.index_set.words.WordsIndexSet.take.Goals as goal
 
 pub returns-then-number-clause-taken : goal.returns-then-number-clause-taken
 returns-then-number-clause-taken g c =
@@ -23,16 +23,10 @@ returns-then-self-eq0-clause-full g c =
     rw (← view) (none_open inside.bound inside.words.words _ inside.hand inside.top c.self.invariant.0 c.if-self-eq0.true)
 
 pub returns-then-number-clause-most : goal.returns-then-number-clause-most
-returns-then-number-clause-most g c =
-    let inside = c.self.inside in
-    let less = less_none inside.bound inside.words.words (2 ^ 64 - 1) (omega arith) in
-    rw (← c.self.view_is, less) (tally-most _ inside.count inside.most c.self.invariant.2)
+returns-then-number-clause-most g c = grind (arith, less_none)
 
 pub returns-then-self-eq0-clause-most : goal.returns-then-self-eq0-clause-most
-returns-then-self-eq0-clause-most g c =
-    let inside = c.self.inside in
-    let less = less_none inside.bound inside.words.words inside.aside (omega (arith, c.if-number.false)) in
-    rw (← c.self.view_is, less) (tally-most _ inside.count inside.most c.self.invariant.2)
+returns-then-self-eq0-clause-most g c = grind (arith, less_none)
 
 pub overflow_add-self : goal.overflow_add-self
 overflow_add-self g c =

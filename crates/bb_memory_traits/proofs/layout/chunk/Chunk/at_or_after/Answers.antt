@@ -1,5 +1,5 @@
+use Rattle.std.proofs.lemmas.Grind.{common_steps}
 use Rattle.std.proofs.Common.{◌≡◌, ℕ, ◌+◌, ◌-◌, ◌%◌, ◌<◌, bit_or, ap, arith, ◌∙◌}
-use Rattle.bb_memory_traits.specs.BumpObject.{chunk_at_or_after}
 use Rattle.bb_memory_traits.specs.Chunk.{Chunk, Layout}
 use Rattle.bb_memory_traits.specs.LeastPlace.{least_place}
 use Rattle.bb_memory_traits.proofs.LeastPlaces.{least_place-behind, least_place-is, least_place-multiple}
@@ -11,24 +11,13 @@ place-behind : (v : ℕ) (layout : Layout) → 0 < v → bit_or (v - 1) (layout.
 place-behind v layout = least_place-behind v layout.align (power_of_two-from_test layout.align layout.valid.power_of_two)
 
 pub returns-in_err-checked_add-clause-value : goal.returns-in_err-checked_add-clause-value
-returns-in_err-checked_add-clause-value c =
-    let before = ap (λ n. bit_or (c.args.v - 1) (n - 1)) c.align.ensures.value in
-    let behind = place-behind c.args.v c.args.layout c.requires in
-    rw c.from_residual.ensures (λ fits. omega (arith, fits, before, behind, c.in_err-checked_add.ensures, c.size.ensures))
+returns-in_err-checked_add-clause-value c = grind (arith, common_steps, bit_or, place-behind)
 
 pub returns-then-branch-end-clause-value : goal.returns-then-branch-end-clause-value
-returns-then-branch-end-clause-value c = λ fits.
-    let before = ap (λ n. bit_or (c.args.v - 1) (n - 1)) c.align.ensures.value in
-    let behind = place-behind c.args.v c.args.layout c.requires in
-    omega (arith, fits, before, behind, c.in_ok-checked_add.ensures.1, c.size.ensures, c.if-branch-end.true)
+returns-then-branch-end-clause-value c = grind (arith, common_steps, bit_or, place-behind)
 
 pub returns-clause-value : goal.returns-clause-value
-returns-clause-value c =
-    let behind = ap (λ n. bit_or (c.args.v - 1) (n - 1) + 1) c.align.ensures.value
-    ∙ place-behind c.args.v c.args.layout c.requires in
-    let chunk : c.new_unchecked.result ≡ chunk_at_or_after c.args.v c.args.layout =
-    c.new_unchecked.ensures ∙ (λ i. record { place = behind i; len = c.size-2.ensures i }) in
-    (omega (arith, behind, c.in_ok-checked_add.ensures.1, c.size.ensures, c.if-branch-end.false), chunk)
+returns-clause-value c = grind (arith, common_steps, bit_or, place-behind)
 
 pub returns-clause-above : goal.returns-clause-above
 returns-clause-above c =

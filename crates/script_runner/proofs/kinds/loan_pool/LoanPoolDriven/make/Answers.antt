@@ -4,6 +4,6 @@ use Rattle.script_runner.proofs.kinds.loan_pool.LoanPoolDriven.make.Goals as goa
 
 pub returns : goal.returns
 returns c = record {
-  pool = subst (BeginsPool c.args.header) (sym c.new-book.ensures.allocator) c.in_ok-pool.ensures.starts;
-  book = c.new-book.ensures.book;
+  pool = subst (BeginsPool c.args.header) (sym c.new.ensures.allocator) c.in_ok-pool.ensures.starts;
+  book = c.new.ensures.book;
 }

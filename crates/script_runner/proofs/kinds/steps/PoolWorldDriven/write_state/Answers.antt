@@ -4,9 +4,9 @@ use Rattle.script_words.specs.Words.{words, words_text}
 use Rattle.script_words.specs.declared.words.Numbers.TheVariants.{One}
 use Rattle.script_runner.specs.Steps.{holder_text}
 use Rattle.script_runner.proofs.Telling.{holders_more}
-use Rattle.script_runner.proofs.kinds.pool_steps.PoolWorldDriven.write_state.Goals as goal
-use Rattle.script_runner.proofs.kinds.pool_steps.PoolWorldDriven.write_state.Goals.{in-Some+in_ok-write_words-in-Some as some}
-use Rattle.script_runner.proofs.kinds.pool_steps.PoolWorldDriven.write_state.Goals.{
+use Rattle.script_runner.proofs.kinds.steps.PoolWorldDriven.write_state.Goals.{in-Some+in_ok-write_words-in-Some as some}
+use Rattle.script_runner.proofs.kinds.steps.PoolWorldDriven.write_state.Goals as goal
+use Rattle.script_runner.proofs.kinds.steps.PoolWorldDriven.write_state.Goals.{
   in-None+in_ok-extend_from_slice-in-None as none,
 }
 

@@ -1,7 +1,7 @@
 use Rattle.std.proofs.Common.{◌≡◌, ◌++◌, codes, take}
 use Rattle.std.specs.List.{flat_map}
 use Rattle.script_runner.proofs.Telling.{flag_text}
-use Rattle.script_runner.proofs.kinds.pool_steps.PoolWorldDriven.write_state.Given as goal
+use Rattle.script_runner.proofs.kinds.steps.PoolWorldDriven.write_state.Given as goal
 
 -- the holders of the buckets so far are written
 abbrev pub invariant-loop-bucket : goal.invariant-loop-bucket

@@ -1,15 +1,15 @@
 use Rattle.std.proofs.Common.{arith}
 use Rattle.std.proofs.lemmas.Grind.{elements}
-use Rattle.bb_memory_traits.proofs.allocator.run.apply_release.Goals as goal
+use Rattle.bb_memory_traits.proofs.allocator.run.apply_base.Goals as goal
 
 pub deallocate-requires : goal.deallocate-requires
 deallocate-requires g c = grind (arith, elements)
 
-pub returns : goal.returns
-returns g c = record {
+pub returns-after-RELEASE_EMPTIES : goal.returns-after-RELEASE_EMPTIES
+returns-after-RELEASE_EMPTIES g c = record {
   step = (
     grind (arith, elements),
-    (c.in-Some.chunk, c.empty.result, grind (arith, elements), rw c.place.ensures.value at c.deallocate.ensures.value),
+    rw c.in-Release.is (c.in-Some.chunk, c.empty.result, grind (arith, elements), rw c.place.ensures.value at c.deallocate.ensures.value),
   );
   fits = grind (arith, elements);
   stands = grind (arith, elements);

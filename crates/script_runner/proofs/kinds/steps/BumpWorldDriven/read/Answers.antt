@@ -1,7 +1,7 @@
 use Rattle.std.proofs.Common.{◌∙◌, sym, ap, None, Some}
 use Rattle.script_runner.proofs.Layouts.{reads_three}
 use Rattle.bb_memory_bump_machine.specs.declared.steps.bump.BumpStep.TheVariants.{Read}
-use Rattle.script_runner.proofs.kinds.bump_steps.BumpWorldDriven.read.Goals as goal
+use Rattle.script_runner.proofs.kinds.steps.BumpWorldDriven.read.Goals as goal
 
 pub returns-in_ok-layout-in-Three-clause-each : goal.returns-in_ok-layout-in-Three-clause-each
 returns-in_ok-layout-in-Three-clause-each c step is name numbers =
