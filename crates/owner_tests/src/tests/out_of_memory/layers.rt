@@ -4,19 +4,16 @@ ghost use Rattle.std.specs.Prelude.{◌≡◌, [], IfSome};
 ghost use Rattle.bb_memory_traits.specs.Chunk.{region_at};
 ghost use Rattle.bb_memory_traits.specs.HeldBytes.{held_region};
 ghost use Rattle.bb_memory_owned.specs.Pool.{StandsFor};
-ghost use Rattle.uses.specs.Rings.{GivesExactly};
 
 use crate::tests::checks::{check, layout, refused, same};
 use crate::tests::kinds::fixed_over;
 use crate::tests::owner::region_of;
-use bb_memory_owned::pool_allocator::{FixedSizePoolAllocator, pool_object_law};
+use bb_memory_owned::pool_allocator::FixedSizePoolAllocator;
 use bb_memory_traits::allocator::Allocator;
 use bb_memory_traits::layout::Layout;
 use bb_memory_traits::region::Region;
-use loan_book::LoanBook;
 use std::alloc::Global;
 use std::process::Abort;
-use uses::ring::MessageRing;
 use uses::slab::Slab;
 use uses::tenants::Tenants;
 
@@ -59,51 +56,6 @@ fn a_slab(rt: HostRuntime) {
         return refused(&rt);
     };
     keeps_two(&rt, pool, region);
-}
-
-/// Sends a message, a second time where memory was refused: then as many messages wait as before.
-fn sends<A: Allocator + Drop>(
-    rt: &(impl Abort + AllocGlobal),
-    ring: &mut MessageRing<A>,
-    message: &[u8],
-) {
-    let waiting = ring.waiting();
-    if ring.send(message).is_err() {
-        refused(rt);
-        same(rt, ring.waiting(), waiting);
-        check(rt, ring.send(message).is_ok());
-    }
-}
-
-/// Reads the oldest message, and finishes it by both readers.
-fn receives<A: Allocator + Drop>(rt: &impl Abort, ring: &mut MessageRing<A>, message: &[u8]) {
-    check(rt, ring.front() == Some(message));
-    for is_last in [false, true] {
-        check(rt, ring.waiting() > 0 && ring.finish() == is_last);
-    }
-}
-
-/// Sends two messages to two readers each, and receives them.
-fn sends_two<A: Allocator + Drop>(rt: &(impl Abort + AllocGlobal), allocator: A, region: Region)
-    requires fresh { A.stands_for allocator [] }
-    requires same_region { held_region region ≡ A.region_of (A.geometry allocator) }
-    requires exact { GivesExactly A.may_allocate }
-{
-    let book = LoanBook::new(rt.alloc(), allocator);
-    let mut ring = MessageRing::new(rt.alloc(), book, region, 2);
-    sends(rt, &mut ring, b"12");
-    sends(rt, &mut ring, b"3");
-    receives(rt, &mut ring, b"12");
-    receives(rt, &mut ring, b"3");
-}
-
-#[test]
-fn a_ring(rt: HostRuntime) {
-    let Some((pool, region)) = buckets(rt.alloc()) else {
-        return refused(&rt);
-    };
-    pool_object_law();
-    sends_two(&rt, pool, region);
 }
 
 /// Admits a tenant with a limit, and allocates 100 bytes for it, each a second time where memory was refused.
