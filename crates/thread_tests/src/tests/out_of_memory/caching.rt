@@ -8,32 +8,8 @@ use bb_memory_traits::allocator::AllocationError;
 use bb_memory_traits::layout::Layout;
 use std::process::Abort;
 
-/// Takes two buckets and gives them back. The other party finds the cached one held. Returns its number.
+/// Takes two buckets and gives them back. The other party finds the cached one held until it is flushed.
 fn fills(
-    rt: &impl Abort,
-    pool: &SharedPoolAllocator,
-    caching: &mut CachingParty,
-    other: &mut PoolParty,
-    small: Layout,
-) -> Result<u32, AllocationError>
-    requires caching { caching.old.party.allocator ≡ pool.now }
-    requires other { other.old.allocator ≡ pool.now }
-    ensures caching { caching.new.party.allocator ≡ pool.now }
-    ensures other { other.new.allocator ≡ pool.now }
-{
-    let first = caching.allocate(pool, small)?;
-    let second = caching.allocate(pool, small)?;
-    let (cached, beyond) = (first.number(), second.number());
-    caching.deallocate(pool, first);
-    check(rt, caching.number_of_cached() == 1);
-    check(rt, pool.allocate(other, small).is_err());
-    caching.deallocate(pool, second);
-    check(rt, pool.allocate(other, small)?.number() == beyond);
-    Ok(cached)
-}
-
-/// Fills the cache, and takes the cached bucket once more. The other party finds it held until the cache is flushed.
-fn flushes(
     rt: &impl Abort,
     pool: &SharedPoolAllocator,
     caching: &mut CachingParty,
@@ -43,7 +19,14 @@ fn flushes(
     requires caching { caching.old.party.allocator ≡ pool.now }
     requires other { other.old.allocator ≡ pool.now }
 {
-    let cached = fills(rt, pool, caching, other, small)?;
+    let first = caching.allocate(pool, small)?;
+    let second = caching.allocate(pool, small)?;
+    let (cached, beyond) = (first.number(), second.number());
+    caching.deallocate(pool, first);
+    check(rt, caching.number_of_cached() == 1);
+    check(rt, pool.allocate(other, small).is_err());
+    caching.deallocate(pool, second);
+    check(rt, pool.allocate(other, small)?.number() == beyond);
     let again = caching.allocate(pool, small)?;
     check(rt, again.number() == cached);
     caching.deallocate(pool, again);
@@ -56,13 +39,12 @@ fn flushes(
 
 #[test]
 fn one_of_two_buckets_is_cached(rt: HostRuntime) {
-    let rt = &rt;
-    let (small, (pool, mut other, party)) = (layout(rt, 48, 4), two(rt, 256));
+    let (small, (pool, mut other, party)) = (layout(&rt, 48, 4), two(&rt, 256));
     match CachingParty::new(rt.alloc(), party, 1) {
-        Ok(mut made) => check(rt, flushes(rt, &pool, &mut made, &mut other, small).is_ok()),
+        Ok(mut made) => check(&rt, fills(&rt, &pool, &mut made, &mut other, small).is_ok()),
         Err(party) => {
-            refused(rt);
-            check(rt, party.number() == 1);
+            refused(&rt);
+            check(&rt, party.number() == 1);
         }
     }
 }
@@ -108,16 +90,15 @@ fn caches_two(
 
 #[test]
 fn two_of_two_buckets_are_cached(rt: HostRuntime) {
-    let rt = &rt;
-    let (small, (pool, other, party)) = (layout(rt, 48, 4), two(rt, 256));
+    let (small, (pool, other, party)) = (layout(&rt, 48, 4), two(&rt, 256));
     let (Ok(mut one), Ok(mut other)) = (
         CachingParty::new(rt.alloc(), party, 1),
         CachingParty::new(rt.alloc(), other, 0),
     ) else {
-        return refused(rt);
+        return refused(&rt);
     };
-    check(rt, caches_two(rt, &pool, &mut one, small).is_ok());
+    check(&rt, caches_two(&rt, &pool, &mut one, small).is_ok());
     one.meet(&pool, &mut other);
     let numbers = (one.party().number(), other.party().number());
-    same(rt, numbers, (1, 0));
+    same(&rt, numbers, (1, 0));
 }

@@ -95,20 +95,13 @@ fn a_bump_clears_its_chunk(rt: HostRuntime) {
     none_asked(&rt);
 }
 
-// row: one-zeroed-refused
+// row: one-zeroed-refused, one-grow-zeroed
 #[test]
-fn a_refused_request_clears_nothing(rt: HostRuntime) {
+fn a_grown_chunk_is_cleared_behind_its_old_size(rt: HostRuntime) {
     let mut one = fresh::<OneChunkAllocator>(&rt, [4096, 1024, 0, 0]);
     let refused = Reply::Refused(AllocationError::OutOfMemory);
     same(&rt, one.allocate(layout(&rt, 1025, 1), true), refused);
     check(&rt, one.has_zeros(0, 0));
-    none_asked(&rt);
-}
-
-// row: one-grow-zeroed
-#[test]
-fn a_grown_chunk_is_cleared_behind_its_old_size(rt: HostRuntime) {
-    let mut one = fresh::<OneChunkAllocator>(&rt, [4096, 1024, 0, 0]);
     same(&rt, takes(&rt, &mut one, (48, 4), false), 4096);
     resizes(&rt, &mut one, (4096, 48, 64), 1024, true);
     check(&rt, one.has_zeros(4144, 5120));
@@ -132,10 +125,14 @@ fn one_chunk_is_shrunk_and_grown(rt: HostRuntime) {
     none_asked(&rt);
 }
 
-/// Takes 48 bytes, which are grown and shrunk, and gives them back. Just the bytes by which they grew are zero.
+/// Takes 48 bytes, which can't be grown to 129. They are grown, shrunk and given back: just the bytes by which they grew are zero.
 fn is_grown_and_shrunk<A: Kind + Allocator>(rt: &(impl Abort + AllocGlobal), of: Of) {
     let mut owner = fresh::<A>(rt, of);
     let place = takes(rt, &mut owner, (48, 4), false);
+    let (old, new) = (layout(rt, 48, 4), layout(rt, 129, 4));
+    let refused = Reply::GrowRefused(AllocationGrowError::OutOfMemory);
+    same(rt, owner.grow(0, old, new, true), refused);
+    check(rt, owner.has_zeros(0, 0));
     resizes(rt, &mut owner, (place, 48, 64), 64, true);
     resizes(rt, &mut owner, (place, 64, 32), 32, true);
     same(rt, owner.deallocate(0), Reply::Released);
@@ -144,27 +141,10 @@ fn is_grown_and_shrunk<A: Kind + Allocator>(rt: &(impl Abort + AllocGlobal), of:
     none_asked(rt);
 }
 
-// row: fixed-doc-example
+// row: fixed-doc-example, fixed-grow-zeroed-refused
 #[test]
 fn a_bucket_is_grown_and_shrunk(rt: HostRuntime) {
     is_grown_and_shrunk::<FixedSizePoolAllocator<512>>(&rt, [4096, 1024, 128, 8]);
-}
-
-/// Takes a chunk that can't be grown to this size, and clears nothing.
-fn is_not_grown<A: Kind + Allocator>(rt: &(impl Abort + AllocGlobal), of: Of, size: usize) {
-    let mut owner = fresh::<A>(rt, of);
-    takes(rt, &mut owner, (48, 4), false);
-    let (old, new) = (layout(rt, 48, 4), layout(rt, size, 4));
-    let refused = Reply::GrowRefused(AllocationGrowError::OutOfMemory);
-    same(rt, owner.grow(0, old, new, true), refused);
-    check(rt, owner.has_zeros(0, 0));
-    none_asked(rt);
-}
-
-// row: fixed-grow-zeroed-refused
-#[test]
-fn a_refused_growth_clears_nothing(rt: HostRuntime) {
-    is_not_grown::<FixedSizePoolAllocator<512>>(&rt, [4096, 1024, 128, 8], 129);
 }
 
 /// Takes all buckets of a pool at 4096, each of which is at a place of its own, and then one of them again, cleared.
