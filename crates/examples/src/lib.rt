@@ -1,15 +1,11 @@
 //! Examples of the documents, proved: straight-line calls with literals. Contracts alone decide each `prove!`, and this crate has
 //! no proof files.
 //!
-//! The modules: `first`, a file for each kind of allocator, `errors`, how the errors go through `?`, and `comments`, the examples
-//! of the libraries' comments.
+//! The modules: `first`, `bump`, `one_chunk` and `pools`, and `comments`, the examples of the libraries' comments.
 #![tactic(auto)]
 
 pub mod bump;
 pub mod comments;
-pub mod errors;
 pub mod first;
 pub mod one_chunk;
 pub mod pools;
-pub mod regions;
-pub mod shared;

@@ -1,3 +1,2 @@
 pub mod ByteVectors
 pub mod Requests
-pub mod Rings

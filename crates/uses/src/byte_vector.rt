@@ -1,9 +1,12 @@
 //! A vector of bytes that lives at an offset of a region, and can move to another region with its bytes.
-ghost use Rattle.std.specs.Prelude.{◌≡◌, ◌+◌, ◌<◌, ◌≤◌, ◌^◌, ℕ, List, Some};
+ghost use Rattle.std.specs.Prelude.{◌≡◌, ◌+◌, ◌<◌, ◌≤◌, ◌^◌, ◌⊎◌, ℕ, List, Some};
+ghost use Rattle.std.specs.Align.{IsLayout};
 ghost use Rattle.std.specs.Prelude.{IfOk, IfErr, OnOk, OnErr, length, slice_get, slice_index};
 ghost use Rattle.bb_memory_traits.specs.Chunk.{Chunk, AreApart, IsInside};
 ghost use Rattle.bb_memory_traits.specs.HeldBytes.{held_region, bytes_in};
-ghost use Rattle.uses.specs.ByteVectors.{IsGrown, IsPushed, IsWhyFull, KeepsOthers, LivesIn, MakesRoom, contents};
+ghost use Rattle.bb_memory_traits.specs.declared.layout.LayoutError.{LayoutError};
+ghost use Rattle.uses.specs.Requests.{IsOfBytes};
+ghost use Rattle.uses.specs.ByteVectors.{MayGrowByOne, IsGrown, IsPushed, IsWhyFull, KeepsOthers, LivesIn, MakesRoom, contents};
 
 use bb_memory_traits::allocator::{AllocationGrowError, Allocator, BaseAllocator};
 use bb_memory_traits::layout::{Chunk, Layout, LayoutError};
@@ -183,8 +186,42 @@ fn grow_by_one<A: Allocator>(
         → IsWhyFull (A.may_grow (A.figures allocator.old) live chunk.place) size error) }
     ensures unchanged { allocator.new ≡ allocator.old }
 {
+    let (old, new) = layouts(size)?;
+    let grown = grow(allocator, place, old, new);
+    Ok(grown.map_err(PushError::Full)?.len())
+}
+
+/// Returns the layouts of so many bytes, and of one more.
+fn layouts(size: usize) -> Result<(Layout, Layout), PushError>
+    requires { size + 1 < 2 ^ 64 }
+    ensures old { IfOk result (λ layouts. IsOfBytes layouts.0 size) }
+    ensures new { IfOk result (λ layouts. IsOfBytes layouts.1 (size + 1)) }
+    ensures refused { IfErr result (λ error. (cause : LayoutError) × (error ≡ PushError.TooLong cause)
+        × ((¬ IsLayout size 1) ⊎ (¬ IsLayout (size + 1) 1))) }
+{
     let old = Layout::from_size_align(size, 1).map_err(PushError::TooLong)?;
     let new = Layout::from_size_align(size + 1, 1).map_err(PushError::TooLong)?;
-    let grown = allocator.grow(place, old, new);
-    Ok(grown.map_err(PushError::Full)?.len())
+    Ok((old, new))
+}
+
+/// Grows a live chunk of so many bytes by one.
+fn grow<A: Allocator>(
+    allocator: &mut A,
+    place: usize,
+    old: Layout,
+    new: Layout,
+) -> Result<Chunk, AllocationGrowError>
+    requires live { A.may_release allocator.old place }
+    requires old { IsOfBytes old old.size }
+    requires by_one { IsOfBytes new (old.size + 1) }
+    ensures answer { (live : List Chunk) (position : ℕ) (chunk : Chunk)
+        → A.stands_for allocator.old live → slice_get live position ≡ Some chunk
+        → chunk.place ≡ place
+        → MayGrowByOne (A.may_grow (A.figures allocator.old) live chunk.place) old.size result }
+    ensures same_place { IfOk result (λ grown. grown.place ≡ place) }
+    ensures longer { IfOk result (λ grown. old.size < grown.len) }
+    ensures inside { IfOk result (IsInside (A.region_of (A.geometry allocator.old))) }
+    ensures unchanged { allocator.new ≡ allocator.old }
+{
+    allocator.grow(place, old, new)
 }

@@ -6,11 +6,9 @@
 //! - `chunk_budget`: a limit of chunks over an allocator, which is an allocator itself.
 //! - `tenants`: tenants of one allocator, each with a limit, which together never exceed a whole.
 //! - `byte_vector`: a vector of bytes at an offset of a region, which can move to another region.
-//! - `ring`: messages for several readers, over a loan book. `ring/laws`: laws of the book's newest and oldest sample.
 #![tactic(auto)]
 
 pub mod byte_vector;
 pub mod chunk_budget;
-pub mod ring;
 pub mod slab;
 pub mod tenants;

@@ -158,7 +158,7 @@ fn chunk_at(chunks: &Vec<Chunk>, position: usize) -> Chunk
 }
 
 /// Writes a record in the chunk that was just given.
-pub(crate) fn put(region: &mut Region, chunks: &Vec<Chunk>, chunk: Chunk, bytes: &[u8])
+fn put(region: &mut Region, chunks: &Vec<Chunk>, chunk: Chunk, bytes: &[u8])
     requires sound { IsSound (held_region region.old) (chunks.now.items ++ chunk ∷ []) }
     requires len { length bytes.now ≡ chunk.len }
     ensures { HoldsThen region.old region.new (chunks.now.items ++ chunk ∷ [])

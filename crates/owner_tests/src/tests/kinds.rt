@@ -1,4 +1,5 @@
-//! The allocators of one owner: how a test makes each, and runs commands by it.
+//! The allocators of one owner, and how a test makes each. Calls of an allocator stand in functions over all kinds: a proof at a
+//! pool's own type takes seconds for each of them.
 ghost use Rattle.std.specs.Prelude.{◌≡◌, [], IfSome};
 ghost use Rattle.bb_memory_traits.specs.Chunk.{region_at};
 ghost use Rattle.bb_memory_owned.specs.Pool.{StandsFor};
@@ -8,9 +9,9 @@ use super::owner::Owner;
 use bb_memory_bump::bump_allocator::BumpAllocator;
 use bb_memory_owned::one_chunk_allocator::OneChunkAllocator;
 use bb_memory_owned::pool_allocator::{FixedSizePoolAllocator, PoolAllocator};
-use bb_memory_traits::allocator::{BaseAllocator, Command, Reply};
+use bb_memory_traits::allocator::BaseAllocator;
 use bb_memory_traits::layout::Layout;
-use std::alloc::{AllocError, Global};
+use std::alloc::Global;
 use std::process::Abort;
 use test_marks::refuse_memory;
 
@@ -21,10 +22,6 @@ pub(super) type Of = [usize; 4];
 pub(super) trait Kind: BaseAllocator + Drop {
     /// Makes a fresh allocator with its region, or `None` where there is none such, or memory was refused.
     fn owner(alloc: Global, of: Of) -> Option<Owner<Self>>;
-
-    fn run(owner: &mut Owner<Self>, commands: &[Command]) -> Result<Vec<Reply>, AllocError> {
-        owner.run_base(commands)
-    }
 }
 
 impl Kind for BumpAllocator {
@@ -45,10 +42,6 @@ impl Kind for OneChunkAllocator {
         }
         Owner::new(alloc, OneChunkAllocator::new(start, size), start, size)
     }
-
-    fn run(owner: &mut Owner<Self>, commands: &[Command]) -> Result<Vec<Reply>, AllocError> {
-        owner.run_full(commands)
-    }
 }
 
 impl Kind for PoolAllocator<Global> {
@@ -58,10 +51,6 @@ impl Kind for PoolAllocator<Global> {
         let pool = pool_over(alloc, bucket, start, size)?;
         Owner::new(alloc, pool, start, size)
     }
-
-    fn run(owner: &mut Owner<Self>, commands: &[Command]) -> Result<Vec<Reply>, AllocError> {
-        owner.run_full(commands)
-    }
 }
 
 impl<const N: usize> Kind for FixedSizePoolAllocator<N> {
@@ -70,10 +59,6 @@ impl<const N: usize> Kind for FixedSizePoolAllocator<N> {
         let bucket = Layout::from_size_align(bucket_size, align).ok()?;
         let pool = fixed_over::<N>(bucket, start, size)?;
         Owner::new(alloc, pool, start, size)
-    }
-
-    fn run(owner: &mut Owner<Self>, commands: &[Command]) -> Result<Vec<Reply>, AllocError> {
-        owner.run_full(commands)
     }
 }
 

@@ -1,4 +1,6 @@
 //! The index words that a pool reads behind each call of a loan book.
+ghost use Rattle.std.specs.Prelude.{[]};
+
 use super::checks::{layout, same};
 use super::kinds::pool_over;
 use bb_memory_owned::pool_allocator::PoolAllocator;
@@ -10,6 +12,7 @@ use loan_book::LoanCall::{GiveBack, IsOut, Loan, Publish};
 use loan_book::{LoanBook, run_loans};
 use std::alloc::Global;
 use std::cell::Cell;
+use std::process::Abort;
 use std::rc::Rc;
 
 /// An allocator that says how many index words its last request read.
@@ -121,14 +124,14 @@ impl<A: Reads + Drop> Allocator for Counted<A> {
     ghost only_live = { λ c. A.only_live c.inner };
 }
 
-/// Over a pool of two buckets: a loan that the pool may serve reads one word, also where both buckets are held, and no other call
-/// reads any.
-#[test]
-fn each_call_of_a_loan_book(rt: HostRuntime) {
+/// Makes calls of a loan book over an allocator of two buckets: a loan that this may serve reads one word, also where both buckets
+/// are held, and no other call reads any.
+fn calls<A: Reads + Drop>(rt: &(impl Abort + AllocGlobal), inner: A)
+    requires { A.stands_for inner [] }
+{
     let alloc = rt.alloc();
-    let inner = pool_over(alloc, layout(&rt, 64, 8), 4096, 128).expect(&rt, "there is such a pool");
-    let counter = Rc::new(alloc, Cell::new(0)).expect(&rt, "there is memory");
-    let reads = counter.clone().expect(&rt, "there is memory");
+    let counter = Rc::new(alloc, Cell::new(0)).expect(rt, "there is memory");
+    let reads = counter.clone().expect(rt, "there is memory");
     let mut book = LoanBook::new(alloc, Counted { inner, reads });
     for (call, wanted) in [
         (Loan(64), 1),
@@ -145,7 +148,13 @@ fn each_call_of_a_loan_book(rt: HostRuntime) {
         (GiveBack(1), 0),
         (Loan(64), 1),
     ] {
-        let replies = run_loans(alloc, &mut book, &[call]).expect(&rt, "there is memory");
-        same(&rt, (replies.len(), counter.replace(0)), (1, wanted));
+        let replies = run_loans(alloc, &mut book, &[call]).expect(rt, "there is memory");
+        same(rt, (replies.len(), counter.replace(0)), (1, wanted));
     }
+}
+
+#[test]
+fn each_call_of_a_loan_book(rt: HostRuntime) {
+    let pool = pool_over(rt.alloc(), layout(&rt, 64, 8), 4096, 128);
+    calls(&rt, pool.expect(&rt, "there is such a pool"));
 }

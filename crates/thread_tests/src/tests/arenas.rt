@@ -40,24 +40,25 @@ fn take(
 #[test]
 fn arenas_of_two_parties(rt: HostRuntime) {
     let (shared, one, other) = two(&rt, (4096, 1024, 0));
-    let mut one = arena(&rt, &shared, one, 100, 1);
-    let mut other = arena(&rt, &shared, other, 200, 64);
-    same(&rt, one.whole(), chunk(&rt, 4096, 100));
-    same(&rt, other.whole(), chunk(&rt, 4224, 200));
-    same(&rt, take(&rt, &mut one, 48, 4), Ok((4096, 48)));
-    same(&rt, take(&rt, &mut one, 10, 32), Ok((4160, 10)));
-    same(&rt, take(&rt, &mut one, 0, 1), Err(SizeIsZero));
-    same(&rt, take(&rt, &mut one, 27, 1), Err(OutOfMemory));
-    same(&rt, take(&rt, &mut one, 26, 1), Ok((4170, 26)));
-    same(&rt, take(&rt, &mut one, 1, 1), Err(OutOfMemory));
+    let (rt, shared) = (&rt, &shared);
+    let mut one = arena(rt, shared, one, 100, 1);
+    let mut other = arena(rt, shared, other, 200, 64);
+    same(rt, one.whole(), chunk(rt, 4096, 100));
+    same(rt, other.whole(), chunk(rt, 4224, 200));
+    same(rt, take(rt, &mut one, 48, 4), Ok((4096, 48)));
+    same(rt, take(rt, &mut one, 10, 32), Ok((4160, 10)));
+    same(rt, take(rt, &mut one, 0, 1), Err(SizeIsZero));
+    same(rt, take(rt, &mut one, 27, 1), Err(OutOfMemory));
+    same(rt, take(rt, &mut one, 26, 1), Ok((4170, 26)));
+    same(rt, take(rt, &mut one, 1, 1), Err(OutOfMemory));
     one.reset();
-    same(&rt, take(&rt, &mut one, 100, 1), Ok((4096, 100)));
-    same(&rt, take(&rt, &mut other, 1, 1), Ok((4224, 1)));
-    meet(&shared, &mut one, &mut other);
-    same(&rt, take(&rt, &mut other, 1, 1), Ok((4225, 1)));
-    let large = ThreadArena::new(&shared, other.into_party(), layout(&rt, 697, 1));
-    let (party, cause) = large.err().expect(&rt, "there is less room");
-    same(&rt, cause, OutOfMemory);
-    let rest = arena(&rt, &shared, party, 696, 1);
-    same(&rt, rest.whole(), chunk(&rt, 4424, 696));
+    same(rt, take(rt, &mut one, 100, 1), Ok((4096, 100)));
+    same(rt, take(rt, &mut other, 1, 1), Ok((4224, 1)));
+    meet(shared, &mut one, &mut other);
+    same(rt, take(rt, &mut other, 1, 1), Ok((4225, 1)));
+    let large = ThreadArena::new(shared, other.into_party(), layout(rt, 697, 1));
+    let (party, cause) = large.err().expect(rt, "there is less room");
+    same(rt, cause, OutOfMemory);
+    let rest = arena(rt, shared, party, 696, 1);
+    same(rt, rest.whole(), chunk(rt, 4424, 696));
 }

@@ -1,4 +1,6 @@
 //! Loan books. A refused loan leaves the book unchanged: just the samples of before are out.
+ghost use Rattle.std.specs.Prelude.{[]};
+
 use crate::tests::checks::{check, chunk, layout, refused, same};
 use crate::tests::kinds::pool_over;
 use bb_memory_owned::one_chunk_allocator::OneChunkAllocator;
@@ -110,24 +112,30 @@ fn leave<A: Allocator + Drop>(rt: &impl Abort, book: &mut LoanBook<A>, ids: &[u6
     }
 }
 
-/// Of sixteen samples some go back, and the others are published. Then six more are loaned.
+/// Loans sixteen samples, of which some go back and the others are published. Then six more are loaned.
+fn goes_back<A: Allocator + Drop>(rt: &(impl Abort + AllocGlobal), allocator: A)
+    requires { A.stands_for allocator [] }
+{
+    let mut book = LoanBook::new(rt.alloc(), allocator);
+    for id in 0..16 {
+        is_loaned(rt, loan(rt, &mut book, 64, id), id);
+    }
+    leave(rt, &mut book, &[7, 0, 15, 8, 1, 14]);
+    for id in [2, 3, 4, 5, 6, 9, 10, 11, 12, 13] {
+        same(rt, reply(&mut book, IsOut(id)), Out(true));
+        same(rt, reply(&mut book, Publish(id, 2)), Published);
+    }
+    for id in 16..22 {
+        is_loaned(rt, reply(&mut book, Loan(64)), id);
+    }
+    same(rt, reply(&mut book, GiveBack(9)), Kept);
+    leave(rt, &mut book, &[9]);
+}
+
 #[test]
 fn samples_go_back_in_any_order(rt: HostRuntime) {
     let Some(pool) = pool_over(rt.alloc(), layout(&rt, 64, 8), 4096, 1024) else {
         return refused(&rt);
     };
-    let mut book = LoanBook::new(rt.alloc(), pool);
-    for id in 0..16 {
-        is_loaned(&rt, loan(&rt, &mut book, 64, id), id);
-    }
-    leave(&rt, &mut book, &[7, 0, 15, 8, 1, 14]);
-    for id in [2, 3, 4, 5, 6, 9, 10, 11, 12, 13] {
-        same(&rt, reply(&mut book, IsOut(id)), Out(true));
-        same(&rt, reply(&mut book, Publish(id, 2)), Published);
-    }
-    for id in 16..22 {
-        is_loaned(&rt, reply(&mut book, Loan(64)), id);
-    }
-    same(&rt, reply(&mut book, GiveBack(9)), Kept);
-    leave(&rt, &mut book, &[9]);
+    goes_back(&rt, pool);
 }

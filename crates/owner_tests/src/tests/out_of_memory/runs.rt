@@ -1,13 +1,14 @@
 //! Runs of commands. A refused run applies no command, and is made again.
 use super::after_making::held_buckets::Buckets;
 use crate::tests::checks::{check, chunk, layout, refused, same};
-use crate::tests::kinds::{Kind, Of, made};
+use crate::tests::kinds::{Of, made};
 use crate::tests::owner::Owner;
 use bb_memory_bump::bump_allocator::BumpAllocator;
 use bb_memory_owned::one_chunk_allocator::OneChunkAllocator;
 use bb_memory_owned::pool_allocator::{FixedSizePoolAllocator, PoolAllocator};
 use bb_memory_traits::allocator::AllocationError::OutOfMemory;
 use bb_memory_traits::allocator::AllocationGrowError::{self, AlignmentFailure, GrowWouldShrink};
+use bb_memory_traits::allocator::Allocator;
 use bb_memory_traits::allocator::Command::{self, Allocate, Grow, Release, Shrink};
 use bb_memory_traits::allocator::Reply::{self, GrowRefused, Passed, Refused};
 use bb_memory_traits::layout::Layout;
@@ -15,30 +16,32 @@ use std::alloc::Global;
 use std::process::Abort;
 
 /// Runs commands, a second time where memory was refused: then as many chunks are live as before.
-fn replies<A: Kind>(
+fn replies<A: Allocator + Drop>(
     rt: &(impl Abort + AllocGlobal),
     owner: &mut Owner<A>,
     commands: &[Command],
 ) -> Vec<Reply> {
     let live = owner.number_of_live();
-    if let Ok(replies) = A::run(owner, commands) {
+    if let Ok(replies) = owner.run_full(commands) {
         return replies;
     }
     refused(rt);
     same(rt, owner.number_of_live(), live);
-    A::run(owner, commands).expect(rt, "there is memory for a run")
+    owner
+        .run_full(commands)
+        .expect(rt, "there is memory for a run")
 }
 
-/// Runs commands by a fresh allocator of 1024 bytes at `start`, and checks the replies.
-fn replied<A: Kind>(
-    rt: &(impl Abort + AllocGlobal),
-    start: usize,
-    commands: &[Command],
-    wanted: &[Reply],
-) {
-    let mut owner = made::<A>(rt, [start, 1024, 0, 0]);
-    let told = replies(rt, &mut owner, commands);
-    check(rt, told.as_slice() == wanted);
+/// Runs commands by a fresh bump, which has no resizes, a second time where memory was refused.
+fn replies_of_a_bump(rt: &(impl Abort + AllocGlobal), commands: &[Command]) -> Vec<Reply> {
+    let mut bump = made::<BumpAllocator>(rt, [4096, 1024, 0, 0]);
+    if let Ok(replies) = bump.run_base(commands) {
+        return replies;
+    }
+    refused(rt);
+    same(rt, bump.number_of_live(), 0);
+    bump.run_base(commands)
+        .expect(rt, "there is memory for a run")
 }
 
 fn given(rt: &impl Abort, place: usize, len: usize) -> Reply {
@@ -63,7 +66,10 @@ fn a_bump_is_filled(rt: HostRuntime) {
         given(&rt, 4170, 950),
         Refused(OutOfMemory),
     ];
-    replied::<BumpAllocator>(&rt, 4096, &commands, &wanted);
+    check(
+        &rt,
+        replies_of_a_bump(&rt, &commands).as_slice() == wanted.as_slice(),
+    );
 }
 
 // row: one-resizes, refused-run
@@ -90,7 +96,9 @@ fn one_chunk_is_resized(rt: HostRuntime) {
         given(&rt, 4100, 1021),
         Passed,
     ];
-    replied::<OneChunkAllocator>(&rt, 4097, &commands, &wanted);
+    let mut one = made::<OneChunkAllocator>(&rt, [4097, 1024, 0, 0]);
+    let told = replies(&rt, &mut one, &commands);
+    check(&rt, told.as_slice() == wanted.as_slice());
 }
 
 /// Takes two buckets, gives one back, and takes one more. Checks how many are held then, and how many were at most.

@@ -108,43 +108,46 @@ fn not_shrunk(
 // row: heap-grow-and-shrink, refused-heap-allocate, refused-heap-grow
 #[test]
 fn a_block_is_grown_and_shrunk(rt: HostRuntime) {
-    let empty = allocate(rt.alloc(), layout(&rt, 0, 1), false);
-    same(&rt, empty.err(), Some(AllocationError::SizeIsZero));
-    let block = counted(made(&rt, 4, false), 1);
-    same(&rt, digits(&block), (4, 1234));
-    let block = grown(&rt, block, 6, false);
-    same(&rt, digits(&block), (6, 123_400));
-    let block = shrunk(&rt, block, 2);
-    same(&rt, digits(&block), (2, 12));
-    let block = not_shrunk(&rt, block, 0, AllocationShrinkError::SizeIsZero);
-    same(&rt, digits(&block), (2, 12));
+    let rt = &rt;
+    let empty = allocate(rt.alloc(), layout(rt, 0, 1), false);
+    same(rt, empty.err(), Some(AllocationError::SizeIsZero));
+    let block = counted(made(rt, 4, false), 1);
+    same(rt, digits(&block), (4, 1234));
+    let block = grown(rt, block, 6, false);
+    same(rt, digits(&block), (6, 123_400));
+    let block = shrunk(rt, block, 2);
+    same(rt, digits(&block), (2, 12));
+    let block = not_shrunk(rt, block, 0, AllocationShrinkError::SizeIsZero);
+    same(rt, digits(&block), (2, 12));
 }
 
 // row: heap-zeroed-and-refused, refused-heap-allocate, refused-heap-grow
 #[test]
 fn a_block_is_zeroed_and_refused(rt: HostRuntime) {
-    let block = counted(made(&rt, 3, true), 5);
-    let refused = grow(rt.alloc(), block, layout(&rt, 3, 1), false).err();
-    let (block, error) = refused.expect(&rt, "the block isn't grown");
-    same(&rt, error, AllocationGrowError::GrowWouldShrink);
-    same(&rt, digits(&block), (3, 567));
-    let block = grown(&rt, block, 5, true);
-    same(&rt, digits(&block), (5, 56_700));
-    let block = not_shrunk(&rt, block, 5, AllocationShrinkError::ShrinkWouldGrow);
-    let block = shrunk(&rt, block, 1);
-    same(&rt, digits(&block), (1, 5));
+    let rt = &rt;
+    let block = counted(made(rt, 3, true), 5);
+    let refused = grow(rt.alloc(), block, layout(rt, 3, 1), false).err();
+    let (block, error) = refused.expect(rt, "the block isn't grown");
+    same(rt, error, AllocationGrowError::GrowWouldShrink);
+    same(rt, digits(&block), (3, 567));
+    let block = grown(rt, block, 5, true);
+    same(rt, digits(&block), (5, 56_700));
+    let block = not_shrunk(rt, block, 5, AllocationShrinkError::ShrinkWouldGrow);
+    let block = shrunk(rt, block, 1);
+    same(rt, digits(&block), (1, 5));
 }
 
 /// Blocks of many sizes are made, or grown from a byte, and their bytes are zero.
 #[test]
 fn heap_of_many_sizes(rt: HostRuntime) {
+    let rt = &rt;
     for size in [5, 6, 7, 64, 1024, 4096, 65_536, 1_048_575, 1_048_576] {
         for zeroed in [false, true] {
-            let block = made(&rt, size, zeroed);
-            same(&rt, digits(&block), (size, 0));
-            let block = grown(&rt, made(&rt, 1, zeroed), size, zeroed);
-            same(&rt, digits(&block), (size, 0));
-            same(&rt, digits(&shrunk(&rt, block, 4)), (4, 0));
+            let block = made(rt, size, zeroed);
+            same(rt, digits(&block), (size, 0));
+            let block = grown(rt, made(rt, 1, zeroed), size, zeroed);
+            same(rt, digits(&block), (size, 0));
+            same(rt, digits(&shrunk(rt, block, 4)), (4, 0));
         }
     }
 }

@@ -115,12 +115,13 @@ fn four_take_ten_bytes(rt: HostRuntime) {
         until: None,
     };
     let (shared, parties) = share(&rt, (4096, 4096, 0), 4);
-    let mut back = in_threads(&rt, &shared, &work, parties);
-    same(&rt, work.bytes.count(), 4000);
-    let mut last = last_of(&rt, &shared, &mut back);
-    same(&rt, spaces(&shared, &mut last), (4000, 96));
-    same(&rt, ask(&shared, &mut last, 97, 1), Err(OutOfMemory));
-    same(&rt, ask(&shared, &mut last, 96, 1), Ok((8096, 96)));
+    let (rt, shared) = (&rt, &shared);
+    let mut back = in_threads(rt, shared, &work, parties);
+    same(rt, work.bytes.count(), 4000);
+    let mut last = last_of(rt, shared, &mut back);
+    same(rt, spaces(shared, &mut last), (4000, 96));
+    same(rt, ask(shared, &mut last, 97, 1), Err(OutOfMemory));
+    same(rt, ask(shared, &mut last, 96, 1), Ok((8096, 96)));
 }
 
 /// Each of three threads takes as long as there is room, by a layout of its own. Each pair of parties meets.
@@ -134,13 +135,14 @@ fn three_take_all(rt: HostRuntime) {
         until: None,
     };
     let (shared, parties) = share(&rt, (4097, 1000, 0), 3);
-    let mut back = in_threads(&rt, &shared, &work, parties);
-    let mut a = last_of(&rt, &shared, &mut back);
-    let mut b = last_of(&rt, &shared, &mut back);
-    let mut c = last_of(&rt, &shared, &mut back);
-    same(&rt, ask(&shared, &mut a, 24, 16), Err(OutOfMemory));
-    same(&rt, ask(&shared, &mut b, 5, 1), Err(OutOfMemory));
-    same(&rt, ask(&shared, &mut c, 8, 8), Err(OutOfMemory));
+    let (rt, shared) = (&rt, &shared);
+    let mut back = in_threads(rt, shared, &work, parties);
+    let mut a = last_of(rt, shared, &mut back);
+    let mut b = last_of(rt, shared, &mut back);
+    let mut c = last_of(rt, shared, &mut back);
+    same(rt, ask(shared, &mut a, 24, 16), Err(OutOfMemory));
+    same(rt, ask(shared, &mut b, 5, 1), Err(OutOfMemory));
+    same(rt, ask(shared, &mut c, 8, 8), Err(OutOfMemory));
     shared.meet(&mut a, &mut b);
     shared.meet(&mut b, &mut c);
     shared.meet(&mut a, &mut c);
@@ -150,13 +152,14 @@ fn three_take_all(rt: HostRuntime) {
 // row: threads-really-at-once
 #[test]
 fn two_at_once(rt: HostRuntime) {
+    let rt = &rt;
     let work = Work {
-        layouts: [layout(&rt, 8, 1); 3],
+        layouts: [layout(rt, 8, 1); 3],
         times: 1,
-        bytes: Slots::new(&rt, 64),
+        bytes: Slots::new(rt, 64),
         until: Some(16),
     };
-    let (shared, parties) = share(&rt, (4096, 64, 0), 2);
-    same(&rt, in_threads(&rt, &shared, &work, parties).len(), 2);
-    same(&rt, work.bytes.count(), 16);
+    let (shared, parties) = share(rt, (4096, 64, 0), 2);
+    same(rt, in_threads(rt, &shared, &work, parties).len(), 2);
+    same(rt, work.bytes.count(), 16);
 }

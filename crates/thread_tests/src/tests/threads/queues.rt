@@ -155,11 +155,12 @@ fn send_and_receive<P: MessagePool + Send, R: Threads + Sync + AllocGlobal>(
 #[test]
 fn threads_pool_queue(rt: HostRuntime) {
     let (small, (pool, sender, receiver)) = (layout(&rt, 48, 4), two(&rt, 256));
-    let told = send_and_receive::<Brand, HostRuntime>(&rt, &pool, sender, receiver, small);
-    let (mut receiver, sent, received) = told.expect(&rt, "there is memory for a queue");
-    same(&rt, (sent, received), (MESSAGES, MESSAGES));
-    same(&rt, take(&pool, &mut receiver, small), Ok((0, 4096, 48)));
-    same(&rt, take(&pool, &mut receiver, small), Ok((1, 4224, 48)));
-    let third = take(&pool, &mut receiver, small);
-    same(&rt, third, Err(AllocationError::OutOfMemory));
+    let (rt, pool) = (&rt, &pool);
+    let told = send_and_receive::<Brand, HostRuntime>(rt, pool, sender, receiver, small);
+    let (mut receiver, sent, received) = told.expect(rt, "there is memory for a queue");
+    same(rt, (sent, received), (MESSAGES, MESSAGES));
+    same(rt, take(pool, &mut receiver, small), Ok((0, 4096, 48)));
+    same(rt, take(pool, &mut receiver, small), Ok((1, 4224, 48)));
+    let third = take(pool, &mut receiver, small);
+    same(rt, third, Err(AllocationError::OutOfMemory));
 }

@@ -2,7 +2,7 @@
 use crate::tests::checks::{check, layout, none_asked, refused, same};
 use crate::tests::kinds::{Kind, fixed_over, pool_over};
 use bb_memory_owned::pool_allocator::{
-    AllocationError, BaseAllocator, FixedSizePoolAllocator, PoolAllocator,
+    AllocationError, Allocator, BaseAllocator, FixedSizePoolAllocator, PoolAllocator,
 };
 use std::alloc::Global;
 use std::process::Abort;
@@ -15,7 +15,7 @@ type Counts = (u32, u32, bool);
 type At = (Option<usize>, Option<u32>, bool);
 
 /// A pool of either kind.
-pub(in crate::tests) trait Buckets: Kind {
+pub(in crate::tests) trait Buckets: Kind + Allocator {
     fn told(&self, number: u32, place: usize) -> (Counts, At);
 
     /// Calls `deallocate_if_held`.

@@ -1,10 +1,14 @@
 //! Loan books, of which a loan alone takes memory.
+ghost use Rattle.std.specs.Prelude.{[]};
+
 use crate::tests::checks::{check, layout, none_asked, refused, same};
 use crate::tests::kinds::pool_over;
 use crate::tests::out_of_memory::loans::{FULL, NO_MEMORY, one_book, reply};
+use bb_memory_traits::allocator::Allocator;
 use loan_book::LoanCall::{GiveBack, IsOut, Loan, Publish};
 use loan_book::LoanReply::{Kept, Out, Published, Refused, Returned};
 use loan_book::{LoanBook, LoanError};
+use std::process::Abort;
 use test_marks::{none_was_asked, refuse_memory, some_was_refused};
 
 /// Publishes and gives back a sample, and makes a book.
@@ -28,28 +32,33 @@ fn a_loan_book(rt: HostRuntime) {
     none_asked(&rt);
 }
 
-/// Fills a pool of sixteen chunks and the book's room for records. Without memory a further loan is refused for its record's,
+/// Fills an allocator of sixteen chunks and the book's room for records. Without memory a further loan is refused for its record's,
 /// before the allocator is asked; with memory the allocator refuses it.
-#[test]
-fn a_loan_of_a_full_pool(rt: HostRuntime) {
-    let alloc = rt.alloc();
-    let Some(pool) = pool_over(alloc, layout(&rt, 64, 8), 4096, 1024) else {
-        return refused(&rt);
-    };
-    let mut book = LoanBook::new(alloc, pool);
+fn fills<A: Allocator + Drop>(rt: &(impl Abort + AllocGlobal), allocator: A)
+    requires { A.stands_for allocator [] }
+{
+    let mut book = LoanBook::new(rt.alloc(), allocator);
     for _ in 0..16 {
         if reply(&mut book, Loan(64)) == NO_MEMORY {
-            return refused(&rt);
+            return refused(rt);
         }
     }
-    let is_refused = refuse_memory(alloc);
+    let is_refused = refuse_memory(rt.alloc());
     let told = reply(&mut book, Loan(64));
-    check(&rt, none_was_asked(alloc) != is_refused);
-    let wanted = if some_was_refused(alloc) {
+    check(rt, none_was_asked(rt.alloc()) != is_refused);
+    let wanted = if some_was_refused(rt.alloc()) {
         NO_MEMORY
     } else {
         FULL
     };
-    same(&rt, told, wanted);
-    same(&rt, reply(&mut book, Loan(64)), FULL);
+    same(rt, told, wanted);
+    same(rt, reply(&mut book, Loan(64)), FULL);
+}
+
+#[test]
+fn a_loan_of_a_full_pool(rt: HostRuntime) {
+    let Some(pool) = pool_over(rt.alloc(), layout(&rt, 64, 8), 4096, 1024) else {
+        return refused(&rt);
+    };
+    fills(&rt, pool);
 }

@@ -1,5 +1,6 @@
 //! Layouts, roundings, chunks and a region; and the laws.
 use crate::tests::checks::{check, layout, none_asked, refused, same};
+use crate::tests::kinds::pool_over;
 use bb_memory_bump::bump_allocator::bump_object_law;
 use bb_memory_owned::one_chunk_allocator::one_chunk_object_law;
 use bb_memory_owned::pool_allocator::{
@@ -48,8 +49,12 @@ fn memory_size(bucket: Layout, size: usize) -> Option<usize> {
 // row: memory-size-eight-buckets, memory-size-unrounded, memory-size-below-one-bucket, pool-rounded-stride
 #[test]
 fn memory_sizes(rt: HostRuntime) {
-    refuse_memory(rt.alloc());
     let (large, small) = (layout(&rt, 128, 8), layout(&rt, 12, 8));
+    let Some(pool) = pool_over(rt.alloc(), small, 4096, 64) else {
+        return refused(&rt);
+    };
+    refuse_memory(rt.alloc());
+    same(&rt, (pool.number_of_buckets(), pool.bucket_size()), (4, 12));
     same(&rt, memory_size(large, 1024), Some(64));
     same(&rt, memory_size(small, 64), Some(40));
     same(&rt, memory_size(large, 100), Some(0));

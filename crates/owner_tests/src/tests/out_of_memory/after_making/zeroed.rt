@@ -1,6 +1,9 @@
 //! Calls of the traits, and which bytes they clear. The region's bytes are all 7 at first.
+ghost use Rattle.std.specs.Prelude.{◌≡◌, []};
+ghost use Rattle.bb_memory_traits.specs.Chunk.{region_at};
+
 use crate::tests::checks::{check, chunk, layout, none_asked, refused, same};
-use crate::tests::kinds::{Of, fixed_over, fresh};
+use crate::tests::kinds::{Kind, Of, fixed_over, fresh};
 use crate::tests::owner::Owner;
 use bb_memory_bump::bump_allocator::BumpAllocator;
 use bb_memory_owned::one_chunk_allocator::OneChunkAllocator;
@@ -52,7 +55,8 @@ fn takes_all<A: BaseAllocator + Drop>(rt: &impl Abort, owner: &mut Owner<A>, zer
 }
 
 /// Makes each call that resizes, plainly and then by clearing bytes, between a request and a return.
-fn each_call<A: Allocator + Drop>(rt: &(impl Abort + AllocGlobal), mut owner: Owner<A>) {
+fn each_call<A: Kind + Allocator>(rt: &(impl Abort + AllocGlobal), of: Of) {
+    let mut owner = fresh::<A>(rt, of);
     for (zeroed, end) in [(false, 4096), (true, 4160)] {
         takes_all(rt, &mut owner, zeroed);
         resizes(rt, &mut owner, (4096, 64, 48), 48, zeroed);
@@ -71,11 +75,9 @@ fn each_call_of_the_traits(rt: HostRuntime) {
     same(&rt, bump.deallocate(0), Reply::Released);
     takes_all(&rt, &mut bump, true);
     none_asked(&rt);
-    each_call(&rt, fresh::<OneChunkAllocator>(&rt, [4096, 64, 0, 0]));
-    let pool = fresh::<PoolAllocator<Global>>(&rt, [4096, 64, 64, 8]);
-    each_call(&rt, pool);
-    let fixed = fresh::<FixedSizePoolAllocator<4>>(&rt, [4096, 64, 64, 8]);
-    each_call(&rt, fixed);
+    each_call::<OneChunkAllocator>(&rt, [4096, 64, 0, 0]);
+    each_call::<PoolAllocator<Global>>(&rt, [4096, 64, 64, 8]);
+    each_call::<FixedSizePoolAllocator<4>>(&rt, [4096, 64, 64, 8]);
 }
 
 // row: bump-allocate-zeroed
@@ -93,20 +95,13 @@ fn a_bump_clears_its_chunk(rt: HostRuntime) {
     none_asked(&rt);
 }
 
-// row: one-zeroed-refused
+// row: one-zeroed-refused, one-grow-zeroed
 #[test]
-fn a_refused_request_clears_nothing(rt: HostRuntime) {
+fn a_grown_chunk_is_cleared_behind_its_old_size(rt: HostRuntime) {
     let mut one = fresh::<OneChunkAllocator>(&rt, [4096, 1024, 0, 0]);
     let refused = Reply::Refused(AllocationError::OutOfMemory);
     same(&rt, one.allocate(layout(&rt, 1025, 1), true), refused);
     check(&rt, one.has_zeros(0, 0));
-    none_asked(&rt);
-}
-
-// row: one-grow-zeroed
-#[test]
-fn a_grown_chunk_is_cleared_behind_its_old_size(rt: HostRuntime) {
-    let mut one = fresh::<OneChunkAllocator>(&rt, [4096, 1024, 0, 0]);
     same(&rt, takes(&rt, &mut one, (48, 4), false), 4096);
     resizes(&rt, &mut one, (4096, 48, 64), 1024, true);
     check(&rt, one.has_zeros(4144, 5120));
@@ -130,39 +125,40 @@ fn one_chunk_is_shrunk_and_grown(rt: HostRuntime) {
     none_asked(&rt);
 }
 
-// row: fixed-doc-example
-#[test]
-fn a_bucket_is_grown_and_shrunk(rt: HostRuntime) {
-    let mut pool = fresh::<FixedSizePoolAllocator<512>>(&rt, [4096, 1024, 128, 8]);
-    let place = takes(&rt, &mut pool, (48, 4), false);
-    resizes(&rt, &mut pool, (place, 48, 64), 64, true);
-    resizes(&rt, &mut pool, (place, 64, 32), 32, true);
-    same(&rt, pool.deallocate(0), Reply::Released);
+/// Takes 48 bytes, which can't be grown to 129. They are grown, shrunk and given back: just the bytes by which they grew are zero.
+fn is_grown_and_shrunk<A: Kind + Allocator>(rt: &(impl Abort + AllocGlobal), of: Of) {
+    let mut owner = fresh::<A>(rt, of);
+    let place = takes(rt, &mut owner, (48, 4), false);
+    let (old, new) = (layout(rt, 48, 4), layout(rt, 129, 4));
+    let refused = Reply::GrowRefused(AllocationGrowError::OutOfMemory);
+    same(rt, owner.grow(0, old, new, true), refused);
+    check(rt, owner.has_zeros(0, 0));
+    resizes(rt, &mut owner, (place, 48, 64), 64, true);
+    resizes(rt, &mut owner, (place, 64, 32), 32, true);
+    same(rt, owner.deallocate(0), Reply::Released);
     let cleared = place.saturating_add(48);
-    check(&rt, pool.has_zeros(cleared, cleared.saturating_add(16)));
-    none_asked(&rt);
+    check(rt, owner.has_zeros(cleared, cleared.saturating_add(16)));
+    none_asked(rt);
 }
 
-// row: fixed-grow-zeroed-refused
+// row: fixed-doc-example, fixed-grow-zeroed-refused
 #[test]
-fn a_refused_growth_clears_nothing(rt: HostRuntime) {
-    let mut pool = fresh::<FixedSizePoolAllocator<512>>(&rt, [4096, 1024, 128, 8]);
-    takes(&rt, &mut pool, (48, 4), false);
-    let (old, new) = (layout(&rt, 48, 4), layout(&rt, 129, 4));
-    let refused = Reply::GrowRefused(AllocationGrowError::OutOfMemory);
-    same(&rt, pool.grow(0, old, new, true), refused);
-    check(&rt, pool.has_zeros(0, 0));
-    none_asked(&rt);
+fn a_bucket_is_grown_and_shrunk(rt: HostRuntime) {
+    is_grown_and_shrunk::<FixedSizePoolAllocator<512>>(&rt, [4096, 1024, 128, 8]);
 }
 
 /// Takes all buckets of a pool at 4096, each of which is at a place of its own, and then one of them again, cleared.
-fn fills(rt: &(impl Abort + AllocGlobal), of: Of, (stride, count): (usize, usize)) {
-    let mut pool = fresh::<PoolAllocator<Global>>(rt, of);
-    same(rt, pool.allocator().number_of_buckets() as usize, count);
-    same(rt, pool.allocator().bucket_size(), of[2]);
+fn fills<A: Kind + Allocator>(
+    rt: &(impl Abort + AllocGlobal),
+    of: Of,
+    (stride, count): (usize, usize),
+) {
+    let mut pool = fresh::<A>(rt, of);
     for _ in 0..count {
         takes(rt, &mut pool, (of[2], of[3]), false);
     }
+    let refused = Reply::Refused(AllocationError::OutOfMemory);
+    same(rt, pool.allocate(layout(rt, of[2], of[3]), false), refused);
     check(rt, pool.are_at(4096, stride, count));
     same(rt, pool.reserved(0), Some(of[2]));
     same(rt, pool.deallocate(1), Reply::Released);
@@ -174,29 +170,34 @@ fn fills(rt: &(impl Abort + AllocGlobal), of: Of, (stride, count): (usize, usize
 // row: pool-eight-buckets, pool-rounded-stride
 #[test]
 fn each_bucket_has_its_place(rt: HostRuntime) {
-    fills(&rt, [4096, 1024, 128, 8], (128, 8));
-    fills(&rt, [4096, 64, 12, 8], (16, 4));
+    fills::<PoolAllocator<Global>>(&rt, [4096, 1024, 128, 8], (128, 8));
+    fills::<PoolAllocator<Global>>(&rt, [4096, 64, 12, 8], (16, 4));
 }
 
-/// A spent budget refuses before its pool, and a resize spends nothing.
-#[test]
-fn a_budget_of_one_chunk(rt: HostRuntime) {
-    let Some(pool) = fixed_over::<16>(layout(&rt, 128, 8), 4096, 1024) else {
-        return check(&rt, false);
-    };
+/// Spends a budget of one chunk over a pool of buckets of 128 bytes, which then refuses before its pool. A resize spends nothing.
+fn spends<A: Allocator + Drop>(rt: &(impl Abort + AllocGlobal), pool: A)
+    requires fresh { A.stands_for pool [] }
+    requires region { A.region_of (A.geometry pool) ≡ region_at 4096 1024 }
+{
     let Some(mut budget) = Owner::new(rt.alloc(), ChunkBudget::new(pool, 1), 4096, 1024) else {
-        return refused(&rt);
+        return refused(rt);
     };
     refuse_memory(rt.alloc());
-    let large = layout(&rt, 129, 1);
+    let large = layout(rt, 129, 1);
     let too_large = Reply::Refused(AllocationError::SizeTooLarge);
-    same(&rt, budget.allocate(large, false), too_large);
-    let place = takes(&rt, &mut budget, (10, 4), false);
-    resizes(&rt, &mut budget, (place, 10, 20), 20, true);
-    same(&rt, budget.allocator().out(), 1);
+    same(rt, budget.allocate(large, false), too_large);
+    let place = takes(rt, &mut budget, (10, 4), false);
+    resizes(rt, &mut budget, (place, 10, 20), 20, true);
+    same(rt, budget.allocator().out(), 1);
     let spent = Reply::Refused(AllocationError::OutOfMemory);
-    same(&rt, budget.allocate(large, false), spent);
-    same(&rt, budget.deallocate(0), Reply::Released);
-    same(&rt, budget.allocator().out(), 0);
-    none_asked(&rt);
+    same(rt, budget.allocate(large, false), spent);
+    same(rt, budget.deallocate(0), Reply::Released);
+    same(rt, budget.allocator().out(), 0);
+    none_asked(rt);
+}
+
+#[test]
+fn a_budget_of_one_chunk(rt: HostRuntime) {
+    let pool = fixed_over::<16>(layout(&rt, 128, 8), 4096, 1024);
+    spends(&rt, pool.expect(&rt, "there is such a pool"));
 }

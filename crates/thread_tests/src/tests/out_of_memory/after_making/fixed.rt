@@ -4,7 +4,7 @@ ghost use Rattle.std.specs.Prelude.{◌≡◌, All, IfSome};
 use crate::tests::checks::{check, chunk, layout, none_asked, refused, same};
 use bb_memory_owned::pool_allocator::FixedSizePoolAllocator;
 use bb_memory_shared_pools::shared_pool::{Bucket, PoolParty, SharedFixedSizePoolAllocator};
-use bb_memory_traits::allocator::AllocationError::{self, OutOfMemory};
+use bb_memory_traits::allocator::AllocationError::OutOfMemory;
 use bb_memory_traits::allocator::AllocationGrowError;
 use bb_memory_traits::layout::{Chunk, Layout};
 use std::alloc::Global;
@@ -27,12 +27,17 @@ fn four(alloc: Global) -> Option<(Four, Vec<PoolParty>)>
     }
 }
 
-/// Takes a bucket, and returns its number.
-fn number(pool: &Four, party: &mut PoolParty, layout: Layout) -> Result<u32, AllocationError>
+/// Takes the buckets that are left, and drops their tokens.
+fn takes_three(rt: &impl Abort, pool: &Four, party: &mut PoolParty, layout: Layout)
     requires { party.old.allocator ≡ pool.now }
-    ensures { party.new.allocator ≡ pool.now }
 {
-    Ok(pool.allocate(party, layout)?.number())
+    for wanted in [Ok(1), Ok(2), Ok(3), Err(OutOfMemory)] {
+        let told = match pool.allocate(party, layout) {
+            Ok(bucket) => Ok(bucket.number()),
+            Err(error) => Err(error),
+        };
+        same(rt, told, wanted);
+    }
 }
 
 /// Grows a bucket's chunk, and checks the answer.
@@ -62,10 +67,7 @@ fn fills(rt: &impl Abort, pool: &Four, mut parties: Vec<PoolParty>)
     let first = pool.allocate(&mut party, small);
     let mut first = first.expect(rt, "a bucket is free");
     same(rt, (first.number(), first.chunk().place()), (0, 4096));
-    same(rt, number(pool, &mut party, small), Ok(1));
-    same(rt, number(pool, &mut party, small), Ok(2));
-    same(rt, number(pool, &mut party, small), Ok(3));
-    same(rt, number(pool, &mut party, small), Err(OutOfMemory));
+    takes_three(rt, pool, &mut party, small);
     let grown = chunk(rt, 4096, 64);
     grow(rt, pool, &mut first, small, medium, Ok(grown));
     let refused = Err(AllocationGrowError::OutOfMemory);

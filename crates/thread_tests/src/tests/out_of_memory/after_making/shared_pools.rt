@@ -1,11 +1,11 @@
 //! Parties of one thread that share a pool of buckets of 128 bytes. A request answers a bucket's number, place and length.
-ghost use Rattle.std.specs.Prelude.{◌≡◌};
+ghost use Rattle.std.specs.Prelude.{◌≡◌, ◌<◌};
 
 use crate::tests::buckets::{counts, fit, found, hold, last_of, pool_at_last, take, two};
 use crate::tests::checks::{chunk, layout, none_asked, same};
 use bb_memory_shared_pools::shared_pool::by_number::Flag;
 use bb_memory_shared_pools::shared_pool::{
-    AllocationShrinkError, Bucket, SharedPoolAllocator, by_number,
+    AllocationShrinkError, Bucket, PoolParty, SharedPoolAllocator, by_number,
 };
 use bb_memory_traits::allocator::AllocationError::{AlignmentFailure, OutOfMemory, SizeTooLarge};
 use bb_memory_traits::layout::{Chunk, Layout};
@@ -15,77 +15,102 @@ use std::process::Abort;
 #[test]
 fn a_dropped_token_leaves_its_bucket_held(rt: HostRuntime) {
     let (small, (pool, mut all)) = (layout(&rt, 48, 4), pool_at_last(&rt, 256, 1));
-    let mut party = last_of(&rt, &pool, &mut all);
-    let first = hold(&rt, &pool, &mut party, small);
-    same(&rt, found(&first), (0, 4096, 48));
-    same(&rt, take(&pool, &mut party, small), Ok((1, 4224, 48)));
-    same(&rt, take(&pool, &mut party, small), Err(OutOfMemory));
+    let (rt, pool) = (&rt, &pool);
+    let mut party = last_of(rt, pool, &mut all);
+    let first = hold(rt, pool, &mut party, small);
+    same(rt, found(&first), (0, 4096, 48));
+    same(rt, take(pool, &mut party, small), Ok((1, 4224, 48)));
+    same(rt, take(pool, &mut party, small), Err(OutOfMemory));
     pool.deallocate_bucket(&mut party, first);
-    same(&rt, take(&pool, &mut party, small), Ok((0, 4096, 48)));
-    same(&rt, take(&pool, &mut party, small), Err(OutOfMemory));
-    none_asked(&rt);
+    same(rt, take(pool, &mut party, small), Ok((0, 4096, 48)));
+    same(rt, take(pool, &mut party, small), Err(OutOfMemory));
+    none_asked(rt);
 }
 
 #[test]
 fn two_parties_of_one_bucket(rt: HostRuntime) {
     let (small, (pool, mut a, mut b)) = (layout(&rt, 48, 4), two(&rt, 128));
-    let (large, wide) = (layout(&rt, 129, 16), layout(&rt, 48, 16));
-    same(&rt, take(&pool, &mut a, large), Err(SizeTooLarge));
-    same(&rt, fit(&pool, &mut a, wide), Err(AlignmentFailure));
-    let held = hold(&rt, &pool, &mut a, small);
-    same(&rt, take(&pool, &mut b, small), Err(OutOfMemory));
-    same(&rt, fit(&pool, &mut b, small), Err(OutOfMemory));
+    let (rt, pool) = (&rt, &pool);
+    let (large, wide) = (layout(rt, 129, 16), layout(rt, 48, 16));
+    same(rt, take(pool, &mut a, large), Err(SizeTooLarge));
+    same(rt, fit(pool, &mut a, wide), Err(AlignmentFailure));
+    let held = hold(rt, pool, &mut a, small);
+    same(rt, take(pool, &mut b, small), Err(OutOfMemory));
+    same(rt, fit(pool, &mut b, small), Err(OutOfMemory));
     pool.deallocate_bucket(&mut a, held);
-    same(&rt, take(&pool, &mut b, small), Ok((0, 4096, 48)));
-    none_asked(&rt);
+    same(rt, take(pool, &mut b, small), Ok((0, 4096, 48)));
+    none_asked(rt);
 }
 
 /// The last party's part of the pool is its last bucket, also when all parties have met.
 #[test]
 fn as_many_parties_as_buckets(rt: HostRuntime) {
     let (pool, mut all) = pool_at_last(&rt, 65536, 512);
+    let (rt, pool) = (&rt, &pool);
     pool.meet_all(&mut all);
-    let (small, mut party) = (layout(&rt, 48, 4), last_of(&rt, &pool, &mut all));
-    same(&rt, (party.number(), all.len()), (511, 511));
-    same(&rt, pool.number_of_buckets(), pool.number_of_parties());
-    same(&rt, (pool.size(), pool.bucket_size()), (65536, 128));
-    same(&rt, (pool.start_address(), pool.max_alignment()), (4096, 8));
-    same(&rt, pool.number_at(4097), None);
-    same(&rt, pool.number_at(4224), Some(1));
-    same(&rt, pool.place_at(511), Some(69504));
-    same(&rt, pool.place_at(512), None);
-    same(&rt, fit(&pool, &mut party, small), Ok((511, 69504, 48)));
-    same(&rt, fit(&pool, &mut party, small), Ok((0, 4096, 48)));
-    none_asked(&rt);
+    let (small, mut party) = (layout(rt, 48, 4), last_of(rt, pool, &mut all));
+    same(rt, (party.number(), all.len()), (511, 511));
+    same(rt, pool.number_of_buckets(), pool.number_of_parties());
+    same(rt, (pool.size(), pool.bucket_size()), (65536, 128));
+    same(rt, (pool.start_address(), pool.max_alignment()), (4096, 8));
+    same(
+        rt,
+        [pool.number_at(4097), pool.number_at(4224)],
+        [None, Some(1)],
+    );
+    same(
+        rt,
+        [pool.place_at(511), pool.place_at(512)],
+        [Some(69504), None],
+    );
+    same(rt, fit(pool, &mut party, small), Ok((511, 69504, 48)));
+    same(rt, fit(pool, &mut party, small), Ok((0, 4096, 48)));
+    none_asked(rt);
+}
+
+/// Detaches a bucket of the first party, and attaches it by the other one, which gives it back.
+fn attaches(rt: &impl Abort, pool: &SharedPoolAllocator, a: &mut PoolParty, b: &mut PoolParty)
+    requires others { 1 < pool.now.scene.parties }
+    requires first { a.old.allocator ≡ pool.now }
+    requires second { b.old.allocator ≡ pool.now }
+    ensures first { a.new.allocator ≡ pool.now }
+    ensures second { b.new.allocator ≡ pool.now }
+{
+    let small = layout(rt, 48, 4);
+    let held = hold(rt, pool, a, small);
+    let number = held.number();
+    let by_both = (pool.is_held_by(a, number), pool.is_held_by(b, number));
+    same(
+        rt,
+        (pool.holder(number), by_both),
+        (Flag::HeldBy(a.number()), (true, false)),
+    );
+    let detached = pool.detach(a, held);
+    same(rt, (detached.number(), detached.len()), (0, 48));
+    same(rt, pool.holder(number), Flag::DetachedBy(a.number()));
+    same(rt, take(pool, a, small), Err(OutOfMemory));
+    same(rt, fit(pool, b, small), Err(OutOfMemory));
+    let attached = pool.attach(b, detached);
+    same(rt, pool.holder(number), Flag::HeldBy(b.number()));
+    same(rt, found(&attached), (0, 4096, 48));
+    pool.deallocate_bucket(b, attached);
+    same(rt, pool.holder(number), Flag::Free);
 }
 
 #[test]
 fn a_detached_bucket_is_nobodys(rt: HostRuntime) {
     let (small, (pool, mut a, mut b)) = (layout(&rt, 48, 4), two(&rt, 128));
-    let (own, other) = (a.number(), b.number());
-    let held = hold(&rt, &pool, &mut a, small);
+    let (rt, pool) = (&rt, &pool);
+    attaches(rt, pool, &mut a, &mut b);
+    let held = hold(rt, pool, &mut a, small);
     let number = held.number();
-    same(&rt, pool.holder(number), Flag::HeldBy(own));
-    same(&rt, pool.is_held_by(&mut a, number), true);
-    same(&rt, pool.is_held_by(&mut b, number), false);
-    let detached = pool.detach(&mut a, held);
-    same(&rt, (detached.number(), detached.len()), (0, 48));
-    same(&rt, pool.holder(number), Flag::DetachedBy(own));
-    same(&rt, take(&pool, &mut a, small), Err(OutOfMemory));
-    same(&rt, fit(&pool, &mut b, small), Err(OutOfMemory));
-    let attached = pool.attach(&mut b, detached);
-    same(&rt, pool.holder(number), Flag::HeldBy(other));
-    same(&rt, found(&attached), (0, 4096, 48));
-    pool.deallocate_bucket(&mut b, attached);
-    same(&rt, pool.holder(number), Flag::Free);
-    let held = hold(&rt, &pool, &mut a, small);
     let detached = pool.detach(&mut a, held);
     pool.return_detached(&mut b, detached);
-    same(&rt, pool.holder(number), Flag::Free);
-    let held = hold(&rt, &pool, &mut a, small);
+    same(rt, pool.holder(number), Flag::Free);
+    let held = hold(rt, pool, &mut a, small);
     drop(pool.detach(&mut a, held));
-    same(&rt, take(&pool, &mut b, small), Err(OutOfMemory));
-    none_asked(&rt);
+    same(rt, take(pool, &mut b, small), Err(OutOfMemory));
+    none_asked(rt);
 }
 
 /// A search begins in the party's part. It goes on where the last one ended, or at the least bucket that came back since, and
@@ -93,53 +118,56 @@ fn a_detached_bucket_is_nobodys(rt: HostRuntime) {
 #[test]
 fn a_search_goes_on(rt: HostRuntime) {
     let (small, (pool, mut a, mut b)) = (layout(&rt, 48, 4), two(&rt, 1024));
-    same(&rt, fit(&pool, &mut a, small), Ok((0, 4096, 48)));
-    same(&rt, fit(&pool, &mut b, small), Ok((4, 4608, 48)));
-    let least = hold(&rt, &pool, &mut b, small);
-    same(&rt, found(&least), (1, 4224, 48));
-    same(&rt, fit(&pool, &mut a, small), Ok((2, 4352, 48)));
+    let (rt, pool) = (&rt, &pool);
+    same(rt, fit(pool, &mut a, small), Ok((0, 4096, 48)));
+    same(rt, fit(pool, &mut b, small), Ok((4, 4608, 48)));
+    let least = hold(rt, pool, &mut b, small);
+    same(rt, found(&least), (1, 4224, 48));
+    same(rt, fit(pool, &mut a, small), Ok((2, 4352, 48)));
     pool.deallocate_bucket(&mut b, least);
-    same(&rt, fit(&pool, &mut b, small), Ok((1, 4224, 48)));
-    same(&rt, fit(&pool, &mut b, small), Ok((3, 4480, 48)));
-    same(&rt, fit(&pool, &mut a, small), Ok((5, 4736, 48)));
-    same(&rt, fit(&pool, &mut a, small), Ok((6, 4864, 48)));
-    same(&rt, fit(&pool, &mut a, small), Ok((7, 4992, 48)));
-    same(&rt, fit(&pool, &mut b, small), Err(OutOfMemory));
-    none_asked(&rt);
+    same(rt, fit(pool, &mut b, small), Ok((1, 4224, 48)));
+    same(rt, fit(pool, &mut b, small), Ok((3, 4480, 48)));
+    same(rt, fit(pool, &mut a, small), Ok((5, 4736, 48)));
+    same(rt, fit(pool, &mut a, small), Ok((6, 4864, 48)));
+    same(rt, fit(pool, &mut a, small), Ok((7, 4992, 48)));
+    same(rt, fit(pool, &mut b, small), Err(OutOfMemory));
+    none_asked(rt);
 }
 
 #[test]
 fn a_meeting_keeps_where_a_search_begins(rt: HostRuntime) {
     let (small, (pool, mut a, mut b)) = (layout(&rt, 48, 4), two(&rt, 1024));
-    same(&rt, fit(&pool, &mut a, small), Ok((0, 4096, 48)));
-    same(&rt, fit(&pool, &mut b, small), Ok((4, 4608, 48)));
+    let (rt, pool) = (&rt, &pool);
+    same(rt, fit(pool, &mut a, small), Ok((0, 4096, 48)));
+    same(rt, fit(pool, &mut b, small), Ok((4, 4608, 48)));
     pool.meet(&mut a, &mut b);
-    same(&rt, fit(&pool, &mut b, small), Ok((5, 4736, 48)));
-    same(&rt, fit(&pool, &mut a, small), Ok((1, 4224, 48)));
-    none_asked(&rt);
+    same(rt, fit(pool, &mut b, small), Ok((5, 4736, 48)));
+    same(rt, fit(pool, &mut a, small), Ok((1, 4224, 48)));
+    none_asked(rt);
 }
 
 /// The figures say how many buckets are held, how many were found held at most, and how many requests were refused.
 #[test]
 fn figures_count_what_is_held(rt: HostRuntime) {
     let (small, (pool, mut a, mut b)) = (layout(&rt, 48, 4), two(&rt, 256));
-    same(&rt, counts(&pool), (0, 0, 0));
-    let first = hold(&rt, &pool, &mut a, small);
-    let large = layout(&rt, 129, 4);
-    same(&rt, take(&pool, &mut b, large), Err(SizeTooLarge));
-    same(&rt, counts(&pool), (1, 1, 0));
+    let (rt, pool) = (&rt, &pool);
+    same(rt, counts(pool), (0, 0, 0));
+    let first = hold(rt, pool, &mut a, small);
+    let large = layout(rt, 129, 4);
+    same(rt, take(pool, &mut b, large), Err(SizeTooLarge));
+    same(rt, counts(pool), (1, 1, 0));
     let detached = pool.detach(&mut a, first);
-    same(&rt, counts(&pool), (1, 1, 0));
+    same(rt, counts(pool), (1, 1, 0));
     let first = pool.attach(&mut b, detached);
     pool.deallocate_bucket(&mut b, first);
-    same(&rt, counts(&pool), (0, 1, 0));
-    let first = hold(&rt, &pool, &mut a, small);
-    same(&rt, take(&pool, &mut b, small), Ok((1, 4224, 48)));
-    same(&rt, take(&pool, &mut b, small), Err(OutOfMemory));
-    same(&rt, fit(&pool, &mut b, small), Err(OutOfMemory));
+    same(rt, counts(pool), (0, 1, 0));
+    let first = hold(rt, pool, &mut a, small);
+    same(rt, take(pool, &mut b, small), Ok((1, 4224, 48)));
+    same(rt, take(pool, &mut b, small), Err(OutOfMemory));
+    same(rt, fit(pool, &mut b, small), Err(OutOfMemory));
     pool.deallocate_bucket(&mut a, first);
-    same(&rt, counts(&pool), (1, 2, 2));
-    none_asked(&rt);
+    same(rt, counts(pool), (1, 2, 2));
+    none_asked(rt);
 }
 
 fn shrink(
@@ -162,17 +190,18 @@ fn shrink(
 #[test]
 fn a_bucket_by_its_number(rt: HostRuntime) {
     let (small, (pool, mut party, _)) = (layout(&rt, 48, 4), two(&rt, 128));
-    let mut held = hold(&rt, &pool, &mut party, small);
+    let (rt, pool) = (&rt, &pool);
+    let mut held = hold(rt, pool, &mut party, small);
     let number = held.number();
-    let (shorter, wanted) = (layout(&rt, 16, 4), chunk(&rt, 4096, 16));
-    let told = shrink(&rt, &pool, &mut held, shorter, small);
-    same(&rt, told, Err(AllocationShrinkError::ShrinkWouldGrow));
-    let told = shrink(&rt, &pool, &mut held, small, shorter);
-    same(&rt, told, Ok(wanted));
-    same(&rt, found(&held), (0, 4096, 16));
-    let again = by_number::bucket(&pool, &party, number, 0);
-    same(&rt, found(&again), (0, 4096, 0));
+    let (shorter, wanted) = (layout(rt, 16, 4), chunk(rt, 4096, 16));
+    let told = shrink(rt, pool, &mut held, shorter, small);
+    same(rt, told, Err(AllocationShrinkError::ShrinkWouldGrow));
+    let told = shrink(rt, pool, &mut held, small, shorter);
+    same(rt, told, Ok(wanted));
+    same(rt, found(&held), (0, 4096, 16));
+    let again = by_number::bucket(pool, &party, number, 0);
+    same(rt, found(&again), (0, 4096, 0));
     pool.deallocate_bucket(&mut party, again);
-    same(&rt, take(&pool, &mut party, small), Ok((0, 4096, 48)));
-    none_asked(&rt);
+    same(rt, take(pool, &mut party, small), Ok((0, 4096, 48)));
+    none_asked(rt);
 }
