@@ -1,8 +1,10 @@
 -- Where the buckets of a region are, and which regions can be cut into buckets.
-use Rattle.std.specs.Prelude.{◌≡◌, ℕ, ◌-◌, ◌+◌, ◌≤◌, ◌<◌, ◌^◌, ◌⊎◌, Option, IfSome, IfNone}
+use Rattle.std.specs.Prelude.{◌≡◌, ℕ, ◌-◌, ◌+◌, ◌≤◌, ◌<◌, ◌^◌, ◌⊎◌, Option, IfSome, IfNone, Result, Ok, Err}
 use Rattle.bb_memory_traits.specs.Chunk.{Region, IsRegion, first_place}
-use Rattle.bb_memory_traits.specs.PoolObject.{PoolGeometry, IsPoolGeometry, IsCut, at_most, bucket_place, stride}
+use Rattle.bb_memory_traits.specs.PoolObject.{PoolGeometry, IsPoolGeometry, IsCut, IsWithin, at_most, bucket_place, stride}
 use Rattle.bb_memory_traits.specs.declared.layout.Layout.{Layout}
+use Rattle.bb_memory_traits.specs.declared.allocator.AllocationError.{AllocationError}
+use Rattle.bb_memory_traits.specs.declared.allocator.AllocationError.TheVariants.{SizeTooLarge, AlignmentFailure}
 
 -- CUTS OF A REGION
 
@@ -19,6 +21,13 @@ pub record IsCutAtMost (most : ℕ) (region : Region) (bucket : Layout) (geometr
   pub whole : PoolGeometry
   pub cut : IsCut region bucket whole
   pub first : geometry ≡ at_most most whole
+
+-- A request before a bucket is tried: its size and its alignment are within the bucket's, or the first that isn't refuses it.
+abbrev pub Admits : Layout → Layout → Result (Unit {0}) AllocationError → Type 0
+Admits bucket layout (Ok done) = IsWithin bucket layout
+Admits bucket layout (Err SizeTooLarge) = bucket.size < layout.size
+Admits bucket layout (Err AlignmentFailure) = (layout.size ≤ bucket.size) × (bucket.align < layout.align)
+Admits bucket layout (Err error) = ⊥
 
 -- WHERE BUCKETS ARE
 

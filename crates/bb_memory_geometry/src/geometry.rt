@@ -3,9 +3,9 @@ ghost use Rattle.std.specs.Prelude.{◌≡◌, ◌≢◌, ℕ, ◌<◌, ◌≤�
 ghost use Rattle.bb_memory_traits.specs.Chunk.{IsRegion, region_at, Chunk, IsInside, first_place};
 ghost use Rattle.bb_memory_traits.specs.PoolObject.{IsCut, IsPoolGeometry, at_most, bucket_place, pool_geometry, stride};
 ghost use Rattle.bb_memory_traits.specs.PoolObject.{MayGrow, MayShrink};
-ghost use Rattle.bb_memory_geometry.specs.Geometry.{IsPlaceOfBucket, Shifts, TellsPlace, IsCutAtMost, MayBeCut};
+ghost use Rattle.bb_memory_geometry.specs.Geometry.{Admits, IsPlaceOfBucket, Shifts, TellsPlace, IsCutAtMost, MayBeCut};
 
-use bb_memory_traits::allocator::{AllocationGrowError, AllocationShrinkError};
+use bb_memory_traits::allocator::{AllocationError, AllocationGrowError, AllocationShrinkError};
 use bb_memory_traits::layout::{Chunk, Layout, round_up};
 use std::marker::Model;
 
@@ -127,6 +127,20 @@ impl Geometry {
             Some(shift) => distance >> shift,
             None => distance / self.stride,
         }
+    }
+
+    /// Refuses a request by its size or else its alignment, where one of them is greater than the bucket's.
+    #[inline(always)]
+    pub fn admit(&self, layout: Layout) -> Result<(), AllocationError>
+        ensures { Admits self.now.bucket layout result }
+    {
+        if layout.size() > self.bucket.size() {
+            return Err(AllocationError::SizeTooLarge);
+        }
+        if layout.align() > self.bucket.align() {
+            return Err(AllocationError::AlignmentFailure);
+        }
+        Ok(())
     }
 
     /// How many strides a distance has, where it is a multiple of the stride, and else a number that no bucket has. Where the

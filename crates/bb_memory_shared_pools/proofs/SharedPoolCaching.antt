@@ -15,7 +15,8 @@ use Rattle.bb_memory_shared_pools.specs.SharedPool.{return_entry, taken_bucket, 
 use Rattle.bb_memory_shared_pools.specs.SharedPoolCaching.{AreCached, CachingParty, IsOut, TakesCaching, returns_of}
 use Rattle.bb_memory_shared_pools.specs.SharedPoolNextFit.{MayTakeFrom, hint_of}
 use Rattle.bb_memory_shared_pools.proofs.SharedPoolLaws.{held_below}
-use Rattle.bb_memory_shared_pools.proofs.SharedPoolRequests.{unasked}
+use Rattle.bb_memory_shared_pools.proofs.SharedPoolRequests.{not_within, refused_by_search, unasked}
+use Rattle.bb_memory_geometry.specs.Geometry.{Admits}
 
 -- a token's number
 pub number_of : (pool : SharedPool) (token : TakenBucket) (bucket len : ℕ) → token ≡ taken_bucket pool bucket len →
@@ -140,19 +141,23 @@ takes_last pool old new layout last len token same most own cut its size within 
 
 -- a request that is refused without a step
 pub unasked_answer : (old : CachingParty) (layout : Layout) (error : AllocationError) → IsParty old.party →
-    ¬ IsWithin old.party.allocator.scene.geometry.bucket layout →
-    MayTakeFrom (hint_of old.party) old.party layout (Err error) old.party → error ≢ OutOfMemory →
-    TakesCaching old layout (Err error) old
-unasked_answer old layout error is too_great answer other_error = record {
-  cached = λ before last within at. absurd (too_great within);
-  searched = λ none. record {
-    answer = answer;
-    serves = unasked old.party.allocator old.party layout error is too_great;
-    unchanged = refl;
-  };
-  refused = record { answer = answer; unchanged = refl; none_cached = λ out. absurd (other_error out) };
-  within = tt;
-}
+    Admits old.party.allocator.scene.geometry.bucket layout (Err error) → TakesCaching old layout (Err error) old
+unasked_answer old layout error is refused =
+    let bucket = old.party.allocator.scene.geometry.bucket in
+    let answer = refused_by_search (hint_of old.party) old.party layout error refused in record {
+      cached = λ before last within at. absurd (not_within bucket layout error refused within);
+      searched = λ none. record {
+        answer = answer;
+        serves = unasked old.party.allocator old.party layout error is refused;
+        unchanged = refl;
+      };
+      refused = record {
+        answer = answer;
+        unchanged = refl;
+        none_cached = λ out. absurd (subst (λ (e : AllocationError). Admits bucket layout (Err e)) out refused);
+      };
+      within = tt;
+    }
 
 -- a request that searches the pool, as none is cached
 pub searches : (old new : CachingParty) (layout : Layout) (result : Result TakenBucket AllocationError) → old.cached ≡ [] →

@@ -11,12 +11,16 @@ use Rattle.bb_memory_pool_machine.specs.PoolMachine.{PoolScene}
 use Rattle.bb_memory_pool_machine.specs.PoolLogs.{PoolLog, IsHeldAfter}
 use Rattle.bb_memory_traits.specs.declared.layout.Layout.{Layout}
 use Rattle.bb_memory_traits.specs.declared.allocator.AllocationError.{AllocationError}
+use Rattle.bb_memory_traits.specs.declared.allocator.AllocationError.TheVariants.{SizeIsZero, SizeTooLarge, AlignmentFailure}
+use Rattle.bb_memory_traits.specs.declared.allocator.AllocationError.TheVariants.{OutOfMemory}
+use Rattle.bb_memory_geometry.specs.Geometry.{Admits}
 use Rattle.bb_memory_pool_machine.proofs.PoolHolders.{held_through}
 use Rattle.bb_memory_pool_machine.proofs.PoolSteps.{test_apart}
 use Rattle.bb_memory_seats.specs.Seats.{number_of, view_log}
 use Rattle.bb_memory_geometry.proofs.Measures.{bucket-inside, bucket_place-multiple}
 use Rattle.bb_memory_shared_pools.specs.declared.shared_pool.party.Hint.{Hint}
-use Rattle.bb_memory_shared_pools.specs.SharedPool.{AreAllHeldAfter, IsParty, PoolParty, ServesAlone, SharedPool}
+use Rattle.bb_memory_shared_pools.specs.SharedPool.{AreAllHeldAfter, IsParty, MayTake, PoolParty, ServesAlone, SharedPool}
+use Rattle.bb_memory_shared_pools.specs.SharedPoolNextFit.{MayTakeFrom}
 use Rattle.bb_memory_shared_pools.specs.SharedPool.{chunk_of, taken_bucket}
 use Rattle.bb_memory_shared_pools.specs.SharedPoolRule.{IsPartySeat, SeatView, party_in, pool_in, HasEnded}
 use Rattle.bb_memory_shared_pools.proofs.SharedPoolParties.{is_party}
@@ -126,10 +130,32 @@ module _ (pool : SharedPool) (table new_table : TableId) (me new : Me ℕ SeatVi
     );
   }
 
+-- what isn't admitted isn't within the bucket's size and alignment
+pub not_within : (bucket layout : Layout) (error : AllocationError) → Admits bucket layout (Err error) → ¬ IsWithin bucket layout
+not_within bucket layout SizeTooLarge large within = absurd (omega (arith, large, within.size))
+not_within bucket layout AlignmentFailure large within = absurd (omega (arith, large.1, within.align))
+not_within bucket layout SizeIsZero refused within = absurd refused
+not_within bucket layout OutOfMemory refused within = absurd refused
+
+-- it is refused so by a pass, and by a search
+pub refused_by_pass : (party : PoolParty) (layout : Layout) (error : AllocationError) →
+    Admits party.allocator.scene.geometry.bucket layout (Err error) → MayTake party layout (Err error) party
+refused_by_pass party layout SizeTooLarge large = (large, refl)
+refused_by_pass party layout AlignmentFailure large = (large.0, large.1, refl)
+refused_by_pass party layout SizeIsZero refused = absurd refused
+refused_by_pass party layout OutOfMemory refused = absurd refused
+
+pub refused_by_search : (first : ℕ) (party : PoolParty) (layout : Layout) (error : AllocationError) →
+    Admits party.allocator.scene.geometry.bucket layout (Err error) → MayTakeFrom first party layout (Err error) party
+refused_by_search first party layout SizeTooLarge large = (large, refl)
+refused_by_search first party layout AlignmentFailure large = (large.0, large.1, refl)
+refused_by_search first party layout SizeIsZero refused = absurd refused
+refused_by_search first party layout OutOfMemory refused = absurd refused
+
 -- a request that is refused without a step
 pub unasked : (pool : SharedPool) (party : PoolParty) (layout : Layout) (error : AllocationError) → IsParty party →
-    ¬ IsWithin pool.scene.geometry.bucket layout → ServesAlone pool party layout (Err error) party
-unasked pool party layout error is too_great = record {
+    Admits pool.scene.geometry.bucket layout (Err error) → ServesAlone pool party layout (Err error) party
+unasked pool party layout error is refused = record {
   serves = record {
     bucket = tt;
     number = refl;
@@ -141,5 +167,5 @@ unasked pool party layout error is too_great = record {
     aligned = tt;
     exact_size = tt;
   };
-  alone = λ one within. absurd (too_great within);
+  alone = λ one within. absurd (not_within pool.scene.geometry.bucket layout error refused within);
 }

@@ -140,13 +140,7 @@ impl<const CAPPED: usize, const MOST: usize> SharedBucketPool<CAPPED, MOST> {
     {
         // Proof hint: brings the party's invariant into scope on the early returns.
         let _ = &party.number;
-        let bucket = self.flags.geometry().bucket();
-        if layout.size() > bucket.size() {
-            return Err(AllocationError::SizeTooLarge);
-        }
-        if layout.align() > bucket.align() {
-            return Err(AllocationError::AlignmentFailure);
-        }
+        self.flags.geometry().admit(layout)?;
         match self.pass(party.number, &mut party.seat) {
             Some(number) => {
                 party.hint.follow_taking(number);

@@ -148,12 +148,7 @@ impl CachingParty {
     {
         // Proof hint: brings the party's invariant into scope on the returns without a step.
         let _ = self.party.number();
-        if layout.size() > pool.bucket_size() {
-            return Err(AllocationError::SizeTooLarge);
-        }
-        if layout.align() > pool.max_alignment() {
-            return Err(AllocationError::AlignmentFailure);
-        }
+        pool.flags.geometry().admit(layout)?;
         match self.cached.pop() {
             Some(number) => {
                 let bucket = by_number::bucket(pool, &self.party, number, layout.size());

@@ -114,13 +114,7 @@ impl<const CAPPED: usize, const MOST: usize> SharedBucketPool<CAPPED, MOST> {
     {
         // Proof hint: brings the party's invariant into scope on the early returns.
         let _ = &party.number;
-        let bucket = self.flags.geometry().bucket();
-        if layout.size() > bucket.size() {
-            return Err(AllocationError::SizeTooLarge);
-        }
-        if layout.align() > bucket.align() {
-            return Err(AllocationError::AlignmentFailure);
-        }
+        self.flags.geometry().admit(layout)?;
         let found = self.next_fit(party.number, &mut party.seat, &mut party.hint);
         let Some(number) = found else {
             return Err(AllocationError::OutOfMemory);

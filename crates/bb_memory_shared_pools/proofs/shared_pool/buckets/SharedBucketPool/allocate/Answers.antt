@@ -1,6 +1,6 @@
-use Rattle.std.proofs.Common.{◌+◌, false, Some, None, refl, ap, ◌∙◌, subst, arith}
+use Rattle.std.proofs.Common.{◌≡◌, rules, ◌+◌, false, Some, None, refl, ap, ◌∙◌, subst, sym}
 use Rattle.std.specs.Prelude.{Ok, Err}
-use Rattle.bb_memory_traits.specs.PoolObject.{PoolGeometry}
+use Rattle.bb_memory_traits.specs.PoolObject.{IsWithin, PoolGeometry}
 use Rattle.bb_memory_traits.specs.declared.layout.Layout.{Layout}
 use Rattle.bb_memory_traits.specs.declared.allocator.AllocationError.TheVariants.{OutOfMemory}
 use Rattle.bb_memory_seats.specs.Seats.{number_of, view_log}
@@ -8,48 +8,32 @@ use Rattle.bb_memory_shared_pools.specs.SharedPool.{IsParty, PoolParty, ServesAl
 use Rattle.bb_memory_shared_pools.specs.SharedPoolRule.{party_in}
 use Rattle.bb_memory_shared_pools.proofs.SharedPoolParties.{is_party, seated_then}
 use Rattle.bb_memory_shared_pools.proofs.SharedPoolPasses.{pass_lost, pass_took}
-use Rattle.bb_memory_shared_pools.proofs.SharedPoolRequests.{refused, served, stays}
+use Rattle.bb_memory_shared_pools.proofs.SharedPoolRequests.{refused, refused_by_pass, served, stays, unasked}
+use Rattle.bb_memory_geometry.specs.Geometry.{Admits}
 use Rattle.bb_memory_shared_pools.proofs.SharedPoolTries.{hint-losses, hint-taking}
 use Rattle.bb_memory_shared_pools.proofs.shared_pool.buckets.SharedBucketPool.allocate.Goals as goal
 
 -- refused without a step
-pub returns-then-size : goal.returns-then-size
-returns-then-size g c =
-    let bucket = c.bucket-bucket.ensures ∙ ap (λ (x : PoolGeometry). x.bucket) c.geometry.ensures.value
-    ∙ ap (λ (p : SharedPool). p.scene.geometry.bucket) c.self.view_is in
-    let its = ap (λ (l : Layout). l.size) bucket in
-    let own = ap (λ (p : SharedPool). p.scene.geometry.bucket.size) c.requires.party in
-    record {
-      answer = (omega arith, refl);
+pub returns-in_err-admit : goal.returns-in_err-admit
+returns-in_err-admit g c =
+    let party = c.args.party.now in
+    let error = c.in_err-admit.field-0.0 in
+    let told : c.from_residual.result ≡ Err error = search rules in
+    let geometry = c.geometry.ensures.value ∙ ap (λ (p : SharedPool). p.scene.geometry) c.self.view_is in
+    let refused = subst (λ (x : PoolGeometry). Admits x.bucket c.args.layout (Err error)) geometry c.in_err-admit.ensures in
+    let its = subst (λ (p : SharedPool). Admits p.scene.geometry.bucket c.args.layout (Err error)) (sym c.requires.party)
+    refused in
+    let is = subst IsParty c.party.view_is (is_party _ _ _ _ c.party.invariant) in
+    let serves = unasked c.args.self.now party c.args.layout error is refused in
+    rw told record {
+      answer = refused_by_pass party c.args.layout error its;
       party = c.requires.party;
-      is_party = record { number = refl; is_party = subst IsParty c.party.view_is (is_party _ _ _ _ c.party.invariant) };
+      is_party = record { number = refl; is_party = is };
       bucket = tt;
       held = tt;
-      others_kept = λ other held. held;
-      others = λ other apart held. held;
-      alone = λ one within. let short = within.size in absurd (omega arith);
-      inside = tt;
-      aligned = tt;
-      exact_size = tt;
-    }
-
-pub returns-then-align : goal.returns-then-align
-returns-then-align g c =
-    let bucket = c.bucket-bucket.ensures ∙ ap (λ (x : PoolGeometry). x.bucket) c.geometry.ensures.value
-    ∙ ap (λ (p : SharedPool). p.scene.geometry.bucket) c.self.view_is in
-    let its = ap (λ (l : Layout). (l.size)) bucket in
-    let even = ap (λ (l : Layout). (l.align)) bucket in
-    let own = ap (λ (p : SharedPool). p.scene.geometry.bucket.size) c.requires.party in
-    let own_align = ap (λ (p : SharedPool). p.scene.geometry.bucket.align) c.requires.party in
-    record {
-      answer = (omega arith, omega arith, refl);
-      party = c.requires.party;
-      is_party = record { number = refl; is_party = subst IsParty c.party.view_is (is_party _ _ _ _ c.party.invariant) };
-      bucket = tt;
-      held = tt;
-      others_kept = λ other held. held;
-      others = λ other apart held. held;
-      alone = λ one within. let aligned = within.align in absurd (omega arith);
+      others_kept = serves.serves.others_kept;
+      others = serves.serves.others;
+      alone = serves.alone;
       inside = tt;
       aligned = tt;
       exact_size = tt;
@@ -75,22 +59,20 @@ invariant_of-party-in-None g c =
     c.pass.new.seat.me _ party.hint (hint-losses buckets (number_of me.0) buckets party.hint) c.in-None.ensures.told.step.ended
 
 -- what the request says where it takes a bucket, and where it takes none
-took : (g : _) (c : goal.After-size-in-Some g) → ServesAlone c.args.self.now c.args.party.now c.args.layout
-    (Ok (taken_bucket c.self.inside.flags c.in-Some.number c.size-in-Some.result))
+took : (g : _) (c : goal.After-size g) → ServesAlone c.args.self.now c.args.party.now c.args.layout
+    (Ok (taken_bucket c.self.inside.flags c.in-Some.number c.size.result))
     (party_in c.pass.new.seat.table_id c.party.inside.number c.pass.new.seat.me.0)
 took g c =
     let old = c.party.inside in
     let new = c.pass.new.seat in
-    let bucket = c.bucket-bucket.ensures ∙ ap (λ (x : PoolGeometry). x.bucket) c.geometry.ensures.value
-    ∙ ap (λ (p : SharedPool). p.scene.geometry.bucket) c.self.view_is in
-    let size = ap (λ (l : Layout). l.size) bucket in
-    let align = ap (λ (l : Layout). l.align) bucket in
+    let geometry = c.geometry.ensures.value ∙ ap (λ (p : SharedPool). p.scene.geometry) c.self.view_is in
+    let within = subst (λ (x : PoolGeometry). IsWithin x.bucket c.args.layout) geometry c.in_ok-admit.ensures in
     served c.args.self.now old.seat.table_id new.table_id old.seat.me new.me old.number old.hint _ _ c.args.party.now
     c.args.layout c.party.invariant (invariant_of-party g c) c.party.view_is c.requires.party c.self.inside.flags
-    c.in-Some.number c.size-in-Some.result
+    c.in-Some.number c.size.result
     (pass_took c.args.self.now.scene (number_of old.seat.me.0) (view_log old.seat.me.0) new.me c.in-Some.number
     c.in-Some.ensures.told.step)
-    c.self.view_is c.size-in-Some.ensures (omega arith) (omega arith)
+    c.self.view_is c.size.ensures within.size within.align
 
 lost : (g : _) (c : goal.After-count_refusal g) → ServesAlone c.args.self.now c.args.party.now c.args.layout (Err OutOfMemory)
     (party_in c.pass.new.seat.table_id c.party.inside.number c.pass.new.seat.me.0)

@@ -1,43 +1,31 @@
-use Rattle.std.proofs.Common.{Some, None, refl, ap, ◌∙◌, subst, arith}
-use Rattle.bb_memory_traits.specs.PoolObject.{PoolGeometry}
+use Rattle.std.proofs.Common.{◌≡◌, rules, Some, None, refl, ap, ◌∙◌, subst, sym}
+use Rattle.bb_memory_traits.specs.PoolObject.{IsWithin, PoolGeometry}
 use Rattle.bb_memory_traits.specs.declared.layout.Layout.{Layout}
-use Rattle.bb_memory_traits.specs.declared.allocator.AllocationError.TheVariants.{AlignmentFailure, OutOfMemory, SizeTooLarge}
+use Rattle.bb_memory_traits.specs.declared.allocator.AllocationError.TheVariants.{OutOfMemory}
 use Rattle.bb_memory_seats.specs.Seats.{number_of, view_log}
 use Rattle.bb_memory_shared_pools.specs.SharedPool.{IsParty, PoolParty, SharedPool}
 use Rattle.bb_memory_shared_pools.proofs.SharedPoolParties.{is_party, seated_then}
-use Rattle.bb_memory_shared_pools.proofs.SharedPoolRequests.{refused, served, stays, unasked}
+use Rattle.bb_memory_shared_pools.proofs.SharedPoolRequests.{refused, refused_by_search, served, stays, unasked}
+use Rattle.bb_memory_geometry.specs.Geometry.{Admits}
+use Rattle.std.specs.Prelude.{Err}
 use Rattle.bb_memory_shared_pools.proofs.SharedPoolNextFit.{hint-misses, hint_by_search, search_lost, search_took}
 use Rattle.bb_memory_shared_pools.proofs.shared_pool.buckets.SharedBucketPool.allocate_next_fit.Goals as goal
 
 -- refused without a step
-pub returns-then-size : goal.returns-then-size
-returns-then-size g c =
-    let bucket = c.bucket-bucket.ensures ∙ ap (λ (x : PoolGeometry). x.bucket) c.geometry.ensures.value
-    ∙ ap (λ (p : SharedPool). p.scene.geometry.bucket) c.self.view_is in
-    let its = ap (λ (l : Layout). l.size) bucket in
-    let own = ap (λ (p : SharedPool). p.scene.geometry.bucket.size) c.requires.party in
-    record {
-      answer = (omega arith, refl);
+pub returns-in_err-admit : goal.returns-in_err-admit
+returns-in_err-admit g c =
+    let party = c.args.party.now in
+    let error = c.in_err-admit.field-0.0 in
+    let told : c.from_residual.result ≡ Err error = search rules in
+    let geometry = c.geometry.ensures.value ∙ ap (λ (p : SharedPool). p.scene.geometry) c.self.view_is in
+    let refused = subst (λ (x : PoolGeometry). Admits x.bucket c.args.layout (Err error)) geometry c.in_err-admit.ensures in
+    let its = subst (λ (p : SharedPool). Admits p.scene.geometry.bucket c.args.layout (Err error)) (sym c.requires.party)
+    refused in
+    let is = subst IsParty c.party.view_is (is_party _ _ _ _ c.party.invariant) in
+    rw told record {
+      answer = refused_by_search _ party c.args.layout error its;
       party = c.requires.party;
-      serves = unasked c.args.self.now c.args.party.now c.args.layout SizeTooLarge
-          (subst IsParty c.party.view_is (is_party _ _ _ _ c.party.invariant))
-          (λ within. let short = within.size in absurd (omega arith));
-    }
-
-pub returns-then-align : goal.returns-then-align
-returns-then-align g c =
-    let bucket = c.bucket-bucket.ensures ∙ ap (λ (x : PoolGeometry). x.bucket) c.geometry.ensures.value
-    ∙ ap (λ (p : SharedPool). p.scene.geometry.bucket) c.self.view_is in
-    let its = ap (λ (l : Layout). l.size) bucket in
-    let even = ap (λ (l : Layout). l.align) bucket in
-    let own = ap (λ (p : SharedPool). p.scene.geometry.bucket.size) c.requires.party in
-    let own_align = ap (λ (p : SharedPool). p.scene.geometry.bucket.align) c.requires.party in
-    record {
-      answer = (omega arith, omega arith, refl);
-      party = c.requires.party;
-      serves = unasked c.args.self.now c.args.party.now c.args.layout AlignmentFailure
-          (subst IsParty c.party.view_is (is_party _ _ _ _ c.party.invariant))
-          (λ within. let aligned = within.align in absurd (omega arith));
+      serves = unasked c.args.self.now party c.args.layout error is refused;
     }
 
 pub invariant_of-party-2 : goal.invariant_of-party-2
@@ -68,16 +56,14 @@ returns-clause-serves g c =
     let old = c.party.inside in
     let new = c.next_fit-found.new.seat in
     let took = c.in-Some.ensures.told.step in
-    let bucket = c.bucket-bucket.ensures ∙ ap (λ (x : PoolGeometry). x.bucket) c.geometry.ensures.value
-    ∙ ap (λ (p : SharedPool). p.scene.geometry.bucket) c.self.view_is in
-    let size = ap (λ (l : Layout). l.size) bucket in
-    let align = ap (λ (l : Layout). l.align) bucket in
+    let geometry = c.geometry.ensures.value ∙ ap (λ (p : SharedPool). p.scene.geometry) c.self.view_is in
+    let within = subst (λ (x : PoolGeometry). IsWithin x.bucket c.args.layout) geometry c.in_ok-admit.ensures in
     served c.args.self.now old.seat.table_id new.table_id old.seat.me new.me old.number old.hint _ _ c.args.party.now
     c.args.layout c.party.invariant (invariant_of-party-2 g c) c.party.view_is c.requires.party c.self.inside.flags
-    c.in-Some.number c.size-3.result
+    c.in-Some.number c.size.result
     (search_took c.args.self.now.scene (number_of old.seat.me.0) (view_log old.seat.me.0) old.hint.bucket new.me c.in-Some.number
     took)
-    c.self.view_is c.size-3.ensures (omega arith) (omega arith)
+    c.self.view_is c.size.ensures within.size within.align
 
 pub returns-in_default-clause-serves : goal.returns-in_default-clause-serves
 returns-in_default-clause-serves g c =

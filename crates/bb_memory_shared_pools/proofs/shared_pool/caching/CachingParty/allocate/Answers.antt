@@ -1,7 +1,8 @@
 use Rattle.std.proofs.Common.{rules, ◌≡◌, [], length, append-nil, arith, refl, sym, ap, ◌∙◌, subst}
 use Rattle.std.proofs.lemmas.List.{length_push}
-use Rattle.bb_memory_traits.specs.PoolObject.{IsWithin}
-use Rattle.bb_memory_traits.specs.declared.allocator.AllocationError.TheVariants.{AlignmentFailure, SizeTooLarge}
+use Rattle.std.specs.Prelude.{Err}
+use Rattle.bb_memory_traits.specs.PoolObject.{IsWithin, PoolGeometry}
+use Rattle.bb_memory_geometry.specs.Geometry.{Admits}
 use Rattle.bb_memory_shared_pools.specs.SharedPool.{IsParty, PoolParty, ServesAlone, SharedPool, TakenBucket}
 use Rattle.bb_memory_shared_pools.specs.SharedPoolNextFit.{MayTakeFrom, hint_of}
 use Rattle.bb_memory_shared_pools.specs.SharedPoolCaching.{AreCached, CachingParty}
@@ -12,35 +13,18 @@ use Rattle.bb_memory_shared_pools.proofs.SharedPoolRequests.{unasked}
 use Rattle.bb_memory_shared_pools.proofs.shared_pool.caching.CachingParty.allocate.Goals as goal
 
 -- refused without a step
-pub returns-then-size-bucket_size : goal.returns-then-size-bucket_size
-returns-then-size-bucket_size g c =
+pub returns-in_err-admit : goal.returns-in_err-admit
+returns-in_err-admit g c =
     let old = c.args.self.now in
-    let size = ap (λ (p : SharedPool). p.scene.geometry.bucket.size) c.requires.party in
+    let error = c.in_err-admit.field-0.0 in
+    let told : c.from_residual.result ≡ Err error = search rules in
+    let geometry = c.geometry.ensures.value ∙ ap (λ (p : SharedPool). p.scene.geometry) c.pool.view_is
+    ∙ sym (ap (λ (p : SharedPool). p.scene.geometry) c.requires.party) in
+    let refused = subst (λ (x : PoolGeometry). Admits x.bucket c.args.layout (Err error)) geometry c.in_err-admit.ensures in
     let is = subst (λ (p : CachingParty). IsParty p.party) c.self.view_is c.number.ensures.party in
-    let too_great : ¬ IsWithin old.party.allocator.scene.geometry.bucket c.args.layout =
-    λ within. let short = within.size in absurd (omega arith) in
-    record {
-      answer = unasked_answer old c.args.layout SizeTooLarge is too_great (omega arith, refl) (λ same. cc);
-      serves = (unasked old.party.allocator old.party c.args.layout SizeTooLarge is too_great).serves;
-      taken = tt;
-      fresh = tt;
-      others_kept = λ other out. out;
-      others = λ other apart out. out;
-      party = refl;
-      most = refl;
-    }
-
-pub returns-then-align-max_alignment : goal.returns-then-align-max_alignment
-returns-then-align-max_alignment g c =
-    let old = c.args.self.now in
-    let size = ap (λ (p : SharedPool). p.scene.geometry.bucket.size) c.requires.party in
-    let align = ap (λ (p : SharedPool). p.scene.geometry.bucket.align) c.requires.party in
-    let is = subst (λ (p : CachingParty). IsParty p.party) c.self.view_is c.number.ensures.party in
-    let too_great : ¬ IsWithin old.party.allocator.scene.geometry.bucket c.args.layout =
-    λ within. let even = within.align in absurd (omega arith) in
-    record {
-      answer = unasked_answer old c.args.layout AlignmentFailure is too_great (omega arith, omega arith, refl) (λ same. cc);
-      serves = (unasked old.party.allocator old.party c.args.layout AlignmentFailure is too_great).serves;
+    rw told record {
+      answer = unasked_answer old c.args.layout error is refused;
+      serves = (unasked old.party.allocator old.party c.args.layout error is refused).serves;
       taken = tt;
       fresh = tt;
       others_kept = λ other out. out;
@@ -51,17 +35,20 @@ returns-then-align-max_alignment g c =
 
 -- the bucket that was cached last
 pub bucket-bucket-requires : goal.bucket-bucket-requires
-bucket-bucket-requires g c = let before = c.self.inside in (
-  omega arith,
-  (
-    ap (λ (p : CachingParty). p.party.allocator) c.self.view_is ∙ c.requires.party,
-    (
-      last_held before.party before.cached.items c.pop.new.self.items c.in-Some.number c.in-Some.ensures.items
-          c.self.invariant.0,
+bucket-bucket-requires g c =
+    let before = c.self.inside in
+    let geometry = c.geometry.ensures.value ∙ ap (λ (p : SharedPool). p.scene.geometry) c.pool.view_is in
+    let within = subst (λ (x : PoolGeometry). IsWithin x.bucket c.args.layout) geometry c.in_ok-admit.ensures in (
       omega arith,
-    ),
-  ),
-)
+      (
+        ap (λ (p : CachingParty). p.party.allocator) c.self.view_is ∙ c.requires.party,
+        (
+          last_held before.party before.cached.items c.pop.new.self.items c.in-Some.number c.in-Some.ensures.items
+              c.self.invariant.0,
+          omega (arith, within.size, c.size.ensures),
+        ),
+      ),
+    )
 
 pub invariant_of-self : goal.invariant_of-self
 invariant_of-self g c =
@@ -80,20 +67,20 @@ returns-in-Some g c =
     let before = c.self.inside in
     let rest = c.pop.new.self.items in
     let number = c.in-Some.number in
-    let len = c.size-in-Some.result in
+    let len = c.size.result in
     let token = c.bucket-bucket.result in
     let party = ap (λ (p : CachingParty). p.party) c.self.view_is in
     let most = ap (λ (p : CachingParty). p.most) c.self.view_is in
     let cached = ap (λ (p : CachingParty). p.cached) c.self.view_is in
     let items = c.in-Some.ensures.items in
     let its = c.bucket-bucket.ensures.value in
-    let within : IsWithin c.args.pool.now.scene.geometry.bucket c.args.layout =
-    record { size = omega arith; align = omega arith } in
+    let geometry = c.geometry.ensures.value ∙ ap (λ (p : SharedPool). p.scene.geometry) c.pool.view_is in
+    let within = subst (λ (x : PoolGeometry). IsWithin x.bucket c.args.layout) geometry c.in_ok-admit.ensures in
     record {
       answer = takes_last c.args.pool.now old _ c.args.layout number len token party most c.requires.party
-          (sym cached ∙ items) its c.size-in-Some.ensures within;
+          (sym cached ∙ items) its c.size.ensures within;
       serves = served_last c.args.pool.now old.party before.party c.args.layout before.cached.items rest number len token party
-          c.requires.party c.number.ensures.party c.self.invariant.0 items its c.size-in-Some.ensures within;
+          c.requires.party c.number.ensures.party c.self.invariant.0 items its c.size.ensures within;
       taken = last_out before.party before.cached.items rest before.most number len c.args.pool.now token c.self.invariant.0
           items its;
       fresh = λ other. last_fresh old before.cached.items rest number len c.args.pool.now token other cached items its;
