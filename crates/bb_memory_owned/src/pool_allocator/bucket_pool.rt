@@ -218,12 +218,7 @@ fn take<S: IndexSet>(
     ensures greatest { S.most held.new
         ≡ max (S.most held.old) (member_count (S.numbers held.new)) }
 {
-    if layout.size() > geometry.bucket().size() {
-        return Err(AllocationError::SizeTooLarge);
-    }
-    if layout.align() > geometry.bucket().align() {
-        return Err(AllocationError::AlignmentFailure);
-    }
+    geometry.admit(layout)?;
     let Some(i) = held.take(counter) else {
         return Err(AllocationError::OutOfMemory);
     };

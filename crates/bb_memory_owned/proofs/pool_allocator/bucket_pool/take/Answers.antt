@@ -1,44 +1,46 @@
-use Rattle.std.proofs.Common.{◌≡◌, ℕ, ◌<◌, ◌≤◌, ◌&&◌, List, Bool, cond, leb, min, refl, sym, ap, ◌∙◌, subst, arith}
+use Rattle.std.proofs.Common.{rules, ◌≡◌, ℕ, ◌<◌, ◌≤◌, ◌&&◌, List, Bool, cond, leb, min, refl, sym, ap, ◌∙◌, subst, arith}
 use Rattle.std.proofs.lemmas.Bool.{le-leb, lt-leb}
 use Rattle.std.proofs.lemmas.Option.{slice_get_within}
 use Rattle.bb_memory_traits.specs.Chunk.{Chunk}
 use Rattle.bb_memory_traits.specs.PoolObject.{PoolGeometry, bucket_place, IsWithin}
 use Rattle.bb_memory_traits.specs.declared.layout.Layout.{Layout}
-use Rattle.bb_memory_owned.specs.Pool.{pool_of, reads_of}
+use Rattle.bb_memory_traits.specs.declared.allocator.AllocationError.{AllocationError}
+use Rattle.bb_memory_traits.specs.declared.allocator.AllocationError.TheVariants.{SizeIsZero, SizeTooLarge, AlignmentFailure}
+use Rattle.bb_memory_traits.specs.declared.allocator.AllocationError.TheVariants.{OutOfMemory}
+use Rattle.bb_memory_geometry.specs.Geometry.{Admits}
+use Rattle.std.specs.Prelude.{Err}
+use Rattle.bb_memory_owned.specs.Pool.{Pool, Takes, pool_of, reads_of}
 use Rattle.bb_memory_owned.proofs.pool_allocator.bucket_pool.take.Goals as goal
-
-none_of_large : (bucket : Layout) (words : ℕ) (layout : Layout) → bucket.size < layout.size → reads_of bucket words layout ≡ 0
-none_of_large bucket words layout large =
-    ap (λ b. cond (b && leb layout.align bucket.align) (min words 1) 0) (lt-leb layout.size bucket.size large)
 
 of_small : (bucket : Layout) (words : ℕ) (layout : Layout) → layout.size ≤ bucket.size →
     reads_of bucket words layout ≡ cond (leb layout.align bucket.align) (min words 1) 0
 of_small bucket words layout small =
     ap (λ b. cond (b && leb layout.align bucket.align) (min words 1) 0) (le-leb layout.size bucket.size small)
 
-pub returns-then-size : goal.returns-then-size
-returns-then-size g c =
-    let bucket : Layout = c.args.geometry.now.bucket in
-    let size = c.size-2.ensures ∙ ap (λ (l : Layout). l.size) c.bucket.ensures in
-    let large : bucket.size < c.args.layout.size = omega (arith, size) in
-    record {
-      taken = (large, refl);
-      reads = c.requires.uncounted ∙ sym (none_of_large bucket _ c.args.layout large);
-      greatest = omega (arith, c.requires.at_least);
-    }
+-- a request that isn't admitted takes nothing, and reads nothing
+takes_none : (pool : Pool) (layout : Layout) (error : AllocationError) → Admits pool.geometry.bucket layout (Err error) →
+    Takes pool layout (Err error) pool
+takes_none pool layout SizeTooLarge large = (large, refl)
+takes_none pool layout AlignmentFailure large = (large.0, large.1, refl)
+takes_none pool layout SizeIsZero refused = absurd refused
+takes_none pool layout OutOfMemory refused = absurd refused
 
-pub returns-then-align : goal.returns-then-align
-returns-then-align g c =
-    let bucket : Layout = c.args.geometry.now.bucket in
-    let size = c.size-2.ensures ∙ ap (λ (l : Layout). l.size) c.bucket.ensures in
-    let align = c.align-2.ensures.value ∙ ap (λ (l : Layout). l.align) c.bucket-2.ensures in
-    let small : c.args.layout.size ≤ bucket.size = omega (arith, size) in
-    let large : bucket.align < c.args.layout.align = omega (arith, align) in
-    record {
-      taken = (small, large, refl);
-      reads = c.requires.uncounted ∙ sym (of_small bucket _ c.args.layout small
-          ∙ ap (λ b. cond b (min (g.S.IndexSet.words c.args.geometry.now.buckets) 1) 0)
-          (lt-leb c.args.layout.align bucket.align large));
+reads_none : (bucket : Layout) (words : ℕ) (layout : Layout) (error : AllocationError) → Admits bucket layout (Err error) →
+    reads_of bucket words layout ≡ 0
+reads_none bucket words layout SizeTooLarge large =
+    ap (λ b. cond (b && leb layout.align bucket.align) (min words 1) 0) (lt-leb layout.size bucket.size large)
+reads_none bucket words layout AlignmentFailure large = of_small bucket words layout large.0
+    ∙ ap (λ b. cond b (min words 1) 0) (lt-leb layout.align bucket.align large.1)
+reads_none bucket words layout SizeIsZero refused = absurd refused
+reads_none bucket words layout OutOfMemory refused = absurd refused
+
+pub returns-in_err-admit : goal.returns-in_err-admit
+returns-in_err-admit g c =
+    let error = c.in_err-admit.field-0.0 in
+    let told : c.from_residual.result ≡ Err error = search rules in
+    rw told record {
+      taken = takes_none _ c.args.layout error c.in_err-admit.ensures;
+      reads = c.requires.uncounted ∙ sym (reads_none c.args.geometry.now.bucket _ c.args.layout error c.in_err-admit.ensures);
       greatest = omega (arith, c.requires.at_least);
     }
 
@@ -53,10 +55,7 @@ within_reads words count geometry layout within same =
 pub returns-in_default : goal.returns-in_default
 returns-in_default g c =
     let geometry : PoolGeometry = c.args.geometry.now in
-    let size = c.size-2.ensures ∙ ap (λ (l : Layout). l.size) c.bucket.ensures in
-    let align = c.align-2.ensures.value ∙ ap (λ (l : Layout). l.align) c.bucket-2.ensures in
-    let within : IsWithin geometry.bucket c.args.layout =
-    record { size = omega (arith, size); align = omega (arith, align) } in
+    let within : IsWithin geometry.bucket c.args.layout = c.in_ok-admit.ensures in
     record {
       taken = (
         within,
@@ -70,26 +69,23 @@ returns-in_default g c =
 
 pub chunk-requires : goal.chunk-requires
 chunk-requires g c =
-    let size = c.size-2.ensures ∙ ap (λ (l : Layout). l.size) c.bucket.ensures in
+    let within : IsWithin c.args.geometry.now.bucket c.args.layout = c.in_ok-admit.ensures in
     record {
       below = subst (λ n. c.in-Some.i < n) c.requires.as_many (slice_get_within _ _ _ c.in-Some.ensures.lacked);
-      short = omega (arith, size);
+      short = omega (arith, within.size, c.size.ensures);
     }
 
 pub returns : goal.returns
 returns g c =
     let geometry : PoolGeometry = c.args.geometry.now in
-    let size = c.size-2.ensures ∙ ap (λ (l : Layout). l.size) c.bucket.ensures in
-    let align = c.align-2.ensures.value ∙ ap (λ (l : Layout). l.align) c.bucket-2.ensures in
-    let within : IsWithin geometry.bucket c.args.layout =
-    record { size = omega (arith, size); align = omega (arith, align) } in
+    let within : IsWithin geometry.bucket c.args.layout = c.in_ok-admit.ensures in
     let chunk : ℕ → Chunk = λ len. record { place = bucket_place geometry c.in-Some.i; len = len } in
     record {
       taken = (
         c.in-Some.i,
         within,
         c.in-Some.ensures.lacked,
-        c.chunk.ensures.value ∙ ap chunk c.size-3.ensures,
+        c.chunk.ensures.value ∙ ap chunk c.size.ensures,
         ap (λ (held : List Bool). pool_of geometry held) c.in-Some.ensures.taken,
       );
       reads = c.in-Some.ensures.counted

@@ -9,7 +9,7 @@ returns-clause-answer g c =
     let asked = c.allocate.ensures in
     subst
     (λ (l : Layout).
-        Allocates old l c.allocate.result c.allocate.new.self (g.S.IndexSet.words old.pool.geometry.buckets))
+    Allocates old l c.allocate.result c.allocate.new.self (g.S.IndexSet.words old.pool.geometry.buckets))
     c.bucket_layout-bucket.ensures record {
       answer = asked.answer;
       appended = asked.appended;
