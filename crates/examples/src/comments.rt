@@ -2,8 +2,6 @@
 #![tactic(auto, unfolding(bb_memory_traits::specs::LeastPlace::least_place))]
 
 ghost use Rattle.std.specs.Prelude.{◌≡◌, ◌≢◌, ◌<◌, []};
-ghost use Rattle.bb_memory.specs.Chunk.{region_at};
-ghost use Rattle.bb_memory.specs.Geometry.{MayBeCut};
 ghost use Rattle.bb_memory.specs.OneChunk.{StandsFor};
 
 use bb_memory::allocator::{
@@ -115,19 +113,9 @@ pub fn one_chunk_held() -> Result<(), AllocationError> {
     Ok(())
 }
 
-/// A layout by which 1,024 bytes at 4096 may be cut into buckets.
-fn bucket() -> Layout
-    ensures cut { MayBeCut (region_at 4096 1024) result }
-    ensures size { result.size ≡ 128 }
-    ensures align { result.align ≡ 8 }
-{
-    pool_count_law();
-    Layout::from_size_align(128, 8).unwrap()
-}
-
 pub fn pool(alloc: Global) -> Result<(), AllocationError> {
     pool_count_law();
-    let bucket = bucket();
+    let bucket = Layout::from_size_align(128, 8).unwrap();
     let Ok(mut pool) = PoolAllocator::new_uninit(bucket, 4096, 1024).init(alloc) else {
         return Err(AllocationError::OutOfMemory);
     };
@@ -148,7 +136,8 @@ pub fn pool_held(pool: &mut PoolAllocator<Global>) -> Result<(), AllocationError
 }
 
 pub fn fixed_pool() -> Result<(), AllocationError> {
-    let bucket = bucket();
+    pool_count_law();
+    let bucket = Layout::from_size_align(128, 8).unwrap();
     let mut pool = FixedSizePoolAllocator::<512>::new(bucket, 4096, 1024);
     let small = Layout::from_size_align(48, 4).unwrap();
     let large = Layout::from_size_align(64, 4).unwrap();
@@ -189,7 +178,8 @@ pub fn shared_bump(alloc: Global) -> Result<(), AllocationError> {
 }
 
 pub fn shared_pool(alloc: Global) -> Result<(), AllocationError> {
-    let bucket = bucket();
+    pool_count_law();
+    let bucket = Layout::from_size_align(128, 8).unwrap();
     let (pool, mut parties) = SharedPoolAllocator::new(alloc, bucket, 4096, 1024, 1)?;
     let mut party = parties.pop().unwrap();
     let taken = pool.allocate(&mut party, Layout::from_size_align(48, 4).unwrap())?;
@@ -271,7 +261,7 @@ pub fn shared_pool_caching(
 
 pub fn shared_fixed_pool(alloc: Global) -> Result<(), AllocationError> {
     pool_count_law();
-    let bucket = bucket();
+    let bucket = Layout::from_size_align(128, 8).unwrap();
     let made = SharedFixedSizePoolAllocator::<4>::new(alloc, bucket, 4096, 1024, 2);
     let Ok((pool, mut parties)) = made else {
         return Err(AllocationError::OutOfMemory);
