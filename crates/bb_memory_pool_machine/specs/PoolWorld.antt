@@ -1,7 +1,7 @@
 -- A pool world: the pool machine over some buckets.
 use Rattle.std.specs.Prelude.{◌≡◌, ℕ, ◌<◌, ◌^◌, List, Option, Result, IfOk, OnErr, OnOk, length}
 use Rattle.std.specs.declared.vec.Vec.{Vec}
-use Rattle.bb_memory_pool_machine.specs.PoolMachine.{PoolState, all_free, pool_step, pool_after, Flag, PoolStep, PoolOutcome}
+use Rattle.bb_memory_pool_machine.specs.PoolMachine.{PoolState, pool_step, pool_after, Flag, PoolStep, PoolOutcome}
 use Rattle.bb_memory_pool_machine.specs.PoolLogs as histories
 
 abbrev pub PoolWorld : Type 0
@@ -14,10 +14,6 @@ world_of flags calls = record { flags = flags; calls = calls }
 abbrev pub IsPoolWorld : PoolWorld → Type 0
 IsPoolWorld world = length world.flags < 2 ^ 32
 
--- the machine over so many buckets, all flags free, with so many parties, all idle
-abbrev pub opened : ℕ → ℕ → PoolWorld
-opened buckets parties = all_free buckets parties
-
 -- the answer of a call that takes a step, and the world after it
 pub record Steps (old : PoolWorld) (step : PoolStep) (answer : PoolOutcome) (new : PoolWorld) : Type 0 where
   pub outcome : answer ≡ (pool_step old step).outcome
@@ -26,12 +22,9 @@ pub record Steps (old : PoolWorld) (step : PoolStep) (answer : PoolOutcome) (new
 abbrev pub outcomes_of : PoolWorld → List PoolStep → List PoolOutcome
 outcomes_of world steps = histories.outcomes_of (histories.pool_history world steps)
 
-abbrev pub after_steps : PoolWorld → List PoolStep → PoolWorld
-after_steps world steps = pool_after world steps
-
 -- the answers of a call that takes a list of steps; where memory is refused for them, no step is taken
 pub record Replays {Z E : Type 0} (old : PoolWorld) (steps : List PoolStep) (answer : Result (Vec PoolOutcome Z) E)
     (new : PoolWorld) : Type 0 where
   pub outcomes : IfOk answer (λ found. found.items ≡ outcomes_of old steps)
-  pub state : OnOk answer (new ≡ after_steps old steps)
+  pub state : OnOk answer (new ≡ pool_after old steps)
   pub unchanged : OnErr answer (new ≡ old)

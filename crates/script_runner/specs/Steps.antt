@@ -2,7 +2,7 @@
 use Rattle.std.specs.List.{flat_map}
 use Rattle.std.specs.Prelude.{ℕ, ◌≡◌, List, codes, true, [], ◌++◌, ◌^◌, ◌<◌, ◌≤◌, Option, Some, None}
 use Rattle.bb_memory_traits.specs.Chunk.{IsRegion}
-use Rattle.bb_memory_pool_machine.specs.PoolMachine.{holder_in}
+use Rattle.bb_memory_pool_machine.specs.PoolMachine.{all_free, holder_in, pool_after}
 use Rattle.bb_memory_pool_machine.specs.declared.steps.pool.PoolOutcome.{PoolOutcome}
 use Rattle.bb_memory_pool_machine.specs.declared.steps.pool.PoolStep.{PoolStep}
 use Rattle.bb_memory_pool_machine.specs.declared.steps.pool.PoolStep.TheVariants.{Try, GiveBack}
@@ -92,8 +92,8 @@ pool_step_rules = record {
   is_command = IsPoolStep;
   command_words = pool_step_words;
   can_show = true;
-  starts = λ buckets world. world ≡ pool_world.opened buckets 64;
-  runs = λ old steps outcomes new. (outcomes ≡ pool_world.outcomes_of old steps) × (new ≡ pool_world.after_steps old steps);
+  starts = λ buckets world. world ≡ all_free buckets 64;
+  runs = λ old steps outcomes new. (outcomes ≡ pool_world.outcomes_of old steps) × (new ≡ pool_after old steps);
   reply_text = pool_outcome_line;
   state_text = λ world. codes "held" ++ (flat_map (λ flag. holder_text (holder_in flag)) world.flags ++ codes "\n");
 }

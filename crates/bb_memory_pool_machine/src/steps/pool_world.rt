@@ -1,7 +1,8 @@
 //! A pool machine that can be run: of each bucket its flag, and of each party the bucket that its pass tries next.
 ghost use Rattle.std.specs.Prelude.{◌≡◌, ◌<◌, IsSome, IfOk, length, slice_get};
-ghost use Rattle.bb_memory_pool_machine.specs.PoolMachine.{holder_of, Attach, Detach, GiveBack, GiveBackDetached, Try, TryAt};
-ghost use Rattle.bb_memory_pool_machine.specs.PoolWorld.{Replays, Steps, opened, PoolWorld, IsPoolWorld, world_of};
+ghost use Rattle.bb_memory_pool_machine.specs.PoolMachine.{Attach, Detach, GiveBack, GiveBackDetached, Try, TryAt};
+ghost use Rattle.bb_memory_pool_machine.specs.PoolMachine.{all_free, holder_of};
+ghost use Rattle.bb_memory_pool_machine.specs.PoolWorld.{Replays, Steps, PoolWorld, IsPoolWorld, world_of};
 
 use super::{Flag, PoolOutcome, PoolStep};
 use std::alloc::{AllocError, Global};
@@ -29,7 +30,7 @@ impl PoolWorld {
     /// The machine over that many buckets, all flags free, with that many parties, all idle. It is refused only where
     /// memory was.
     pub fn new(alloc: Global, buckets: u32, parties: u32) -> Result<PoolWorld, AllocError>
-        ensures opened { IfOk result (λ world. world ≡ opened buckets parties) }
+        ensures opened { IfOk result (λ world. world ≡ all_free buckets parties) }
     {
         let flags = vec![in alloc; Flag::Free; buckets as usize]?;
         let calls = vec![in alloc; None; parties as usize]?;

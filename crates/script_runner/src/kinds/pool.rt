@@ -30,15 +30,12 @@ pub fn pool_plan(kind: &[u8], name: &[u8], numbers: Numbers) -> Option<PoolPlan>
     match numbers {
         Numbers::Four(start, size, bucket, align) if is(name, kind) => {
             let bucket = layout(bucket, align)?;
-            if PoolAllocator::can_make(bucket, start, size) {
-                Some(PoolPlan {
-                    start,
-                    size,
-                    bucket,
-                })
-            } else {
-                None
-            }
+            let plan = PoolPlan {
+                start,
+                size,
+                bucket,
+            };
+            PoolAllocator::can_make(bucket, start, size).then_some(plan)
         }
         _ => None,
     }

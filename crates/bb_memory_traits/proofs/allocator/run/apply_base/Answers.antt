@@ -9,7 +9,8 @@ pub returns-after-RELEASE_EMPTIES : goal.returns-after-RELEASE_EMPTIES
 returns-after-RELEASE_EMPTIES g c = record {
   step = (
     grind (arith, elements),
-    rw c.in-Release.is (c.in-Some.chunk, c.empty.result, grind (arith, elements), rw c.place.ensures.value at c.deallocate.ensures.value),
+    rw c.in-Release.is
+        (c.in-Some.chunk, c.empty.result, grind (arith, elements), rw c.place.ensures.value at c.deallocate.ensures.value),
   );
   fits = grind (arith, elements);
   stands = grind (arith, elements);

@@ -1,5 +1,6 @@
 use Rattle.std.proofs.Common.{◌≡◌, ◌≤◌, ◌++◌, length, drop, vec_len, vec_capacity}
-use Rattle.bb_memory_pool_machine.specs.PoolWorld.{outcomes_of, after_steps}
+use Rattle.bb_memory_pool_machine.specs.PoolMachine.{pool_after}
+use Rattle.bb_memory_pool_machine.specs.PoolWorld.{outcomes_of}
 use Rattle.bb_memory_pool_machine.proofs.steps.pool_world.PoolWorld.replay.Given as goal
 
 -- the answers so far and those to what is left are those to all
@@ -8,7 +9,7 @@ invariant-loop-step l =
     let left = drop l.step-index l.steps in
     record {
       told : l.outcomes.items ++ outcomes_of l.self left ≡ outcomes_of l.fn.self l.steps;
-      state : after_steps l.self left ≡ after_steps l.fn.self l.steps;
+      state : pool_after l.self left ≡ pool_after l.fn.self l.steps;
       count : vec_len l.outcomes ≡ l.step-index;
       room : length l.steps ≤ vec_capacity l.outcomes;
     }
