@@ -120,23 +120,7 @@ impl<const CAPPED: usize, const MOST: usize> SharedBucketPool<CAPPED, MOST> {
         requires party { party.old.allocator ≡ self.now }
         ensures answer { MayTake party.old layout result party.new }
         ensures party { party.new.allocator ≡ self.now }
-        ensures is_party { IsSameParty party.old party.new }
-        ensures bucket { IfOk result (λ bucket. bucket.allocator ≡ self.now) }
-
-        // What is held after the party's log.
-        ensures held { IfOk result (λ bucket. IsHeldAfter party.new.log bucket.number) }
-        ensures others_kept { (other : ℕ) → IsHeldAfter party.old.log other
-            → IsHeldAfter party.new.log other }
-        ensures others { (other : ℕ) → IfOk result (λ bucket. other ≢ bucket.number)
-            → IsHeldAfter party.new.log other → IsHeldAfter party.old.log other }
-        ensures alone { self.now.scene.parties ≡ 1 → IsWithin self.now.scene.geometry.bucket layout
-            → (IsErr result ↔ AreAllHeldAfter party.old.log self.now.scene.geometry.buckets) }
-
-        // The chunk in the bucket.
-        ensures inside { IfOk result (λ bucket.
-            IsInside self.now.scene.geometry.region (chunk_of bucket)) }
-        ensures aligned { IfOk result (λ bucket. (chunk_of bucket).place % layout.align ≡ 0) }
-        ensures exact_size { IfOk result (λ bucket. (chunk_of bucket).len ≡ layout.size) }
+        ensures serves { ServesAlone self.now party.old layout result party.new }
     {
         // Proof hint: brings the party's invariant into scope on the early returns.
         let _ = &party.number;

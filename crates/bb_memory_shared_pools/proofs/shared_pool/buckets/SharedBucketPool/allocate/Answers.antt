@@ -1,11 +1,9 @@
-use Rattle.std.proofs.Common.{◌≡◌, rules, ◌+◌, false, Some, None, refl, ap, ◌∙◌, subst, sym}
-use Rattle.std.specs.Prelude.{Ok, Err}
+use Rattle.std.proofs.Common.{◌≡◌, rules, Some, None, ap, ◌∙◌, subst, sym}
+use Rattle.std.specs.Prelude.{Err}
 use Rattle.bb_memory_traits.specs.PoolObject.{IsWithin, PoolGeometry}
-use Rattle.bb_memory_traits.specs.declared.layout.Layout.{Layout}
 use Rattle.bb_memory_traits.specs.declared.allocator.AllocationError.TheVariants.{OutOfMemory}
 use Rattle.bb_memory_seats.specs.Seats.{number_of, view_log}
-use Rattle.bb_memory_shared_pools.specs.SharedPool.{IsParty, PoolParty, ServesAlone, SharedPool, taken_bucket}
-use Rattle.bb_memory_shared_pools.specs.SharedPoolRule.{party_in}
+use Rattle.bb_memory_shared_pools.specs.SharedPool.{IsParty, PoolParty, SharedPool}
 use Rattle.bb_memory_shared_pools.proofs.SharedPoolParties.{is_party, seated_then}
 use Rattle.bb_memory_shared_pools.proofs.SharedPoolPasses.{pass_lost, pass_took}
 use Rattle.bb_memory_shared_pools.proofs.SharedPoolRequests.{refused, refused_by_pass, served, stays, unasked}
@@ -24,19 +22,10 @@ returns-in_err-admit g c =
     let its = subst (λ (p : SharedPool). Admits p.scene.geometry.bucket c.args.layout (Err error)) (sym c.requires.party)
     refused in
     let is = subst IsParty c.party.view_is (is_party _ _ _ _ c.party.invariant) in
-    let serves = unasked c.args.self.now party c.args.layout error is refused in
     rw told record {
       answer = refused_by_pass party c.args.layout error its;
       party = c.requires.party;
-      is_party = record { number = refl; is_party = is };
-      bucket = tt;
-      held = tt;
-      others_kept = serves.serves.others_kept;
-      others = serves.serves.others;
-      alone = serves.alone;
-      inside = tt;
-      aligned = tt;
-      exact_size = tt;
+      serves = unasked c.args.self.now party c.args.layout error is refused;
     }
 
 pub invariant_of-party : goal.invariant_of-party
@@ -58,11 +47,8 @@ invariant_of-party-in-None g c =
     seated_then c.args.self.now party.seat.table_id me party.number party.hint c.party.invariant own
     c.pass.new.seat.me _ party.hint (hint-losses buckets (number_of me.0) buckets party.hint) c.in-None.ensures.told.step.ended
 
--- what the request says where it takes a bucket, and where it takes none
-took : (g : _) (c : goal.After-size g) → ServesAlone c.args.self.now c.args.party.now c.args.layout
-    (Ok (taken_bucket c.self.inside.flags c.in-Some.number c.size.result))
-    (party_in c.pass.new.seat.table_id c.party.inside.number c.pass.new.seat.me.0)
-took g c =
+pub returns-in-Some-clause-serves : goal.returns-in-Some-clause-serves
+returns-in-Some-clause-serves g c =
     let old = c.party.inside in
     let new = c.pass.new.seat in
     let geometry = c.geometry.ensures.value ∙ ap (λ (p : SharedPool). p.scene.geometry) c.self.view_is in
@@ -74,32 +60,13 @@ took g c =
     c.in-Some.ensures.told.step)
     c.self.view_is c.size.ensures within.size within.align
 
-lost : (g : _) (c : goal.After-count_refusal g) → ServesAlone c.args.self.now c.args.party.now c.args.layout (Err OutOfMemory)
-    (party_in c.pass.new.seat.table_id c.party.inside.number c.pass.new.seat.me.0)
-lost g c =
+pub returns-in-None-clause-serves : goal.returns-in-None-clause-serves
+returns-in-None-clause-serves g c =
     let old = c.party.inside in
     let new = c.pass.new.seat in
     refused c.args.self.now old.seat.table_id new.table_id old.seat.me new.me old.number old.hint _ _ c.args.party.now
     c.args.layout c.party.invariant (invariant_of-party-in-None g c) c.party.view_is c.requires.party OutOfMemory
     (pass_lost c.args.self.now.scene (number_of old.seat.me.0) (view_log old.seat.me.0) new.me c.in-None.ensures.told.step)
-
-pub returns-in-Some-clause-others_kept : goal.returns-in-Some-clause-others_kept
-returns-in-Some-clause-others_kept g c = (took g c).serves.others_kept
-
-pub returns-in-Some-clause-others : goal.returns-in-Some-clause-others
-returns-in-Some-clause-others g c = (took g c).serves.others
-
-pub returns-in-Some-clause-inside : goal.returns-in-Some-clause-inside
-returns-in-Some-clause-inside g c = (took g c).serves.inside
-
-pub returns-in-Some-clause-aligned : goal.returns-in-Some-clause-aligned
-returns-in-Some-clause-aligned g c = (took g c).serves.aligned
-
-pub returns-in-None-clause-others_kept : goal.returns-in-None-clause-others_kept
-returns-in-None-clause-others_kept g c = (lost g c).serves.others_kept
-
-pub returns-in-None-clause-others : goal.returns-in-None-clause-others
-returns-in-None-clause-others g c = (lost g c).serves.others
 
 pub returns-in-Some-clause-party : goal.returns-in-Some-clause-party
 returns-in-Some-clause-party g c =
@@ -117,18 +84,3 @@ returns-in-None-clause-party g c =
     stays c.args.self.now old.seat.table_id new.table_id old.seat.me new.me old.number old.hint _ _ c.args.party.now c.args.layout
     c.party.invariant (invariant_of-party-in-None g c) c.party.view_is c.requires.party None c.pass.ensures.told.table
     (pass_lost c.args.self.now.scene (number_of old.seat.me.0) (view_log old.seat.me.0) new.me c.in-None.ensures.told.step)
-
-pub returns-in-Some-clause-is_party : goal.returns-in-Some-clause-is_party
-returns-in-Some-clause-is_party g c = record { number = (took g c).serves.number; is_party = (took g c).serves.is_party }
-
-pub returns-in-Some-clause-held : goal.returns-in-Some-clause-held
-returns-in-Some-clause-held g c = (took g c).serves.held
-
-pub returns-in-Some-clause-alone : goal.returns-in-Some-clause-alone
-returns-in-Some-clause-alone g c = (took g c).alone
-
-pub returns-in-None-clause-is_party : goal.returns-in-None-clause-is_party
-returns-in-None-clause-is_party g c = record { number = (lost g c).serves.number; is_party = (lost g c).serves.is_party }
-
-pub returns-in-None-clause-alone : goal.returns-in-None-clause-alone
-returns-in-None-clause-alone g c = (lost g c).alone

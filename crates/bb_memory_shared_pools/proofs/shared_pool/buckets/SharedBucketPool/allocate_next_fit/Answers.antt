@@ -1,6 +1,5 @@
-use Rattle.std.proofs.Common.{◌≡◌, rules, Some, None, refl, ap, ◌∙◌, subst, sym}
+use Rattle.std.proofs.Common.{◌≡◌, rules, Some, None, ap, ◌∙◌, subst, sym}
 use Rattle.bb_memory_traits.specs.PoolObject.{IsWithin, PoolGeometry}
-use Rattle.bb_memory_traits.specs.declared.layout.Layout.{Layout}
 use Rattle.bb_memory_traits.specs.declared.allocator.AllocationError.TheVariants.{OutOfMemory}
 use Rattle.bb_memory_seats.specs.Seats.{number_of, view_log}
 use Rattle.bb_memory_shared_pools.specs.SharedPool.{IsParty, PoolParty, SharedPool}
