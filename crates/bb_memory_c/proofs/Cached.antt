@@ -1,8 +1,8 @@
 -- Where cached buckets stand in their list: when none is cached, after one more, and after one fewer.
 use Rattle.std.proofs.Common.{◌≡◌, ◌<◌, ◌≤◌, ◌⊎◌, ◌∙◌, ◌∷◌, ◌++◌, [], ℕ, List, Some, inl, inr, ap, arith, length}
-use Rattle.std.proofs.Common.{Bool, None, eqb, false, refl, subst, sym, set, ◌↔◌}
+use Rattle.std.proofs.Common.{Bool, None, false, refl, subst, sym, set, ◌↔◌}
 use Rattle.std.specs.Prelude.{Contains, Err, IsTrue, Ok, Result, slice_get}
-use Rattle.std.proofs.lemmas.Bool.{cases_lt, eq-eqb, eqb-true}
+use Rattle.std.proofs.lemmas.Bool.{cases_lt}
 use Rattle.std.proofs.lemmas.Option.{same_Some, slice_get-get_or, slice_get_within}
 use Rattle.std.proofs.lemmas.List.{length-append}
 use Rattle.bb_memory_lists.proofs.Contained.{contains_at}

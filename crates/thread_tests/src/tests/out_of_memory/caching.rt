@@ -20,11 +20,11 @@ fn fills(
     requires other { other.old.allocator ≡ pool.now }
 {
     let first = caching.allocate(pool, small)?;
-    let second = caching.allocate(pool, small)?;
+    let second = caching.take(pool)?;
     let (cached, beyond) = (first.number(), second.number());
     caching.deallocate(pool, first);
     check(rt, caching.number_of_cached() == 1);
-    check(rt, pool.allocate(other, small).is_err());
+    check(rt, pool.take(other).is_err());
     caching.deallocate(pool, second);
     check(rt, pool.allocate(other, small)?.number() == beyond);
     let again = caching.allocate(pool, small)?;
@@ -33,7 +33,7 @@ fn fills(
     check(rt, pool.allocate(other, small).is_err());
     caching.flush(pool);
     check(rt, caching.number_of_cached() == 0);
-    check(rt, pool.allocate(other, small)?.number() == cached);
+    check(rt, pool.take_next_fit(other)?.number() == cached);
     Ok(())
 }
 
