@@ -154,22 +154,9 @@ impl Geometry {
     {
         match self.shift {
             Some(shift) => distance.rotate_right(shift),
-            None => self.divided(distance),
+            None if distance % self.stride == 0 => distance / self.stride,
+            None => usize::MAX,
         }
-    }
-
-    /// Answers as `whole_strides` does, by a division. It isn't inlined, so that what stands around a rotation stays short.
-    #[inline(never)]
-    fn divided(&self, distance: usize) -> usize
-        ensures whole { distance % stride self.now.bucket ≡ 0
-            → result ≡ distance / stride self.now.bucket }
-        ensures part { distance % stride self.now.bucket ≢ 0 → self.now.buckets ≤ result }
-        ensures some { 0 < stride self.now.bucket }
-    {
-        if distance % self.stride != 0 {
-            return usize::MAX;
-        }
-        distance / self.stride
     }
 
     /// The number of the bucket at this place, or `None` where no bucket begins there.
