@@ -1,7 +1,7 @@
 -- Next fit: requests of a shared pool's party that probe each bucket from the party's hint on, what they add to the party's log,
 -- and what they may be answered.
 use Rattle.std.specs.Prelude.{◌≡◌, ℕ, zero, suc, ◌+◌, ◌*◌, ◌/◌, ◌%◌, ◌<◌, ◌≤◌, nat_lt, if◌then◌else◌, [], ◌∷◌, ◌++◌, Result, Ok}
-use Rattle.std.specs.Prelude.{Err, MatchOption, Option, fold, take, true, false, ◌&&◌}
+use Rattle.std.specs.Prelude.{Err, fold, take, true, false, ◌&&◌}
 use Rattle.bb_memory_traits.specs.PoolObject.{IsWithin}
 use Rattle.bb_memory_pool_machine.specs.PoolMachine.{PoolScene}
 use Rattle.bb_memory_pool_machine.specs.PoolLogs.{PoolLog, entries_by, entry_of, history_of, IsHeldInRun, MissesAt}
@@ -30,10 +30,6 @@ hint_after hint (Gives bucket) = record {
   came_back = true;
 }
 hint_after hint _ = hint
-
--- a hint before and after a search: it follows the bucket that was taken, and else stays
-abbrev pub FollowsSearch : Hint → Option ℕ → Hint → Type 0
-FollowsSearch old told new = MatchOption told (new ≡ old) (λ bucket. new ≡ hint_after old (Takes bucket))
 
 -- the hint of a party that has made no step: the first bucket of its own part
 abbrev pub first_hint : PoolScene → ℕ → Hint

@@ -1,15 +1,14 @@
 //! Next fit: requests whose search begins at the party's hint.
-ghost use Rattle.std.specs.Prelude.{◌≡◌, ℕ, ◌<◌, IfErr, MatchOption};
+ghost use Rattle.std.specs.Prelude.{◌≡◌, ℕ, ◌+◌, ◌<◌, ◌^◌, IfErr, IfSome, MatchOption};
 ghost use Rattle.bb_memory_pool_machine.specs.PoolLogs.{PoolLog};
 ghost use Rattle.bb_memory_seats.specs.Seats.{Stays, number_of, view_log};
 ghost use Rattle.bb_memory_shared_pools.specs.SharedPool.{ServesAlone};
-ghost use Rattle.bb_memory_shared_pools.specs.SharedPoolNextFit.{FollowsSearch, MayTakeFrom, probed, hint_of, part_of};
-ghost use Rattle.bb_memory_shared_pools.specs.SharedPoolNextFit.{refused_search};
+ghost use Rattle.bb_memory_shared_pools.specs.SharedPoolNextFit.{MayTakeFrom, probed, hint_of, part_of, refused_search};
 ghost use Rattle.bb_memory_shared_pools.specs.SharedPoolRule.{IsIdleAt, HasRefused, HasTakenFrom, IsInSearch};
 
 use super::bucket::Bucket;
 use super::buckets::SharedBucketPool;
-use super::party::{Hint, PoolParty};
+use super::party::PoolParty;
 use super::rule::View;
 use atomic_table::Seat;
 use bb_memory_traits::allocator::AllocationError;
@@ -40,53 +39,49 @@ impl<const CAPPED: usize, const MOST: usize> SharedBucketPool<CAPPED, MOST> {
         (before / self.number_of_parties() as u64) as u32
     }
 
-    /// One whole search: a probe of each bucket from the hint up, and then of each below it, until one is taken. The hint follows
-    /// what is taken, and a refusal is counted. The first probe makes its exchange without a load before it: at the hint a bucket
-    /// is mostly free.
-    fn next_fit(&self, party: u32, seat: &mut Seat<u8, View>, hint: &mut Hint) -> Option<u32>
+    /// One whole search: a probe of each bucket from bucket `first` up, and then of each below it, until one is taken. A refusal
+    /// is counted. The first probe makes its exchange without a load before it: at the hint a bucket is mostly free.
+    fn next_fit(&self, party: u32, seat: &mut Seat<u8, View>, first: u32) -> Option<u32>
         requires party { number_of seat.old.me.0 ≡ party }
         requires seat { IsIdleAt self.now seat.old.table_id seat.old.me }
         ensures told { Stays seat.old.table_id seat.new.table_id (MatchOption result
             (HasRefused self.now.scene (number_of seat.old.me.0) (view_log seat.old.me.0)
-            (refused_search self.now.scene.geometry.buckets (number_of seat.old.me.0)
-            hint.old.bucket) seat.new.me)
+            (refused_search self.now.scene.geometry.buckets (number_of seat.old.me.0) first)
+            seat.new.me)
             (HasTakenFrom self.now.scene (number_of seat.old.me.0) (view_log seat.old.me.0)
-            hint.old.bucket seat.new.me)) }
-        ensures hint { FollowsSearch hint.old result hint.new }
+            first seat.new.me)) }
+        ensures fits { IfSome result (λ bucket. bucket + 1 < 2 ^ 32) }
     {
         let count = self.number_of_buckets();
         if count == 0 {
             self.count_refusal();
             return None;
         }
-        let bucket = probed(count, hint.bucket, 0);
+        let bucket = probed(count, first, 0);
         if self.flags.try_at(party, seat, bucket) {
-            hint.follow_taking(bucket);
             return Some(bucket);
         }
-        self.later_probes(party, seat, hint)
+        self.later_probes(party, seat, first)
     }
 
     /// The probes of a search behind its first, which missed: the clause holds for each log with which the search may have begun.
     /// The loop stands apart, and isn't inlined, so that a search whose first probe takes a bucket is straight-line code.
     #[inline(never)]
-    fn later_probes(&self, party: u32, seat: &mut Seat<u8, View>, hint: &mut Hint) -> Option<u32>
+    fn later_probes(&self, party: u32, seat: &mut Seat<u8, View>, first: u32) -> Option<u32>
         requires party { number_of seat.old.me.0 ≡ party }
         requires seat { IsIdleAt self.now seat.old.table_id seat.old.me }
         requires some { 0 < self.now.scene.geometry.buckets }
         ensures told { Stays seat.old.table_id seat.new.table_id ((number : ℕ) (log : PoolLog)
-            → IsInSearch self.now.scene number log hint.old.bucket 1 seat.old.me
-            → MatchOption result (HasRefused self.now.scene number log
-            (refused_search self.now.scene.geometry.buckets number hint.old.bucket) seat.new.me)
-            (HasTakenFrom self.now.scene number log hint.old.bucket seat.new.me)) }
-        ensures hint { FollowsSearch hint.old result hint.new }
+            → IsInSearch self.now.scene number log first 1 seat.old.me → MatchOption result
+            (HasRefused self.now.scene number log
+            (refused_search self.now.scene.geometry.buckets number first) seat.new.me)
+            (HasTakenFrom self.now.scene number log first seat.new.me)) }
+        ensures fits { IfSome result (λ bucket. bucket + 1 < 2 ^ 32) }
     {
-        let first = hint.bucket;
         let count = self.number_of_buckets();
         for probe in 1..count {
             let bucket = probed(count, first, probe);
             if self.flags.probe(party, seat, bucket) {
-                hint.follow_taking(bucket);
                 return Some(bucket);
             }
         }
@@ -115,10 +110,11 @@ impl<const CAPPED: usize, const MOST: usize> SharedBucketPool<CAPPED, MOST> {
         // Proof hint: brings the party's invariant into scope on the early returns.
         let _ = &party.number;
         self.flags.geometry().admit(layout)?;
-        let found = self.next_fit(party.number, &mut party.seat, &mut party.hint);
+        let found = self.next_fit(party.number, &mut party.seat, party.hint.bucket);
         let Some(number) = found else {
             return Err(AllocationError::OutOfMemory);
         };
+        party.hint.follow_taking(number);
         Ok(Bucket {
             flags: &self.flags,
             number,

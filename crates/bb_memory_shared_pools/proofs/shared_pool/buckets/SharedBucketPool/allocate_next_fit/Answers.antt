@@ -33,8 +33,8 @@ invariant_of-party-2 g c =
     let own = ap (λ (p : PoolParty). p.allocator) c.party.view_is ∙ c.requires.party in
     let me = party.seat.me in
     seated_then c.args.self.now party.seat.table_id me party.number party.hint c.party.invariant own
-    c.next_fit-found.new.seat.me _ c.next_fit-found.new.hint
-    (c.in-Some.ensures.hint
+    c.next_fit-found.new.seat.me _ c.follow_taking.new.self
+    (c.follow_taking.ensures
     ∙ hint_by_search c.args.self.now.scene.geometry.buckets (number_of me.0) party.hint.bucket c.in-Some.ensures.told.step.probe
     c.in-Some.number party.hint c.in-Some.ensures.told.step.there)
     c.in-Some.ensures.told.step.ended
@@ -46,8 +46,7 @@ invariant_of-party g c =
     let me = party.seat.me in
     let buckets = c.args.self.now.scene.geometry.buckets in
     seated_then c.args.self.now party.seat.table_id me party.number party.hint c.party.invariant own
-    c.next_fit-found.new.seat.me _ c.next_fit-found.new.hint
-    (c.in_default.ensures.hint ∙ hint-misses buckets (number_of me.0) party.hint.bucket buckets party.hint)
+    c.next_fit-found.new.seat.me _ party.hint (hint-misses buckets (number_of me.0) party.hint.bucket buckets party.hint)
     c.in_default.ensures.told.step.ended
 
 pub returns-clause-serves : goal.returns-clause-serves

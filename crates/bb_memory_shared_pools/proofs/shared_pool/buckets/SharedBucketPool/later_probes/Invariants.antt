@@ -9,7 +9,6 @@ invariant-loop-probe g l = record {
   table : l.seat.table_id ≡ l.initial.seat.table_id;
   own : number_of l.seat.me.0 ≡ l.party;
   idle : IsSeatOfIdle l.self.scene (number_of l.seat.me.0) (view_log l.seat.me.0) l.seat.me;
-  so_far : (number : ℕ) (log : PoolLog) → IsInSearch l.self.scene number log l.initial.hint.bucket 1 l.initial.seat.me →
-      IsInSearch l.self.scene number log l.initial.hint.bucket l.probe l.seat.me;
-  hint : l.hint ≡ l.initial.hint;
+  so_far : (number : ℕ) (log : PoolLog) → IsInSearch l.self.scene number log l.first 1 l.initial.seat.me →
+      IsInSearch l.self.scene number log l.first l.probe l.seat.me;
 }

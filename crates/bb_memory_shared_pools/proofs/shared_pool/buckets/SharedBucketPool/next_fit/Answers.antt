@@ -9,12 +9,11 @@ pub returns-clause-told : goal.returns-clause-told
 returns-clause-told g c =
     let scene : PoolScene = c.args.self.now.scene in
     let me = c.args.seat.now.me in
-    let begun = search_begins scene (number_of me.0) (view_log me.0) c.args.hint.now.bucket me c.requires.seat.seat in
-    let is = c.probed-bucket.ensures.value
-    ∙ ap (λ (n : ℕ). probed n c.args.hint.now.bucket 0) c.number_of_buckets-count.ensures.value in
+    let begun = search_begins scene (number_of me.0) (view_log me.0) c.args.first me c.requires.seat.seat in
+    let is = c.probed-bucket.ensures.value ∙ ap (λ (n : ℕ). probed n c.args.first 0) c.number_of_buckets-count.ensures.value in
     record {
       table = c.later_probes.ensures.told.table ∙ c.try_at.ensures.table;
       step = c.later_probes.ensures.told.step (number_of me.0) (view_log me.0)
-          (search_goes_on scene (number_of me.0) (view_log me.0) c.args.hint.now.bucket me c.try_at.new.seat.me 0 begun
+          (search_goes_on scene (number_of me.0) (view_log me.0) c.args.first me c.try_at.new.seat.me 0 begun
           c.probed-bucket.result is (rw c.if-try_at.false at (rw c.self.view_is at c.try_at.ensures.step)));
     }
