@@ -65,16 +65,16 @@ extern "C" {
 #endif
 
 // The version of this library, as text and by its numbers. The last of them grows with each version, for `#if`.
-#define BB_VERSION "0.16.0"
-#define BB_VERSION_MAJOR 0
-#define BB_VERSION_MINOR 16
+#define BB_VERSION "1.0.0"
+#define BB_VERSION_MAJOR 1
+#define BB_VERSION_MINOR 0
 #define BB_VERSION_PATCH 0
 #define BB_VERSION_NUMBER (BB_VERSION_MAJOR * 10000 + BB_VERSION_MINOR * 100 + BB_VERSION_PATCH)
 // The number in the shared library's SONAME. It grows where a function goes, or a type, a struct's fields or a code's number
 // changes. So a program runs with each library of its number from the version on with which it was linked.
 #define BB_ABI 2
 
-// A place is where a region or a chunk begins, and an address is a place that is handed in alone. The functions see their numbers
+// A place is where a region or a chunk begins; a `bb_address` is one that is only passed in. The functions see their numbers
 // alone: a host whose places are numbers, such as offsets, defines BB_PLACES_ARE_NUMBERS above the header.
 #ifdef BB_PLACES_ARE_NUMBERS
 typedef size_t bb_address, bb_place;

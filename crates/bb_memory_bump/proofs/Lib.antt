@@ -1,7 +1,7 @@
 mod SharedBumpAnswers
 mod SharedBumpClosings
 mod SharedBumpFloors
-mod SharedBumpGatherings
+mod SharedBumpMerges
 mod SharedBumpHistories
 mod SharedBumpKeeps
 mod SharedBumpMeetings

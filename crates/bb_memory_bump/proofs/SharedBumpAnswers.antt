@@ -1,4 +1,4 @@
--- What a request that has ended says of its answer and of its party.
+-- The answer and the party of a request that has ended.
 use Rattle.std.proofs.Common.{◌≡◌, ℕ, ◌+◌, ◌<◌, ◌≤◌, List, [], ◌∷◌, ◌++◌, length, sym, ap, ◌∙◌, subst, append-nil, arith, Result}
 use Rattle.std.proofs.Common.{Ok, Err}
 use Rattle.std.specs.Prelude.{IfOk, OnErr, drop, max}
@@ -16,11 +16,11 @@ use Rattle.bb_memory_traits.proofs.LiveLists.{StandsFor-end}
 use Rattle.bb_memory_seats.specs.Seats.{number_of, view_log}
 use Rattle.bb_memory_bump.specs.SharedBump.{BumpParty, IsAnsweredAt, IsFoundBy, IsRefused, IsWon, MayTake, floor_of, seen_by}
 use Rattle.bb_memory_bump.specs.SharedBump.{with_entries}
-use Rattle.bb_memory_bump.specs.SharedBumpRule.{SeatView, met_by, party_in, HasEnded, HasRefused, HasWon, IsCounted}
+use Rattle.bb_memory_bump.specs.SharedBumpRule.{SeatView, met_by, party_in, AfterCall, AfterRefusal, AfterWin, IsCounted}
 
 -- ENTRIES
 
--- what was added to a party's log is told by the party
+-- the entries that were added to a party's log, by the party
 added_once : (party : BumpParty) (added other : BumpLog) → with_entries party other ≡ with_entries party added → other ≡ added
 added_once party added other same =
     sym (drop-append_seam party.log other)
@@ -67,15 +67,15 @@ module _ (scene : BumpScene) (table was : TableId) (number : ℕ) (old new : Me 
   met_is : met_by old.0 ≡ party.met
   met_is = ap (λ (p : BumpParty). p.met) view_is
 
-  then : (added : BumpLog) → HasEnded scene (number_of old.0) (view_log old.0) (met_by old.0) added new →
+  then : (added : BumpLog) → AfterCall scene (number_of old.0) (view_log old.0) (met_by old.0) added new →
       party_in table number new.0 ≡ with_entries party added
   then added ended = grind arith
 
-  found_by : (added : BumpLog) → HasEnded scene (number_of old.0) (view_log old.0) (met_by old.0) added new →
+  found_by : (added : BumpLog) → AfterCall scene (number_of old.0) (view_log old.0) (met_by old.0) added new →
       (other : BumpLog) → party_in table number new.0 ≡ with_entries party other → IsFoundBy party other
   found_by added ended other is = grind (arith, added_once)
 
-  lost_by : (added : BumpLog) → HasEnded scene (number_of old.0) (view_log old.0) (met_by old.0) added new →
+  lost_by : (added : BumpLog) → AfterCall scene (number_of old.0) (view_log old.0) (met_by old.0) added new →
       (other : BumpLog) → party_in table number new.0 ≡ with_entries party other → losses_in other ≤ scene.region.size
   lost_by added ended other is =
       subst (λ (entries : BumpLog). losses_in entries ≤ scene.region.size)
@@ -83,7 +83,7 @@ module _ (scene : BumpScene) (table was : TableId) (number : ℕ) (old new : Me 
 
   -- the chunks that its log has won
   won_by : (added : BumpLog) (won : List Chunk) →
-      HasEnded scene (number_of old.0) (view_log old.0) (met_by old.0) added new →
+      AfterCall scene (number_of old.0) (view_log old.0) (met_by old.0) added new →
       chunks_won added ≡ won → chunks_won (view_log new.0) ≡ chunks_won party.log ++ won
   won_by added won ended won_is = grind (arith, won_grows)
 
@@ -92,7 +92,7 @@ module _ (scene : BumpScene) (table was : TableId) (number : ℕ) (old new : Me 
     told_to : number_of old.0 ≡ party.number
     told_to = own ∙ ap (λ (p : BumpParty). p.number) view_is
 
-    pub says_won : (chunk : Chunk) → HasWon scene (number_of old.0) (view_log old.0) (met_by old.0) layout new chunk →
+    pub says_won : (chunk : Chunk) → AfterWin scene (number_of old.0) (view_log old.0) (met_by old.0) layout new chunk →
         Says scene party (party_in table number new.0) layout (Ok chunk)
     says_won chunk won = record {
       answer = (
@@ -113,7 +113,7 @@ module _ (scene : BumpScene) (table was : TableId) (number : ℕ) (old new : Me 
           (asks, won.below, won.alone one ∙ ap (λ (v : ℕ). chunk_at_or_after v layout) (omega (arith, end))));
     }
 
-    pub says_refused : HasRefused scene (number_of old.0) (view_log old.0) (met_by old.0) layout new →
+    pub says_refused : AfterRefusal scene (number_of old.0) (view_log old.0) (met_by old.0) layout new →
         Says scene party (party_in table number new.0) layout (Err OutOfMemory)
     says_refused refused = record {
       answer = (

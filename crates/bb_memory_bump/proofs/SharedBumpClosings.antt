@@ -1,4 +1,4 @@
--- What the last state says to a seat.
+-- The last state, by the view of a seat.
 use Rattle.std.proofs.Common.{◌≡◌, ◌≤◌, ℕ, List, [], ◌∷◌, sym, ap, ◌∙◌, subst, arith}
 use mathlib.Core.Option.{some, some-injective}
 use lib.ListN.{get_elem?}
@@ -11,23 +11,23 @@ use Rattle.bb_memory_bump_machine.proofs.BumpWholes.{alone_exact, ends_by}
 use Rattle.bb_memory_seats.specs.Seats.{numbered, view_log}
 use Rattle.bb_memory_bump.specs.SharedBump.{BumpParty, HasChunksWithin}
 use Rattle.bb_memory_bump.specs.SharedBumpRule.{IsPartySeat, NumberedLog, SeatView, WordsAndLogsAgree, met_by, party_in}
-use Rattle.bb_memory_bump.specs.SharedBumpRule.{TellsMeeting}
+use Rattle.bb_memory_bump.specs.SharedBumpRule.{AfterMeetingLoad}
 use Rattle.bb_memory_bump.proofs.SharedBumpMeetings.{told_by}
 
 pub closes : (scene : BumpScene) (seat : ℕ) (view : SeatView) (words homes : List ℕ) (position : ℕ) →
     Final (Seen (WordsAndLogsAgree scene) seat view) words homes →
     get_elem? words 0 ≡ some position →
-    TellsMeeting scene view.parties (met_by view) position
+    AfterMeetingLoad scene view.parties (met_by view) position
 closes scene seat view words homes position last at =
     let state = last.0 in
     let rule = last.1.0 in
     let found : rule.position ≡ position =
     some-injective _ _ (ap (λ (l : List ℕ). get_elem? l 0) (sym rule.words ∙ last.2) ∙ at) in
-    subst (TellsMeeting scene view.parties (met_by view)) found (told_by scene state rule seat view last.1.1)
+    subst (AfterMeetingLoad scene view.parties (met_by view)) found (told_by scene state rule seat view last.1.1)
 
 -- The last position, to a party with this log: it is at least what the party had seen and what its last meeting had found, and
 -- at most the size. Some interleaving leaves it, and it is exactly what the party had seen where there is no other.
-pub record TellsLast (scene : BumpScene) (number : ℕ) (log : BumpLog) (met last : ℕ)
+pub record AfterLast (scene : BumpScene) (number : ℕ) (log : BumpLog) (met last : ℕ)
     : Type 0 where
   pub interleaved : Interleaving scene number log last
   pub seen : seen_in scene log ≤ last
@@ -38,7 +38,7 @@ pub record TellsLast (scene : BumpScene) (number : ℕ) (log : BumpLog) (met las
 
 -- what it says to a party alone
 pub last_known : (scene : BumpScene) (number : ℕ) (log : BumpLog) (met last : ℕ) →
-    TellsMeeting scene (numbered number log ∷ []) met last → TellsLast scene number log met last
+    AfterMeetingLoad scene (numbered number log ∷ []) met last → AfterLast scene number log met last
 last_known scene number log met last told =
     let have = told.theirs in
     let seen = seen_below scene last told.logs number log told.agree have.1 in record {
@@ -54,9 +54,9 @@ last_known scene number log met last told =
 -- and to a party by its fields
 pub last_of : (table : TableId) (scene here : BumpScene) (number : ℕ) (me : Me ℕ SeatView) (party : BumpParty) (last : ℕ) →
     IsPartySeat number me → party_in table number me.0 ≡ party → scene ≡ here →
-    TellsMeeting scene me.0.parties (met_by me.0) last → TellsLast here party.number party.log party.met last
+    AfterMeetingLoad scene me.0.parties (met_by me.0) last → AfterLast here party.number party.log party.met last
 last_of table scene here number me party last fields view_is same told =
-    let own = subst (λ (parties : List NumberedLog). TellsMeeting scene parties (met_by me.0) last)
+    let own = subst (λ (parties : List NumberedLog). AfterMeetingLoad scene parties (met_by me.0) last)
     (ap (λ (m : Me ℕ SeatView). m.0.parties) fields.seat.seat.is) told in
-    subst (λ (x : BumpScene × BumpParty). TellsLast x.0 x.1.number x.1.log x.1.met last) (λ i. (same i, view_is i))
+    subst (λ (x : BumpScene × BumpParty). AfterLast x.0 x.1.number x.1.log x.1.met last) (λ i. (same i, view_is i))
     (last_known scene number (view_log me.0) (met_by me.0) last own)

@@ -1,4 +1,4 @@
--- What meetings found stays at most the position, as views change.
+-- The positions that meetings found stay at most the position, as views change.
 use Rattle.std.proofs.Common.{◌≡◌, ℕ, ◌≤◌, List, [], ◌∷◌, ◌++◌, set, arith}
 use mathlib.Core.Option.{some}
 use lib.ListN.{get_elem?}

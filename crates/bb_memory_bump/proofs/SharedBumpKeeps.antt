@@ -21,7 +21,7 @@ use Rattle.bb_memory_bump_machine.proofs.BumpPositions.{interleaved, position_wi
 use Rattle.bb_memory_bump_machine.proofs.BumpRuns.{chunk_at-above}
 use Rattle.bb_memory_bump_machine.proofs.BumpWholes.{alone_exact, greater_of-above}
 use Rattle.bb_memory_seats.specs.Seats.{alone}
-use Rattle.bb_memory_bump.specs.SharedBumpRule.{SeatView, WordsAndLogsAgree, sight, Tells, exchanges, loads, reads}
+use Rattle.bb_memory_bump.specs.SharedBumpRule.{SeatView, WordsAndLogsAgree, sight, AfterStep, exchanges, loads, reads}
 use Rattle.bb_memory_seats.proofs.Seatings.{seated_step}
 use Rattle.bb_memory_bump.proofs.SharedBumpFloors.{met_set}
 use Rattle.bb_memory_bump.proofs.SharedLogs.{seen_next}
@@ -95,7 +95,7 @@ step_tells : (scene : BumpScene) (slots seat party : ℕ) (log : BumpLog) (met :
     LogsAgree scene (left found) (with_entry logs party log (entry_of kind (outcome found)))) →
     ((seen found : ℕ) → seen ≤ found → greater_of seen (position_in scene.region (outcome found)) ≡ left found) →
     Allows (WordsAndLogsAgree scene) slots seat (alone (sight scene met) party log, []) 0 left
-    (λ found me. Tells scene party log met kind (outcome found) found me)
+    (λ found me. AfterStep scene party log met kind (outcome found) found me)
 step_tells scene slots seat party log met left kind outcome fit sees state rule _ at _ =
     let know = known scene state rule seat party log met at in
     let word = know.word in
@@ -209,7 +209,7 @@ exchanges_at : (scene : BumpScene) (slots seat party : ℕ) (call : OngoingCall)
     behind ≡ position_behind scene.region (chunk_at scene.region call.seen call.layout) →
     Allows (WordsAndLogsAgree scene) slots seat (alone (sight scene met) party log, []) 0
     (λ found. either (eqb found call.seen) behind found)
-    (λ found me. Tells scene party log met (Exchange party) (exchange_move scene.region found call).outcome found me)
+    (λ found me. AfterStep scene party log met (Exchange party) (exchange_move scene.region found call).outcome found me)
 exchanges_at scene slots seat party call behind log met in_call is =
     let left : ℕ → ℕ = λ found. either (eqb found call.seen) behind found in
     let outcome : ℕ → BumpOutcome = λ found. (exchange_move scene.region found call).outcome in
@@ -240,7 +240,7 @@ exchanges_as scene slots seat party layout seen behind log met me is in_call beh
       x.2,
       x.3,
       λ other now. subst (λ (c : OngoingCall).
-          Tells scene party log met (Exchange party) (exchange_move scene.region found c).outcome found
+          AfterStep scene party log met (Exchange party) (exchange_move scene.region found c).outcome found
           (x.0, carried_after {S = ℕ} [] x.1))
           (same_Some _ _ (sym in_call ∙ now)) x.4,
     ))

@@ -1,4 +1,4 @@
--- What a load by a seat of several parties finds: how they agree with the position, and what two of them have of one another.
+-- A load by a seat of several parties: how they agree with the position, and what two of them have of one another.
 use Rattle.std.proofs.Common.{◌≡◌, ℕ, List, [], ◌∷◌, set, get_or, refl, sym, ap, subst, arith}
 use mathlib.Core.Option.{none, some}
 use lib.ListN.{get_elem?}
@@ -10,14 +10,14 @@ use Rattle.bb_memory_bump_machine.proofs.BumpPositions.{both_interleaved, positi
 use Rattle.bb_memory_bump_machine.proofs.BumpWholes.{ends_by}
 use Rattle.bb_memory_seats.specs.Seats.{numbered, standing_for}
 use Rattle.bb_memory_bump.specs.SharedBumpRule.{NumberedLog, SeatView, WordsAndLogsAgree, meeting_of, met_by, sight}
-use Rattle.bb_memory_bump.specs.SharedBumpRule.{TellsMeeting, TellsTwo, meets}
+use Rattle.bb_memory_bump.specs.SharedBumpRule.{AfterMeetingLoad, AfterMeeting, meets}
 use Rattle.bb_memory_seats.proofs.Seatings.{once_in, seated_again, two_parties}
 use Rattle.bb_memory_bump.proofs.SharedBumpFloors.{met_set}
 
--- what the rule tells a seat
+-- the rule, by the view of a seat
 pub told_by : (scene : BumpScene) (state : State ℕ SeatView) (rule : WordsAndLogsAgree scene state) (seat : ℕ)
     (view : SeatView) → get_elem? state.views seat ≡ some view →
-    TellsMeeting scene view.parties (met_by view) rule.position
+    AfterMeetingLoad scene view.parties (met_by view) rule.position
 told_by scene state rule seat view at = record {
   above = rule.met seat view at;
   within = position_within scene rule.position rule.logs rule.opened rule.agree;
@@ -52,7 +52,7 @@ meets_at scene slots seat met parties state rule _ at _ =
         met = met_set state.views seat (meeting_of found view) rule.position rule.position rule.met (omega arith)
             (omega (arith, word));
       },
-      (refl, subst (TellsMeeting scene parties met) (sym word) (told_by scene state rule seat view at)),
+      (refl, subst (AfterMeetingLoad scene parties met) (sym word) (told_by scene state rule seat view at)),
     )
 
 pub meets_as : (scene : BumpScene) (slots seat met : ℕ) (parties : List NumberedLog) (me : Me ℕ SeatView) →
@@ -65,8 +65,8 @@ meets_as scene slots seat met parties me is =
 
 -- what a meeting of two has found
 pub two_met : (scene : BumpScene) (number : ℕ) (log : BumpLog) (other : ℕ) (other_log : BumpLog) (met found : ℕ) →
-    TellsMeeting scene (numbered other other_log ∷ numbered number log ∷ []) met found →
-    TellsTwo scene number log other other_log found
+    AfterMeetingLoad scene (numbered other other_log ∷ numbered number log ∷ []) met found →
+    AfterMeeting scene number log other other_log found
 two_met scene number log other other_log met found told =
     let have = told.theirs in
     let differ = two_parties (numbered other other_log) (numbered number log) [] (told.once other have.0) in

@@ -15,7 +15,7 @@ use Rattle.bb_memory_bump_machine.specs.BumpLogs.{HasPositionUpTo, call_after, c
 use Rattle.bb_memory_bump_machine.proofs.BumpRuns.{chunk_at-above}
 use Rattle.bb_memory_seats.specs.Seats.{number_of, view_log}
 use Rattle.bb_memory_bump.specs.SharedBumpRule.{IsSeatOf, SeatView, met_by}
-use Rattle.bb_memory_bump.specs.SharedBumpRule.{HasRefused, HasWon, IsCounted, Tells, TellsExchange, TellsRead}
+use Rattle.bb_memory_bump.specs.SharedBumpRule.{AfterRefusal, AfterWin, IsCounted, AfterStep, AfterExchange, AfterRead}
 use Rattle.bb_memory_bump.proofs.SharedBumpTries.{counted_more, losses_more, won_then}
 use Rattle.bb_memory_bump.proofs.SharedLogs.{call_next, losses_in-cons, seen_next}
 
@@ -68,10 +68,10 @@ win_answers region found call same =
 -- A READ
 
 module _ (scene : BumpScene) (party : ℕ) (log : BumpLog) (met : ℕ) (layout : Layout) (found : ℕ) (new : Me ℕ SeatView)
-    (told : TellsRead scene party log met layout found new) where
+    (told : AfterRead scene party log met layout found new) where
   read_told : (outcome : BumpOutcome) → (read_move scene.region found layout).outcome ≡ outcome →
-      Tells scene party log met (Read party layout) outcome found new
-  read_told outcome is = subst (λ (o : BumpOutcome). Tells scene party log met (Read party layout) o found new) is told
+      AfterStep scene party log met (Read party layout) outcome found new
+  read_told outcome is = subst (λ (o : BumpOutcome). AfterStep scene party log met (Read party layout) o found new) is told
 
   read_counted : (outcome : BumpOutcome) →
       HasPositionFrom (max (seen_in scene log) met) scene.region (entry_of (Read party layout) outcome) →
@@ -102,7 +102,7 @@ module _ (scene : BumpScene) (party : ℕ) (log : BumpLog) (met : ℕ) (layout :
         alone = tells.exact;
       }
 
-  pub refused_at_once : fits scene.region found layout ≡ false → HasRefused scene party log met layout new
+  pub refused_at_once : fits scene.region found layout ≡ false → AfterRefusal scene party log met layout new
   refused_at_once unfit =
       let decides = entry_of (Read party layout) (RefusedAtRead found) in
       let tells = read_told (RefusedAtRead found) (read_answers scene.region found layout false unfit) in record {
@@ -121,28 +121,28 @@ module _ (scene : BumpScene) (party : ℕ) (log : BumpLog) (met : ℕ) (layout :
 
 module _ (scene : BumpScene) (party : ℕ) (log : BumpLog) (met : ℕ) (layout : Layout) (last found : ℕ) (me new : Me ℕ SeatView)
     (trying : IsTrying scene party log met layout last me)
-    (told : TellsExchange scene (number_of me.0) (view_log me.0) (met_by me.0) found new) where
-  tells_so : Tells scene party (log ++ trying.tried) met (Exchange party)
+    (told : AfterExchange scene (number_of me.0) (view_log me.0) (met_by me.0) found new) where
+  exchanged : AfterStep scene party (log ++ trying.tried) met (Exchange party)
       (exchange_move scene.region found (record { layout = layout; seen = last })).outcome found new
-  tells_so =
-      subst (λ (n : ℕ). TellsExchange scene party (log ++ trying.tried) n found new) trying.unchanged
-      (subst (λ (m : Me ℕ SeatView). TellsExchange scene (number_of m.0) (view_log m.0) (met_by me.0) found new)
+  exchanged =
+      subst (λ (n : ℕ). AfterExchange scene party (log ++ trying.tried) n found new) trying.unchanged
+      (subst (λ (m : Me ℕ SeatView). AfterExchange scene (number_of m.0) (view_log m.0) (met_by me.0) found new)
       trying.seat.is told)
       (record { layout = layout; seen = last }) trying.call
 
   exchange_told : (outcome : BumpOutcome) →
       (exchange_move scene.region found (record { layout = layout; seen = last })).outcome ≡ outcome →
-      Tells scene party (log ++ trying.tried) met (Exchange party) outcome found new
+      AfterStep scene party (log ++ trying.tried) met (Exchange party) outcome found new
   exchange_told outcome is =
-      subst (λ (o : BumpOutcome). Tells scene party (log ++ trying.tried) met (Exchange party) o found new) is tells_so
+      subst (λ (o : BumpOutcome). AfterStep scene party (log ++ trying.tried) met (Exchange party) o found new) is exchanged
 
   -- a party that is the only one loses none
   alone_wins : scene.parties ≡ 1 → found ≡ last
-  alone_wins one = tells_so.exact one ∙ sym trying.seen
+  alone_wins one = exchanged.exact one ∙ sym trying.seen
 
   -- what an exchange finds is no less than what was seen
   pub raises : (last ≤ found) × (found ≤ scene.region.size)
-  raises = (omega (arith, tells_so.seen, trying.seen), tells_so.within)
+  raises = (omega (arith, exchanged.seen, trying.seen), exchanged.within)
 
   joined : (outcome : BumpOutcome) →
       (log ++ trying.tried) ++ entry_of (Exchange party) outcome ∷ [] ≡
@@ -156,7 +156,7 @@ module _ (scene : BumpScene) (party : ℕ) (log : BumpLog) (met : ℕ) (layout :
       ap call_in (sym (joined outcome)) ∙ call_next (log ++ trying.tried) (Exchange party) outcome
       ∙ ap (λ now. call_after now (entry_of (Exchange party) outcome)) trying.call
 
-  then_seat : (outcome : BumpOutcome) → Tells scene party (log ++ trying.tried) met (Exchange party) outcome found new →
+  then_seat : (outcome : BumpOutcome) → AfterStep scene party (log ++ trying.tried) met (Exchange party) outcome found new →
       IsSeatOf scene party (log ++ (trying.tried ++ entry_of (Exchange party) outcome ∷ [])) new
   then_seat outcome tells = subst (λ (l : BumpLog). IsSeatOf scene party l new) (joined outcome) tells.seat
 
@@ -189,7 +189,7 @@ module _ (scene : BumpScene) (party : ℕ) (log : BumpLog) (met : ℕ) (layout :
       }
 
   -- a loss at which it doesn't fit
-  pub refused_later : found ≢ last → fits scene.region found layout ≡ false → HasRefused scene party log met layout new
+  pub refused_later : found ≢ last → fits scene.region found layout ≡ false → AfterRefusal scene party log met layout new
   refused_later apart unfit =
       let decides = entry_of (Exchange party) (RefusedAtLoss found) in
       let tells = exchange_told (RefusedAtLoss found)
@@ -214,7 +214,7 @@ module _ (scene : BumpScene) (party : ℕ) (log : BumpLog) (met : ℕ) (layout :
   -- a win: the chunk is the one at what was seen last, and ends inside the region
   pub wins : (chunk : Chunk) → found ≡ last → chunk ≡ chunk_at scene.region last layout →
       chunk_end chunk ≤ region_end scene.region →
-      HasWon scene party log met layout new chunk
+      AfterWin scene party log met layout new chunk
   wins chunk same placed inside =
       let region = scene.region in
       let decides = entry_of (Exchange party) (Wins chunk) in

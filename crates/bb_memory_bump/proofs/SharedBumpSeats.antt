@@ -10,7 +10,7 @@ use Rattle.bb_memory_bump_machine.specs.BumpMachine.{BumpScene}
 use Rattle.bb_memory_bump_machine.specs.BumpLogs.{BumpEntry, BumpLog}
 use Rattle.bb_memory_bump_machine.proofs.BumpLogs.{opening_agrees}
 use Rattle.bb_memory_seats.specs.Seats.{first_of, others_of}
-use Rattle.bb_memory_bump.specs.SharedBumpRule.{SeatView, WordsAndLogsAgree, all_parties, gathered, met_by, nobody, sight}
+use Rattle.bb_memory_bump.specs.SharedBumpRule.{SeatView, WordsAndLogsAgree, all_parties, merged, met_by, nobody, sight}
 use Rattle.bb_memory_seats.proofs.Seatings.{seated_joined, seated_opening, seated_others}
 use Rattle.bb_memory_bump.proofs.SharedBumpFloors.{HaveMetBelow, met_push, met_set}
 
@@ -29,9 +29,9 @@ gives_first scene seat view state rule at =
       met = met_push (set state.views seat (others_of view)) (first_of view) rule.position set_first most;
     }
 
-pub gathers : (scene : BumpScene) (seat other : ℕ) (view guest : SeatView) →
-    Joins (WordsAndLogsAgree scene) seat view other guest (gathered view guest) nobody
-gathers scene seat other view guest state rule at apart there = grind (arith, at_set, seated_joined)
+pub merges : (scene : BumpScene) (seat other : ℕ) (view guest : SeatView) →
+    Joins (WordsAndLogsAgree scene) seat view other guest (merged view guest) nobody
+merges scene seat other view guest state rule at apart there = grind (arith, at_set, seated_joined)
 
 all_empty : (count : ℕ) → AllByRecursion (λ (log : BumpLog). log ≡ []) (replicate count [])
 all_empty zero = tt

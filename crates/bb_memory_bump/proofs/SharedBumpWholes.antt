@@ -1,4 +1,4 @@
--- What all parties of a bump have who met.
+-- All parties of a bump, when they have met.
 use Rattle.std.proofs.Common.{◌≡◌, ◌≢◌, Some, ℕ, List, [], ◌∷◌, length, refl, true}
 use Rattle.std.specs.Prelude.{Any, Contains, slice_get}
 use Rattle.std.specs.List.{All, AllByRecursion}
@@ -14,7 +14,7 @@ use Rattle.bb_memory_bump_machine.proofs.BumpAllowed.{first_allowed, nobody_else
 use Rattle.bb_memory_bump_machine.proofs.BumpPositions.{interleaving_stands}
 use Rattle.bb_memory_bump_machine.proofs.BumpSteps.{step_view}
 use Rattle.bb_memory_bump_machine.proofs.BumpWholes.{owner_of}
-use Rattle.bb_memory_lists.proofs.Contained.{contains_at, stands_in_log}
+use Rattle.bb_memory_lists.proofs.ListEntries.{contains_at, stands_in_log}
 use Rattle.bb_memory_bump.proofs.SharedBumpHistories.{held_in_list}
 
 -- the entry is that of a step of some party

@@ -21,7 +21,7 @@ pub record IsBump (bump : Bump) : Type 0 where
   pub region : IsRegion bump.region
   pub used : bump.used ≤ bump.region.size
 
--- What a request is answered by the value alone, and what the bump is then.
+-- A request by the value alone: its answer, and the bump after it.
 pub record Takes (old : Bump) (layout : Layout) (answer : Result Chunk AllocationError) (new : Bump) : Type 0 where
   -- each outcome, both ways
   pub accepted : IsOk answer ↔ ((0 < layout.size) × (chunk_end (chunk_at_or_after (old.region.start + old.used) layout)
@@ -33,16 +33,16 @@ pub record Takes (old : Bump) (layout : Layout) (answer : Result Chunk Allocatio
   pub begins : IfOk answer (λ chunk. chunk.place ≡ least_place (old.region.start + old.used) layout.align)
   pub exact_size : IfOk answer (λ chunk. chunk.len ≡ layout.size)
   pub behind : IfOk answer (λ chunk. old.region.start + old.used ≤ chunk.place)
-  -- what is used then ends with the chunk, and a refusal leaves everything
+  -- the used part then ends with the chunk, and a refusal leaves everything
   pub used : IfOk answer (λ chunk. new.region.start + new.used ≡ chunk_end chunk)
   pub unchanged : OnErr answer (new ≡ old)
 
--- What the bump is after a release, whichever place it names, and so on each list that it stood for, the empty one too.
+-- The bump after a release, whichever place it names, and so on each list that it stood for, the empty one too.
 pub record Frees (old new : Bump) : Type 0 where
   pub value : new ≡ bump_of old.region.start old.region.size 0
   pub released : (live : List Chunk) → StandsFor old.region old.used live → StandsFor new.region new.used []
 
--- what Display writes
+-- the text that Display writes
 abbrev pub bump_text : Bump → List ℕ
 bump_text bump =
     codes "BumpAllocator { start: " ++ (decimal bump.region.start ++ (codes ", size: " ++ (decimal bump.region.size

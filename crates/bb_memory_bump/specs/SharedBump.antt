@@ -40,7 +40,7 @@ abbrev pub fresh_party : SharedBump → ℕ → BumpParty
 fresh_party allocator number =
     record { allocator = allocator; number = number; log = []; met = 0 }
 
--- all parties of a bump that has so many, numbered from 0, and none has made a step
+-- all `count` parties of a bump, numbered from 0, and none has made a step
 pub record AreFresh (allocator : SharedBump) (count : ℕ) (parties : List BumpParty) : Type 0 where
   pub so_many : allocator.scene.parties ≡ count
   pub as_many : length parties ≡ count
@@ -63,7 +63,7 @@ meeting_at position party = record {
   met = position;
 }
 
--- what the party has seen: the greatest position in its log, or the opening where that is empty
+-- the position that the party has seen: the greatest position in its log, or the opening where that is empty
 abbrev pub seen_by : BumpParty → ℕ
 seen_by party = seen_in party.allocator.scene party.log
 
@@ -76,7 +76,7 @@ abbrev pub greatest_seen : List BumpParty → ℕ
 greatest_seen [] = 0
 greatest_seen (party ∷ parties) = max (seen_by party) (greatest_seen parties)
 
--- WHAT CALLS ADD TO A LOG
+-- ENTRIES OF CALLS
 
 -- a load, which found this position
 abbrev pub load_entry : ℕ → ℕ → BumpLog
@@ -112,14 +112,14 @@ pub record IsFoundBy (party : BumpParty) (added : BumpLog) : Type 0 where
   pub seen : All (HasPositionFrom (floor_of party) party.allocator.scene.region) added
   pub within : let region = party.allocator.scene.region in All (HasPositionUpTo region.size region) added
 
--- WHAT A REQUEST MAY BE ANSWERED
+-- ANSWERS TO REQUESTS
 
--- What a party's request may be answered, and what the party is then.
+-- Answers that a party's request may have, and the party after it.
 abbrev pub MayTake : BumpParty → Layout → Result Chunk AllocationError → BumpParty → Type 0
 MayTake party layout (Ok chunk) new =
     (0 < layout.size) × (added : BumpLog) × IsWon party.allocator.scene.region party.number layout added chunk
     × (new ≡ with_entries party added)
--- no step
+-- refused before any step: the party is as it was
 MayTake party layout (Err SizeIsZero) new = (layout.size ≡ 0) × (new ≡ party)
 -- a read, or a loss, at which the layout doesn't fit
 MayTake party layout (Err OutOfMemory) new =
@@ -139,7 +139,7 @@ IsAnsweredAt region used layout answer = (live : List Chunk) → StandsFor regio
 abbrev pub IsInterleaved : BumpParty → ℕ → Type 0
 IsInterleaved party position = Interleaving party.allocator.scene party.number party.log position
 
--- What holds of every party: its number is below how many there are, and it is in no call. Some interleaving has its log and
+-- The invariant of a party: its number is below how many there are, and it is in no call. Some interleaving has its log and
 -- leaves what the party has seen, and some one leaves its floor. No meeting found more than the region's size.
 pub record IsParty (party : BumpParty) : Type 0 where
   pub scene : IsSharedScene party.allocator.scene
@@ -191,7 +191,7 @@ HasChunksWithin region log used = All (λ chunk. chunk_end chunk ≤ region.star
 
 -- ALL PARTIES
 
--- each of so many numbers is that of one of these parties
+-- each number below `count` is that of one of these parties
 abbrev pub HaveAllNumbers : ℕ → List BumpParty → Type 0
 HaveAllNumbers count parties = (number : ℕ) → number < count → Contains (map (λ party. party.number) parties) number
 

@@ -1,4 +1,4 @@
--- The rule of a shared bump's word, what its seats and fields stand for, and what each step on the word tells the party that
+-- The rule of a shared bump's word, what its seats and fields stand for, and what each step on the word leaves of the seat that
 -- makes it.
 use Rattle.std.specs.Prelude.{◌≡◌, ℕ, ◌<◌, ◌≤◌, List, [], ◌∷◌, ◌++◌, All, None, length, max, ◌≢◌, ◌+◌, ◌%◌, true, false, Option}
 use Rattle.std.specs.Prelude.{Some}
@@ -13,7 +13,7 @@ use Rattle.bb_memory_bump.specs.SharedBump.{BumpStep, Read, Exchange, Load, Bump
 use Rattle.bb_memory_bump.specs.SharedBump.{SharedBump, scene_at, HasChunksWithin, HaveChunksApart, IsRefused, IsWon}
 use Rattle.bb_memory_bump_machine.specs.BumpLogs.{BumpEntry, BumpLog, Interleaving, LogsAgree, call_in, seen_in, chunks_won}
 use Rattle.bb_memory_bump_machine.specs.BumpLogs.{entry_of, losses_in, HasPositionFrom, CommonInterleaving, HasPositionUpTo}
-use Rattle.bb_memory_seats.specs.Seats.{AreSeated, IsAt, Numbered, Seat, alone, fresh_from, number_of, numbered}
+use Rattle.bb_memory_seats.specs.Seats.{AreSeated, IsAt, Numbered, View, alone, fresh_from, number_of, numbered}
 use Rattle.bb_memory_seats.specs.Seats.{standing_for, view_log, HaveLogs, times_in}
 
 -- SEATS
@@ -34,7 +34,7 @@ abbrev pub sight : BumpScene → ℕ → Sight
 sight scene met = record { scene = scene; met = met }
 
 abbrev pub SeatView : Type 0
-SeatView = Seat Sight BumpEntry
+SeatView = View Sight BumpEntry
 
 abbrev pub scene_of : SeatView → BumpScene
 scene_of view = view.scene.scene
@@ -112,18 +112,18 @@ abbrev pub nobody : SeatView
 nobody = standing_for (sight (scene_at (region_at 0 0) 0 0) 0) []
 
 -- the view of the parties of a guest and of a view, which knows what the last meeting of either found
-abbrev pub gathered : SeatView → SeatView → SeatView
-gathered view guest = standing_for (sight (scene_of view) (max (met_by view) (met_by guest))) (guest.parties ++ view.parties)
+abbrev pub merged : SeatView → SeatView → SeatView
+merged view guest = standing_for (sight (scene_of view) (max (met_by view) (met_by guest))) (guest.parties ++ view.parties)
 
 -- the view after a meeting that found this position
 abbrev pub meeting_of : ℕ → SeatView → SeatView
 meeting_of position view = standing_for (sight (scene_of view) position) view.parties
 
--- WHAT A STEP TELLS
+-- STEPS
 
 -- A step of a party found this position: at least what the party had seen and what its last meeting had found, and at most the
 -- size; and exactly what it had seen where it is the only party. Its log then has the step, with this outcome.
-pub record Tells (scene : BumpScene) (number : ℕ) (log : BumpLog) (met : ℕ) (step : BumpStep)
+pub record AfterStep (scene : BumpScene) (number : ℕ) (log : BumpLog) (met : ℕ) (step : BumpStep)
     (outcome : BumpOutcome) (found : ℕ) (new : Me ℕ SeatView) : Type 0 where
   pub seat : IsSeatOf scene number (log ++ entry_of step outcome ∷ []) new
   pub unchanged : met_by new.0 ≡ met
@@ -132,22 +132,22 @@ pub record Tells (scene : BumpScene) (number : ℕ) (log : BumpLog) (met : ℕ) 
   pub within : found ≤ scene.region.size
   pub exact : scene.parties ≡ 1 → found ≡ seen_in scene log
 
-abbrev pub TellsRead : BumpScene → ℕ → BumpLog → ℕ → Layout → ℕ → Me ℕ SeatView → Type 0
-TellsRead scene number log met layout found new =
-    Tells scene number log met (Read number layout) (read_move scene.region found layout).outcome found new
+abbrev pub AfterRead : BumpScene → ℕ → BumpLog → ℕ → Layout → ℕ → Me ℕ SeatView → Type 0
+AfterRead scene number log met layout found new =
+    AfterStep scene number log met (Read number layout) (read_move scene.region found layout).outcome found new
 
 -- the exchange of the call that the party is in
-abbrev pub TellsExchange : BumpScene → ℕ → BumpLog → ℕ → ℕ → Me ℕ SeatView → Type 0
-TellsExchange scene number log met found new =
-    (call : OngoingCall) → call_in log ≡ Some call → Tells scene number log met
+abbrev pub AfterExchange : BumpScene → ℕ → BumpLog → ℕ → ℕ → Me ℕ SeatView → Type 0
+AfterExchange scene number log met found new =
+    (call : OngoingCall) → call_in log ≡ Some call → AfterStep scene number log met
     (Exchange number) (exchange_move scene.region found call).outcome found new
 
-abbrev pub TellsLoad : BumpScene → ℕ → BumpLog → ℕ → ℕ → Me ℕ SeatView → Type 0
-TellsLoad scene number log met found new = Tells scene number log met (Load number) (Loaded found) found new
+abbrev pub AfterLoad : BumpScene → ℕ → BumpLog → ℕ → ℕ → Me ℕ SeatView → Type 0
+AfterLoad scene number log met found new = AfterStep scene number log met (Load number) (Loaded found) found new
 
 -- A load by a seat that stands for these parties found this position: at least what the last meetings had found, and at most the
 -- size. There is a log for each of the bump's parties, with which it agrees, and theirs are among them; no two are one.
-pub record TellsMeeting (scene : BumpScene) (parties : List NumberedLog) (met found : ℕ) : Type 0 where
+pub record AfterMeetingLoad (scene : BumpScene) (parties : List NumberedLog) (met found : ℕ) : Type 0 where
   pub above : met ≤ found
   pub within : found ≤ scene.region.size
   pub opened : scene.opening ≤ scene.region.size
@@ -157,36 +157,37 @@ pub record TellsMeeting (scene : BumpScene) (parties : List NumberedLog) (met fo
   pub theirs : HaveLogs scene.parties logs parties
   pub once : (number : ℕ) → number < scene.parties → times_in number parties ≤ 1
 
--- what a meeting of two found: they are different ones, no chunk of the one overlaps one of the other, and one interleaving has
+-- after a meeting of two: they are different ones, no chunk of the one overlaps one of the other, and one interleaving has
 -- both logs, which leaves the position
-pub record TellsTwo (scene : BumpScene) (number : ℕ) (log : BumpLog) (other : ℕ) (other_log : BumpLog) (found : ℕ) : Type 0 where
-  pub differ : number ≢ other
-  pub apart : HaveChunksApart log other_log
-  pub interleaved : CommonInterleaving scene number log other other_log found
-  pub seen : (seen_in scene log ≤ found) × (seen_in scene other_log ≤ found)
-  pub within : found ≤ scene.region.size
-  pub chunks : HasChunksWithin scene.region log found × HasChunksWithin scene.region other_log found
+pub record AfterMeeting (scene : BumpScene) (number : ℕ) (log : BumpLog) (other : ℕ) (other_log : BumpLog) (found : ℕ) : Type 0
+  where
+    pub differ : number ≢ other
+    pub apart : HaveChunksApart log other_log
+    pub interleaved : CommonInterleaving scene number log other other_log found
+    pub seen : (seen_in scene log ≤ found) × (seen_in scene other_log ≤ found)
+    pub within : found ≤ scene.region.size
+    pub chunks : HasChunksWithin scene.region log found × HasChunksWithin scene.region other_log found
 
 -- the steps as the table knows them
 abbrev pub reads : Option Layout → Step ℕ → Me ℕ SeatView → ℕ → Me ℕ SeatView → Type 0
 reads (Some layout) step old found new =
-    TellsRead (scene_of old.0) (number_of old.0) (view_log old.0) (met_by old.0) layout found new
+    AfterRead (scene_of old.0) (number_of old.0) (view_log old.0) (met_by old.0) layout found new
 reads None step old found new = Unit {0}
 
 abbrev pub exchanges : Step ℕ → Me ℕ SeatView → ℕ → Me ℕ SeatView → Type 0
-exchanges step old found new = TellsExchange (scene_of old.0) (number_of old.0) (view_log old.0) (met_by old.0) found new
+exchanges step old found new = AfterExchange (scene_of old.0) (number_of old.0) (view_log old.0) (met_by old.0) found new
 
 abbrev pub loads : Step ℕ → Me ℕ SeatView → ℕ → Me ℕ SeatView → Type 0
-loads step old found new = TellsLoad (scene_of old.0) (number_of old.0) (view_log old.0) (met_by old.0) found new
+loads step old found new = AfterLoad (scene_of old.0) (number_of old.0) (view_log old.0) (met_by old.0) found new
 
 -- a load by a seat that stands for any number of parties
 abbrev pub meets : Step ℕ → Me ℕ SeatView → ℕ → Me ℕ SeatView → Type 0
 meets step old found new =
-    (new ≡ (meeting_of found old.0, old.1)) × TellsMeeting (scene_of old.0) old.0.parties (met_by old.0) found
+    (new ≡ (meeting_of found old.0, old.1)) × AfterMeetingLoad (scene_of old.0) old.0.parties (met_by old.0) found
 
 -- REQUESTS
 
--- the party of a seat may ask for this layout: it is idle, and the size isn't 0. A step is told the layout by its type
+-- the party of a seat may ask for this layout: it is idle, and the size isn't 0. The step has the layout in its type
 pub record MayAsk (bump : SharedBump) (here : TableId) (me : Me ℕ SeatView) (asked : Option Layout) (layout : Layout)
     : Type 0 where
   pub seat : IsIdleAt bump here me
@@ -201,13 +202,13 @@ pub record IsFor (region : Region) (position : ℕ) (layout : Layout) (chunk : C
   pub inside : IsInside region chunk
   pub above : region.start + position ≤ chunk.place
 
--- what is known of the positions and losses in what was added to a log
+-- the positions and losses of entries that were added to a log
 pub record IsCounted (scene : BumpScene) (log : BumpLog) (met : ℕ) (added : BumpLog) : Type 0 where
   pub seen : All (HasPositionFrom (max (seen_in scene log) met) scene.region) added
   pub within : All (HasPositionUpTo scene.region.size scene.region) added
   pub losses : losses_in added ≤ scene.region.size
 
-pub record HasEnded (scene : BumpScene) (number : ℕ) (log : BumpLog) (met : ℕ) (added : BumpLog)
+pub record AfterCall (scene : BumpScene) (number : ℕ) (log : BumpLog) (met : ℕ) (added : BumpLog)
     (new : Me ℕ SeatView) : Type 0 where
   pub seat : IsSeatOfIdle scene number (log ++ added) new
   pub unchanged : met_by new.0 ≡ met
@@ -215,10 +216,10 @@ pub record HasEnded (scene : BumpScene) (number : ℕ) (log : BumpLog) (met : �
 
 -- a request that won this chunk, which lies behind the party's floor; where the party is the only one, it is the one at what it
 -- had seen
-pub record HasWon (scene : BumpScene) (number : ℕ) (log : BumpLog) (met : ℕ) (layout : Layout)
+pub record AfterWin (scene : BumpScene) (number : ℕ) (log : BumpLog) (met : ℕ) (layout : Layout)
     (new : Me ℕ SeatView) (chunk : Chunk) : Type 0 where
   pub added : BumpLog
-  pub ended : HasEnded scene number log met added new
+  pub ended : AfterCall scene number log met added new
   pub won : IsWon scene.region number layout added chunk
   pub chunks : chunks_won added ≡ chunk ∷ []
   pub behind : scene.region.start + max (seen_in scene log) met ≤ chunk.place
@@ -226,10 +227,10 @@ pub record HasWon (scene : BumpScene) (number : ℕ) (log : BumpLog) (met : ℕ)
   pub alone : scene.parties ≡ 1 → chunk ≡ chunk_at scene.region (seen_in scene log) layout
 
 -- a refused request; where the party is the only one, the layout doesn't fit at what it had seen
-pub record HasRefused (scene : BumpScene) (number : ℕ) (log : BumpLog) (met : ℕ)
+pub record AfterRefusal (scene : BumpScene) (number : ℕ) (log : BumpLog) (met : ℕ)
     (layout : Layout) (new : Me ℕ SeatView) : Type 0 where
   pub added : BumpLog
-  pub ended : HasEnded scene number log met added new
+  pub ended : AfterCall scene number log met added new
   pub refused : IsRefused scene.region number layout added
   pub chunks : chunks_won added ≡ []
   pub alone : scene.parties ≡ 1 → fits scene.region (seen_in scene log) layout ≡ false

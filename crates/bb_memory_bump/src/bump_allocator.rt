@@ -38,7 +38,7 @@ impl Model for BumpAllocator {
 }
 
 impl BumpAllocator {
-    /// An allocator over the region of `size` bytes at `start`, with nothing given. The start has to be greater than 0,
+    /// Makes an allocator over the region of `size` bytes at `start`, with nothing given. The start has to be greater than 0,
     /// and start plus size at most `usize::MAX`; [`BumpAllocator::can_make`] tests both.
     #[inline]
     pub fn new(start: usize, size: usize) -> Self
@@ -60,7 +60,7 @@ impl BumpAllocator {
         region::Region::can_make(start, size)
     }
 
-    /// An allocator over the region of `size` bytes at `start`, of which `position` are used.
+    /// Returns an allocator over the region of `size` bytes at `start`, of which `position` are used.
     pub(crate) fn at_position(start: usize, size: usize, position: usize) -> Self
         requires region { IsRegion (region_at start size) }
         requires position { position ≤ size }
@@ -73,6 +73,7 @@ impl BumpAllocator {
         }
     }
 
+    /// Returns the place where the region starts.
     #[inline]
     pub fn start_address(&self) -> usize
         ensures value { result ≡ self.now.region.start }
@@ -81,7 +82,7 @@ impl BumpAllocator {
         self.start
     }
 
-    /// How many bytes are used: those from the region's start to the end of the last chunk, padding included.
+    /// Returns the bytes that are used: those from the region's start to the end of the last chunk, padding included.
     #[inline]
     pub fn used_space(&self) -> usize
         ensures value { result ≡ self.now.used }
@@ -91,7 +92,7 @@ impl BumpAllocator {
         self.last + 1 - self.start
     }
 
-    /// How many bytes are behind the last chunk.
+    /// Returns the bytes behind the last chunk.
     #[inline]
     pub fn free_space(&self) -> usize
         ensures { self.now.used + result ≡ self.now.region.size }
@@ -99,6 +100,7 @@ impl BumpAllocator {
         self.start + self.size - (self.last + 1)
     }
 
+    /// Returns the size of the region in bytes.
     #[inline]
     pub fn total_space(&self) -> usize
         ensures { result ≡ self.now.region.size }
@@ -182,8 +184,8 @@ impl BaseAllocator for BumpAllocator {
 
     ghost frees = { λ bump _ _ new. Frees bump new };
 
-    /// A chunk of exactly `layout.size()` bytes, at the least multiple of `layout.align()` behind what is used. Size 0 is
-    /// refused with `SizeIsZero`, and a chunk that would end behind the region with `OutOfMemory`. A refusal leaves the
+    /// Allocates a chunk of exactly `layout.size()` bytes, at the least multiple of `layout.align()` behind what is used. Size 0
+    /// is refused with `SizeIsZero`, and a chunk that would end behind the region with `OutOfMemory`. A refusal leaves the
     /// allocator as it was.
     #[inline(always)]
     fn allocate(&mut self, layout: Layout) -> Result<Chunk, AllocationError> {
@@ -205,12 +207,11 @@ impl BaseAllocator for BumpAllocator {
     }
 
     fn stands_for_some_list(&self) {
-        // Proof hint: brings the type's invariant into scope.
+        // Proof hint, here and below: brings the type's invariant into scope.
         let _ = &self.start;
     }
 
     fn answers_fit(&self) {
-        // Proof hint: brings the type's invariant into scope.
         let _ = &self.start;
     }
 

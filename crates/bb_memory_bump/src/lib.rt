@@ -4,7 +4,7 @@
 //!
 //! - `bump_allocator`: one chunk after another, all given back at once.
 //! - `shared_bump`: the bump that threads share.
-//!   - `position`: its word, and the only calls that touch it. `rule`: what each step on it has to keep, and tells.
+//!   - `position`: its word, and the only calls that touch it. `rule`: what each step on it keeps.
 //!   - `party`: one user's right to step. `request`: the loop of a request. `meeting`: any number of parties at one seat.
 //!   - `all_parties`: what a user has who met all of them.
 //!

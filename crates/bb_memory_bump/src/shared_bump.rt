@@ -35,7 +35,7 @@ use std::marker::{Brand, Model};
 ///
 /// A party's log has its own atomic steps on the position, in order, each with what it found. Whatever the threads do, word
 /// and logs agree: the steps of all parties together are one list that the bump machine allows, which leaves the word. A user
-/// who has all parties is told so by [`meet_all`](SharedBumpAllocator::meet_all), and then has [`shared_bump_meeting_law`];
+/// who has all parties knows it of them by [`meet_all`](SharedBumpAllocator::meet_all), and then has [`shared_bump_meeting_law`];
 /// [`shared_bump_law`] says what a user has of one party, and of two that met.
 ///
 /// Example: `comments::shared_bump` of `crates/examples`.
@@ -55,7 +55,7 @@ impl Model for SharedBumpAllocator {
 }
 
 impl SharedBumpAllocator {
-    /// A shared bump over the region of `size` bytes at `start`, of which `position` are used, with its parties.
+    /// Makes a shared bump over the region of `size` bytes at `start`, of which `position` are used, with its parties.
     pub(crate) fn open(
         alloc: Global,
         start: usize,
@@ -96,7 +96,7 @@ impl SharedBumpAllocator {
     pub fn allocate(&self, party: &mut BumpParty, layout: Layout) -> Result<Chunk, AllocationError>
         requires party { party.old.allocator ≡ self.now }
 
-        // What is added to the party's log says what the answer is.
+        // The entries that were added to the party's log decide the answer.
         ensures answer { MayTake party.old layout result party.new }
 
         // The party stays this allocator's, and some interleaving has its log. So what `shared_bump_law`
@@ -148,7 +148,7 @@ impl SharedBumpAllocator {
         ensures parties { AreBothOf self.now a.new b.new }
         ensures apart { HaveChunksApart a.old.log b.old.log }
 
-        // What it found is at least what either knew, at most the size, and what an interleaving of
+        // The position is at least the one that either knew, at most the size, and one that an interleaving of
         // both logs leaves.
         ensures met { MeetAt self.now a.old b.old a.new.met }
 
@@ -179,13 +179,14 @@ impl SharedBumpAllocator {
         }
     }
 
+    /// Returns the place where the region starts.
     pub fn start_address(&self) -> usize
         ensures value { result ≡ self.now.scene.region.start }
     {
         self.start
     }
 
-    /// How many bytes are used: those from the region's start to the end of the last chunk, padding included. It is what
+    /// Returns the bytes that are used: those from the region's start to the end of the last chunk, padding included. It is what
     /// one load found. The party has to be this bump's.
     pub fn used_space(&self, party: &mut BumpParty) -> usize
         requires party { party.old.allocator ≡ self.now }
@@ -195,7 +196,7 @@ impl SharedBumpAllocator {
         self.position.load(&mut party.seat)
     }
 
-    /// How many bytes are behind the last chunk: the total less what one load found to be used. The party has to be this bump's.
+    /// Returns the bytes behind the last chunk: the total less what one load found to be used. The party has to be this bump's.
     pub fn free_space(&self, party: &mut BumpParty) -> usize
         requires party { party.old.allocator ≡ self.now }
         ensures party { party.new.allocator ≡ self.now }
@@ -206,7 +207,7 @@ impl SharedBumpAllocator {
         self.size - self.used_space(party)
     }
 
-    /// How many bytes the region has. The position at the opening is at most that, and there is a party.
+    /// Returns the size of the region in bytes. Its clauses also state the bump's invariant.
     pub fn total_space(&self) -> usize
         ensures value { result ≡ self.now.scene.region.size }
         ensures region { IsRegion self.now.scene.region }
@@ -215,9 +216,9 @@ impl SharedBumpAllocator {
         self.size
     }
 
-    /// The bump again, for one owner: of the same region, at the position that the parties' steps left (with several parties that
-    /// is tested, and no clause). It is at least what this party has seen, and exactly that where it was the only party ever. The
-    /// party has to be this bump's.
+    /// Returns the bump again, for one owner: of the same region, at the position that the parties' steps left (with several
+    /// parties that is tested, and no clause). It is at least what this party has seen, and exactly that where it was the only
+    /// party ever. The party has to be this bump's.
     pub fn into_owner(self, party: BumpParty) -> BumpAllocator
         requires party { party.allocator ≡ self }
         ensures region { result.region ≡ self.scene.region }
@@ -240,9 +241,9 @@ impl SharedBumpAllocator {
         BumpAllocator::at_position(start, size, used)
     }
 
-    /// The bump again, for one owner who has all its parties: of the same region, and at exactly the greatest position that one
-    /// of them has seen. It stands for the list that was live before the bump was shared, with the chunks that were won since
-    /// behind it, in the order of an interleaving of all logs. The parties have to be this bump's, and as many as it has.
+    /// Returns the bump again, for one owner who has all its parties: of the same region, and at exactly the greatest position
+    /// that one of them has seen. It stands for the list that was live before the bump was shared, with the chunks that were won
+    /// since behind it, in the order of an interleaving of all logs. The parties have to be this bump's, and as many as it has.
     pub fn into_owner_all(self, mut parties: Vec<BumpParty>) -> BumpAllocator
         requires parties { All (λ party. party.allocator ≡ self) parties.items }
         requires all { length parties.items ≡ self.scene.parties }
@@ -260,7 +261,7 @@ impl SharedBumpAllocator {
             number: _,
             mut seat,
         } = party;
-        self.gather_rest(&mut seat, parties);
+        self.merge_rest(&mut seat, parties);
         let SharedBumpAllocator {
             position,
             start,
@@ -278,7 +279,7 @@ impl SharedBumpAllocator {
         ensures { AreFresh self.now parties all.new.items }
     {
         for number in 0..parties {
-            let seat = self.position.deal(&mut rest);
+            let seat = self.position.split_first(&mut rest);
             all.push_reserved(BumpParty { number, seat });
         }
     }
@@ -291,7 +292,7 @@ impl SharedBumpAllocator {
 /// steps are exactly its log, and which leaves a position. `IsParty` has one that leaves what the party has seen, and one that
 /// leaves its floor, so that one list of steps explains its log and what its last meeting found. The others' steps in it are some
 /// that explain the log, and needn't be those that were made. Two parties that met have such a list together, which
-/// `AreInterleaved` tells. A list that the opening stands for is one that was live before the bump was shared.
+/// `AreInterleaved` says. A list that the opening stands for is one that was live before the bump was shared.
 pub fn shared_bump_law()
     // The calls of a party's history are a run of the bump object from that list.
     ensures run { (party : BumpParty) (position : ℕ) (live : List Chunk)

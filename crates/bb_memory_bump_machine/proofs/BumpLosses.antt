@@ -10,9 +10,8 @@ use Rattle.bb_memory_traits.specs.Chunk.{Region}
 use Rattle.bb_memory_bump_machine.specs.BumpMachine.{OngoingCall, BumpState, BumpMove, PartyMove, BumpScene, IsIdle, IsInCall}
 use Rattle.bb_memory_bump_machine.specs.BumpMachine.{opening_state, bump_step, bump_after, left_by, moved, BumpStep, BumpOutcome}
 use Rattle.bb_memory_bump_machine.specs.BumpMachine.{Exchange}
-use Rattle.bb_memory_bump_machine.specs.BumpLogs.{BumpEntry, BumpLog, bump_history, stretch_after, outcome_after}
-use Rattle.bb_memory_bump_machine.specs.BumpLogs.{entries_by, is_by, HasNoClear, is_loss, is_beginning, IsLossAt, losses_in}
-use Rattle.bb_memory_bump_machine.specs.BumpLogs.{calls_begun_in}
+use Rattle.bb_memory_bump_machine.specs.BumpLogs.{BumpEntry, BumpLog, bump_history, stretch_after, outcome_after, entries_by}
+use Rattle.bb_memory_bump_machine.specs.BumpLogs.{is_by, HasNoClear, is_loss, is_beginning, IsLossAt, losses_in, calls_begun_in}
 use Rattle.bb_memory_lists.proofs.SliceGets.{slice_get-set_same}
 use Rattle.bb_memory_bump_machine.proofs.BumpSteps.{StepView, ExchangeView, step_view, reads, sees, refuses_read, exchanges, wins}
 use Rattle.bb_memory_bump_machine.proofs.BumpSteps.{loses, refuses_loss, loads, clears, passes, others_stay, written}
@@ -58,12 +57,12 @@ idle_sees state party idle = λ call is. let none = same_Some None (Some call) (
 
 -- ONE STEP
 
--- what a step that is no clear does to a party in a call, which loses so many exchanges at it
+-- what a step that is no clear does to a party in a call, with the exchanges that it loses at it
 data CallTurn (next : BumpState) (party : ℕ) (call : OngoingCall) (lost : ℕ) : Type 0 where
   goes_on : (later : OngoingCall) → IsInCall next party later → lost + call.seen ≤ later.seen → CallTurn next party call lost
   ends : IsIdle next party → lost + call.seen ≤ next.position → CallTurn next party call lost
 
--- and to an idle party, which begins so many calls at it
+-- and to an idle party, with the calls that it begins at it
 data IdleTurn (next : BumpState) (party : ℕ) (lost begun : ℕ) : Type 0 where
   stays : IsIdle next party → lost ≡ 0 → IdleTurn next party lost begun
   begins : (call : OngoingCall) → IsInCall next party call → lost ≡ 0 → begun ≡ 1 → IdleTurn next party lost begun

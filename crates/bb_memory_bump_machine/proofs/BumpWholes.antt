@@ -1,4 +1,4 @@
--- What the logs of all parties say of the position, and what a log says of where its own chunks end.
+-- The position by the logs of all parties, and the ends of a log's own chunks.
 use Rattle.std.proofs.Common.{◌≡◌, ℕ, ◌+◌, ◌<◌, ◌≤◌, List, [], ◌∷◌, ◌++◌, length, sym, subst, arith, Bool, true, false, Option}
 use Rattle.std.proofs.Common.{Some, None}
 use Rattle.std.specs.Prelude.{if◌then◌else◌, IfSome}

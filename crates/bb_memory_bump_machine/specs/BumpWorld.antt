@@ -31,7 +31,7 @@ pub record IsMove (region : Region) (expected move : PartyMove) : Type 0 where
   pub fitting : IfSome move.call (IsFitting region)
   pub within : move.position ≤ region.size
 
--- the machine over a region, at position 0, with so many parties, all idle
+-- the machine over a region, at position 0, with its parties, all idle
 abbrev pub opened : Region → ℕ → BumpWorld
 opened region parties =
     let scene : BumpScene = record { region = region; opening = 0; parties = parties } in

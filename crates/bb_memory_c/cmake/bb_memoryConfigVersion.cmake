@@ -1,5 +1,5 @@
-# Before 1.0.0 a program's text is for one minor version, from the patch on that it asks for. A range is taken where this version
-# lies in it.
+# A program's text is for one major version, from the minor version and the patch on that it asks for. A range is taken where
+# this version lies in it.
 set(PACKAGE_VERSION "@VERSION@")
 set(PACKAGE_VERSION_COMPATIBLE FALSE)
 if(PACKAGE_FIND_VERSION VERSION_GREATER PACKAGE_VERSION)
@@ -10,7 +10,7 @@ if(PACKAGE_FIND_VERSION_RANGE)
       OR (PACKAGE_FIND_VERSION_RANGE_MAX STREQUAL "INCLUDE" AND PACKAGE_VERSION VERSION_EQUAL PACKAGE_FIND_VERSION_MAX))
     set(PACKAGE_VERSION_COMPATIBLE TRUE)
   endif()
-elseif(NOT PACKAGE_FIND_VERSION_COUNT OR "${PACKAGE_FIND_VERSION_MAJOR}.${PACKAGE_FIND_VERSION_MINOR}" VERSION_EQUAL "@MINOR@")
+elseif(NOT PACKAGE_FIND_VERSION_COUNT OR PACKAGE_FIND_VERSION_MAJOR EQUAL "@MAJOR@")
   set(PACKAGE_VERSION_COMPATIBLE TRUE)
 endif()
 if(PACKAGE_FIND_VERSION VERSION_EQUAL PACKAGE_VERSION)

@@ -5,7 +5,7 @@ use Rattle.std.specs.Prelude.{Contains, Err, IsTrue, Ok, Result, slice_get}
 use Rattle.std.proofs.lemmas.Bool.{cases_lt}
 use Rattle.std.proofs.lemmas.Option.{same_Some, slice_get-get_or, slice_get_within}
 use Rattle.std.proofs.lemmas.List.{length-append}
-use Rattle.bb_memory_lists.proofs.Contained.{contains_at}
+use Rattle.bb_memory_lists.proofs.ListEntries.{contains_at}
 use Rattle.bb_memory_lists.proofs.SliceGets.{length-set_at, slice_get-last, slice_get-push, slice_get-set_apart}
 use Rattle.bb_memory_lists.proofs.SliceGets.{slice_get-set_same}
 use Rattle.bb_memory_traits.specs.declared.layout.Layout.{Layout}

@@ -13,7 +13,7 @@ use Rattle.bb_memory_shared_pools.specs.SharedPoolCaching.{CachingParty, IsOut}
 use Rattle.bb_memory_shared_pools.proofs.SharedPoolLaws.{held_below}
 use Rattle.bb_memory_c.specs.SharedPools.{CountsOut}
 
--- of so many buckets, this many are out
+-- of the first buckets, this many are out
 pub record CountsBelow (joined : CachingParty) (number count : ℕ) : Type 0 where
   pub flags : List Bool
   pub long : length flags ≡ number

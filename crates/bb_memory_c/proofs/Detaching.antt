@@ -1,8 +1,8 @@
--- What is answered where a party detaches a bucket.
+-- Answers where a party detaches a bucket.
 use Rattle.std.proofs.Common.{◌≡◌, ◌≤◌, ℕ, None, arith, refl}
 use Rattle.bb_memory_shared_pools.specs.SharedPool.{TakenBucket}
 use Rattle.bb_memory_shared_pools.specs.SharedPoolCaching.{CachingParty}
-use Rattle.bb_memory_c.specs.Answers.{ok}
+use Rattle.bb_handles.specs.declared.code.TheConstants.{OK as ok}
 use Rattle.bb_memory_c.specs.SharedPools.{Detached, HasDetached, HasOthers, HoldsAt, TellsDetach, geometry_of, holding}
 
 pub detaches : {party : CachingParty} {before : Detached} {place len : ℕ} {after : CachingParty} {filled : Detached} (number : ℕ)

@@ -1,11 +1,6 @@
 mod Cached
 mod Counting
-mod Crossing
 mod Detaching
-mod Layouts
 mod Leaving
-mod Made
-mod Makers
-mod Owners
+mod SentHandles
 mod Unjoined
-mod Walks

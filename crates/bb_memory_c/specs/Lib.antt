@@ -1,6 +1,2 @@
-pub mod Answers
-pub mod Calls
-pub mod Handles
-pub mod OneOwner
 pub mod SharedBumps
 pub mod SharedPools

@@ -1,4 +1,4 @@
--- A shared bump and its parties behind handles, and what C is told.
+-- A shared bump and its parties behind handles, and C's answers.
 use Rattle.std.specs.Prelude.{◌≡◌, ◌≢◌, ◌+◌, ◌<◌, ◌≤◌, ◌%◌, ◌↔◌, ℕ, All, IfOk, List, Result, length}
 use Rattle.bb_memory_traits.specs.Chunk.{Chunk, Region, IsInside, IsRegion}
 use Rattle.bb_memory_traits.specs.declared.layout.Layout.{Layout}
@@ -6,10 +6,11 @@ use Rattle.bb_memory_traits.specs.declared.allocator.AllocationError.{Allocation
 use Rattle.bb_memory_bump_machine.specs.BumpLogs.{BumpLog}
 use Rattle.bb_memory_bump.specs.SharedBump.{AreFresh, BumpParty, HasLoaded, IsFoundBy, MayTake, SharedBump, floor_of, scene_at}
 use Rattle.bb_memory_bump.specs.SharedBump.{with_entries}
-use Rattle.bb_memory_c.specs.Answers.{ok, malloc_refused, parties_joined}
-use Rattle.bb_memory_c.specs.Calls.{AreKnown, IsOneOf, Parties, left_at}
-use Rattle.bb_memory_c.specs.OneOwner.{bump_info}
-use Rattle.bb_memory_c.specs.declared.answer.BumpInfo.{BumpInfo}
+use Rattle.bb_handles.specs.declared.code.TheConstants.{OK as ok, MALLOC_REFUSED as malloc_refused}
+use Rattle.bb_handles.specs.declared.code.TheConstants.{PARTIES_JOINED as parties_joined}
+use Rattle.bb_handles.specs.Calls.{AreKnown, IsOneOf, Parties, count_unjoined}
+use Rattle.bb_handles.specs.OneOwner.{bump_info}
+use Rattle.bb_handles.specs.declared.answer.BumpInfo.{BumpInfo}
 
 abbrev pub BumpParties : Type 0
 BumpParties = Parties SharedBump BumpParty
@@ -22,14 +23,14 @@ IsAt all party = IsOneOf all party.allocator all.shared.scene.parties
 abbrev pub Knows : BumpParties → BumpParty → Type 0
 Knows all party = AreKnown (λ bump. bump.scene.region.start) party.allocator all.shared
 
--- parties of this bump, which has so many, with room for all of them
+-- some of the bump's `count` parties, with room for all of them
 pub record AreUnjoined (bump : SharedBump) (count capacity : ℕ) (parties : List BumpParty) : Type 0 where
   pub so_many : bump.scene.parties ≡ count
   pub at_most : length parties ≤ count
   pub room : count ≤ capacity
   pub theirs : All (λ party. party.allocator ≡ bump) parties
 
--- a bump over the region, of which nothing is used, of so many parties, none of which has joined or made a step
+-- a bump over the region with nothing used, and its parties, which haven't joined or made a step
 pub record AreFreshOver (region : Region) (count : ℕ) (all : BumpParties) : Type 0 where
   pub scene : all.shared.scene ≡ scene_at region 0 count
   pub parties : AreFresh all.shared count all.parties
@@ -57,6 +58,6 @@ ShowsLoad party info after =
 -- The bump starts again over its region with as many parties, where each has left and memory isn't refused.
 pub record TellsReset (all after : BumpParties) (code : ℕ) : Type 0 where
   pub begun : code ≡ ok → AreFreshOver all.shared.scene.region all.shared.scene.parties after
-  pub out : (code ≡ parties_joined) ↔ (left_at all < all.shared.scene.parties)
+  pub out : (code ≡ parties_joined) ↔ (count_unjoined all < all.shared.scene.parties)
   pub else_memory : code ≢ ok → code ≢ parties_joined → code ≡ malloc_refused
   pub unchanged : code ≢ ok → after ≡ all

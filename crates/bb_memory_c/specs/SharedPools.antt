@@ -11,20 +11,25 @@ use Rattle.bb_memory_traits.specs.declared.layout.Layout.{Layout}
 use Rattle.bb_memory_traits.specs.declared.allocator.AllocationError.{AllocationError}
 use Rattle.bb_memory_index_set.specs.IndexSets.{Has}
 use Rattle.bb_memory_shared_pools.specs.SharedPool.{AreFresh, PoolParty, SharedPool, TakenBucket, attach_entry, chunk_of}
-use Rattle.bb_memory_shared_pools.specs.SharedPool.{detach_entry, return_detached_entry, return_entry, taken_bucket}
-use Rattle.bb_memory_shared_pools.specs.SharedPool.{with_entries}
+use Rattle.bb_memory_shared_pools.specs.SharedPool.{detach_entry, return_detached_entry, return_entry, taken_bucket, with_entries}
 use Rattle.bb_memory_shared_pools.specs.SharedPoolCaching.{CachingParty, IsOut, ReturnsCaching, ServesCaching}
 use Rattle.bb_memory_shared_pools.specs.SharedPoolCaching as caching
-use Rattle.bb_memory_c.specs.Answers.{answer_of, refused, detached_empty, detached_full, ok, not_held, one_party, other_pool}
-use Rattle.bb_memory_c.specs.Answers.{figure_of, invalid_argument, malloc_refused, no_figure, no_reader, readers_left}
-use Rattle.bb_memory_c.specs.Answers.{not_a_bucket, shown_flag, size_too_large}
-use Rattle.bb_memory_c.specs.Calls.{AreKnown, IsOneOf, Parties, with_party}
-use Rattle.bb_memory_c.specs.declared.answer.Answer.{Answer}
-use Rattle.bb_memory_c.specs.OneOwner.{pool_info}
-use Rattle.bb_memory_c.specs.declared.answer.Figure.{Figure}
-use Rattle.bb_memory_c.specs.declared.answer.Holder.{Holder}
-use Rattle.bb_memory_c.specs.declared.answer.PoolInfo.{PoolInfo}
-use Rattle.bb_memory_c.specs.declared.answer.SharedPoolInfo.{SharedPoolInfo}
+use Rattle.bb_handles.specs.Answers.{answer_of, refused}
+use Rattle.bb_handles.specs.declared.code.TheConstants.{DETACHED_EMPTY as detached_empty, DETACHED_FULL as detached_full}
+use Rattle.bb_handles.specs.declared.code.TheConstants.{OK as ok, NOT_HELD as not_held, ONE_PARTY as one_party}
+use Rattle.bb_handles.specs.declared.code.TheConstants.{OTHER_POOL as other_pool}
+use Rattle.bb_handles.specs.Answers.{figure_of, no_figure}
+use Rattle.bb_handles.specs.declared.code.TheConstants.{INVALID_ARGUMENT as invalid_argument, MALLOC_REFUSED as malloc_refused}
+use Rattle.bb_handles.specs.declared.code.TheConstants.{NO_READER as no_reader, READERS_LEFT as readers_left}
+use Rattle.bb_handles.specs.Answers.{shown_flag}
+use Rattle.bb_handles.specs.declared.code.TheConstants.{NOT_A_BUCKET as not_a_bucket, SIZE_TOO_LARGE as size_too_large}
+use Rattle.bb_handles.specs.Calls.{AreKnown, IsOneOf, Parties, with_party}
+use Rattle.bb_handles.specs.declared.answer.Answer.{Answer}
+use Rattle.bb_handles.specs.OneOwner.{pool_info}
+use Rattle.bb_handles.specs.declared.answer.Figure.{Figure}
+use Rattle.bb_handles.specs.declared.answer.Holder.{Holder}
+use Rattle.bb_handles.specs.declared.answer.PoolInfo.{PoolInfo}
+use Rattle.bb_handles.specs.declared.answer.SharedPoolInfo.{SharedPoolInfo}
 
 abbrev pub PoolParties : Type 0
 PoolParties = Parties SharedPool PoolParty
@@ -34,8 +39,8 @@ abbrev pub as_joined : PoolParty → CachingParty
 as_joined party = record { party = party; cached = []; most = 0 }
 
 -- the shared pool with one more party that hasn't joined, behind the others
-abbrev pub with_left : PoolParties → CachingParty → PoolParties
-with_left all joined = with_party all joined.party
+abbrev pub with_unjoined : PoolParties → CachingParty → PoolParties
+with_unjoined all joined = with_party all joined.party
 
 -- the party is this pool's, and one of its parties has joined
 abbrev pub IsAt : PoolParties → CachingParty → Type 0
@@ -87,7 +92,7 @@ pub record IsJoinedAt (pool : SharedPool) (joined : CachingParty) (places : List
   pub room : 0 < joined.most → pool.scene.geometry.buckets ≤ length places
   pub listed : ArePlaces joined.cached places
 
--- a pool over the region, cut into buckets of the layout, of so many parties, none of which has joined or made a step
+-- a pool over the region, cut into buckets of the layout, and its parties, which haven't joined or made a step
 pub record AreFreshOver (region : Region) (bucket : Layout) (count : ℕ) (all : PoolParties) : Type 0 where
   pub cut : IsCut region bucket all.shared.scene.geometry
   pub parties : AreFresh all.shared count all.parties
@@ -108,7 +113,7 @@ abbrev pub ShowsShared : PoolParties → SharedPoolInfo → PoolParties → Type
 ShowsShared all info after = let geometry = all.shared.scene.geometry in (held : ℕ) × (greatest : ℕ)
     × (held ≤ greatest) × (greatest ≤ geometry.buckets) × (info.pool ≡ pool_info geometry held greatest) × (after ≡ all)
 
--- What is answered who holds the bucket of a number: its flag, as it may be found, or that there is no such bucket.
+-- C gets the holder of the bucket of a number: its flag, as it may be found, or that there is no such bucket.
 pub record TellsHolder (all : PoolParties) (number code : ℕ) (before told : Holder) : Type 0 where
   pub found : number < all.shared.scene.geometry.buckets → (code ≡ ok)
       × ((flag : Flag) × MayBeFound all.shared.scene number flag × (told ≡ shown_flag flag))
@@ -137,11 +142,11 @@ GivesBack joined place after = (number : ℕ) × HoldsAt joined place number × 
 abbrev pub flushed : CachingParty → PoolParty
 flushed joined = with_entries joined.party (caching.returns_of joined.party.number joined.cached)
 
--- the party caches nothing then, and at most so many buckets from then on
+-- the party caches nothing then, and at most `most` buckets from then on
 abbrev pub emptied : CachingParty → ℕ → CachingParty
 emptied joined most = record { party = flushed joined; cached = []; most = most }
 
--- What is answered where the party is to cache at most so many, and no more than the pool has: memory for their list may be
+-- The code where the party is to cache at most that many, and no more than the pool has: memory for their list may be
 -- refused, and then all stays.
 pub record TellsCache (joined : CachingParty) (most code : ℕ) (after : CachingParty) : Type 0 where
   pub done : code ≡ ok → after ≡ emptied joined (min most (geometry_of joined).buckets)
@@ -156,7 +161,7 @@ holds_bucket party bucket = fold (λ held entry. held_after bucket held entry.ou
 abbrev pub return_of : PoolParty → ℕ → PoolLog
 return_of party bucket = if holds_bucket party bucket then return_entry party.number bucket else []
 
--- the party's returns of so many buckets, in order of their numbers
+-- the party's returns of buckets, in order of their numbers
 abbrev pub returns_of : PoolParty → ℕ → PoolLog
 returns_of party zero = []
 returns_of party (suc bucket) = returns_of party bucket ++ return_of party bucket
@@ -172,7 +177,7 @@ Leaves joined after = GivesAllBack joined.party after.party
 
 -- DETACHED BUCKETS
 
--- what is behind the handle: a detached bucket, or none, and for how many readers it waits
+-- behind the handle: a detached bucket, or none, and for how many readers it waits
 pub record Detached : Type 0 where
   pub inside : Option TakenBucket
   pub readers : ℕ
@@ -184,11 +189,11 @@ holding token = record { inside = Some token; readers = 0 }
 abbrev pub nothing : Detached
 nothing = record { inside = None; readers = 0 }
 
--- C is told the length of the chunk in the bucket, or that there is none
+-- C gets the length of the chunk in the bucket, or a code where there is none
 abbrev pub TellsLen : Detached → Figure → Type 0
 TellsLen detached told = MatchOption detached.inside (told ≡ no_figure detached_empty) (λ token. told ≡ figure_of token.len)
 
--- What is answered where the bucket is to wait for so many readers: each cause of a refusal where none before it is one.
+-- The code where the bucket is to wait for that many readers: each cause of a refusal where none before it is one.
 pub record TellsShare (before : Detached) (readers code : ℕ) (after : Detached) : Type 0 where
   pub empty : before.inside ≡ None → code ≡ detached_empty
   pub nobody : before.inside ≢ None → readers ≡ 0 → code ≡ invalid_argument
@@ -197,7 +202,7 @@ pub record TellsShare (before : Detached) (readers code : ℕ) (after : Detached
       (code ≡ ok) × (after ≡ record before { readers = readers })
   pub unchanged : code ≢ ok → after ≡ before
 
--- A reader is done, and C is told for how many more the bucket waits.
+-- A reader is done, and C gets for how many more the bucket waits.
 pub record TellsRelease (before : Detached) (told : Figure) (after : Detached) : Type 0 where
   pub released : 0 < before.readers →
       (told ≡ figure_of (before.readers - 1)) × (after ≡ record before { readers = before.readers - 1 })
@@ -213,17 +218,17 @@ HasOthers joined = 1 < joined.party.allocator.scene.parties
 abbrev pub MayDetachAt : CachingParty → ℕ → Type 0
 MayDetachAt joined place = HasOthers joined × HoldsPlace joined place
 
--- a party may detach the bucket at the place, and a chunk of so many bytes has room there
+-- a party may detach the bucket at the place, and a chunk of `len` bytes has room there
 abbrev pub MayDetachChunk : CachingParty → ℕ → ℕ → Type 0
 MayDetachChunk joined place len = MayDetachAt joined place × (len ≤ (geometry_of joined).bucket.size)
 
--- the party detached the bucket of a number, by one step; the token of the detached bucket has a chunk of so many bytes
+-- the party detached the bucket of a number, by one step; the token of the detached bucket has a chunk of `len` bytes
 pub record HasDetached (joined : CachingParty) (number len : ℕ) (after : CachingParty) (token : TakenBucket) : Type 0 where
   pub detached : after
       ≡ record joined { party = with_entries joined.party (detach_entry joined.party.number number) }
   pub its : token ≡ taken_bucket joined.party.allocator number len
 
--- What is answered where a party is to detach the bucket at a place, with a chunk of so many bytes: each cause of a refusal where
+-- The code where a party is to detach the bucket at a place, with a chunk of that many bytes: each cause of a refusal where
 -- none before it is one, and then all stays.
 pub record TellsDetach (party : CachingParty) (before : Detached) (place len code : ℕ) (after : CachingParty) (filled : Detached)
     : Type 0 where
@@ -264,7 +269,7 @@ pub record TakesInside (joined : CachingParty) (before : Detached) (told : Resul
       (told ≡ Ok token) × (left ≡ nothing))
   pub unchanged : IfErr told (λ code. left ≡ before)
 
--- What is answered of the bucket where it was taken out, and else its cause.
+-- The answer for the bucket where it was taken out, and else for the cause.
 abbrev pub OfInside : {T : Type 0} → CachingParty → Detached → T → CachingParty → Detached → (ℕ → T) → (TakenBucket → Type 0)
     → Type 0
 OfInside joined before told after left cause done = (inside : Result TakenBucket ℕ) × TakesInside joined before inside left
@@ -278,7 +283,7 @@ abbrev pub TellsReturnDetached : CachingParty → Detached → ℕ → CachingPa
 TellsReturnDetached joined before code after left = OfInside joined before code after left (λ cause. cause)
     (λ token. (code ≡ ok) × HasReturned joined token.number after)
 
--- What is answered where a party is to give back a detached bucket by its number.
+-- The code where a party is to give back a detached bucket by its number.
 pub record TellsRecover (joined : CachingParty) (number code : ℕ) (after : CachingParty) : Type 0 where
   pub recovered : number < (geometry_of joined).buckets → (code ≡ ok) × HasReturned joined number after
   pub past : (geometry_of joined).buckets ≤ number → (code ≡ not_a_bucket) × (after ≡ joined)

@@ -2,17 +2,15 @@
 ghost use Rattle.std.specs.Prelude.{◌≡◌, Some};
 ghost use Rattle.bb_memory_traits.specs.Chunk.{IsRegion, region_at};
 ghost use Rattle.bb_memory_bump.specs.Bump.{bump_of};
-ghost use Rattle.bb_memory_c.specs.Answers.{ok, uninitialized};
-ghost use Rattle.bb_memory_c.specs.Calls.{Answers, AnswersFree, AnswersInfo, AnswersMake, AnswersRequest};
-ghost use Rattle.bb_memory_c.specs.OneOwner.{BumpAllocates, ShowsBump};
+ghost use Rattle.bb_handles.specs.declared.code.TheConstants.{OK as ok, UNINITIALIZED as uninitialized};
+ghost use Rattle.bb_handles.specs.Calls.{Answers, AnswersFree, AnswersInfo, AnswersMake, AnswersRequest};
+ghost use Rattle.bb_handles.specs.OneOwner.{BumpAllocates, ShowsBump};
 
-use crate::answer::{Answer, BumpInfo};
-use crate::call::{free, info, is_made, keep, request};
-use crate::code;
 use crate::handle::{BumpHandle, Handle};
-use crate::kind::Gives;
-use bb_memory_bump::bump_allocator::{AllocationError, BaseAllocator, BumpAllocator};
-use bb_memory_traits::layout::{Chunk, Layout};
+use bb_handles::answer::{Answer, BumpInfo};
+use bb_handles::{call, code};
+use bb_memory_bump::bump_allocator::{BaseAllocator, BumpAllocator};
+use bb_memory_traits::layout::Layout;
 use std::alloc::Global;
 
 /// Makes a bump over the region of `size` bytes at `start`, behind a handle that has to be empty. The start has to be greater
@@ -27,13 +25,13 @@ pub extern "C" fn bb_bump_init(
     ensures { AnswersMake handle.old.value handle.new.value result
         (IsRegion (region_at start size)) (λ new. new ≡ Some (bump_of start size 0)) }
 {
-    if is_made(handle) {
+    if call::is_made(handle) {
         return code::ALREADY_INITIALIZED;
     }
     if !BumpAllocator::can_make(start, size) {
         return code::INVALID_ARGUMENT;
     }
-    keep(handle, alloc, BumpAllocator::new(start, size))
+    call::keep(handle, alloc, BumpAllocator::new(start, size))
 }
 
 /// Frees the bump, whose handle is empty then.
@@ -41,7 +39,7 @@ pub extern "C" fn bb_bump_init(
 pub extern "C" fn bb_bump_destroy(alloc: Global, handle: &mut BumpHandle) -> u32
     ensures { AnswersFree handle.old.value handle.new.value result }
 {
-    free(handle, alloc)
+    call::free(handle, alloc)
 }
 
 /// Asks for a chunk of exactly `size` bytes at a multiple of `align`.
@@ -49,7 +47,7 @@ pub extern "C" fn bb_bump_destroy(alloc: Global, handle: &mut BumpHandle) -> u32
 pub extern "C" fn bb_bump_allocate(handle: &mut BumpHandle, size: usize, align: usize) -> Answer
     ensures { AnswersRequest handle.old.value handle.new.value size align result BumpAllocates }
 {
-    request(handle, size, align)
+    call::request(handle, size, align)
 }
 
 /// Gives back all chunks.
@@ -70,24 +68,5 @@ pub extern "C" fn bb_bump_deallocate(handle: &mut BumpHandle) -> u32
 pub extern "C" fn bb_bump_info(handle: &mut BumpHandle, to: &mut BumpInfo) -> u32
     ensures { AnswersInfo handle.old.value handle.new.value to.old to.new result ShowsBump }
 {
-    info(handle, to)
-}
-
-impl Gives<BumpInfo> for BumpAllocator {
-    ghost may_give = { BumpAllocates };
-
-    ghost may_show = { ShowsBump };
-
-    fn give(&mut self, layout: Layout) -> Result<Chunk, AllocationError> {
-        self.allocate(layout)
-    }
-
-    fn show(&mut self) -> BumpInfo {
-        BumpInfo {
-            start_address: self.start_address(),
-            used_space: self.used_space(),
-            free_space: self.free_space(),
-            total_space: self.total_space(),
-        }
-    }
+    call::info(handle, to)
 }

@@ -1,16 +1,15 @@
 //! Detached buckets behind handles, which go from party to party of a shared pool.
 ghost use Rattle.std.specs.Prelude.{◌≡◌, MatchOption, Some};
-ghost use Rattle.bb_memory_c.specs.Answers.{no_figure, refused, uninitialized};
-ghost use Rattle.bb_memory_c.specs.Calls.{Answers, AnswersFree, AnswersMake, AnswersOfBoth, IfBoth};
-ghost use Rattle.bb_memory_c.specs.SharedPools.{Detached, IsLostAt, KnowsInside, TakesInside, TellsAttach, TellsDetach};
-ghost use Rattle.bb_memory_c.specs.SharedPools.{TellsLen, TellsRecover, TellsRelease, TellsReturnDetached, TellsShare};
-ghost use Rattle.bb_memory_c.specs.SharedPools.{nothing, start_of};
+ghost use Rattle.bb_handles.specs.Answers.{no_figure, refused};
+ghost use Rattle.bb_handles.specs.declared.code.TheConstants.{UNINITIALIZED as uninitialized};
+ghost use Rattle.bb_handles.specs.Calls.{Answers, AnswersFree, AnswersMake, AnswersOfBoth, IfBoth};
+ghost use Rattle.bb_memory_c.specs.SharedPools.{Detached, IsLostAt, KnowsInside, TakesInside, TellsAttach, TellsDetach, TellsLen};
+ghost use Rattle.bb_memory_c.specs.SharedPools.{TellsRecover, TellsRelease, TellsReturnDetached, TellsShare, nothing, start_of};
 
-use crate::answer::{Answer, Figure};
-use crate::call::{free, is_made, keep};
-use crate::code;
 use crate::handle::{DetachedHandle, Handle, LostHandle, PoolPartyHandle};
 use crate::shared_pool::JoinedPool;
+use bb_handles::answer::{Answer, Figure};
+use bb_handles::{call, code};
 use bb_memory_shared_pools::shared_pool::{DetachedBucket, LostBucket, by_number};
 use bb_memory_traits::layout::Chunk;
 use std::alloc::Global;
@@ -120,7 +119,7 @@ impl JoinedPool {
 pub extern "C" fn bb_detached_init(alloc: Global, detached: &mut DetachedHandle) -> u32
     ensures { AnswersMake detached.old.value detached.new.value result (Unit {0}) (λ new. new ≡ Some nothing) }
 {
-    if is_made(detached) {
+    if call::is_made(detached) {
         return code::ALREADY_INITIALIZED;
     }
     let none = Detached {
@@ -128,7 +127,7 @@ pub extern "C" fn bb_detached_init(alloc: Global, detached: &mut DetachedHandle)
         start: 0,
         readers: 0,
     };
-    keep(detached, alloc, none)
+    call::keep(detached, alloc, none)
 }
 
 /// Frees a `bb_detached`, whose handle is empty then. A bucket that is in it stays detached for good.
@@ -136,10 +135,10 @@ pub extern "C" fn bb_detached_init(alloc: Global, detached: &mut DetachedHandle)
 pub extern "C" fn bb_detached_destroy(alloc: Global, detached: &mut DetachedHandle) -> u32
     ensures { AnswersFree detached.old.value detached.new.value result }
 {
-    free(detached, alloc)
+    call::free(detached, alloc)
 }
 
-/// The length in bytes of the chunk with which the bucket in it was detached, or `BB_DETACHED_EMPTY` where none is in it.
+/// Returns the length in bytes of the chunk with which the bucket in it was detached, or `BB_DETACHED_EMPTY` where none is in it.
 #[unsafe(no_mangle)]
 pub extern "C" fn bb_detached_len(detached: &mut DetachedHandle) -> Figure
     ensures { Answers detached.old.value detached.new.value (result ≡ no_figure uninitialized)
@@ -154,7 +153,7 @@ pub extern "C" fn bb_detached_len(detached: &mut DetachedHandle) -> Figure
     }
 }
 
-/// Has the bucket that is in it wait for so many readers, one at least, each of which releases it. No party attaches it before.
+/// Has the bucket that is in it wait for `readers` readers, one at least. Each releases it. No party attaches it before.
 #[unsafe(no_mangle)]
 pub extern "C" fn bb_detached_share(detached: &mut DetachedHandle, readers: u32) -> u32
     ensures { Answers detached.old.value detached.new.value (result ≡ uninitialized)
@@ -176,7 +175,7 @@ pub extern "C" fn bb_detached_share(detached: &mut DetachedHandle, readers: u32)
     code::OK
 }
 
-/// Counts a reader that is done, and tells for how many more the bucket waits: the last one is told 0.
+/// Counts a reader that is done, and answers for how many more the bucket waits: 0 for the last one.
 #[unsafe(no_mangle)]
 pub extern "C" fn bb_detached_release(detached: &mut DetachedHandle) -> Figure
     ensures { Answers detached.old.value detached.new.value (result ≡ no_figure uninitialized)

@@ -1,88 +1,28 @@
 //! Handles: a pointer that owns an allocator, which the host holds. There is a type for each kind, since no type with parameters
 //! is passed to C; all have the same two fields. The host holds a handle in a variable of its own, and passes that by its
 //! address. An empty one has both fields zero. It may be moved, and then the old one isn't used.
-ghost use Rattle.std.specs.Prelude.{◌≡◌, Option, Some, None, MatchOption};
-ghost use Rattle.std.specs.Borrow.{sem, Lends, LendsSo};
-ghost use Rattle.bb_memory_c.specs.Handles.{owns_if};
-ghost use Rattle.bb_memory_c.specs.contracts.held.Held.{the_row as held_row};
-ghost use Rattle.bb_memory_c.specs.declared.held.Held.{Held as HeldOf};
+ghost use Rattle.std.specs.Prelude.{Option};
+ghost use Rattle.bb_handles.specs.Handles.{owns_if};
 ghost use Rattle.bb_memory_bump.specs.contracts.bump_allocator.BumpAllocator.{the_row as bump_row};
 ghost use Rattle.bb_memory_owned.specs.contracts.one_chunk_allocator.OneChunkAllocator.{the_row as one_chunk_row};
 ghost use Rattle.bb_memory_c.specs.contracts.detached.Detached.{the_row as detached_row};
 ghost use Rattle.bb_memory_shared_pools.specs.contracts.shared_pool.detached.LostBucket.{the_row as lost_row};
-ghost use Rattle.bb_memory_c.specs.contracts.pool.Pool.{the_row as pool_row};
+ghost use Rattle.bb_handles.specs.contracts.one_owner.Pool.{the_row as pool_row};
 ghost use Rattle.bb_memory_c.specs.contracts.shared_bump.BumpParties.{the_row as shared_bump_row};
 ghost use Rattle.bb_memory_c.specs.contracts.shared_bump.JoinedBump.{the_row as bump_party_row};
 ghost use Rattle.bb_memory_c.specs.contracts.shared_pool.JoinedPool.{the_row as pool_party_row};
 ghost use Rattle.bb_memory_c.specs.contracts.shared_pool.PoolParties.{the_row as shared_pool_row};
 
 use crate::detached::Detached;
-use crate::held::{Held, Loose};
-use crate::pool::Pool;
 use crate::shared_bump::{BumpParties, JoinedBump};
 use crate::shared_pool::{JoinedPool, PoolParties};
+pub use bb_handles::handle::Handle;
+use bb_handles::held::Held;
+use bb_handles::one_owner::Pool;
 use bb_memory_bump::bump_allocator::BumpAllocator;
 use bb_memory_owned::one_chunk_allocator::OneChunkAllocator;
 use bb_memory_shared_pools::shared_pool::LostBucket;
-use std::alloc::Global;
 use std::marker::Model;
-use std::mem;
-
-impl<T> Held<T> {
-    /// Lends the value that was made, where it lies, if it owns one.
-    pub(crate) fn made_mut(&mut self) -> Option<&mut T>
-        ensures value { MatchOption result (self.old.value ≡ None) (λ lent. self.old.value ≡ Some lent.now) }
-        ensures* writes_back { sem 𝓛 (LendsSo (held_row T.row) T.row self.entry result
-            (λ after last. after.value ≡ Some last) (λ after. after.value ≡ self.old.value)) }
-    {
-        if !self.made {
-            return None;
-        }
-        let at = self.at;
-        Some(unsafe { &mut *at })
-    }
-}
-
-/// A handle, which the host holds.
-pub(crate) trait Handle<M: Drop>: Drop {
-    /// The value that was made, if the handle isn't empty.
-    ghost made: { Self → Option M };
-
-    /// The handle of what is held.
-    ghost of: { HeldOf M → Self };
-
-    /// Lends what it holds, by the one type for all kinds.
-    fn held(&mut self) -> &mut Held<M>
-        ensures* writes_back { sem 𝓛 (Lends Self.row (held_row M.row) self.entry result of) }
-        ensures value { result.now.value ≡ made self.old }
-        ensures kept { (held : HeldOf M) → made (of held) ≡ held.value };
-
-    /// Lends the value that was made, where it lies, if the handle isn't empty. The handle isn't written.
-    final fn made_mut(&mut self) -> Option<&mut M>
-        ensures value { MatchOption result (made self.old ≡ None) (λ lent. made self.old ≡ Some lent.now) }
-        ensures* writes_back { sem 𝓛 (LendsSo Self.row M.row self.entry result
-            (λ after last. made after ≡ Some last) (λ after. made after ≡ made self.old)) }
-    {
-        self.held().made_mut()
-    }
-
-    /// Owns this from now on. What it owned before is forgotten, so it has to be empty.
-    final fn put(&mut self, fresh: Box<M>)
-        requires { made self.old ≡ None }
-        ensures { made self.new ≡ Some fresh.value }
-    {
-        *self.held() = Held::of_loose(Loose::of(fresh));
-    }
-
-    /// Takes out the value that it owned, if it wasn't empty. The handle is empty then.
-    final fn take(&mut self, alloc: Global) -> Option<Box<M>>
-        ensures empty { made self.new ≡ None }
-        ensures value { MatchOption result (made self.old ≡ None) (λ taken. made self.old ≡ Some taken.value) }
-    {
-        let held = mem::replace(self.held(), Held::nothing(alloc));
-        held.into_loose(alloc).map(|loose| loose.into_box())
-    }
-}
 
 /// Empty, or the owner of a bump.
 #[repr(C)]

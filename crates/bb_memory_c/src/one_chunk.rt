@@ -2,20 +2,19 @@
 ghost use Rattle.std.specs.Prelude.{◌≡◌, None, Some};
 ghost use Rattle.bb_memory_traits.specs.Chunk.{IsRegion, region_at};
 ghost use Rattle.bb_memory_owned.specs.OneChunk.{one_chunk_of};
-ghost use Rattle.bb_memory_c.specs.Answers.{AnswersStill, TellsOfLayouts, no_figure, uninitialized};
-ghost use Rattle.bb_memory_c.specs.Calls.{Answers, AnswersFree, AnswersInfo, AnswersMake, AnswersRequest, AnswersResize};
-ghost use Rattle.bb_memory_c.specs.Calls.{AnswersReturn, AnswersWhether};
-ghost use Rattle.bb_memory_c.specs.OneOwner.{OneChunkAllocates, ShowsOneChunk, TellsGrow, TellsReserved, TellsShrink};
+ghost use Rattle.bb_handles.specs.Answers.{AnswersStill, TellsOfLayouts, no_figure};
+ghost use Rattle.bb_handles.specs.declared.code.TheConstants.{UNINITIALIZED as uninitialized};
+ghost use Rattle.bb_handles.specs.Calls.{Answers, AnswersFree, AnswersInfo, AnswersMake, AnswersRequest, AnswersResize};
+ghost use Rattle.bb_handles.specs.Calls.{AnswersReturn, AnswersWhether};
+ghost use Rattle.bb_handles.specs.OneOwner.{OneChunkAllocates, ShowsOneChunk, TellsGrow, TellsReserved, TellsShrink};
 
-use crate::answer::{Answer, Figure, OneChunkInfo};
-use crate::call::{free, give_back, holds, info, is_made, keep, request};
-use crate::code;
 use crate::handle::{Handle, OneChunkHandle};
-use crate::kind::{Gives, Keeps};
-use crate::layout::layouts_of;
+use bb_handles::answer::{Answer, Figure, OneChunkInfo};
+use bb_handles::layout::layouts_of;
+use bb_handles::{call, code};
 use bb_memory_owned::one_chunk_allocator::OneChunkAllocator;
-use bb_memory_traits::allocator::{AllocationError, Allocator, BaseAllocator};
-use bb_memory_traits::layout::{Chunk, Layout};
+use bb_memory_traits::allocator::{Allocator, BaseAllocator};
+use bb_memory_traits::layout::Layout;
 use std::alloc::Global;
 
 /// Makes a one-chunk allocator over the region of `size` bytes at `start`, behind a handle that has to be empty. The start
@@ -30,13 +29,13 @@ pub extern "C" fn bb_one_chunk_init(
     ensures { AnswersMake handle.old.value handle.new.value result
         (IsRegion (region_at start size)) (λ new. new ≡ Some (one_chunk_of start size None)) }
 {
-    if is_made(handle) {
+    if call::is_made(handle) {
         return code::ALREADY_INITIALIZED;
     }
     if !OneChunkAllocator::can_make(start, size) {
         return code::INVALID_ARGUMENT;
     }
-    keep(handle, alloc, OneChunkAllocator::new(start, size))
+    call::keep(handle, alloc, OneChunkAllocator::new(start, size))
 }
 
 /// Frees the allocator, whose handle is empty then.
@@ -44,7 +43,7 @@ pub extern "C" fn bb_one_chunk_init(
 pub extern "C" fn bb_one_chunk_destroy(alloc: Global, handle: &mut OneChunkHandle) -> u32
     ensures { AnswersFree handle.old.value handle.new.value result }
 {
-    free(handle, alloc)
+    call::free(handle, alloc)
 }
 
 /// Asks for a chunk of all the region from the first multiple of `align` in it on, which has to be at least `size` bytes.
@@ -56,7 +55,7 @@ pub extern "C" fn bb_one_chunk_allocate(
 ) -> Answer
     ensures { AnswersRequest handle.old.value handle.new.value size align result OneChunkAllocates }
 {
-    request(handle, size, align)
+    call::request(handle, size, align)
 }
 
 /// Gives back the chunk at this place. Another place is refused and changes nothing.
@@ -65,7 +64,7 @@ pub extern "C" fn bb_one_chunk_deallocate(handle: &mut OneChunkHandle, place: us
     ensures { AnswersReturn handle.old.value handle.new.value result
         (λ one. one.kept ≡ Some place) (λ one after. after ≡ record one { kept = None }) }
 {
-    give_back(handle, place)
+    call::give_back(handle, place)
 }
 
 /// Tells whether this is the place of the chunk that is out: 1 or 0.
@@ -73,10 +72,10 @@ pub extern "C" fn bb_one_chunk_deallocate(handle: &mut OneChunkHandle, place: us
 pub extern "C" fn bb_one_chunk_holds(handle: &mut OneChunkHandle, place: usize) -> Figure
     ensures { AnswersWhether handle.old.value handle.new.value result (λ one. one.kept ≡ Some place) }
 {
-    holds(handle, place)
+    call::holds(handle, place)
 }
 
-/// How many bytes are reserved for the chunk at this place: all of the region from there on. Another place is refused.
+/// Returns the bytes that are reserved for the chunk at this place: all of the region from there on. Another place is refused.
 #[unsafe(no_mangle)]
 pub extern "C" fn bb_one_chunk_reserved(handle: &mut OneChunkHandle, place: usize) -> Figure
     ensures { Answers handle.old.value handle.new.value (result ≡ no_figure uninitialized)
@@ -96,7 +95,7 @@ pub extern "C" fn bb_one_chunk_reserved(handle: &mut OneChunkHandle, place: usiz
 pub extern "C" fn bb_one_chunk_info(handle: &mut OneChunkHandle, to: &mut OneChunkInfo) -> u32
     ensures { AnswersInfo handle.old.value handle.new.value to.old to.new result ShowsOneChunk }
 {
-    info(handle, to)
+    call::info(handle, to)
 }
 
 /// Checks that the chunk at this place is held and fits the old layout, then grows it.
@@ -174,41 +173,5 @@ pub extern "C" fn bb_one_chunk_shrink(
             layouts_of(old_size, old_align, new_size, new_align),
         ),
         None => Answer::refusal(code::UNINITIALIZED),
-    }
-}
-
-impl Gives<OneChunkInfo> for OneChunkAllocator {
-    ghost may_give = { OneChunkAllocates };
-
-    ghost may_show = { ShowsOneChunk };
-
-    fn give(&mut self, layout: Layout) -> Result<Chunk, AllocationError> {
-        self.allocate(layout)
-    }
-
-    fn show(&mut self) -> OneChunkInfo {
-        OneChunkInfo {
-            start_address: self.start_address(),
-            size: self.size(),
-            has_chunk_available: self.has_chunk_available(),
-        }
-    }
-}
-
-impl Keeps for OneChunkAllocator {
-    ghost holds = { λ one place. one.kept ≡ Some place };
-
-    ghost frees = { λ one place after. after ≡ record one { kept = None } };
-
-    fn is_held(&mut self, place: usize) -> bool {
-        self.holds(place)
-    }
-
-    fn give_back(&mut self, place: usize) -> bool {
-        if !self.is_held(place) {
-            return false;
-        }
-        self.deallocate(place, Layout::empty());
-        true
     }
 }

@@ -1,36 +1,18 @@
 //! A pool behind a handle.
-ghost use Rattle.std.specs.Prelude.{◌≡◌};
 ghost use Rattle.bb_memory_traits.specs.Chunk.{region_at};
-ghost use Rattle.bb_memory_owned.specs.Pool.{CountedPool, FreesBucket, HoldsPlace};
+ghost use Rattle.bb_memory_owned.specs.Pool.{FreesBucket, HoldsPlace};
 ghost use Rattle.bb_memory_geometry.specs.Geometry.{MayBeCut};
-ghost use Rattle.bb_memory_c.specs.Calls.{AnswersFree, AnswersInfo, AnswersNumber, AnswersPlace, AnswersPoolMake};
-ghost use Rattle.bb_memory_c.specs.Calls.{AnswersRequest, AnswersReturn, AnswersTake, AnswersWhether, HasRoom};
-ghost use Rattle.bb_memory_c.specs.OneOwner.{MakesPool, PoolAllocates, ShowsPool};
+ghost use Rattle.bb_handles.specs.Calls.{AnswersFree, AnswersInfo, AnswersNumber, AnswersPlace, AnswersPoolMake};
+ghost use Rattle.bb_handles.specs.Calls.{AnswersRequest, AnswersReturn, AnswersTake, AnswersWhether, HasRoom};
+ghost use Rattle.bb_handles.specs.OneOwner.{MakesPool, PoolAllocates, ShowsPool};
 
-use crate::answer::{Answer, Figure, PoolInfo};
-use crate::call::{
-    free, give_back, holds, info, is_made, keep, number, place, request_bucket, take,
-};
-use crate::code;
 use crate::handle::PoolHandle;
-use crate::kind::{Bucketed, Gives, Keeps};
-use crate::layout::cut_into;
-use bb_memory_owned::pool_allocator::{AllocationError, BaseAllocator, PoolAllocator};
-use bb_memory_traits::layout::{Chunk, Layout};
+use bb_handles::answer::{Answer, Figure, PoolInfo};
+use bb_handles::layout::cut_into;
+use bb_handles::one_owner::Pool;
+use bb_handles::{call, code};
+use bb_memory_owned::pool_allocator::PoolAllocator;
 use std::alloc::Global;
-use std::marker::Model;
-
-/// A pool behind a handle, by a type without parameters: those of `PoolAllocator` would be proved anew at each call of a handle.
-#[derive(Drop)]
-pub struct Pool {
-    pub(crate) pool: PoolAllocator<Global>,
-}
-
-impl Model for Pool {
-    ghost Value = { CountedPool };
-
-    ghost view = { λ s. s.pool };
-}
 
 /// Makes a pool over the region of `size` bytes at `start`, behind a handle that has to be empty. The region is cut into
 /// buckets of `bucket_size` bytes at multiples of `bucket_align`, and has to have room for one.
@@ -46,7 +28,7 @@ pub extern "C" fn bb_pool_init(
     ensures { AnswersPoolMake handle.old.value handle.new.value bucket_size bucket_align result
         (MayBeCut (region_at start size)) (HasRoom (region_at start size)) (MakesPool (region_at start size)) }
 {
-    if is_made(handle) {
+    if call::is_made(handle) {
         return code::ALREADY_INITIALIZED;
     }
     let bucket = match cut_into(bucket_size, bucket_align, start, size, 1) {
@@ -56,7 +38,7 @@ pub extern "C" fn bb_pool_init(
     let Ok(pool) = PoolAllocator::new_uninit(bucket, start, size).init(alloc) else {
         return code::MALLOC_REFUSED;
     };
-    keep(handle, alloc, Pool { pool })
+    call::keep(handle, alloc, Pool { pool })
 }
 
 /// Frees the pool, whose handle is empty then. The answer is 0, or `BB_UNINITIALIZED` where it was empty already.
@@ -64,7 +46,7 @@ pub extern "C" fn bb_pool_init(
 pub extern "C" fn bb_pool_destroy(alloc: Global, handle: &mut PoolHandle) -> u32
     ensures { AnswersFree handle.old.value handle.new.value result }
 {
-    free(handle, alloc)
+    call::free(handle, alloc)
 }
 
 /// Asks for a chunk of `size` bytes at a multiple of `align`, in a bucket that isn't held.
@@ -72,7 +54,7 @@ pub extern "C" fn bb_pool_destroy(alloc: Global, handle: &mut PoolHandle) -> u32
 pub extern "C" fn bb_pool_allocate(handle: &mut PoolHandle, size: usize, align: usize) -> Answer
     ensures { AnswersRequest handle.old.value handle.new.value size align result PoolAllocates }
 {
-    request_bucket(handle, size, align)
+    call::request_bucket(handle, size, align)
 }
 
 /// Takes a whole bucket that isn't held, as a request of the bucket's own size and alignment does.
@@ -81,7 +63,7 @@ pub extern "C" fn bb_pool_take(handle: &mut PoolHandle) -> Answer
     ensures { AnswersTake handle.old.value handle.new.value result
         (λ pool. PoolAllocates pool pool.pool.geometry.bucket) }
 {
-    take(handle)
+    call::take(handle)
 }
 
 /// Gives back the bucket at this place. A place that isn't a held bucket's is refused and changes nothing.
@@ -90,7 +72,7 @@ pub extern "C" fn bb_pool_deallocate(handle: &mut PoolHandle, place: usize) -> u
     ensures { AnswersReturn handle.old.value handle.new.value result
         (λ pool. HoldsPlace pool.pool place) (λ pool after. FreesBucket pool place after) }
 {
-    give_back(handle, place)
+    call::give_back(handle, place)
 }
 
 /// Returns 1 where this is the place of a held bucket, else 0.
@@ -98,7 +80,7 @@ pub extern "C" fn bb_pool_deallocate(handle: &mut PoolHandle, place: usize) -> u
 pub extern "C" fn bb_pool_holds(handle: &mut PoolHandle, place: usize) -> Figure
     ensures { AnswersWhether handle.old.value handle.new.value result (λ pool. HoldsPlace pool.pool place) }
 {
-    holds(handle, place)
+    call::holds(handle, place)
 }
 
 /// Fills the struct with the pool's figures.
@@ -106,84 +88,21 @@ pub extern "C" fn bb_pool_holds(handle: &mut PoolHandle, place: usize) -> Figure
 pub extern "C" fn bb_pool_info(handle: &mut PoolHandle, to: &mut PoolInfo) -> u32
     ensures { AnswersInfo handle.old.value handle.new.value to.old to.new result ShowsPool }
 {
-    info(handle, to)
+    call::info(handle, to)
 }
 
-/// Where the bucket of this number begins, held or not, or `BB_NOT_A_BUCKET` where there is no such bucket.
+/// Returns where the bucket of this number begins, held or not, or `BB_NOT_A_BUCKET` where there is no such bucket.
 #[unsafe(no_mangle)]
 pub extern "C" fn bb_pool_place_at(handle: &mut PoolHandle, number: u32) -> Figure
     ensures { AnswersPlace handle.old.value handle.new.value result number (λ pool. pool.pool.geometry) }
 {
-    place(handle, number)
+    call::place(handle, number)
 }
 
-/// The number of the bucket at this place, held or not, or `BB_NOT_A_BUCKET` where no bucket begins there.
+/// Returns the number of the bucket at this place, held or not, or `BB_NOT_A_BUCKET` where no bucket begins there.
 #[unsafe(no_mangle)]
 pub extern "C" fn bb_pool_number_at(handle: &mut PoolHandle, place: usize) -> Figure
     ensures { AnswersNumber handle.old.value handle.new.value result place (λ pool. pool.pool.geometry) }
 {
-    number(handle, place)
-}
-
-impl Gives<PoolInfo> for Pool {
-    ghost may_give = { PoolAllocates };
-
-    ghost may_show = { ShowsPool };
-
-    fn give(&mut self, layout: Layout) -> Result<Chunk, AllocationError> {
-        self.pool.allocate(layout)
-    }
-
-    fn show(&mut self) -> PoolInfo {
-        PoolInfo {
-            start_address: self.pool.start_address(),
-            size: self.pool.size(),
-            bucket_size: self.pool.bucket_size(),
-            max_alignment: self.pool.max_alignment(),
-            number_of_buckets: self.pool.number_of_buckets() as usize,
-            held_buckets: self.pool.held_buckets() as usize,
-            greatest_held: self.pool.greatest_held() as usize,
-        }
-    }
-}
-
-impl Keeps for Pool {
-    ghost holds = { λ pool place. HoldsPlace pool.pool place };
-
-    ghost frees = { FreesBucket };
-
-    fn is_held(&mut self, place: usize) -> bool {
-        self.pool.holds(place)
-    }
-
-    fn give_back(&mut self, place: usize) -> bool {
-        self.pool.deallocate_if_held(place)
-    }
-}
-
-impl Bucketed for Pool {
-    ghost geometry = { λ pool. pool.pool.geometry };
-
-    ghost may_take = { λ pool. PoolAllocates pool pool.pool.geometry.bucket };
-
-    #[inline(always)]
-    fn take(&mut self) -> Result<Chunk, AllocationError> {
-        self.pool.take()
-    }
-
-    fn is_short(&self) -> bool {
-        true
-    }
-
-    fn limit(&self) -> Layout {
-        self.pool.bucket_layout()
-    }
-
-    fn place_of(&self, number: u32) -> Option<usize> {
-        self.pool.place_at(number)
-    }
-
-    fn number_of(&self, place: usize) -> Option<u32> {
-        self.pool.number_at(place)
-    }
+    call::number(handle, place)
 }

@@ -3,17 +3,16 @@ ghost use Rattle.std.specs.Prelude.{◌≡◌, IfSome, vec_capacity};
 ghost use Rattle.std.specs.Arc.{arc_value};
 ghost use Rattle.bb_memory_traits.specs.Chunk.{region_at};
 ghost use Rattle.bb_memory_bump.specs.SharedBump.{BumpParty};
-ghost use Rattle.bb_memory_c.specs.Answers.{uninitialized};
-ghost use Rattle.bb_memory_c.specs.Calls.{Answers, AnswersFree, AnswersInfo, AnswersJoin, AnswersLeave, AnswersMake};
-ghost use Rattle.bb_memory_c.specs.Calls.{AnswersRequest, IfBoth, IsThere, left_at, with_party};
+ghost use Rattle.bb_handles.specs.declared.code.TheConstants.{UNINITIALIZED as uninitialized};
+ghost use Rattle.bb_handles.specs.Calls.{Answers, AnswersFree, AnswersInfo, AnswersJoin, AnswersLeave, AnswersMake};
+ghost use Rattle.bb_handles.specs.Calls.{AnswersRequest, IfBoth, IsThere, count_unjoined, with_party};
 ghost use Rattle.bb_memory_c.specs.SharedBumps.{AreFreshOver, AreUnjoined, BumpParties, GivesChunk, IsAt, IsShareable, Knows};
 ghost use Rattle.bb_memory_c.specs.SharedBumps.{ShowsLoad, TellsReset};
 
-use crate::answer::{Answer, BumpInfo};
-use crate::call::{free, info, is_made, join, keep, leave, request};
-use crate::code;
 use crate::handle::{BumpPartyHandle, Handle, SharedBumpHandle};
-use crate::kind::{Gives, Shares};
+use bb_handles::answer::{Answer, BumpInfo};
+use bb_handles::kind::{Gives, Shares};
+use bb_handles::{call, code};
 use bb_memory_bump::bump_allocator::{AllocationError, BumpAllocator};
 use bb_memory_bump::shared_bump::{BumpParty, SharedBumpAllocator};
 use bb_memory_traits::layout::{Chunk, Layout};
@@ -75,7 +74,7 @@ impl Model for BumpParties {
 }
 
 impl BumpParties {
-    /// A shared bump over the region of `size` bytes at `start`, with no party joined, or `None` where memory was refused.
+    /// Makes a shared bump over the region of `size` bytes at `start`, with no party joined, or `None` where memory was refused.
     pub(crate) fn new(alloc: Global, start: usize, size: usize, count: u32) -> Option<BumpParties>
         requires { IsShareable (region_at start size) count }
         ensures { IfSome result (AreFreshOver (region_at start size) count) }
@@ -91,7 +90,7 @@ impl BumpParties {
 }
 
 impl Shares<JoinedBump> for BumpParties {
-    ghost left = { left_at };
+    ghost unjoined = { count_unjoined };
 
     ghost with_party = { with_party };
 
@@ -101,7 +100,7 @@ impl Shares<JoinedBump> for BumpParties {
 
     ghost knows = { Knows };
 
-    fn deal(&mut self, alloc: Global) -> Result<Box<JoinedBump>, u32> {
+    fn join_last(&mut self, alloc: Global) -> Result<Box<JoinedBump>, u32> {
         let party = self.parties.pop().ok_or(code::NO_PARTY)?;
         let Ok(bump) = Arc::try_clone(&self.bump) else {
             self.parties.push_reserved(party);
@@ -139,7 +138,7 @@ pub extern "C" fn bb_shared_bump_init(
     ensures { AnswersMake handle.old.value handle.new.value result (IsShareable (region_at start size) parties)
         (IsThere (AreFreshOver (region_at start size) parties)) }
 {
-    if is_made(handle) {
+    if call::is_made(handle) {
         return code::ALREADY_INITIALIZED;
     }
     if parties == 0 || !BumpAllocator::can_make(start, size) {
@@ -148,7 +147,7 @@ pub extern "C" fn bb_shared_bump_init(
     let Some(all) = BumpParties::new(alloc, start, size, parties) else {
         return code::MALLOC_REFUSED;
     };
-    keep(handle, alloc, all)
+    call::keep(handle, alloc, all)
 }
 
 /// Frees the handle of a shared bump, which is empty then. The bump stays as long as one of its parties does.
@@ -156,7 +155,7 @@ pub extern "C" fn bb_shared_bump_init(
 pub extern "C" fn bb_shared_bump_destroy(alloc: Global, handle: &mut SharedBumpHandle) -> u32
     ensures { AnswersFree handle.old.value handle.new.value result }
 {
-    free(handle, alloc)
+    call::free(handle, alloc)
 }
 
 /// Makes a party that hasn't joined join, behind a handle that has to be empty.
@@ -166,9 +165,10 @@ pub extern "C" fn bb_shared_bump_join(
     handle: &mut SharedBumpHandle,
     party: &mut BumpPartyHandle,
 ) -> u32
-    ensures { AnswersJoin handle.old.value handle.new.value party.old.value party.new.value result left_at with_party IsAt }
+    ensures { AnswersJoin handle.old.value handle.new.value party.old.value party.new.value result
+        count_unjoined with_party IsAt }
 {
-    join(handle, alloc, party)
+    call::join(handle, alloc, party)
 }
 
 /// Ends a party of this bump, whose handle is empty then; it may join again. Another bump's party is refused (`BB_OTHER_POOL`).
@@ -182,7 +182,7 @@ pub extern "C" fn bb_shared_bump_leave(
     ensures { AnswersLeave handle.old.value handle.new.value party.old.value party.new.value result
         IsAt (λ party after. after ≡ party) with_party }
 {
-    leave(handle, alloc, party)
+    call::leave(handle, alloc, party)
 }
 
 /// Starts again over the same region, with as many parties: nothing is used, and each can join. Each has to have left.
@@ -210,7 +210,7 @@ pub extern "C" fn bb_shared_bump_reset(alloc: Global, handle: &mut SharedBumpHan
 pub extern "C" fn bb_bump_party_destroy(alloc: Global, handle: &mut BumpPartyHandle) -> u32
     ensures { AnswersFree handle.old.value handle.new.value result }
 {
-    free(handle, alloc)
+    call::free(handle, alloc)
 }
 
 /// Asks for a chunk of exactly `size` bytes at a multiple of `align`.
@@ -222,7 +222,7 @@ pub extern "C" fn bb_bump_party_allocate(
 ) -> Answer
     ensures { AnswersRequest handle.old.value handle.new.value size align result GivesChunk }
 {
-    request(handle, size, align)
+    call::request(handle, size, align)
 }
 
 /// Fills the struct with the bump's figures. One load finds what is used.
@@ -230,5 +230,5 @@ pub extern "C" fn bb_bump_party_allocate(
 pub extern "C" fn bb_bump_party_info(handle: &mut BumpPartyHandle, to: &mut BumpInfo) -> u32
     ensures { AnswersInfo handle.old.value handle.new.value to.old to.new result ShowsLoad }
 {
-    info(handle, to)
+    call::info(handle, to)
 }

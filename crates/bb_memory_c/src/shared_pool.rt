@@ -5,24 +5,22 @@ ghost use Rattle.std.specs.Arc.{arc_value};
 ghost use Rattle.bb_memory_traits.specs.Chunk.{region_at};
 ghost use Rattle.bb_memory_traits.specs.PoolObject.{bucket_place};
 ghost use Rattle.bb_memory_shared_pools.specs.SharedPoolCaching.{CachingParty, IsOut, ReturnsCaching};
-ghost use Rattle.bb_memory_c.specs.Answers.{figure_of, no_figure, ok, uninitialized};
-ghost use Rattle.bb_memory_c.specs.Calls.{Answers, AnswersFree, AnswersInfo, AnswersJoin, AnswersLeave, AnswersNumber};
-ghost use Rattle.bb_memory_c.specs.Calls.{AnswersPlace, AnswersPoolMake, AnswersRequest, AnswersReturn, AnswersTake};
-ghost use Rattle.bb_memory_c.specs.Calls.{AnswersWhether, HasRoom, IfBoth, IsThere, MayBeShared, left_at};
-ghost use Rattle.bb_memory_c.specs.OneOwner.{pool_info};
+ghost use Rattle.bb_handles.specs.Answers.{figure_of, no_figure};
+ghost use Rattle.bb_handles.specs.declared.code.TheConstants.{OK as ok, UNINITIALIZED as uninitialized};
+ghost use Rattle.bb_handles.specs.Calls.{Answers, AnswersFree, AnswersInfo, AnswersJoin, AnswersLeave, AnswersNumber};
+ghost use Rattle.bb_handles.specs.Calls.{AnswersPlace, AnswersPoolMake, AnswersRequest, AnswersReturn, AnswersTake};
+ghost use Rattle.bb_handles.specs.Calls.{AnswersWhether, HasRoom, IfBoth, IsThere, MayBeShared, count_unjoined};
+ghost use Rattle.bb_handles.specs.OneOwner.{pool_info};
 ghost use Rattle.bb_memory_c.specs.SharedPools.{AreFreshOver, ArePlaces, AreUnjoined, CountsOut, GivesAllBack, GivesBack};
 ghost use Rattle.bb_memory_c.specs.SharedPools.{GivesChunk, HoldsAt, HoldsPlace, IsAt, IsIdleAt, IsJoinedAt, JoinsAt, Knows};
 ghost use Rattle.bb_memory_c.specs.SharedPools.{Leaves, PoolParties, ShowsParty, ShowsShared, TellsCache, TellsHolder, as_joined};
-ghost use Rattle.bb_memory_c.specs.SharedPools.{emptied, geometry_of, with_left};
+ghost use Rattle.bb_memory_c.specs.SharedPools.{emptied, geometry_of, with_unjoined};
 
-use crate::answer::{Answer, Figure, Holder, PoolInfo, SharedPoolInfo};
-use crate::call::{
-    free, give_back, holds, info, is_made, join, keep, leave, number, place, request_bucket, take,
-};
-use crate::code;
 use crate::handle::{Handle, PoolPartyHandle, SharedPoolHandle};
-use crate::kind::{Bucketed, Gives, Keeps, Shares};
-use crate::layout::cut_into;
+use bb_handles::answer::{Answer, Figure, Holder, PoolInfo, SharedPoolInfo};
+use bb_handles::kind::{Bucketed, Gives, Keeps, Shares};
+use bb_handles::layout::cut_into;
+use bb_handles::{call, code};
 use bb_memory_owned::pool_allocator::AllocationError;
 use bb_memory_shared_pools::shared_pool::{
     CachingParty, PoolParty, SharedPoolAllocator, by_number,
@@ -32,7 +30,7 @@ use std::alloc::Global;
 use std::marker::Model;
 use std::sync::Arc;
 
-/// How many numbers of four bytes fill two cache lines.
+/// The number of `u32` that fill two cache lines.
 const GAP: usize = 32;
 
 /// One party. The pool's flags say which buckets it holds. Where it caches some, `places` has the place of each cached bucket in
@@ -54,7 +52,7 @@ impl Model for JoinedPool {
     ghost invariant = { λ s. IsJoinedAt (arc_value s.pool) s.party s.places.items };
 }
 
-/// The figures of a shared pool, of which so many buckets are held, and so many were.
+/// Returns the figures of `pool` with these two counts.
 fn figures_of(pool: &SharedPoolAllocator, held: usize, greatest: usize) -> PoolInfo
     ensures { result ≡ pool_info pool.now.scene.geometry held greatest }
 {
@@ -74,7 +72,7 @@ fn give_all_back(pool: &SharedPoolAllocator, party: &mut PoolParty)
     requires { party.old.allocator ≡ pool.now }
     ensures { GivesAllBack party.old party.new }
 {
-    // Proof hint: brings the party's invariant into scope.
+    // Proof hint, here and below: brings the party's invariant into scope.
     let _ = party.number();
     for number in 0..pool.number_of_buckets() {
         let is_held = pool.is_held_by(party, number);
@@ -85,7 +83,7 @@ fn give_all_back(pool: &SharedPoolAllocator, party: &mut PoolParty)
     }
 }
 
-/// How many places a party needs that caches at most `most` of so many buckets: none where it caches none.
+/// Returns the places that a party needs that caches at most `most` of that many buckets: none where it caches none.
 fn room_for(most: u32, buckets: u32) -> usize
     ensures { 0 < most → buckets ≤ result }
 {
@@ -173,7 +171,7 @@ impl JoinedPool {
         self.party.is_held(&*self.pool, number)
     }
 
-    /// The number of the bucket at this place. Where no bucket begins there, none is out there.
+    /// Returns the number of the bucket at this place. Where no bucket begins there, none is out there.
     fn numbered(&self, place: usize) -> Option<u32>
         ensures below { IfSome result (λ number. number < (geometry_of self.now).buckets) }
         ensures there { IfSome result (λ number. place ≡ bucket_place (geometry_of self.now) number) }
@@ -181,12 +179,11 @@ impl JoinedPool {
             → place ≡ bucket_place (geometry_of self.now) other → other ≡ number) }
         ensures none { IfNone result (¬ HoldsPlace self.now place) }
     {
-        // Proof hint: brings the party's invariant into scope.
         let _ = self.party.party().number();
         self.pool.number_at(place)
     }
 
-    /// The number of the bucket at this place, if it is out.
+    /// Returns the number of the bucket at this place, if it is out.
     pub(crate) fn held_at(&mut self, place: usize) -> Option<u32>
         ensures held { IfSome result (HoldsAt self.old place) }
         ensures none { IfNone result (¬ HoldsPlace self.old place) }
@@ -219,7 +216,6 @@ impl JoinedPool {
         ensures count { CountsOut self.old result }
         ensures unchanged { self.new ≡ self.old }
     {
-        // Proof hint: brings the party's invariant into scope.
         let _ = self.party.party().number();
         let mut count = 0;
         for number in 0..self.pool.number_of_buckets() {
@@ -239,7 +235,6 @@ impl JoinedPool {
         ensures returned { IsTrue result → ReturnsCaching self.old number self.new }
         ensures unchanged { IsFalse result → self.new ≡ self.old }
     {
-        // Proof hint: brings the party's invariant into scope.
         let _ = self.party.party().number();
         let pool = &*self.pool;
         let place = self.party.number_of_cached();
@@ -334,9 +329,9 @@ impl Model for PoolParties {
 }
 
 impl Shares<JoinedPool> for PoolParties {
-    ghost left = { left_at };
+    ghost unjoined = { count_unjoined };
 
-    ghost with_party = { with_left };
+    ghost with_party = { with_unjoined };
 
     ghost joins = { JoinsAt };
 
@@ -346,7 +341,7 @@ impl Shares<JoinedPool> for PoolParties {
 
     ghost leaves = { Leaves };
 
-    fn deal(&mut self, alloc: Global) -> Result<Box<JoinedPool>, u32> {
+    fn join_last(&mut self, alloc: Global) -> Result<Box<JoinedPool>, u32> {
         let party = self.parties.pop().ok_or(code::NO_PARTY)?;
         match JoinedPool::new(alloc, &self.pool, party) {
             Ok(joined) => Ok(joined),
@@ -387,7 +382,7 @@ pub extern "C" fn bb_shared_pool_init(
         (MayBeShared (region_at start size) parties) (HasRoom (region_at start size))
         (λ bucket. IsThere (AreFreshOver (region_at start size) bucket parties)) }
 {
-    if is_made(handle) {
+    if call::is_made(handle) {
         return code::ALREADY_INITIALIZED;
     }
     let bucket = match cut_into(bucket_size, bucket_align, start, size, parties) {
@@ -400,7 +395,7 @@ pub extern "C" fn bb_shared_pool_init(
     let Ok(pool) = Arc::new(alloc, pool) else {
         return code::MALLOC_REFUSED;
     };
-    keep(handle, alloc, PoolParties { pool, parties })
+    call::keep(handle, alloc, PoolParties { pool, parties })
 }
 
 /// Frees the handle of a shared pool, which is empty then. The pool stays as long as one of its parties does.
@@ -408,7 +403,7 @@ pub extern "C" fn bb_shared_pool_init(
 pub extern "C" fn bb_shared_pool_destroy(alloc: Global, handle: &mut SharedPoolHandle) -> u32
     ensures { AnswersFree handle.old.value handle.new.value result }
 {
-    free(handle, alloc)
+    call::free(handle, alloc)
 }
 
 /// Fills the struct with the pool's figures, while parties may call: each is read at a moment of its own.
@@ -456,9 +451,10 @@ pub extern "C" fn bb_shared_pool_join(
     handle: &mut SharedPoolHandle,
     party: &mut PoolPartyHandle,
 ) -> u32
-    ensures { AnswersJoin handle.old.value handle.new.value party.old.value party.new.value result left_at with_left JoinsAt }
+    ensures { AnswersJoin handle.old.value handle.new.value party.old.value party.new.value result
+        count_unjoined with_unjoined JoinsAt }
 {
-    join(handle, alloc, party)
+    call::join(handle, alloc, party)
 }
 
 /// Ends a party of this pool, whose handle is empty then: each bucket that it holds is given back. It may join again. The party
@@ -470,9 +466,9 @@ pub extern "C" fn bb_shared_pool_leave(
     party: &mut PoolPartyHandle,
 ) -> u32
     requires { IfBoth handle.old.value party.old.value Knows }
-    ensures { AnswersLeave handle.old.value handle.new.value party.old.value party.new.value result IsAt Leaves with_left }
+    ensures { AnswersLeave handle.old.value handle.new.value party.old.value party.new.value result IsAt Leaves with_unjoined }
 {
-    leave(handle, alloc, party)
+    call::leave(handle, alloc, party)
 }
 
 /// Frees a party that hasn't left, whose handle is empty then. It can't join again, and what it holds stays held.
@@ -480,7 +476,7 @@ pub extern "C" fn bb_shared_pool_leave(
 pub extern "C" fn bb_pool_party_destroy(alloc: Global, handle: &mut PoolPartyHandle) -> u32
     ensures { AnswersFree handle.old.value handle.new.value result }
 {
-    free(handle, alloc)
+    call::free(handle, alloc)
 }
 
 /// Has the party cache at most `most` of the buckets that it gives back, and at most as many as the pool has, for its next
@@ -523,7 +519,7 @@ pub extern "C" fn bb_pool_party_allocate(
 ) -> Answer
     ensures { AnswersRequest handle.old.value handle.new.value size align result GivesChunk }
 {
-    request_bucket(handle, size, align)
+    call::request_bucket(handle, size, align)
 }
 
 /// Takes a whole bucket: the one cached last, or else one that a next fit finds.
@@ -532,7 +528,7 @@ pub extern "C" fn bb_pool_party_take(handle: &mut PoolPartyHandle) -> Answer
     ensures { AnswersTake handle.old.value handle.new.value result
         (λ joined. GivesChunk joined (geometry_of joined).bucket) }
 {
-    take(handle)
+    call::take(handle)
 }
 
 /// Gives back the bucket at this place. A place of no bucket that this party holds is refused and changes nothing.
@@ -541,7 +537,7 @@ pub extern "C" fn bb_pool_party_deallocate(handle: &mut PoolPartyHandle, place: 
     ensures { AnswersReturn handle.old.value handle.new.value result
         (λ party. HoldsPlace party place) (λ party. GivesBack party place) }
 {
-    give_back(handle, place)
+    call::give_back(handle, place)
 }
 
 /// Tells whether this is the place of a bucket that this party holds: 1 or 0.
@@ -549,7 +545,7 @@ pub extern "C" fn bb_pool_party_deallocate(handle: &mut PoolPartyHandle, place: 
 pub extern "C" fn bb_pool_party_holds(handle: &mut PoolPartyHandle, place: usize) -> Figure
     ensures { AnswersWhether handle.old.value handle.new.value result (λ party. HoldsPlace party place) }
 {
-    holds(handle, place)
+    call::holds(handle, place)
 }
 
 /// Fills the struct with the pool's figures, and with how many buckets this party holds, without those that it caches.
@@ -557,26 +553,26 @@ pub extern "C" fn bb_pool_party_holds(handle: &mut PoolPartyHandle, place: usize
 pub extern "C" fn bb_pool_party_info(handle: &mut PoolPartyHandle, to: &mut PoolInfo) -> u32
     ensures { AnswersInfo handle.old.value handle.new.value to.old to.new result ShowsParty }
 {
-    info(handle, to)
+    call::info(handle, to)
 }
 
-/// Where the bucket of this number begins, held or not, or `BB_NOT_A_BUCKET` where there is no such bucket.
+/// Returns where the bucket of this number begins, held or not, or `BB_NOT_A_BUCKET` where there is no such bucket.
 #[unsafe(no_mangle)]
 pub extern "C" fn bb_pool_party_place_at(handle: &mut PoolPartyHandle, number: u32) -> Figure
     ensures { AnswersPlace handle.old.value handle.new.value result number geometry_of }
 {
-    place(handle, number)
+    call::place(handle, number)
 }
 
-/// The number of the bucket at this place, held or not, or `BB_NOT_A_BUCKET` where no bucket begins there.
+/// Returns the number of the bucket at this place, held or not, or `BB_NOT_A_BUCKET` where no bucket begins there.
 #[unsafe(no_mangle)]
 pub extern "C" fn bb_pool_party_number_at(handle: &mut PoolPartyHandle, place: usize) -> Figure
     ensures { AnswersNumber handle.old.value handle.new.value result place geometry_of }
 {
-    number(handle, place)
+    call::number(handle, place)
 }
 
-/// The number by which the pool's flags name this party.
+/// Returns the number by which the pool's flags name this party.
 #[unsafe(no_mangle)]
 pub extern "C" fn bb_pool_party_number(handle: &mut PoolPartyHandle) -> Figure
     ensures { Answers handle.old.value handle.new.value (result ≡ no_figure uninitialized)

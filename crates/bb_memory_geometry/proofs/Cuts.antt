@@ -177,18 +177,28 @@ rotated-part n k below part = elim (cases_lt 0 k) [
 -- WHERE A BUCKET IS
 
 -- the number of the bucket at a place
-pub number-at : (geometry : PoolGeometry) (i place : ℕ) → 0 < stride geometry.bucket → place ≡ bucket_place geometry i →
+number-at : (geometry : PoolGeometry) (i place : ℕ) → 0 < stride geometry.bucket → place ≡ bucket_place geometry i →
     (place - first_place geometry.region geometry.bucket) / stride geometry.bucket ≡ i
 number-at geometry i place some at =
     let past : place - first_place geometry.region geometry.bucket ≡ i * stride geometry.bucket = omega (arith, at) in
     ap (λ n. n / stride geometry.bucket) past ∙ mul-div_cancel i some
 
 -- the distance of a place from the first bucket is a multiple of the stride where a bucket is there
-pub whole-at : (geometry : PoolGeometry) (i place : ℕ) → place ≡ bucket_place geometry i →
+whole-at : (geometry : PoolGeometry) (i place : ℕ) → place ≡ bucket_place geometry i →
     (place - first_place geometry.region geometry.bucket) % stride geometry.bucket ≡ 0
 whole-at geometry i place at =
     let past : place - first_place geometry.region geometry.bucket ≡ i * stride geometry.bucket = omega (arith, at) in
     ap (λ n. n % stride geometry.bucket) past ∙ mul-mod_left i (stride geometry.bucket)
+
+-- the number of whole strides up to a place is that of each bucket at the place
+pub number-counted : (geometry : PoolGeometry) (i place first number : ℕ) → first ≡ first_place geometry.region geometry.bucket →
+    ((place - first) % stride geometry.bucket ≡ 0 → number ≡ (place - first) / stride geometry.bucket) →
+    0 < stride geometry.bucket → place ≡ bucket_place geometry i → i ≡ number
+number-counted geometry i place first number begins divided some at =
+    let whole = ap (λ n. (place - n) % stride geometry.bucket) begins ∙ whole-at geometry i place at in
+    sym (number-at geometry i place some at)
+    ∙ ap (λ n. (place - n) / stride geometry.bucket) (sym begins)
+    ∙ sym (divided whole)
 
 -- TESTS THAT ANSWER A VALUE
 

@@ -16,7 +16,7 @@ pub record MayBeCut (region : Region) (bucket : Layout) : Type 0 where
   pub filled : 0 < bucket.size
   pub few : (geometry : PoolGeometry) → IsCut region bucket geometry → geometry.buckets < 2 ^ 32 - 1
 
--- the buckets are the first of those that the region has room for, at most so many
+-- the buckets are the first of those that the region has room for, at most `most`
 pub record IsCutAtMost (most : ℕ) (region : Region) (bucket : Layout) (geometry : PoolGeometry) : Type 0 where
   pub whole : PoolGeometry
   pub cut : IsCut region bucket whole
@@ -61,6 +61,6 @@ pub record TellsPlace (geometry : PoolGeometry) (number : ℕ) (told : Option �
   pub there : IfSome told (λ place. place ≡ bucket_place geometry number)
   pub none : IfNone told (geometry.buckets ≤ number)
 
--- two places, of which one is at least a stride behind the other
+-- two places, one of them at least a stride behind the other
 abbrev pub AreAStrideApart : Layout → ℕ → ℕ → Type 0
 AreAStrideApart bucket one other = (one + stride bucket ≤ other) ⊎ (other + stride bucket ≤ one)

@@ -1,7 +1,7 @@
 //! Where the buckets of a region are.
-ghost use Rattle.std.specs.Prelude.{◌≡◌, ◌≢◌, ℕ, ◌<◌, ◌≤◌, ◌/◌, ◌%◌, ◌↔◌, IfOk, IfSome, IfNone, IsTrue};
+ghost use Rattle.std.specs.Prelude.{◌≡◌, ◌≢◌, ℕ, ◌<◌, ◌≤◌, ◌/◌, ◌%◌, IfOk, IfSome, IfNone};
 ghost use Rattle.bb_memory_traits.specs.Chunk.{IsRegion, region_at, Chunk, IsInside, first_place};
-ghost use Rattle.bb_memory_traits.specs.PoolObject.{IsCut, IsPoolGeometry, at_most, bucket_place, pool_geometry, stride};
+ghost use Rattle.bb_memory_traits.specs.PoolObject.{IsCut, IsPoolGeometry, bucket_place, pool_geometry, stride};
 ghost use Rattle.bb_memory_traits.specs.PoolObject.{MayGrow, MayShrink};
 ghost use Rattle.bb_memory_geometry.specs.Geometry.{Admits, IsPlaceOfBucket, Shifts, TellsPlace, IsCutAtMost, MayBeCut};
 
@@ -9,14 +9,14 @@ use bb_memory_traits::allocator::{AllocationError, AllocationGrowError, Allocati
 use bb_memory_traits::layout::{Chunk, Layout, round_up};
 use std::marker::Model;
 
-/// How far each bucket is from the next.
+/// Returns the bytes from each bucket's beginning to the next one's.
 pub fn stride(bucket_layout: Layout) -> usize
     ensures { result ≡ stride bucket_layout }
 {
     round_up(bucket_layout.size(), bucket_layout.align()).unwrap()
 }
 
-/// By how many bits to shift to the right to divide by this number, where it is a power of two.
+/// Returns how many bits to shift to the right to divide by a power of two, and `None` for any other number.
 fn shift_of(divisor: usize) -> Option<u32>
     ensures { Shifts divisor result }
 {
@@ -54,7 +54,7 @@ impl Model for Geometry {
 }
 
 impl Geometry {
-    /// All the buckets of this layout that the region of `size` bytes at `start` has room for.
+    /// Returns all the buckets of this layout that the region of `size` bytes at `start` has room for.
     pub fn new(bucket_layout: Layout, start: usize, size: usize) -> Self
         requires { MayBeCut (region_at start size) bucket_layout }
         ensures { IsCut (region_at start size) bucket_layout result }
@@ -73,7 +73,7 @@ impl Geometry {
         }
     }
 
-    /// The first of the buckets that the region has room for, at most so many.
+    /// Returns the first of the buckets that the region has room for, at most `most`.
     pub fn cut_at_most(bucket_layout: Layout, start: usize, size: usize, most: u32) -> Self
         requires { MayBeCut (region_at start size) bucket_layout }
         ensures { IsCutAtMost most (region_at start size) bucket_layout result }
@@ -83,7 +83,7 @@ impl Geometry {
         geometry
     }
 
-    /// How many buckets there are.
+    /// Returns the number of buckets.
     #[inline(always)]
     pub fn count(&self) -> u32
         ensures value { result ≡ self.now.buckets }
@@ -93,7 +93,7 @@ impl Geometry {
         self.buckets
     }
 
-    /// The layout of each bucket.
+    /// Returns the layout of each bucket.
     #[inline(always)]
     pub fn bucket(&self) -> Layout
         ensures { result ≡ self.now.bucket }
@@ -101,7 +101,7 @@ impl Geometry {
         self.bucket
     }
 
-    /// How many bytes the region has.
+    /// Returns the size of the region in bytes.
     #[inline]
     pub fn region_size(&self) -> usize
         ensures { result ≡ self.now.region.size }
@@ -109,24 +109,12 @@ impl Geometry {
         self.region_size
     }
 
-    /// Where the first bucket is.
+    /// Returns the place of the first bucket.
     #[inline(always)]
     pub fn first(&self) -> usize
         ensures { result ≡ first_place self.now.region self.now.bucket }
     {
         self.first
-    }
-
-    /// How many whole strides there are in a distance.
-    #[inline(always)]
-    pub fn strides(&self, distance: usize) -> usize
-        ensures value { result ≡ distance / stride self.now.bucket }
-        ensures some { 0 < stride self.now.bucket }
-    {
-        match self.shift {
-            Some(shift) => distance >> shift,
-            None => distance / self.stride,
-        }
     }
 
     /// Refuses a request by its size or else its alignment, where one of them is greater than the bucket's.
@@ -143,10 +131,10 @@ impl Geometry {
         Ok(())
     }
 
-    /// How many strides a distance has, where it is a multiple of the stride, and else a number that no bucket has. Where the
-    /// stride is a power of two, a rotation brings the bits of the rest to the top.
+    /// Returns the number of strides in a distance that is a multiple of the stride, and else a number that no bucket has. Where
+    /// the stride is a power of two, a rotation brings the bits of the rest to the top.
     #[inline(always)]
-    fn whole_strides(&self, distance: usize) -> usize
+    pub fn whole_strides(&self, distance: usize) -> usize
         ensures whole { distance % stride self.now.bucket ≡ 0
             → result ≡ distance / stride self.now.bucket }
         ensures part { distance % stride self.now.bucket ≢ 0 → self.now.buckets ≤ result }
@@ -159,7 +147,7 @@ impl Geometry {
         }
     }
 
-    /// The number of the bucket at this place, or `None` where no bucket begins there.
+    /// Returns the number of the bucket at this place, or `None` where no bucket begins there.
     #[inline(always)]
     pub fn number_at(&self, place: usize) -> Option<u32>
         ensures below { IfSome result (λ number. number < self.now.buckets) }
@@ -179,7 +167,7 @@ impl Geometry {
         Some(number as u32)
     }
 
-    /// Where the bucket of this number begins, or `None` where there is no such bucket.
+    /// Returns the place of the bucket of this number, or `None` where there is no such bucket.
     pub fn place_at(&self, number: u32) -> Option<usize>
         ensures { TellsPlace self.now number result }
     {
@@ -189,7 +177,7 @@ impl Geometry {
         Some(self.chunk(number as usize, 0).place())
     }
 
-    /// The first `len` bytes of a bucket.
+    /// Returns the first `len` bytes of a bucket.
     #[inline(always)]
     pub fn chunk(&self, bucket: usize, len: usize) -> Chunk
         requires below { bucket < self.now.buckets }

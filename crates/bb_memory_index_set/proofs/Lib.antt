@@ -1,4 +1,4 @@
-pub mod AsideNumbers
+pub mod LastFreed
 mod Listings
 mod LowestBits
 mod NumberFlags

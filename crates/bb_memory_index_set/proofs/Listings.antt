@@ -24,7 +24,7 @@ few xs n below once =
     let value : get_or xs at.0 0 ≡ q = get_or_default xs at.0 0 q at.1 ∙ at.2 in
     omega (arith, below at.0 at.1, value))
 
--- so many numbers below n, each once, are fewer than n where another number below n isn't one of them
+-- numbers below n, each once, are fewer than n where another number below n isn't one of them
 pub few_more : (named : ℕ → ℕ) (count n at : ℕ) → ((k : ℕ) → k < count → named k < n) →
     ((i k : ℕ) → i < k → k < count → named i ≢ named k) → at < n → ((k : ℕ) → k < count → named k ≢ at) → count < n
 few_more named count n at below once within apart =
@@ -51,48 +51,49 @@ few_more named count n at below once within apart =
     omega (arith, fits, len)
 
 -- where a number isn't open, the listed ones are fewer than all
-pub room_left : (bound : ℕ) (Open : ℕ → Type 0) (named : ℕ → ℕ) (top at : ℕ) → IsListing bound Open named top → at < bound →
-    (Open at → ⊥) → top < bound
-room_left bound Open named top at is within full =
-    few_more named top bound at is.below is.once within (λ k h e. full (subst Open e (is.each k h)))
+pub room_left : (bound : ℕ) (Open : ℕ → Type 0) (named : ℕ → ℕ) (open_count at : ℕ) → IsListing bound Open named open_count →
+    at < bound →
+    (Open at → ⊥) → open_count < bound
+room_left bound Open named open_count at is within full =
+    few_more named open_count bound at is.below is.once within (λ k h e. full (subst Open e (is.each k h)))
 
--- What one number becomes, and the others stay. Before and after, so many are listed by `named` and by `now`.
-module _ (bound : ℕ) (Open Now : ℕ → Type 0) (named now : ℕ → ℕ) (top at : ℕ) (is : IsListing bound Open named top)
+-- One number changes, and the others stay. `named` lists `open_count` before, and `now` lists those after.
+module _ (bound : ℕ) (Open Now : ℕ → Type 0) (named now : ℕ → ℕ) (open_count at : ℕ) (is : IsListing bound Open named open_count)
     (others : (other : ℕ) → other ≢ at → (Open other → Now other) × (Now other → Open other)) where
   -- the number that was listed last isn't open any more
-  pub filled : 0 < top → named (top - 1) ≡ at → (Now at → ⊥) → ((k : ℕ) → k < top - 1 → now k ≡ named k) →
-      IsListing bound Now now (top - 1)
+  pub filled : 0 < open_count → named (open_count - 1) ≡ at → (Now at → ⊥) → ((k : ℕ) → k < open_count - 1 → now k ≡ named k) →
+      IsListing bound Now now (open_count - 1)
   filled some last full same = grind arith
 
   -- a number that was open still is
-  pub still : Open at → Now at → IsListing bound Now named top
+  pub still : Open at → Now at → IsListing bound Now named open_count
   still was_open is_open = grind arith
 
   -- a number that wasn't open is, and is listed behind the others
-  pub opened : at < bound → (Open at → ⊥) → Now at → now top ≡ at → ((k : ℕ) → k < top → now k ≡ named k) →
-      IsListing bound Now now (top + 1)
+  pub opened : at < bound → (Open at → ⊥) → Now at → now open_count ≡ at → ((k : ℕ) → k < open_count → now k ≡ named k) →
+      IsListing bound Now now (open_count + 1)
   opened within full is_open last same =
-      let apart : (k : ℕ) → k < top → named k ≢ at = λ k h e. full (subst Open e (is.each k h)) in
+      let apart : (k : ℕ) → k < open_count → named k ≢ at = λ k h e. full (subst Open e (is.each k h)) in
       record {
-        fits = omega (arith, room_left bound Open named top at is within full);
-        below = λ k h. elim (cases_eq k top) [
+        fits = omega (arith, room_left bound Open named open_count at is within full);
+        below = λ k h. elim (cases_eq k open_count) [
           | inl e ↦ rw (e, last) within
           | inr other ↦ rw (same k (omega (arith, h, other))) (is.below k (omega (arith, h, other)))
         ];
-        each = λ k h. elim (cases_eq k top) [
+        each = λ k h. elim (cases_eq k open_count) [
           | inl e ↦ rw (e, last) is_open
           | inr other ↦
-              let before : k < top = omega (arith, h, other) in
+              let before : k < open_count = omega (arith, h, other) in
               rw (same k before) ((others (named k) (apart k before)).0 (is.each k before))
         ];
-        once = λ i k before h. elim (cases_eq k top) [
+        once = λ i k before h. elim (cases_eq k open_count) [
           | inl e ↦ rw (e, last, same i (omega (arith, before, e))) (apart i (omega (arith, before, e)))
           | inr other ↦
               rw (same i (omega (arith, before, h)), same k (omega (arith, h, other)))
               (is.once i k before (omega (arith, h, other)))
         ];
         all = λ a inside still_open. elim (cases_eq a at) [
-          | inl e ↦ (top, omega arith, last ∙ sym e)
+          | inl e ↦ (open_count, omega arith, last ∙ sym e)
           | inr other ↦
               let old = is.all a inside ((others a other).1 still_open) in
               (old.0, omega (arith, old.1), same old.0 old.1 ∙ old.2)

@@ -54,7 +54,7 @@ pub cleared_is_open : (word bit : ℕ) → bit < 64 → bit_and word (bit_not w6
 cleared_is_open word bit low full =
     false≢true (sym (clear_bit word bit low).0 ∙ ap (λ x. eqb (bit_at x bit) 1) full ∙ eq-eqb _ 1 (bit_at_ones 64 bit low))
 
--- What a change of one number's bit does to a set that has the number below its bound.
+-- A set after a change of one number's bit, below its bound.
 module _ (bound : ℕ) (words new : List ℕ) (number : ℕ) (flag : Bool) (below : number < bound)
     (sets : SetsBit words number flag new) where
   pub numbers_of-set : numbers_of bound new ≡ set (numbers_of bound words) number flag

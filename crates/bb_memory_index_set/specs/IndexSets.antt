@@ -38,7 +38,7 @@ pub record IsTally (set : List Bool) (count most : ℕ) : Type 0 where
 
 -- How many words of 64 bits keep a set of numbers.
 
--- how many words hold a bit for each of so many numbers: the number of them divided by 64, rounded up
+-- how many words hold a bit for each of these numbers: their count divided by 64, rounded up
 abbrev pub index_words : ℕ → ℕ
 index_words numbers = (numbers + 63) / 64
 
@@ -48,7 +48,7 @@ words_with_list numbers = index_words numbers + (index_words numbers - 1)
 
 -- A set of numbers below a bound, as the bits of words.
 
--- whether a number's bit is set: the bits are counted from the lowest of the first word
+-- a number's bit is set: the bits are counted from the lowest of the first word
 abbrev pub has_bit : List ℕ → ℕ → Bool
 has_bit words number = bit_at (slice_index words (number / 64)) (number % 64) == 1
 
@@ -62,12 +62,12 @@ pub record SetsBit (words : List ℕ) (number : ℕ) (flag : Bool) (new : List �
 unfoldable pub numbers_of : ℕ → List ℕ → List Bool
 numbers_of bound words = map (has_bit words) (range_with_len 0 bound)
 
-abbrev pub less_aside : List Bool → ℕ → List Bool
-less_aside numbers aside = slice_set numbers aside false
+abbrev pub less_last_freed : List Bool → ℕ → List Bool
+less_last_freed numbers last_freed = slice_set numbers last_freed false
 
--- a number that is aside has its bit set; where none is, 2 ^ 64 - 1 stands for it, which is above each bound
-abbrev pub IsAside : List Bool → ℕ → Type 0
-IsAside numbers aside = aside ≢ 2 ^ 64 - 1 → Has numbers aside
+-- the number that was freed last has its bit set; where there is none, 2 ^ 64 - 1 stands for it, which is above each bound
+abbrev pub IsLastFreed : List Bool → ℕ → Type 0
+IsLastFreed numbers last_freed = last_freed ≢ 2 ^ 64 - 1 → Has numbers last_freed
 
 -- there are just the words that the bound needs, and their bits from the bound on are set
 pub record AreIndexWords (bound : ℕ) (words : List ℕ) : Type 0 where
@@ -87,29 +87,29 @@ pub record PutsAt (words : List ℕ) (at : ℕ) (new : List ℕ) : Type 0 where
   pub len : length new ≡ length words
   pub others : (other : ℕ) → other ≢ at → slice_index new other ≡ slice_index words other
 
--- word k of those that aren't full: an entry of the list, and last the word in hand
+-- word k of those that aren't full: an entry of the list, and last the current word
 abbrev pub open_word : List ℕ → ℕ → ℕ → ℕ → ℕ
-open_word listed hand top k = if k + 1 == top then hand else slice_index listed k
+open_word listed current open_count k = if k + 1 == open_count then current else slice_index listed k
 
 -- the word isn't full
 abbrev pub IsOpen : List ℕ → ℕ → Type 0
 IsOpen words at = slice_index words at ≢ 2 ^ 64 - 1
 
--- the first `top` names are just the numbers below the bound that are open, each once
-pub record IsListing (bound : ℕ) (Open : ℕ → Type 0) (named : ℕ → ℕ) (top : ℕ) : Type 0 where
-  pub fits : top ≤ bound
-  pub below : (k : ℕ) → k < top → named k < bound
-  pub each : (k : ℕ) → k < top → Open (named k)
-  pub once : (i : ℕ) (k : ℕ) → i < k → k < top → named i ≢ named k
-  pub all : (at : ℕ) → at < bound → Open at → (k : ℕ) × (k < top) × (named k ≡ at)
+-- the first `open_count` names are just the numbers below the bound that are open, each once
+pub record IsListing (bound : ℕ) (Open : ℕ → Type 0) (named : ℕ → ℕ) (open_count : ℕ) : Type 0 where
+  pub fits : open_count ≤ bound
+  pub below : (k : ℕ) → k < open_count → named k < bound
+  pub each : (k : ℕ) → k < open_count → Open (named k)
+  pub once : (i : ℕ) (k : ℕ) → i < k → k < open_count → named i ≢ named k
+  pub all : (at : ℕ) → at < bound → Open at → (k : ℕ) × (k < open_count) × (named k ≡ at)
 
--- the words hold a set, one of them is in hand, and those that aren't full are listed or in hand
+-- the words hold a set, one of them is current, and those that aren't full are listed or current
 pub record IsWordSet
-    (bound : ℕ) (words : List ℕ) (listed : List ℕ) (hand : ℕ) (top : ℕ)
+    (bound : ℕ) (words : List ℕ) (listed : List ℕ) (current : ℕ) (open_count : ℕ)
     : Type 0 where
   pub are : AreIndexWords bound words
   pub room : length listed ≡ length words - 1
-  pub listing : IsListing (length words) (IsOpen words) (open_word listed hand top) top
+  pub listing : IsListing (length words) (IsOpen words) (open_word listed current open_count) open_count
 
 -- A set of numbers below a bound, as flags: the first entries of an array are just the numbers that aren't in it, each once.
 pub record AreFlags (room : ℕ) (bound : ℕ) (held : List Bool) (free : List ℕ) (left : ℕ) : Type 0 where

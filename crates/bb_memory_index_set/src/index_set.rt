@@ -21,7 +21,7 @@ pub trait IndexSet: Drop {
     /// The greatest number of members that the set had at one time so far.
     ghost most: { Self → ℕ };
 
-    /// How many words a set of this bound has that are read through a counter.
+    /// The number of words of a set of this bound that are read through a counter.
     ghost words: { ℕ → ℕ };
 
     /// Puts a number that isn't in the set into it, and answers that number. There is none exactly where every number is
@@ -51,11 +51,11 @@ pub trait IndexSet: Drop {
     fn has_room(&self) -> bool
         ensures { IsTrue result ↔ ((number : ℕ) × Lacks (numbers self.now) number) };
 
-    /// How many numbers are in the set. No number is looked at, and no word is read.
+    /// Returns the number of members. No member is looked at, and no word is read.
     fn len(&self) -> u32
         ensures { result ≡ member_count (numbers self.now) };
 
-    /// The greatest number of members that the set had at one time so far.
+    /// Returns the greatest number of members that the set had at one time so far.
     fn greatest_len(&self) -> u32
         ensures value { result ≡ most self.now }
         ensures within { result ≤ length (numbers self.now) };

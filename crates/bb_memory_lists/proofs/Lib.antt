@@ -1,4 +1,4 @@
-pub mod Contained
+pub mod ListEntries
 mod GroupSums
 pub mod Logs
 pub mod Positions

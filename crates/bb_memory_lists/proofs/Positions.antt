@@ -1,4 +1,4 @@
--- What stands at each position of a list, and after a removal; the first position of an item that passes a test.
+-- Items by their positions in a list, also after a removal; the first position of an item that passes a test.
 use Rattle.std.proofs.Common.{◌≡◌, ◌≢◌, ℕ, zero, suc, ◌+◌, ◌<◌, Bool, true, false, not, cond, List, [], ◌∷◌, ◌++◌, length, get_or}
 use Rattle.std.proofs.Common.{refl, ap, subst, arith, Some, None, is_some, IsSome}
 use Rattle.std.specs.Prelude.{position, slice_get, remove, All, AllPairs}

@@ -1,4 +1,4 @@
--- What the one-chunk object answers, and the live lists of at most one chunk that it goes on to.
+-- Answers of the one-chunk object, and the live lists of at most one chunk that it goes on to.
 use Rattle.std.proofs.lemmas.Grind.{common_steps}
 use Rattle.std.proofs.Common.{◌≡◌, ℕ, ◌+◌, ◌<◌, ◌≤◌, ◌%◌, List, [], ◌∷◌, ◌++◌, Option, Some, None, Result, Ok, Err, length}
 use Rattle.std.proofs.Common.{slice_get, slice_set, remove, refl, sym, ◌∙◌, ap, subst, inl, inr, arith}
@@ -6,7 +6,8 @@ use Rattle.std.specs.Option.{ForSome}
 use Rattle.std.proofs.lemmas.Bool.{cases_lt}
 use Rattle.bb_memory_traits.specs.Chunk.{Region, region_end, Chunk, chunk_end, IsInside, first_place}
 use Rattle.bb_memory_owned.specs.OneChunk.{Layout, AllocationError, AllocationGrowError, AllocationShrinkError, OneChunk}
-use Rattle.bb_memory_owned.specs.OneChunk.{HasByteAt, IsOneChunk, IsKept, StandsFor, only_chunk}
+use Rattle.bb_memory_owned.specs.OneChunk.{HasByteAt, IsOneChunk, IsKept, StandsFor}
+use Rattle.bb_memory_traits.proofs.OneChunkLists.{only_chunk}
 use Rattle.bb_memory_traits.specs.declared.allocator.AllocationError.TheVariants.{OutOfMemory}
 use Rattle.bb_memory_traits.specs.Object.{IsRun, Step, ResizableStep}
 use Rattle.bb_memory_traits.specs.declared.allocator.Command.{Command}

@@ -1,4 +1,4 @@
--- What a pool's requests and releases make of each live list that it stands for.
+-- Each live list that a pool stands for, after its requests and releases.
 use Rattle.std.proofs.Common.{◌≡◌, ◌≢◌, ℕ, ◌-◌, ◌/◌, ◌%◌, ◌<◌, ◌≤◌, Bool, true, false, List, [], ◌∷◌, ◌++◌, Result, Ok, Err, refl}
 use Rattle.std.proofs.Common.{sym, ap, subst, ◌∙◌, arith, Some, inl, inr, cond, leb, max, min, ◌&&◌}
 use Rattle.std.proofs.lemmas.Bool.{le-leb, cases_lt}
@@ -16,7 +16,7 @@ use Rattle.bb_memory_lists.proofs.SliceGets.{slice_get-set_other, slice_get-set_
 use Rattle.bb_memory_index_set.specs.IndexSets.{Has, Lacks}
 use Rattle.bb_memory_owned.specs.Pool.{Pool, IsPool, StandsFor, filled-at, HoldsPlace, Takes, with_flag, CountedPool, TakesBucket}
 use Rattle.bb_memory_owned.specs.Pool.{FreesBucket, counted, held_count, reads_of, bucket_held_at, held_at_bucket}
-use Rattle.bb_memory_geometry.proofs.Cuts.{number-at}
+use Rattle.bb_memory_geometry.proofs.Cuts.{number-counted}
 use Rattle.bb_memory_geometry.proofs.Measures.{bucket_place-multiple}
 use Rattle.bb_memory_owned.proofs.Pools.{Has-set_true, IsPool-with_flag, bucket-below, held-inside, lacked-free}
 use Rattle.bb_memory_owned.proofs.Pools.{one_bucket, stands-given, stands-freed, stands-resized}
@@ -165,12 +165,11 @@ TakesBucket-is old layout (Err error) new words is most at_least takes reads gre
 -- the number of a held bucket's place, as it is computed, is that of the bucket
 pub number-held : (pool : Pool) (place first number : ℕ) → HoldsPlace pool place →
     first ≡ first_place pool.geometry.region pool.geometry.bucket →
-    number ≡ (place - first) / stride pool.geometry.bucket → 0 < stride pool.geometry.bucket →
-    Has pool.held number × (place ≡ bucket_place pool.geometry number)
+    ((place - first) % stride pool.geometry.bucket ≡ 0 → number ≡ (place - first) / stride pool.geometry.bucket) →
+    0 < stride pool.geometry.bucket → Has pool.held number × (place ≡ bucket_place pool.geometry number)
 number-held pool place first number holds begins divided some =
     let (i, has, there) = bucket_held_at pool place holds in
-    let same : i ≡ number = sym (divided ∙ ap (λ n. (place - n) / stride pool.geometry.bucket) begins
-    ∙ number-at pool.geometry i place some there) in
+    let same = number-counted pool.geometry i place first number begins divided some there in
     (subst (Has pool.held) same has, there ∙ ap (bucket_place pool.geometry) same)
 
 -- of bucket i, which is held and begins at the place

@@ -15,7 +15,7 @@ use Rattle.bb_memory_traits.proofs.PoolLists.{IsInBucket, AreInBuckets-from_plac
 use Rattle.bb_memory_lists.proofs.SliceGets.{slice_get-set, slice_get-set_other, slice_get-set_same, slice_get-replicated}
 use Rattle.bb_memory_lists.proofs.SliceGets.{length-set_at, slice_get-last, slice_get-push}
 use Rattle.bb_memory_index_set.specs.IndexSets.{Has, Lacks}
-use Rattle.bb_memory_index_set.proofs.AsideNumbers.{given}
+use Rattle.bb_memory_index_set.proofs.LastFreed.{given}
 use Rattle.bb_memory_index_set.proofs.Tallies.{member_count-released, some_member}
 use Rattle.bb_memory_owned.specs.Pool.{Pool, IsPool, Fills, StandsFor, filled-at, HoldsPlace, fresh_pool, with_flag}
 use Rattle.bb_memory_owned.specs.Pool.{bucket_held_at, held_count, pool_of}

@@ -1,4 +1,4 @@
--- What becomes of a heap block whose bytes were lent.
+-- A heap block whose bytes were lent.
 use Rattle.std.specs.Prelude.{ℕ, List, ◌++◌, take, drop, length}
 use Rattle.std.specs.Borrow.{Lends, MutBor, Fml, u8, Array}
 use Rattle.bb_memory_owned.specs.contracts.heap_allocator.HeapBlock.{the_row}

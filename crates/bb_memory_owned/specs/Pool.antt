@@ -40,7 +40,7 @@ pub record IsPool (pool : Pool) : Type 0 where
   pub geometry : IsPoolGeometry pool.geometry
   pub flags : length pool.held ≡ pool.geometry.buckets
 
--- WHAT A MAKER NEEDS
+-- MAKING
 
 -- the region is cut into just the buckets that it has room for
 pub record IsUninit (geometry : PoolGeometry) : Type 0 where
@@ -72,12 +72,12 @@ holds_place pool place = list_any (begins_held pool place) (range_with_len 0 (le
 abbrev pub HoldsPlace : Pool → ℕ → Type 0
 HoldsPlace pool place = holds_place pool place ≡ true
 
--- WHAT CALLS DO
+-- CALLS
 
 abbrev pub with_flag : Pool → ℕ → Bool → Pool
 with_flag pool i flag = pool_of pool.geometry (slice_set pool.held i flag)
 
--- What a pool may answer to a request, and what it is then: any free bucket is given and held, and a refusal changes nothing.
+-- Answers that a pool may give to a request, and the pool after it. Any free bucket is given; a refusal changes nothing.
 abbrev pub Takes : Pool → Layout → Result Chunk AllocationError → Pool → Type 0
 Takes pool layout (Ok chunk) new =
     (i : ℕ) × IsWithin pool.geometry.bucket layout × Lacks pool.held i
@@ -107,7 +107,7 @@ pub record CountedPool : Type 0 where
 abbrev pub counted : Pool → ℕ → ℕ → CountedPool
 counted pool reads greatest = record { pool = pool; reads = reads; greatest = greatest }
 
--- What a request is answered by the value alone, what the pool is then, and how many of its words it read.
+-- A request by the value alone: its answer, the pool after it, and how many of its words it read.
 pub record TakesBucket (old : CountedPool) (layout : Layout) (answer : Result Chunk AllocationError)
     (new : CountedPool) (words : ℕ) : Type 0 where
   -- the bucket that is held then, each refusal by its cause, and that there is no other
@@ -128,20 +128,20 @@ pub record TakesBucket (old : CountedPool) (layout : Layout) (answer : Result Ch
   pub uncounted : words ≡ 0 → new.reads ≡ old.reads
   pub unchanged : words ≡ 0 → OnErr answer (new ≡ old)
 
--- how many words a request for the layout reads, of so many: one if there is one, and none where its size or its alignment is
--- refused
+-- how many of `words` index words a request for the layout reads: one if there is one, and none where its size or its alignment
+-- is refused
 abbrev pub reads_of : Layout → ℕ → Layout → ℕ
 reads_of bucket words layout =
     if nat_le layout.size bucket.size && nat_le layout.align bucket.align then min words 1 else 0
 
--- All that a pool promises of a request for this layout, of so many index words.
+-- All that a pool of `words` index words promises of a request for this layout.
 abbrev pub Allocates : CountedPool → Layout → Result Chunk AllocationError → CountedPool → ℕ → Type 0
 Allocates old layout answer new words = Requested (λ pool. StandsFor pool.pool) (λ pool. HoldsPlace pool.pool)
     (λ pool. pool.pool.geometry) (λ geometry. geometry.region) MayAllocate (λ pool. pool.reads)
     (λ geometry asked before. reads_of geometry.bucket words asked)
     (λ before asked told after. TakesBucket before asked told after words) old layout answer new
 
--- What a pool is after a release by the value alone: that bucket, which was held, is free, and so one less is held. Each other
+-- A pool after a release, by the value alone: that bucket, which was held, is free, and so one less is held. Each other
 -- place is held or free as it was, and the greatest number stays.
 pub record FreesBucket (old : CountedPool) (place : ℕ) (new : CountedPool) : Type 0 where
   pub freed : Frees old.pool place new.pool
@@ -190,7 +190,7 @@ held_at_bucket pool place i has there =
 
 -- LAWS OF LIVE LISTS
 
--- what stands at a position of it is in a held bucket, and has that bucket's place
+-- a chunk at a position of the list is in a held bucket, and has that bucket's place
 pub filled-at : (pool : Pool) (live : List Chunk) → StandsFor pool live → (position : ℕ) (chunk : Chunk) →
     slice_get live position ≡ Some chunk → (i : ℕ) × Fills pool chunk i
 filled-at pool live stands position chunk at = All-at (λ c. (i : ℕ) × Fills pool c i) live stands.filled position chunk at

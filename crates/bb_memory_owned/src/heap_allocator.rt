@@ -26,7 +26,7 @@ impl Model for HeapBlock {
 }
 
 impl HeapBlock {
-    /// How many bytes there are.
+    /// Returns the size in bytes.
     #[inline]
     pub fn len(&self) -> usize
         ensures length { result ≡ length self.now }
@@ -34,7 +34,7 @@ impl HeapBlock {
         self.bytes.len()
     }
 
-    /// The bytes.
+    /// Returns the bytes.
     #[inline]
     pub fn as_slice(&self) -> &[u8]
         ensures bytes { result.now ≡ self.now }
@@ -61,14 +61,14 @@ pub struct HeapAllocator {
 }
 
 impl HeapAllocator {
-    /// A heap allocator that takes its memory from `alloc`.
+    /// Makes a heap allocator that takes its memory from `alloc`.
     #[inline]
     pub fn new(alloc: Global) -> Self {
         HeapAllocator { alloc }
     }
 
-    /// A block of `layout.size()` zero bytes. It is refused, in this order, with `SizeIsZero` where the size is 0, and with
-    /// `OutOfMemory` where memory was refused.
+    /// Allocates a block of `layout.size()` zero bytes. It is refused, in this order, with `SizeIsZero` where the size is 0, and
+    /// with `OutOfMemory` where memory was refused.
     #[inline]
     pub fn allocate(&self, layout: Layout) -> Result<HeapBlock, AllocationError>
         ensures answer { MayAllocate layout result }
@@ -94,7 +94,7 @@ impl HeapAllocator {
     #[inline]
     pub fn deallocate(&self, _block: HeapBlock, _layout: Layout) {}
 
-    /// The block with zero bytes behind its own, up to the new size. The old size has to be the block's length. It is
+    /// Returns the block with zero bytes behind its own, up to the new size. The old size has to be the block's length. It is
     /// refused, in this order, with `GrowWouldShrink` where the new size isn't greater than the old one, and with
     /// `OutOfMemory` where memory was refused. A refusal hands the block back as it was.
     #[inline]
@@ -135,8 +135,8 @@ impl HeapAllocator {
         self.grow(block, old, new)
     }
 
-    /// The first bytes of the block, up to the new size. The old size has to be the block's length. It is refused, in this
-    /// order, with `ShrinkWouldGrow` where the new size isn't smaller than the old one, and with `SizeIsZero` where the new
+    /// Returns the first bytes of the block, up to the new size. The old size has to be the block's length. It is refused, in
+    /// this order, with `ShrinkWouldGrow` where the new size isn't smaller than the old one, and with `SizeIsZero` where the new
     /// size is 0. A refusal hands the block back as it was. It takes no memory.
     #[inline]
     pub fn shrink(

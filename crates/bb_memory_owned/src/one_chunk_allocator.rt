@@ -2,8 +2,8 @@
 ghost use Rattle.std.specs.Prelude.{◌≡◌, [], List, ◌+◌, ◌-◌, ◌<◌, ◌≤◌, ◌%◌, ◌↔◌, ℕ, IsTrue, Some, Result, false, refl};
 ghost use Rattle.bb_memory_traits.specs.Chunk.{Region, IsRegion, region_at, region_end, Chunk, IsInside, chunk_end};
 ghost use Rattle.bb_memory_owned.specs.OneChunk.{Layout, AllocationError, AllocationGrowError, AllocationShrinkError, Frees};
-ghost use Rattle.bb_memory_owned.specs.OneChunk.{IsOneChunk, OneChunk, StandsFor, Takes, one_chunk_of, only_chunk, places_differ};
-ghost use Rattle.bb_memory_owned.specs.OneChunk.{covered, kept_is_live};
+ghost use Rattle.bb_memory_owned.specs.OneChunk.{IsOneChunk, OneChunk, StandsFor, Takes, one_chunk_of};
+ghost use Rattle.bb_memory_traits.proofs.OneChunkLists.{covered, kept_is_live, only_chunk, places_differ};
 ghost use Rattle.bb_memory_traits.specs.Object.{AnswersAll, AnswersOnce, GivesOnly, IsRun, Step, ResizableStep};
 ghost use Rattle.bb_memory_traits.specs.declared.allocator.Command.{Command};
 ghost use Rattle.bb_memory_traits.specs.declared.allocator.Reply.{Reply};
@@ -36,7 +36,7 @@ impl Model for OneChunkAllocator {
 }
 
 impl OneChunkAllocator {
-    /// An allocator over the region of `size` bytes at `start`, with nothing given. The start has to be greater than 0,
+    /// Makes an allocator over the region of `size` bytes at `start`, with nothing given. The start has to be greater than 0,
     /// and start plus size at most `usize::MAX`; [`OneChunkAllocator::can_make`] tests both.
     #[inline]
     pub fn new(start: usize, size: usize) -> Self
@@ -81,6 +81,7 @@ impl OneChunkAllocator {
         self.kept_place == Some(place)
     }
 
+    /// Returns the place where the region starts.
     #[inline]
     pub fn start_address(&self) -> usize
         ensures value { result ≡ self.now.region.start }
@@ -89,7 +90,7 @@ impl OneChunkAllocator {
         self.start
     }
 
-    /// How many bytes the region has.
+    /// Returns the size of the region in bytes.
     #[inline]
     pub fn size(&self) -> usize
         ensures { result ≡ self.now.region.size }
@@ -125,7 +126,7 @@ impl BaseAllocator for OneChunkAllocator {
 
     ghost frees = { λ one _ _ new. Frees one new };
 
-    /// A chunk at the least multiple of `layout.align()` from the region's start on, up to the region's end. It is
+    /// Allocates a chunk at the least multiple of `layout.align()` from the region's start on, up to the region's end. It is
     /// refused, with `OutOfMemory`, exactly where a chunk is out, or where that place is at or behind the region's end,
     /// or less than `layout.size()` bytes are left there. A refusal leaves the allocator as it was.
     #[inline(always)]
@@ -151,12 +152,11 @@ impl BaseAllocator for OneChunkAllocator {
     }
 
     fn stands_for_some_list(&self) {
-        // Proof hint: brings the type's invariant into scope.
+        // Proof hint, here and below: brings the type's invariant into scope.
         let _ = &self.start;
     }
 
     fn answers_fit(&self) {
-        // Proof hint: brings the type's invariant into scope.
         let _ = &self.start;
     }
 
@@ -167,9 +167,9 @@ impl BaseAllocator for OneChunkAllocator {
 }
 
 impl Allocator for OneChunkAllocator {
-    ghost Figures = { Region };
+    ghost ResizeKey = { Region };
 
-    ghost figures = { λ one. one.region };
+    ghost resize_key = { λ one. one.region };
 
     ghost reserved_at = { reserved_at };
 
@@ -181,7 +181,7 @@ impl Allocator for OneChunkAllocator {
 
     ghost shrinks = { λ _ place old new answer _. MayShrink place old new answer };
 
-    /// How many bytes there are from the chunk's place to the region's end. The place has to be that of the chunk that is out.
+    /// Returns the bytes from the chunk's place to the region's end. The place has to be that of the chunk that is out.
     #[inline]
     fn reserved(&self, place: usize) -> usize
         requires { self.now.kept ≡ Some place }
@@ -227,7 +227,6 @@ impl Allocator for OneChunkAllocator {
         old: Layout,
         new: Layout,
     ) -> Result<Chunk, AllocationShrinkError> {
-        // Proof hint: brings the type's invariant into scope.
         let _ = &self.start;
         if old.size() <= new.size() {
             return Err(AllocationShrinkError::ShrinkWouldGrow);
@@ -289,7 +288,7 @@ pub fn one_chunk_object_law()
         → (left : OneChunk) × IsOneChunk left × (left.region ≡ one.region) × StandsFor left new }
 {}
 
-/// The chunk from a place to an end. The place isn't 0, and the end isn't below it.
+/// Returns the chunk from a place to an end. The place isn't 0, and the end isn't below it.
 #[inline(always)]
 fn chunk_between(place: usize, end: usize) -> Chunk
     requires place { 0 < place }

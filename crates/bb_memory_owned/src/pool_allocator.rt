@@ -1,6 +1,6 @@
 //! Allocators that cut a region into buckets of one layout, and give a bucket for each request.
 ghost use Rattle.std.specs.Prelude.{◌≡◌, ◌≢◌, [], List, ℕ, ◌*◌, ◌/◌, ◌<◌, ◌≤◌, ◌^◌, ◌↔◌, IfOk};
-ghost use Rattle.std.specs.Prelude.{IfErr, IsTrue, Some, false, replicate, slice_get, remove};
+ghost use Rattle.std.specs.Prelude.{IfErr, IsTrue, Some, false, slice_get, remove};
 ghost use Rattle.bb_memory_traits.specs.Chunk.{region_at, Chunk, first_place};
 ghost use Rattle.bb_memory_traits.specs.PoolObject.{PoolGeometry, IsCut};
 ghost use Rattle.bb_memory_traits.specs.declared.allocator.AllocationError.{AllocationError};
@@ -22,7 +22,6 @@ use bb_memory_geometry::geometry::{Geometry, stride};
 use bb_memory_index_set::index_set::Counter;
 use bb_memory_index_set::index_set::words::Words;
 use bucket_pool::BucketPool;
-pub use bucket_pool::{run_pool, run_pool as run_fixed_pool};
 pub use fixed_size::FixedSizePoolAllocator;
 pub use laws::{pool_count_law, pool_geometry_law, pool_held_law, pool_object_law};
 use std::alloc::{Allocator as LanguageAllocator, Global};
@@ -75,7 +74,7 @@ pub type PoolAllocator<A> = BucketPool<Words<A>>;
 
 // Functions that have no part in index words stand on one instance, so that callers name the type alone.
 impl PoolAllocator<Global> {
-    /// A pool over the region of `size` bytes at `start`, cut into buckets of this layout, whose index words
+    /// Makes a pool over the region of `size` bytes at `start`, cut into buckets of this layout, whose index words
     /// [`UninitPoolAllocator::init`] makes. The start has to be greater than 0; start plus size, and the start rounded up to
     /// the bucket's alignment, at most `usize::MAX`; the bucket's size greater than 0; and the buckets fewer than
     /// `u32::MAX`. [`PoolAllocator::can_make`] tests all of it.
@@ -104,9 +103,9 @@ impl PoolAllocator<Global> {
         end.saturating_sub(first) / stride(bucket_layout) < u32::MAX as usize
     }
 
-    /// How many bytes are enough for the index words of a pool over a region of `size` bytes, wherever it starts, and for their
-    /// list: eight for each time that the bucket's size goes into the region's. The bucket's size has to be greater than 0, and
-    /// that quotient at most `u32::MAX`.
+    /// Returns the bytes that are enough for the index words of a pool over a region of `size` bytes, wherever it starts, and
+    /// for their list: eight for each time that the bucket's size goes into the region's. The bucket's size has to be greater
+    /// than 0, and that quotient at most `u32::MAX`.
     pub fn memory_size(bucket_layout: Layout, size: usize) -> usize
         requires filled { 0 < bucket_layout.size }
         requires quotient { size / bucket_layout.size < 2 ^ 32 }
@@ -120,7 +119,7 @@ impl PoolAllocator<Global> {
 }
 
 impl<A: LanguageAllocator> PoolAllocator<A> {
-    /// Where the first bucket is: the region's start, rounded up to the bucket's alignment.
+    /// Returns where the first bucket is: the region's start, rounded up to the bucket's alignment.
     #[inline]
     pub fn start_address(&self) -> usize
         ensures { result ≡ first_place self.now.pool.geometry.region self.now.pool.geometry.bucket }
@@ -128,9 +127,9 @@ impl<A: LanguageAllocator> PoolAllocator<A> {
         self.geometry.first()
     }
 
-    /// How many index words the last `allocate` or `allocate_zeroed` read: one where it looked for a free bucket in a pool that
-    /// has a bucket, and 0 before the first, and where the size or the alignment was refused. It is never more than an eighth of
-    /// [`PoolAllocator::memory_size`], nor than the number of buckets divided by 64, rounded up.
+    /// Returns the index words that the last `allocate` or `allocate_zeroed` read: one where it looked for a free bucket in a
+    /// pool that has a bucket, and 0 before the first, and where the size or the alignment was refused. It is never more than an
+    /// eighth of [`PoolAllocator::memory_size`], nor than the number of buckets divided by 64, rounded up.
     #[inline]
     pub fn last_reads(&self) -> u32
         ensures value { result ≡ self.now.reads }

@@ -1,4 +1,4 @@
--- What follows where a pool's flags and logs agree.
+-- Consequences of a pool's flags and logs agreeing.
 use Rattle.std.proofs.lemmas.Grind.{common_steps}
 use Rattle.std.proofs.Common.{◌≡◌, ℕ, ◌<◌, ◌≤◌, List, [], ◌∷◌, length, refl, sym, ap, ◌∙◌, subst}
 use Rattle.std.proofs.Common.{arith, Bool, true, false, Option, Some, None, inl, inr}

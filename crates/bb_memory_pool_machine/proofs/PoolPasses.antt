@@ -1,4 +1,4 @@
--- What a refused pass has met, and what a miss has.
+-- The buckets that a refused pass and a miss have met.
 use Rattle.std.proofs.lemmas.Grind.{common_steps}
 use Rattle.std.proofs.Common.{◌≡◌, ℕ, zero, suc, ◌+◌, ◌<◌, ◌≤◌, ◌⊎◌, List, [], ◌∷◌, length, refl, sym, ap, ◌∙◌, subst}
 use Rattle.std.proofs.Common.{arith, Option, Some, None, inl, inr}
@@ -74,7 +74,7 @@ taken_at_loss state step move bucket _ lost = absurd lost
 
 -- ONE PASS
 
--- the party is in a pass after these steps, from so many to so many of them
+-- the party is in a pass after each beginning of these steps between two lengths
 abbrev PassLasts : PoolState → List PoolStep → ℕ → ℕ → ℕ → Type 0
 PassLasts state steps party low last =
     (j : ℕ) → low ≤ j → j ≤ last → (at : ℕ) × IsInCall (pool_after state (take j steps)) party at

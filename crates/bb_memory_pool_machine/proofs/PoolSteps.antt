@@ -1,4 +1,4 @@
--- What a step of the pool machine does, by its kinds.
+-- Steps of the pool machine, by their kinds.
 use Rattle.std.proofs.Common.{◌≡◌, ◌≢◌, ℕ, ◌+◌, ◌<◌, ◌≤◌, List, [], ◌∷◌, length, refl}
 use Rattle.std.proofs.Common.{ap, ◌∙◌, Bool, true, false, Option, Some, None, inl, inr}
 use Rattle.std.specs.Prelude.{slice_get, ◌==◌, nat_lt, if◌then◌else◌, unwrap_or}

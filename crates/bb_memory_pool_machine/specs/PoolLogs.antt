@@ -81,7 +81,7 @@ pass_in log = fold (λ pass entry. pass_after pass entry.outcome) None log
 abbrev pub next_bucket : PoolLog → ℕ
 next_bucket log = unwrap_or (pass_in log) 0
 
--- the outcome of a loss at a bucket, of so many
+-- the outcome of a loss at a bucket of `buckets`
 abbrev pub loss_at : ℕ → ℕ → PoolOutcome
 loss_at buckets bucket = if nat_lt (bucket + 1) buckets then Loses bucket else RefusedAtLoss bucket
 

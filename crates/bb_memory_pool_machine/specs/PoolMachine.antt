@@ -24,7 +24,7 @@ pub record PoolScene : Type 0 where
   pub geometry : PoolGeometry
   pub parties : ℕ
 
--- the flags of so many buckets are free, and so many parties are idle
+-- all buckets' flags are free, and all parties idle
 abbrev pub all_free : ℕ → ℕ → PoolState
 all_free buckets parties = record { flags = replicate buckets Free; calls = replicate parties None }
 
@@ -45,13 +45,13 @@ IsDetached state bucket = (sender : ℕ) × IsFlag state bucket (DetachedBy send
 abbrev pub IsTaken : PoolState → ℕ → Type 0
 IsTaken state bucket = ((party : ℕ) × IsHolder state bucket party) ⊎ IsDetached state bucket
 
--- the party that the flag names, if it names one, is one of so many
+-- the party that the flag names, if it names one, is below `parties`
 abbrev pub NamesMade : ℕ → Flag → Type 0
 NamesMade parties Free = Unit {0}
 NamesMade parties (HeldBy party) = party < parties
 NamesMade parties (DetachedBy party) = party < parties
 
--- who holds a bucket of which this is the flag, or None
+-- the holder of a bucket with this flag, or None
 abbrev pub holder_in : Flag → Option ℕ
 holder_in (HeldBy party) = Some party
 holder_in _ = None
@@ -96,7 +96,7 @@ return_of state bucket = move_of (Gives bucket) (with_flag state bucket Free)
 abbrev pub passed : PoolState → PoolMove
 passed state = move_of Passed state
 
--- a party's exchange on the flag of a bucket, of which this is found
+-- a party's exchange on the flag of a bucket, which finds this
 abbrev pub try_flag : PoolState → ℕ → ℕ → Option Flag → PoolMove
 try_flag state party bucket (Some Free) = taking state party bucket
 try_flag state party bucket (Some _) = loss state party bucket

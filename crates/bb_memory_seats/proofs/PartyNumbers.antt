@@ -8,7 +8,7 @@ use Rattle.std.specs.List.{AllByRecursion}
 use Rattle.std.proofs.lemmas.Bool.{cases_eq}
 use Rattle.std.proofs.lemmas.Option.{same_Some}
 use Rattle.bb_memory_seats.specs.Seats.{HaveLogs, Numbered, times_in}
-use Rattle.bb_memory_lists.proofs.Contained.{HasOne, contains-behind, contains-first, one_of_figure}
+use Rattle.bb_memory_lists.proofs.ListEntries.{HasOne, contains-behind, contains-first, one_of_figure}
 use Rattle.bb_memory_seats.proofs.Seatings.{one_apart, one_same}
 
 -- ALL PARTIES IN ONE LIST

@@ -1,4 +1,4 @@
--- How parties stand in the views of seats: each in one, while seats are dealt, joined and split, and while one party steps.
+-- How parties stand in the views of seats: each in one, while seats are split, joined and split, and while one party steps.
 use Rattle.std.proofs.lemmas.Grind.{common_steps}
 use Rattle.std.proofs.Common.{◌≡◌, ◌≢◌, ℕ, zero, suc, ◌+◌, ◌-◌, ◌<◌, ◌≤◌, List, [], ◌∷◌, ◌++◌, length, set}
 use Rattle.std.proofs.Common.{replicate, Some, eqb, ne_eqb, eq-eqb, refl, sym, ap, ◌∙◌, subst, arith, inl, inr}
@@ -8,7 +8,7 @@ use mathlib.Core.Option.{some, some-injective, some-ne-none}
 use lib.ListN.{get_elem?}
 use Rattle.atomic_table.proofs.Lists.{at_set, at_snoc}
 use Rattle.bb_memory_lists.proofs.SliceGets.{slice_get-set_other, slice_get-set_same, slice_get-replicate}
-use Rattle.bb_memory_seats.specs.Seats.{AreSeated, HaveLogs, Numbered, Seat, alone, first_of, fresh_from, head_of}
+use Rattle.bb_memory_seats.specs.Seats.{AreSeated, HaveLogs, Numbered, View, alone, first_of, fresh_from, head_of}
 use Rattle.bb_memory_seats.specs.Seats.{numbered, one_if, others_of, seat_of, standing_for, tail_of, times_in, total}
 
 -- HOW OFTEN A PARTY STANDS IN VIEWS
@@ -42,7 +42,7 @@ module _ {V : Type 0} (figure : V → ℕ) where
   total-two (first ∷ views) (suc seat) (suc other) view there apart at at_other =
       let rest = total-two views seat other view there (λ same. apart (ap suc same)) at at_other in omega arith
 
-abbrev standing : {S E : Type 0} → ℕ → Seat S E → ℕ
+abbrev standing : {S E : Type 0} → ℕ → View S E → ℕ
 standing number view = times_in number view.parties
 
 times_in-append : {E : Type 0} (number : ℕ) (xs ys : List (Numbered E)) →
@@ -101,8 +101,8 @@ times_in-parts number (party ∷ parties) = omega arith
 -- ONE STEP
 
 -- some seat of a table whose parties are seated
-module _ {S E : Type 0} (made : ℕ) (logs : List (List E)) (views : List (Seat S E)) (seat : ℕ) where
-  abbrev Known : Seat S E → Type 0
+module _ {S E : Type 0} (made : ℕ) (logs : List (List E)) (views : List (View S E)) (seat : ℕ) where
+  abbrev Known : View S E → Type 0
   Known view = HaveLogs made logs view.parties
 
   -- the log of the one party of a seat becomes another, whatever is detached there, before and after
@@ -110,12 +110,12 @@ module _ {S E : Type 0} (made : ℕ) (logs : List (List E)) (views : List (Seat 
       AreSeated made logs views → get_elem? views seat ≡ some (seat_of scene (numbered number log ∷ []) before) →
       AreSeated made (slice_set logs number new) (set views seat (seat_of scene (numbered number new ∷ []) after))
   seated_with scene number log new before after seated at =
-      let old : Seat S E = seat_of scene (numbered number log ∷ []) before in
-      let then : Seat S E = seat_of scene (numbered number new ∷ []) after in
+      let old : View S E = seat_of scene (numbered number log ∷ []) before in
+      let then : View S E = seat_of scene (numbered number new ∷ []) after in
       let mine = seated.known seat old at in record {
         known = λ other found there. elim (at_set views seat other then found there) [
           | inl here ↦
-              subst (λ (v : Seat S E). HaveLogs made (slice_set logs number new) v.parties) here.1
+              subst (λ (v : View S E). HaveLogs made (slice_set logs number new) v.parties) here.1
               (mine.0, slice_get-set_same logs number new log mine.1, tt)
           | inr elsewhere ↦
               let two = total-two (standing number) views other seat found old elsewhere.0 elsewhere.1 at in
@@ -137,25 +137,25 @@ module _ {S E : Type 0} (made : ℕ) (logs : List (List E)) (views : List (Seat 
   -- SPLITS AND JOINS
 
   -- where a view is set whose parties have their logs, those of each have theirs
-  set_known : (new : Seat S E) → AreSeated made logs views → Known new → (other : ℕ) (found : Seat S E) →
+  set_known : (new : View S E) → AreSeated made logs views → Known new → (other : ℕ) (found : View S E) →
       get_elem? (set views seat new) other ≡ some found → Known found
   set_known new seated is other found there = grind (arith, common_steps, at_set)
 
   -- a view is split in two where each party goes to one of the two
-  pub seated_split : (view left right : Seat S E) →
+  pub seated_split : (view left right : View S E) →
       ((number : ℕ) → times_in number left.parties + times_in number right.parties ≡ times_in number view.parties) →
       (Known view → Known left × Known right) → AreSeated made logs views → get_elem? views seat ≡ some view →
       AreSeated made logs (set views seat left ++ right ∷ [])
   seated_split view left right count parts seated at = grind (arith, common_steps, at_snoc, set_known, total-push, total-set)
 
-  pub seated_others : (view : Seat S E) → AreSeated made logs views → get_elem? views seat ≡ some view →
+  pub seated_others : (view : View S E) → AreSeated made logs views → get_elem? views seat ≡ some view →
       AreSeated made logs (set views seat (others_of view) ++ first_of view ∷ [])
   seated_others view = seated_split view (others_of view) (first_of view)
       (λ number. let parts = times_in-parts number view.parties in omega arith)
       (λ have. let parts = have-parts made logs view.parties have in (parts.1, parts.0))
 
   -- two views are joined: one has the parties of both, and the other none
-  pub seated_joined : (view : Seat S E) (other : ℕ) (guest : Seat S E) (scene none : S) (items : List ℕ) →
+  pub seated_joined : (view : View S E) (other : ℕ) (guest : View S E) (scene none : S) (items : List ℕ) →
       let both = seat_of scene (guest.parties ++ view.parties) items in
       AreSeated made logs views → get_elem? views seat ≡ some view → other ≢ seat →
       get_elem? (set views seat both) other ≡ some guest →
@@ -164,19 +164,19 @@ module _ {S E : Type 0} (made : ℕ) (logs : List (List E)) (views : List (Seat 
       grind (arith, common_steps, at_set, have-append, set_known, total-set, times_in-append)
 
   -- a view becomes another with the same parties
-  pub seated_again : (view : Seat S E) (scene : S) → AreSeated made logs views → get_elem? views seat ≡ some view →
+  pub seated_again : (view : View S E) (scene : S) → AreSeated made logs views → get_elem? views seat ≡ some view →
       AreSeated made logs (set views seat (standing_for scene view.parties))
   seated_again view scene seated at = grind (arith, common_steps, set_known, total-set)
 
   -- no party stands twice in one view
-  pub once_in : (view : Seat S E) → AreSeated made logs views → get_elem? views seat ≡ some view → (number : ℕ) →
+  pub once_in : (view : View S E) → AreSeated made logs views → get_elem? views seat ≡ some view → (number : ℕ) →
       number < made → times_in number view.parties ≤ 1
   once_in view seated at number below =
       let within = total-at (standing number) views seat view at in
       let one = seated.once number below in omega arith
 
 -- a view more, which stands for no party
-pub seated_entered : {S E : Type 0} (made : ℕ) (logs : List (List E)) (views : List (Seat S E)) (view : Seat S E) →
+pub seated_entered : {S E : Type 0} (made : ℕ) (logs : List (List E)) (views : List (View S E)) (view : View S E) →
     HaveLogs made logs view.parties → ((number : ℕ) → times_in number view.parties ≡ 0) → AreSeated made logs views →
     AreSeated made logs (views ++ view ∷ [])
 seated_entered {S = S} {E = E} made logs views view have none seated = grind (arith, common_steps, at_snoc, total-push)
@@ -223,7 +223,7 @@ pub fresh_more : {E : Type 0} (number count : ℕ) → number < count →
     fresh_from {E = E} number (count - number) ≡ numbered number [] ∷ fresh_from (number + 1) (count - (number + 1))
 fresh_more number count below = let is : count - number ≡ suc (count - (number + 1)) = omega arith in ap (fresh_from number) is
 
--- what was dealt stands in its place, with one more
+-- what was split stands in its place, with one more
 pub given_more : {A : Type 0} (f : ℕ → A) (xs : List A) (x : A) →
     ((k : ℕ) → k < length xs → slice_get xs k ≡ Some (f k)) → x ≡ f (length xs) →
     (k : ℕ) → k < length xs + 1 → slice_get (xs ++ x ∷ []) k ≡ Some (f k)

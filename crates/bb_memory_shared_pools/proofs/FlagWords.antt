@@ -95,7 +95,7 @@ exchange_leaves word flag taken =
 
 -- STEPS AT THE WORD OF A BUCKET
 
--- what such a step tells of the bucket it tells of the bucket of its word
+-- the effect of such a step at the bucket is that at the bucket of its word
 pub at_word : (holds : State ℕ SeatView → Type 0) (slots seat bucket word : ℕ) (me : Me ℕ SeatView) (becomes : ℕ → ℕ)
     (tells : ℕ → ℕ → Me ℕ SeatView → Type 0) → word ≡ word_of bucket →
     Allows holds slots seat me (word_of bucket) becomes (tells bucket) →

@@ -2,7 +2,7 @@ mod FlagWords
 mod SharedPoolCaching
 mod SharedPoolDetached
 mod SharedPoolDetaching
-mod SharedPoolGatherings
+mod SharedPoolMerges
 mod SharedPoolKeeps
 pub mod SharedPoolLaws
 mod SharedPoolMeetings

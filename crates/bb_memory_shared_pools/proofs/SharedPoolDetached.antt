@@ -1,4 +1,4 @@
--- What is detached: which buckets stand in the views of seats, and how they stay detached while parties step.
+-- Detached buckets: which stand in the views of seats, and how they stay detached while parties step.
 use Rattle.std.proofs.Common.{◌≡◌, ◌≢◌, ℕ, zero, suc, ◌+◌, ◌≤◌, List, [], ◌∷◌, ◌++◌, set, Some}
 use Rattle.std.proofs.Common.{refl, sym, ap, ◌∙◌, subst, arith, inl, inr}
 use Rattle.std.specs.Prelude.{slice_get, slice_set}

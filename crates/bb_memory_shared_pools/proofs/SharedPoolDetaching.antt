@@ -13,9 +13,8 @@ use Rattle.bb_memory_pool_machine.specs.declared.steps.pool.PoolOutcome.TheVaria
 use Rattle.bb_memory_pool_machine.proofs.PoolLogFacts.{detached_not_held, held_not_detached, interleaved_log, named_from_log}
 use Rattle.bb_memory_pool_machine.proofs.PoolLogSteps.{detach_agrees, attach_agrees, give_detached_agrees}
 use Rattle.bb_memory_lists.proofs.SliceGets.{length-set_at, slice_get-set_same}
-use Rattle.bb_memory_shared_pools.specs.SharedPoolRule.{as_word, bucket_of, word_of, SeatView, WordsAndLogsAgree}
-use Rattle.bb_memory_shared_pools.specs.SharedPoolRule.{HasGained, TellsDetach, detaches, attaches, returns_detached}
-use Rattle.bb_memory_shared_pools.specs.SharedPoolRule.{sees_detached}
+use Rattle.bb_memory_shared_pools.specs.SharedPoolRule.{as_word, bucket_of, word_of, SeatView, WordsAndLogsAgree, AfterGain}
+use Rattle.bb_memory_shared_pools.specs.SharedPoolRule.{AfterDetach, detaches, attaches, returns_detached, sees_detached}
 use Rattle.bb_memory_seats.specs.Seats.{alone, alone_with, carrying, number_of, view_log}
 use Rattle.bb_memory_shared_pools.specs.SharedPool.{attach_entry, return_detached_entry}
 use Rattle.bb_memory_shared_pools.proofs.FlagWords.{at_word, changed, found_in}
@@ -32,7 +31,7 @@ longer_interleaved scene flags logs party log entry at agree =
     interleaved_log scene flags (with_entry logs party log entry) party (log ++ entry ∷ []) agree
     (slice_get-set_same logs party (log ++ entry ∷ []) log at)
 
--- A store of a word at a bucket, by one party, which tells this of the bucket of the word.
+-- A store of a word at a bucket, by one party, with this effect at the bucket of the word.
 module _ (scene : PoolScene) (slots seat word bucket stored new : ℕ) (old me : Me ℕ SeatView)
     (tells : Me ℕ SeatView → ℕ → Me ℕ SeatView → Type 0) (there : word ≡ word_of bucket) (is : me ≡ old)
     (named : new ≡ stored)
@@ -50,7 +49,7 @@ module _ (scene : PoolScene) (slots seat word bucket stored new : ℕ) (old me :
 
 detaches_one : (scene : PoolScene) (slots seat party bucket : ℕ) (log : PoolLog) → 1 < scene.parties → IsHeldAfter log bucket →
     Allows (WordsAndLogsAgree scene) slots seat (alone scene party log, []) (word_of bucket) (λ _. as_word (DetachedBy party))
-    (λ _. TellsDetach scene party log bucket)
+    (λ _. AfterDetach scene party log bucket)
 detaches_one scene slots seat party bucket log others held state rule homes at fits =
     let old : SeatView = alone scene party log in
     let mine = rule.seated.known seat old at in
@@ -85,7 +84,7 @@ pub detaches_as : (scene : PoolScene) (slots seat word party bucket new : ℕ) (
     Allows (WordsAndLogsAgree scene) slots seat me word (λ _. new) (λ _. detaches (step slots word new 0 none) me new)
 detaches_as scene slots seat word party bucket new log me there is named others held =
     stores_as scene slots seat word bucket (as_word (DetachedBy party)) new (alone scene party log, []) me
-    (λ m b. TellsDetach m.0.scene (number_of m.0) (view_log m.0) b) there is named
+    (λ m b. AfterDetach m.0.scene (number_of m.0) (view_log m.0) b) there is named
     (detaches_one scene slots seat party bucket log others held)
 
 -- a load at a seat at which the bucket is detached
@@ -121,7 +120,7 @@ module _ (scene : PoolScene) (slots seat party bucket : ℕ) (log : PoolLog) (en
     LogsAgree scene (slice_set flags bucket flag) (with_entry logs party log entry))
   where
     ends_one : Allows (WordsAndLogsAgree scene) slots seat (alone_with scene party log bucket, []) (word_of bucket)
-        (λ _. as_word flag) (λ _. HasGained scene party log (entry ∷ []) bucket)
+        (λ _. as_word flag) (λ _. AfterGain scene party log (entry ∷ []) bucket)
     ends_one state rule homes at fits =
         let old : SeatView = alone_with scene party log bucket in
         let mine = rule.seated.known seat old at in
@@ -163,7 +162,7 @@ module _ (scene : PoolScene) (slots seat word party bucket new : ℕ) (log : Poo
     attaches_as named =
         let entry : PoolEntry = entry_of (Attach party bucket) (Attaches bucket) in
         stores_as scene slots seat word bucket (as_word (HeldBy party)) new (alone_with scene party log bucket, []) me
-        (λ m b. HasGained m.0.scene (number_of m.0) (view_log m.0) (attach_entry (number_of m.0) b) b) there is named
+        (λ m b. AfterGain m.0.scene (number_of m.0) (view_log m.0) (attach_entry (number_of m.0) b) b) there is named
         (ends_one scene slots seat party bucket log entry (HeldBy party) idle refl (λ flags logs agree made at moving.
         attach_agrees scene flags logs party log bucket agree made at idle moving))
 
@@ -173,6 +172,6 @@ module _ (scene : PoolScene) (slots seat word party bucket new : ℕ) (log : Poo
     returns_detached_as named =
         let entry : PoolEntry = entry_of (GiveBackDetached party bucket) (Gives bucket) in
         stores_as scene slots seat word bucket 0 new (alone_with scene party log bucket, []) me
-        (λ m b. HasGained m.0.scene (number_of m.0) (view_log m.0) (return_detached_entry (number_of m.0) b) b) there is named
+        (λ m b. AfterGain m.0.scene (number_of m.0) (view_log m.0) (return_detached_entry (number_of m.0) b) b) there is named
         (ends_one scene slots seat party bucket log entry Free idle refl (λ flags logs agree made at moving.
         give_detached_agrees scene flags logs party log bucket agree made at idle moving))

@@ -18,8 +18,9 @@ use Rattle.bb_memory_pool_machine.proofs.PoolLogFacts.{free_not_held, held_not_d
 use Rattle.bb_memory_pool_machine.proofs.PoolLogFacts.{taken_is_held_alone, length-flags, interleaved_log, may_be_found}
 use Rattle.bb_memory_lists.proofs.SliceGets.{slice_get-set_same, length-set_at}
 use Rattle.bb_memory_shared_pools.specs.SharedPoolRule.{as_word, bucket_of, word_of, words_of, IsSeatOf, SeatView, finds}
-use Rattle.bb_memory_shared_pools.specs.SharedPoolRule.{WordsAndLogsAgree, HasMissedAt, TellsHeld, TellsLookAt, TellsReturn}
-use Rattle.bb_memory_shared_pools.specs.SharedPoolRule.{TellsTry, TellsTryAt, Telling, all_parties, at_flag, returns, tells_of}
+use Rattle.bb_memory_shared_pools.specs.SharedPoolRule.{WordsAndLogsAgree, AfterMiss, AfterHolderLoad, AfterLook, AfterReturn}
+use Rattle.bb_memory_shared_pools.specs.SharedPoolRule.{AfterTry, AfterTryAt, StepEffect, all_parties, at_flag, returns}
+use Rattle.bb_memory_shared_pools.specs.SharedPoolRule.{effect_of}
 use Rattle.bb_memory_seats.specs.Seats.{alone, number_of, standing_for, view_log}
 use Rattle.bb_memory_shared_pools.proofs.FlagWords.{at_word, changed, exchange_leaves, exchanged, found_in, made_again}
 use Rattle.bb_memory_shared_pools.proofs.FlagWords.{taken_word, word_names}
@@ -64,7 +65,7 @@ entered scene state rule seat party log entry words flags at agree are keep =
           rule.detached keep;
     }
 
--- what it tells: the log is longer, and interleaved with others'
+-- its effect: the log is longer, and interleaved with others'
 told : (scene : PoolScene) (flags : List Flag) (logs : List PoolLog) (party : ℕ) (log : PoolLog) (entry : PoolEntry) →
     HasLog logs party log → LogsAgree scene flags (with_entry logs party log entry) →
     IsSeatOf scene party (log ++ entry ∷ []) (alone scene party (log ++ entry ∷ []), [])
@@ -77,13 +78,13 @@ told scene flags logs party log entry at agree = record {
 -- STEPS AT A FLAG
 
 -- what a step may do that found a word, which then becomes another
-abbrev Allowed : (ℕ → ℕ) → Telling → PoolScene → State ℕ SeatView → ℕ → ℕ → Me ℕ SeatView → ℕ → Type 0
+abbrev Allowed : (ℕ → ℕ) → StepEffect → PoolScene → State ℕ SeatView → ℕ → ℕ → Me ℕ SeatView → ℕ → Type 0
 Allowed becomes tells scene state seat bucket me found = (new : SeatView) × (act : Act ℕ) × Valid state.homes me.1 act
     × WordsAndLogsAgree scene (stepped state (word_of bucket) (becomes found) seat me.1 new act)
-    × tells_of tells me bucket found (new, carried_after me.1 act)
+    × effect_of tells me bucket found (new, carried_after me.1 act)
 
 -- A step of a party that stands alone in its seat, at the flag of a bucket.
-module _ (tells : Telling) (scene : PoolScene) (seat party bucket : ℕ) (log : PoolLog) where
+module _ (tells : StepEffect) (scene : PoolScene) (seat party bucket : ℕ) (log : PoolLog) where
   -- where the flag is so
   abbrev AllowedAt : (ℕ → ℕ) → Flag → Type 0
   AllowedAt becomes flag = (state : State ℕ SeatView) (rule : WordsAndLogsAgree scene state) →
@@ -165,30 +166,30 @@ module _ (tells : Telling) (scene : PoolScene) (seat party bucket : ℕ) (log : 
   either_flag becomes free taken (DetachedBy sender) = taken (DetachedBy sender) refl
 
 -- A step may be made at a bucket that there is, where it may be made at each flag.
-module _ (becomes : ℕ → ℕ) (tells : Telling) (scene : PoolScene) (slots seat word party bucket : ℕ) (log : PoolLog)
+module _ (becomes : ℕ → ℕ) (tells : StepEffect) (scene : PoolScene) (slots seat word party bucket : ℕ) (log : PoolLog)
     (me : Me ℕ SeatView) (there : word ≡ word_of bucket) (is : me ≡ (alone scene party log, []))
     (below : bucket < scene.geometry.buckets)
     (at_flags : (flag : Flag) → AllowedAt tells scene seat party bucket log becomes flag)
   where
     at_bucket : Allows (WordsAndLogsAgree scene) slots seat (alone scene party log, []) (word_of bucket) becomes
-        (tells_of tells (alone scene party log, []) bucket)
+        (effect_of tells (alone scene party log, []) bucket)
     at_bucket state rule homes at fits =
         let flag = flag_at scene state rule bucket below in
         let found = found_in state.words rule.flags bucket flag.0 rule.words flag.1 in
         subst (Allowed becomes tells scene state seat bucket (alone scene party log, [])) (sym found)
         (at_flags flag.0 state rule at flag.1)
 
-    steps_as : Allows (WordsAndLogsAgree scene) slots seat me word becomes (tells_of tells me (bucket_of word))
-    steps_as = at_word (WordsAndLogsAgree scene) slots seat bucket word me becomes (tells_of tells me) there
+    steps_as : Allows (WordsAndLogsAgree scene) slots seat me word becomes (effect_of tells me (bucket_of word))
+    steps_as = at_word (WordsAndLogsAgree scene) slots seat bucket word me becomes (effect_of tells me) there
         (subst (λ (m : Me ℕ SeatView). Allows (WordsAndLogsAgree scene) slots seat m (word_of bucket) becomes
-        (tells_of tells m bucket)) (sym is) at_bucket)
+        (effect_of tells m bucket)) (sym is) at_bucket)
 
 -- EXCHANGES AND LOADS
 
 -- an idle party misses a taken bucket, by an exchange or by a load
-misses_at : (tells : Telling) (scene : PoolScene) (seat party bucket : ℕ) (log : PoolLog) (becomes : ℕ → ℕ) →
+misses_at : (tells : StepEffect) (scene : PoolScene) (seat party bucket : ℕ) (log : PoolLog) (becomes : ℕ → ℕ) →
     pass_in log ≡ None → ((flag : Flag) → is_taken flag ≡ true → becomes (as_word flag) ≡ as_word flag) →
-    ((found : ℕ) (new : Me ℕ SeatView) → found ≢ 0 → HasMissedAt scene party log bucket new →
+    ((found : ℕ) (new : Me ℕ SeatView) → found ≢ 0 → AfterMiss scene party log bucket new →
     tells scene party log bucket found new) →
     (flag : Flag) → is_taken flag ≡ true → AllowedAt tells scene seat party bucket log becomes flag
 misses_at tells scene seat party bucket log becomes idle leaves told_miss flag taken =
@@ -204,69 +205,70 @@ module _ (scene : PoolScene) (slots seat word party bucket : ℕ) (log : PoolLog
   where
     -- the party may try the bucket that is next
     tries : next_bucket log ≡ bucket → Allows (WordsAndLogsAgree scene) slots seat me word (exchanged (as_word (HeldBy party)))
-        (tells_of TellsTry me (bucket_of word))
+        (effect_of AfterTry me (bucket_of word))
     tries next =
         let own : ℕ = as_word (HeldBy party) in
         let loss : PoolEntry = entry_of (Try party) (loss_at scene.geometry.buckets bucket) in
-        steps_as (exchanged own) TellsTry scene slots seat word party bucket log me there is below
-        (either_flag TellsTry scene seat party bucket log (exchanged own)
-        (takes_free TellsTry scene seat party bucket log (entry_of (Try party) (Takes bucket))
+        steps_as (exchanged own) AfterTry scene slots seat word party bucket log me there is below
+        (either_flag AfterTry scene seat party bucket log (exchanged own)
+        (takes_free AfterTry scene seat party bucket log (entry_of (Try party) (Takes bucket))
         (λ flags logs agree made at free. take_agrees scene flags logs party log bucket agree made at next free)
         (λ new free. (λ _. record { seat = new; free = free }, λ not_free. absurd (not_free refl))))
-        (λ flag taken. loses_taken TellsTry scene seat party bucket log (exchanged own) flag taken
+        (λ flag taken. loses_taken AfterTry scene seat party bucket log (exchanged own) flag taken
         (exchange_leaves own flag taken) loss
         (λ flags logs agree made at there. lose_agrees scene flags logs party log bucket agree made at next flag taken there)
         (λ new held. (λ zero_found. absurd (taken_word flag taken zero_found), λ _. record { seat = new; held = held }))))
 
     -- an idle party may try any bucket
     tries_at : pass_in log ≡ None → Allows (WordsAndLogsAgree scene) slots seat me word (exchanged (as_word (HeldBy party)))
-        (tells_of TellsTryAt me (bucket_of word))
+        (effect_of AfterTryAt me (bucket_of word))
     tries_at idle =
         let own : ℕ = as_word (HeldBy party) in
         let taking : PoolEntry = entry_of (TryAt party bucket) (Takes bucket) in
-        steps_as (exchanged own) TellsTryAt scene slots seat word party bucket log me there is below
-        (either_flag TellsTryAt scene seat party bucket log (exchanged own)
-        (takes_free TellsTryAt scene seat party bucket log taking
+        steps_as (exchanged own) AfterTryAt scene slots seat word party bucket log me there is below
+        (either_flag AfterTryAt scene seat party bucket log (exchanged own)
+        (takes_free AfterTryAt scene seat party bucket log taking
         (λ flags logs agree made at free. take_at_agrees scene flags logs party log bucket agree made at idle free)
         (λ new free. (
           λ _. record { ended = record { seat = new; idle = idle_after_one log taking idle refl }; free = free },
           λ not_free. absurd (not_free refl),
         )))
-        (misses_at TellsTryAt scene seat party bucket log (exchanged own) idle (exchange_leaves own)
+        (misses_at AfterTryAt scene seat party bucket log (exchanged own) idle (exchange_leaves own)
         (λ found new some missed. (λ zero_found. absurd (some zero_found), λ _. missed))))
 
     -- by the word that names the party
     module _ (own : ℕ) (named : own ≡ as_word (HeldBy party)) where
       pub tries_as : next_bucket log ≡ bucket → Allows (WordsAndLogsAgree scene) slots seat me word (exchanged own)
-          (at_flag TellsTry (step slots word 0 own none) me)
+          (at_flag AfterTry (step slots word 0 own none) me)
       tries_as next = subst (λ (w : ℕ). Allows (WordsAndLogsAgree scene) slots seat me word (exchanged w)
-          (tells_of TellsTry me (bucket_of word))) (sym named) (tries next)
+          (effect_of AfterTry me (bucket_of word))) (sym named) (tries next)
 
       pub tries_at_as : pass_in log ≡ None → Allows (WordsAndLogsAgree scene) slots seat me word (exchanged own)
-          (at_flag TellsTryAt (step slots word 0 own none) me)
+          (at_flag AfterTryAt (step slots word 0 own none) me)
       tries_at_as idle = subst (λ (w : ℕ). Allows (WordsAndLogsAgree scene) slots seat me word (exchanged w)
-          (tells_of TellsTryAt me (bucket_of word))) (sym named) (tries_at idle)
+          (effect_of AfterTryAt me (bucket_of word))) (sym named) (tries_at idle)
 
     -- and look at it before
     pub looks_at_as : pass_in log ≡ None →
-        Allows (WordsAndLogsAgree scene) slots seat me word (λ found. found) (at_flag TellsLookAt (step slots word 0 0 none) me)
-    looks_at_as idle = steps_as (λ found. found) TellsLookAt scene slots seat word party bucket log me there is below
-        (either_flag TellsLookAt scene seat party bucket log (λ found. found)
-        (stays TellsLookAt scene seat party bucket log Free (λ flags logs agree at free. (
+        Allows (WordsAndLogsAgree scene) slots seat me word (λ found. found) (at_flag AfterLook (step slots word 0 0 none) me)
+    looks_at_as idle = steps_as (λ found. found) AfterLook scene slots seat word party bucket log me there is below
+        (either_flag AfterLook scene seat party bucket log (λ found. found)
+        (stays AfterLook scene seat party bucket log Free (λ flags logs agree at free. (
           λ _. record {
             seat = record { is = refl; interleaved = interleaved_log scene flags logs party log agree at };
             idle = idle;
           },
           λ not_free. absurd (not_free refl),
         )))
-        (misses_at TellsLookAt scene seat party bucket log (λ found. found) idle (λ flag taken. refl)
+        (misses_at AfterLook scene seat party bucket log (λ found. found) idle (λ flag taken. refl)
         (λ found new some missed. (λ zero_found. absurd (some zero_found), λ _. missed))))
 
     -- each party may look whether it holds a bucket
     pub recognizes_as :
-        Allows (WordsAndLogsAgree scene) slots seat me word (λ found. found) (at_flag TellsHeld (step slots word 0 0 none) me)
-    recognizes_as = steps_as (λ found. found) TellsHeld scene slots seat word party bucket log me there is below (λ flag.
-        stays TellsHeld scene seat party bucket log flag (λ flags logs agree at there. (
+        Allows (WordsAndLogsAgree scene) slots seat me word (λ found. found)
+        (at_flag AfterHolderLoad (step slots word 0 0 none) me)
+    recognizes_as = steps_as (λ found. found) AfterHolderLoad scene slots seat word party bucket log me there is below (λ flag.
+        stays AfterHolderLoad scene seat party bucket log flag (λ flags logs agree at there. (
           refl,
           (
             λ named. log_from_named scene flags logs party log bucket agree at
@@ -308,7 +310,7 @@ finds_as scene slots word bucket there below =
 
 returns_one : (scene : PoolScene) (slots seat party bucket : ℕ) (log : PoolLog) → IsHeldAfter log bucket →
     Allows (WordsAndLogsAgree scene) slots seat (alone scene party log, []) (word_of bucket) (λ _. 0)
-    (λ _. TellsReturn scene party log bucket)
+    (λ _. AfterReturn scene party log bucket)
 returns_one scene slots seat party bucket log held state rule homes at fits =
     let mine = rule.seated.known seat (alone scene party log) at in
     let entry : PoolEntry = entry_of (GiveBack party bucket) (Gives bucket) in
@@ -330,7 +332,7 @@ pub returns_as : (scene : PoolScene) (slots seat word party bucket : ℕ) (log :
     Allows (WordsAndLogsAgree scene) slots seat me word (λ _. 0) (λ _. returns (step slots word 0 0 none) me 0)
 returns_as scene slots seat word party bucket log me there is held =
     at_word (WordsAndLogsAgree scene) slots seat bucket word me (λ _. 0)
-    (λ b _. TellsReturn me.0.scene (number_of me.0) (view_log me.0) b) there
+    (λ b _. AfterReturn me.0.scene (number_of me.0) (view_log me.0) b) there
     (subst (λ (m : Me ℕ SeatView). Allows (WordsAndLogsAgree scene) slots seat m (word_of bucket) (λ _. 0)
-    (λ _. TellsReturn m.0.scene (number_of m.0) (view_log m.0) bucket)) (sym is)
+    (λ _. AfterReturn m.0.scene (number_of m.0) (view_log m.0) bucket)) (sym is)
     (returns_one scene slots seat party bucket log held))

@@ -1,4 +1,4 @@
--- What a party's history says.
+-- Histories of a party.
 use Rattle.std.proofs.Common.{◌≡◌, ◌≢◌, ℕ, zero, suc, ◌+◌, ◌<◌, ◌≤◌, Bool, true, false, List, [], ◌∷◌, ◌++◌, Some, take, sym, ◌∙◌}
 use Rattle.std.proofs.Common.{ap, subst, add-one, append_assoc, arith, inl, inr, ◌⊎◌}
 use Rattle.std.specs.Prelude.{filter, slice_get, if◌then◌else◌}

@@ -1,4 +1,4 @@
--- What a load by a seat of several parties finds: how they agree with the flags, and what two of them have of one another.
+-- A load by a seat of several parties: how they agree with the flags, and what two of them have of one another.
 use Rattle.std.proofs.Common.{◌≡◌, ℕ, List, [], ◌∷◌, set, get_or, refl, sym, subst}
 use Rattle.std.proofs.lemmas.List.{set-get_or}
 use mathlib.Core.Option.{none, some}
@@ -9,12 +9,13 @@ use Rattle.bb_memory_pool_machine.specs.PoolMachine.{PoolScene}
 use Rattle.bb_memory_pool_machine.specs.PoolLogs.{PoolLog}
 use Rattle.bb_memory_pool_machine.proofs.PoolLogFacts.{logs_apart, interleaved_logs}
 use Rattle.bb_memory_seats.specs.Seats.{numbered, standing_for}
-use Rattle.bb_memory_shared_pools.specs.SharedPoolRule.{NumberedLog, SeatView, WordsAndLogsAgree, TellsMeeting, TellsTwo, meets}
+use Rattle.bb_memory_shared_pools.specs.SharedPoolRule.{NumberedLog, SeatView, WordsAndLogsAgree, AfterMeetingLoad, AfterMeeting}
+use Rattle.bb_memory_shared_pools.specs.SharedPoolRule.{meets}
 use Rattle.bb_memory_seats.proofs.Seatings.{once_in, two_parties}
 
--- what the rule tells a seat
+-- the rule, by the view of a seat
 told_by : (scene : PoolScene) (state : State ℕ SeatView) (rule : WordsAndLogsAgree scene state) (seat : ℕ)
-    (view : SeatView) → get_elem? state.views seat ≡ some view → TellsMeeting scene view.parties
+    (view : SeatView) → get_elem? state.views seat ≡ some view → AfterMeetingLoad scene view.parties
 told_by scene state rule seat view at = record {
   flags = rule.flags;
   logs = rule.logs;
@@ -54,7 +55,7 @@ meets_as scene slots seat word parties me is =
 
 -- what a meeting of two has found
 pub two_met : (scene : PoolScene) (number : ℕ) (log : PoolLog) (other : ℕ) (other_log : PoolLog) →
-    TellsMeeting scene (numbered other other_log ∷ numbered number log ∷ []) → TellsTwo scene number log other other_log
+    AfterMeetingLoad scene (numbered other other_log ∷ numbered number log ∷ []) → AfterMeeting scene number log other other_log
 two_met scene number log other other_log told =
     let have = told.theirs in
     let differ = two_parties (numbered other other_log) (numbered number log) [] (told.once other have.0) in

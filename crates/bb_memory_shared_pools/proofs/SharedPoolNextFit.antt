@@ -12,7 +12,7 @@ use Rattle.bb_memory_seats.specs.Seats.{number_of, view_log}
 use Rattle.bb_memory_shared_pools.specs.SharedPoolNextFit.{probed, miss_at, misses, start_of, refused_search, taking_at}
 use Rattle.bb_memory_shared_pools.specs.SharedPoolNextFit.{taking_search}
 use Rattle.bb_memory_shared_pools.specs.SharedPoolRule.{IsSeatOfIdle, SeatView}
-use Rattle.bb_memory_shared_pools.specs.SharedPoolRule.{HasMissedAt, HasRefused, HasGained, HasTakenFrom, IsInSearch}
+use Rattle.bb_memory_shared_pools.specs.SharedPoolRule.{AfterMiss, AfterRefusal, AfterGain, AfterSearchWin, IsInSearch}
 use Rattle.bb_memory_shared_pools.proofs.SharedPoolRequests.{HasAsked}
 use Rattle.bb_memory_pool_machine.proofs.PoolHolders.{held_through}
 use Rattle.bb_memory_shared_pools.specs.declared.shared_pool.party.Hint.{Hint}
@@ -130,7 +130,7 @@ held_by_search buckets party first probe taken bucket log there =
 
 -- ONE SEARCH
 
--- the seat of an idle party, told by the seat's own number and log
+-- the seat of an idle party, by the seat's own number and log
 pub idle_where : (scene : PoolScene) (number : ℕ) (log : PoolLog) (me : Me ℕ SeatView) → IsSeatOfIdle scene number log me →
     IsSeatOfIdle scene (number_of me.0) (view_log me.0) me
 idle_where scene number log me is = subst (λ (m : Me ℕ SeatView). IsSeatOfIdle scene (number_of m.0) (view_log m.0) me)
@@ -151,13 +151,13 @@ module _ (scene : PoolScene) (number : ℕ) (log : PoolLog) (first : ℕ) where
     before = misses scene.geometry.buckets number first probe
 
     -- one more miss. Where the party is the only one, the bucket is held after its log, as all before
-    pub search_goes_on : (bucket : ℕ) → bucket ≡ tried → HasMissedAt scene (number_of me.0) (view_log me.0) bucket new →
+    pub search_goes_on : (bucket : ℕ) → bucket ≡ tried → AfterMiss scene (number_of me.0) (view_log me.0) bucket new →
         IsInSearch scene number log first (probe + 1) new
     search_goes_on bucket is tells =
         let buckets : ℕ = scene.geometry.buckets in
-        let Told : Me ℕ SeatView → Type 0 = λ m. HasMissedAt scene (number_of m.0) (view_log m.0) tried new in
+        let Told : Me ℕ SeatView → Type 0 = λ m. AfterMiss scene (number_of m.0) (view_log m.0) tried new in
         let here = subst Told so_far.ended.seat.is
-        (subst (λ (b : ℕ). HasMissedAt scene (number_of me.0) (view_log me.0) b new) is tells) in
+        (subst (λ (b : ℕ). AfterMiss scene (number_of me.0) (view_log me.0) b new) is tells) in
         let more = subst (λ (l : PoolLog). IsSeatOfIdle scene number l new) (append_assoc log before (miss_at number tried))
         here.ended in
         record {
@@ -167,15 +167,15 @@ module _ (scene : PoolScene) (number : ℕ) (log : PoolLog) (first : ℕ) where
               (sym (missed_same buckets number first probe tried log) ∙ here.held one);
         }
 
-    pub search_takes : (bucket : ℕ) → bucket ≡ tried → HasGained scene (number_of me.0) (view_log me.0)
+    pub search_takes : (bucket : ℕ) → bucket ≡ tried → AfterGain scene (number_of me.0) (view_log me.0)
         (taking_at (number_of me.0) bucket) bucket new →
-        probe < scene.geometry.buckets → HasTakenFrom scene number log first new bucket
+        probe < scene.geometry.buckets → AfterSearchWin scene number log first new bucket
     search_takes bucket is tells below =
         let buckets : ℕ = scene.geometry.buckets in
         let Told : Me ℕ SeatView → Type 0 = λ m.
-        HasGained scene (number_of m.0) (view_log m.0) (taking_at (number_of m.0) tried) tried new in
+        AfterGain scene (number_of m.0) (view_log m.0) (taking_at (number_of m.0) tried) tried new in
         let here = subst Told so_far.ended.seat.is
-        (subst (λ (b : ℕ). HasGained scene (number_of me.0) (view_log me.0) (taking_at (number_of me.0) b) b new) is tells) in
+        (subst (λ (b : ℕ). AfterGain scene (number_of me.0) (view_log me.0) (taking_at (number_of me.0) b) b new) is tells) in
         let free : ¬ IsHeldAfter log tried = λ held. here.free (missed_same buckets number first probe tried log ∙ held) in
         record {
           probe = probe;
@@ -188,7 +188,7 @@ module _ (scene : PoolScene) (number : ℕ) (log : PoolLog) (first : ℕ) where
         }
 
   pub search_refuses : (me : Me ℕ SeatView) → IsInSearch scene number log first scene.geometry.buckets me →
-      HasRefused scene number log (refused_search scene.geometry.buckets number first) me
+      AfterRefusal scene number log (refused_search scene.geometry.buckets number first) me
   search_refuses me so_far = record {
     ended = so_far.ended;
     held = λ one bucket below.
@@ -198,7 +198,7 @@ module _ (scene : PoolScene) (number : ℕ) (log : PoolLog) (first : ℕ) where
 
 -- a search that has ended
 pub search_took : (scene : PoolScene) (number : ℕ) (log : PoolLog) (first : ℕ) (new : Me ℕ SeatView) (bucket : ℕ)
-    (took : HasTakenFrom scene number log first new bucket) →
+    (took : AfterSearchWin scene number log first new bucket) →
     HasAsked scene number log (taking_search scene.geometry.buckets number first took.probe) (Some bucket) new
 search_took scene number log first new bucket took = record {
   ended = took.ended;
@@ -207,7 +207,7 @@ search_took scene number log first new bucket took = record {
 }
 
 pub search_lost : (scene : PoolScene) (number : ℕ) (log : PoolLog) (first : ℕ) (new : Me ℕ SeatView) →
-    HasRefused scene number log (refused_search scene.geometry.buckets number first) new →
+    AfterRefusal scene number log (refused_search scene.geometry.buckets number first) new →
     HasAsked scene number log (refused_search scene.geometry.buckets number first) None new
 search_lost scene number log first new lost = record {
   ended = lost.ended;

@@ -1,4 +1,4 @@
--- From what a pass or a return tells to what its party is then.
+-- From the effect of a pass or a return to the party after it.
 use Rattle.std.proofs.Common.{◌≡◌, ℕ, ◌<◌, [], ◌++◌, refl, sym, ap, ◌∙◌, subst}
 use Rattle.std.proofs.lemmas.List.Elements.{All-nil}
 use Rattle.atomic_table.specs.Seated.{TableId}
@@ -9,7 +9,7 @@ use Rattle.bb_memory_seats.specs.Seats.{alone, number_of, view_log}
 use Rattle.bb_memory_shared_pools.specs.SharedPool.{IsParty, IsSharedScene, SharedPool}
 use Rattle.bb_memory_shared_pools.specs.declared.shared_pool.party.Hint.{Hint}
 use Rattle.bb_memory_shared_pools.specs.SharedPoolNextFit.{first_hint, hint_in}
-use Rattle.bb_memory_shared_pools.specs.SharedPoolRule.{IsPartySeat, IsSeatOfIdle, SeatView, party_in, HasEnded}
+use Rattle.bb_memory_shared_pools.specs.SharedPoolRule.{IsPartySeat, IsSeatOfIdle, SeatView, party_in, AfterCall}
 use Rattle.bb_memory_shared_pools.proofs.SharedPoolTries.{hint-append, hint_through}
 
 pub party_seat : (scene : PoolScene) (number : ℕ) (hint : Hint) (log : PoolLog) (me : Me ℕ SeatView) →
@@ -44,7 +44,7 @@ module _ (pool : SharedPool) (table : TableId) (me : Me ℕ SeatView) (number : 
   same_number = ap (λ (m : Me ℕ SeatView). number_of m.0) is.seat.seat.is
 
   pub seated_then : (new : Me ℕ SeatView) (added : PoolLog) (next : Hint) → next ≡ hint_through hint added →
-      HasEnded pool.scene (number_of me.0) (view_log me.0) added new → IsPartySeat number next new
+      AfterCall pool.scene (number_of me.0) (view_log me.0) added new → IsPartySeat number next new
   seated_then new added next next_fit ended = party_seat pool.scene number next (view_log me.0 ++ added) new
       (subst (λ (n : ℕ). IsSeatOfIdle pool.scene n (view_log me.0 ++ added) new) same_number ended)
       (subst (λ (s : PoolScene). number < s.parties) own_scene is.below)

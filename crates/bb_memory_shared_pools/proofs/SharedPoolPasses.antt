@@ -9,7 +9,7 @@ use Rattle.bb_memory_pool_machine.specs.declared.steps.pool.PoolStep.TheVariants
 use Rattle.bb_memory_pool_machine.specs.declared.steps.pool.PoolOutcome.TheVariants.{Takes}
 use Rattle.bb_memory_seats.specs.Seats.{number_of, view_log}
 use Rattle.bb_memory_shared_pools.specs.SharedPool.{AreAllHeldAfter, losses, refused_pass, taking_pass}
-use Rattle.bb_memory_shared_pools.specs.SharedPoolRule.{IsSeatOf, SeatView, HasRefused, HasTaken, TellsLoss, TellsTaking}
+use Rattle.bb_memory_shared_pools.specs.SharedPoolRule.{IsSeatOf, SeatView, AfterRefusal, AfterPassWin, AfterTryLoss, AfterTryWin}
 use Rattle.bb_memory_shared_pools.proofs.SharedPoolRequests.{HasAsked}
 use Rattle.bb_memory_shared_pools.proofs.SharedPoolTries.{held-taking, idle_after_refusal, idle_after_taking, same_held}
 
@@ -33,10 +33,10 @@ module _ (scene : PoolScene) (number : ℕ) (log : PoolLog) where
 
   module _ (me new : Me ℕ SeatView) (bucket : ℕ) (passing : IsPassing scene number log bucket me) where
     -- one more loss. Where the party is the only one, the bucket is held after its log, as all before
-    pub goes_on : TellsLoss scene (number_of me.0) (view_log me.0) bucket new → IsPassing scene number log (bucket + 1) new
+    pub goes_on : AfterTryLoss scene (number_of me.0) (view_log me.0) bucket new → IsPassing scene number log (bucket + 1) new
     goes_on tells =
         let buckets : ℕ = scene.geometry.buckets in
-        let Told : Me ℕ SeatView → Type 0 = λ m. TellsLoss scene (number_of m.0) (view_log m.0) bucket new in
+        let Told : Me ℕ SeatView → Type 0 = λ m. AfterTryLoss scene (number_of m.0) (view_log m.0) bucket new in
         let here = subst Told passing.seat.is tells in
         let more : PoolLog = losses buckets number bucket in
         record {
@@ -46,11 +46,11 @@ module _ (scene : PoolScene) (number : ℕ) (log : PoolLog) where
               (sym (same_held buckets number bucket bucket log) ∙ here.held one);
         }
 
-    pub takes : TellsTaking scene (number_of me.0) (view_log me.0) bucket new → bucket < scene.geometry.buckets →
-        HasTaken scene number log new bucket
+    pub takes : AfterTryWin scene (number_of me.0) (view_log me.0) bucket new → bucket < scene.geometry.buckets →
+        AfterPassWin scene number log new bucket
     takes tells below =
         let buckets : ℕ = scene.geometry.buckets in
-        let Told : Me ℕ SeatView → Type 0 = λ m. TellsTaking scene (number_of m.0) (view_log m.0) bucket new in
+        let Told : Me ℕ SeatView → Type 0 = λ m. AfterTryWin scene (number_of m.0) (view_log m.0) bucket new in
         let here = subst Told passing.seat.is tells in
         let more : PoolLog = losses buckets number bucket in
         record {
@@ -63,7 +63,7 @@ module _ (scene : PoolScene) (number : ℕ) (log : PoolLog) where
         }
 
   pub refuses : (me : Me ℕ SeatView) → pass_in log ≡ None → IsPassing scene number log scene.geometry.buckets me →
-      HasRefused scene number log (refused_pass scene.geometry.buckets number) me
+      AfterRefusal scene number log (refused_pass scene.geometry.buckets number) me
   refuses me idle passing = record {
     ended = record { seat = passing.seat; idle = idle_after_refusal scene.geometry.buckets number log idle };
     held = passing.held;
@@ -71,7 +71,7 @@ module _ (scene : PoolScene) (number : ℕ) (log : PoolLog) where
 
 -- a pass that has ended
 pub pass_took : (scene : PoolScene) (number : ℕ) (log : PoolLog) (new : Me ℕ SeatView) (bucket : ℕ) →
-    HasTaken scene number log new bucket →
+    AfterPassWin scene number log new bucket →
     HasAsked scene number log (taking_pass scene.geometry.buckets number bucket) (Some bucket) new
 pass_took scene number log new bucket took = record {
   ended = took.ended;
@@ -80,7 +80,7 @@ pass_took scene number log new bucket took = record {
 }
 
 pub pass_lost : (scene : PoolScene) (number : ℕ) (log : PoolLog) (new : Me ℕ SeatView) →
-    HasRefused scene number log (refused_pass scene.geometry.buckets number) new →
+    AfterRefusal scene number log (refused_pass scene.geometry.buckets number) new →
     HasAsked scene number log (refused_pass scene.geometry.buckets number) None new
 pass_lost scene number log new lost = record {
   ended = lost.ended;

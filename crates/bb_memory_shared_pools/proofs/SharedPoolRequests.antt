@@ -1,4 +1,4 @@
--- What a request has of its party once its tries have ended, whichever buckets it tried.
+-- A party whose request's tries have ended, whichever buckets they tried.
 use Rattle.std.proofs.Common.{◌≡◌, ◌≢◌, ℕ, ◌<◌, ◌≤◌, ◌++◌, Bool, true, false, refl, sym, ap, ◌∙◌, subst, arith, Option, Some}
 use Rattle.std.proofs.Common.{None}
 use Rattle.std.specs.Prelude.{MatchOption, Ok, Err, ◌==◌, ◌%◌, if◌then◌else◌}
@@ -22,7 +22,7 @@ use Rattle.bb_memory_shared_pools.specs.declared.shared_pool.party.Hint.{Hint}
 use Rattle.bb_memory_shared_pools.specs.SharedPool.{AreAllHeldAfter, IsParty, MayTake, PoolParty, ServesAlone, SharedPool}
 use Rattle.bb_memory_shared_pools.specs.SharedPoolNextFit.{MayTakeFrom}
 use Rattle.bb_memory_shared_pools.specs.SharedPool.{chunk_of, taken_bucket}
-use Rattle.bb_memory_shared_pools.specs.SharedPoolRule.{IsPartySeat, SeatView, party_in, pool_in, HasEnded}
+use Rattle.bb_memory_shared_pools.specs.SharedPoolRule.{IsPartySeat, SeatView, party_in, pool_in, AfterCall}
 use Rattle.bb_memory_shared_pools.proofs.SharedPoolParties.{is_party}
 
 -- whether a bucket is held behind tries that took this one, or none
@@ -47,7 +47,7 @@ other_with (Some taken) bucket held apart is =
 -- tries that have ended: what they add to the log, what is held then, and what they found
 pub record HasAsked (scene : PoolScene) (number : ℕ) (log added : PoolLog) (result : Option ℕ) (new : Me ℕ SeatView)
     : Type 0 where
-  pub ended : HasEnded scene number log added new
+  pub ended : AfterCall scene number log added new
   pub leaves : (bucket : ℕ) → held_through bucket false (log ++ added) ≡ held_with result bucket (held_through bucket false log)
   pub found : MatchOption result (scene.parties ≡ 1 → AreAllHeldAfter log scene.geometry.buckets)
       (λ bucket. (bucket < scene.geometry.buckets) × (¬ IsHeldAfter log bucket))

@@ -35,9 +35,9 @@ gives_first scene seat view state rule at = reseated scene state rule _
     (detached_split rule.flags state.views seat view (others_of view) (first_of view) (λ bucket. omega arith)
     rule.detached at)
 
-pub gathers : (scene : PoolScene) (seat other : ℕ) (view guest : SeatView) →
+pub merges : (scene : PoolScene) (seat other : ℕ) (view guest : SeatView) →
     Joins (WordsAndLogsAgree scene) seat view other guest (both_of view guest) nobody
-gathers scene seat other view guest state rule at apart there = reseated scene state rule _
+merges scene seat other view guest state rule at apart there = reseated scene state rule _
     (seated_joined scene.parties rule.logs state.views seat view other guest view.scene nobody.scene []
     rule.seated at apart there)
     (detached_joined rule.flags state.views seat other view guest (both_of view guest) nobody refl

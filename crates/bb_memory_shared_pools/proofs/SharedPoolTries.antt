@@ -1,4 +1,4 @@
--- What a pass, a step of an idle party and a return make of a log.
+-- Logs after a pass, after a step of an idle party, and after a return.
 use Rattle.std.proofs.Common.{◌≡◌, ℕ, zero, suc, ◌+◌, ◌<◌, ◌≤◌, Bool, true, false, [], ◌∷◌, ◌++◌, refl, sym, ap, ◌∙◌, arith}
 use Rattle.std.proofs.Common.{Option, None}
 use Rattle.std.specs.Prelude.{fold, nat_lt, ◌==◌, if◌then◌else◌}

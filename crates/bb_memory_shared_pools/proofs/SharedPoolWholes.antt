@@ -1,4 +1,4 @@
--- What all parties of a pool have who met.
+-- All parties of a pool, when they have met.
 use Rattle.std.proofs.Common.{◌≡◌, ◌≢◌, ℕ, zero, suc, ◌≤◌, ◌+◌, ◌<◌, List, [], ◌∷◌, length, refl, sym, ap, ◌∙◌, subst, arith}
 use Rattle.std.proofs.Common.{Some, true}
 use Rattle.std.specs.Prelude.{◌↔◌, Any, Contains, map, nat_lt, slice_get, Bool, false, if◌then◌else◌}
@@ -25,7 +25,7 @@ use Rattle.bb_memory_pool_machine.proofs.PoolSteps.{test_same}
 use Rattle.bb_memory_pool_machine.proofs.PoolDetached.{was_detached_before}
 use Rattle.bb_memory_shared_pools.specs.SharedPool.{HasTaker, HaveMet, WasDetachedByOne, IsHeldByOne, IsHeldOrDetached}
 use Rattle.bb_memory_shared_pools.specs.SharedPool.{IsSharedScene, IsTaking, PoolParty, TookOne, losses, refused_pass}
-use Rattle.bb_memory_lists.proofs.Contained.{any_contained, contains-first, contains_at, stands_in_log}
+use Rattle.bb_memory_lists.proofs.ListEntries.{any_contained, contains-first, contains_at, stands_in_log}
 
 module _ (scene : PoolScene) (parties : List PoolParty) (met : HaveMet scene parties) where
   abbrev steps : List PoolStep

@@ -42,7 +42,7 @@ pub record PoolParty : Type 0 where
 abbrev pub fresh_party : SharedPool → ℕ → PoolParty
 fresh_party allocator number = record { allocator = allocator; number = number; log = [] }
 
--- all parties of a pool, so many, numbered from 0, and none has made a step
+-- all `count` parties of a pool, numbered from 0, and none has made a step
 pub record AreFresh (allocator : SharedPool) (count : ℕ) (parties : List PoolParty) : Type 0 where
   pub so_many : allocator.scene.parties ≡ count
   pub as_many : length parties ≡ count
@@ -65,20 +65,20 @@ taken_bucket allocator number len = record { allocator = allocator; number = num
 abbrev pub resized : TakenBucket → ℕ → TakenBucket
 resized bucket len = taken_bucket bucket.allocator bucket.number len
 
--- the bucket's chunk: so many bytes at the bucket's place
+-- the bucket's chunk, at the bucket's place
 abbrev pub chunk_of : TakenBucket → Chunk
 chunk_of bucket = record {
   place = bucket_place bucket.allocator.scene.geometry bucket.number;
   len = bucket.len;
 }
 
--- after this log each of so many buckets is held
+-- after this log each of the first `buckets` buckets is held
 abbrev pub AreAllHeldAfter : PoolLog → ℕ → Type 0
 AreAllHeldAfter log buckets = (bucket : ℕ) → bucket < buckets → IsHeldAfter log bucket
 
--- WHAT CALLS ADD TO A LOG
+-- ENTRIES OF CALLS
 
--- a party's losses at so many of the buckets, from bucket 0 up
+-- a party's losses at the first of the buckets, from bucket 0 up
 abbrev pub losses : ℕ → ℕ → ℕ → PoolLog
 losses buckets party zero = []
 losses buckets party (suc bucket) = losses buckets party bucket ++ entry_of (Try party) (loss_at buckets bucket) ∷ []
@@ -106,7 +106,7 @@ attach_entry party bucket = entry_of (Attach party bucket) (Attaches bucket) ∷
 abbrev pub return_detached_entry : ℕ → ℕ → PoolLog
 return_detached_entry party bucket = entry_of (GiveBackDetached party bucket) (Gives bucket) ∷ []
 
--- WHAT A REQUEST MAY BE ANSWERED
+-- ANSWERS TO REQUESTS
 
 -- a party may take this bucket for the layout, as its size and alignment are small enough, and the bucket isn't held after the
 -- party's log
@@ -115,14 +115,14 @@ pub record MayTakeBucket (party : PoolParty) (layout : Layout) (bucket : ℕ) : 
   pub below : bucket < party.allocator.scene.geometry.buckets
   pub free : ¬ IsHeldAfter party.log bucket
 
--- What a party's request may be answered, and what the party is then.
+-- Answers that a party's request may have, and the party after it.
 abbrev pub MayTake : PoolParty → Layout → Result TakenBucket AllocationError → PoolParty → Type 0
 -- a whole pass, which took some bucket
 MayTake party layout (Ok bucket) new =
     let buckets = party.allocator.scene.geometry.buckets in
     MayTakeBucket party layout bucket.number × (bucket ≡ taken_bucket party.allocator bucket.number layout.size)
     × (new ≡ with_entries party (taking_pass buckets party.number bucket.number))
--- no step
+-- refused before any step: the party is as it was
 MayTake party layout (Err SizeTooLarge) new = (party.allocator.scene.geometry.bucket.size < layout.size) × (new ≡ party)
 MayTake party layout (Err AlignmentFailure) new =
     (layout.size ≤ party.allocator.scene.geometry.bucket.size) × (party.allocator.scene.geometry.bucket.align < layout.align)
@@ -140,7 +140,7 @@ MayTake party layout (Err SizeIsZero) new = ⊥
 abbrev pub IsInterleaved : PoolParty → Type 0
 IsInterleaved party = Interleaving party.allocator.scene party.number party.log
 
--- what holds of every party: its number is below how many there are, it is in no pass, and some interleaving has its log
+-- the invariant of a party: its number is below how many there are, it is in no pass, and some interleaving has its log
 pub record IsParty (party : PoolParty) : Type 0 where
   pub scene : IsSharedScene party.allocator.scene
   pub number : party.number < party.allocator.scene.parties
@@ -152,7 +152,7 @@ pub record IsSameParty (old new : PoolParty) : Type 0 where
   pub number : new.number ≡ old.number
   pub is_party : IsParty new
 
--- What each request for a bucket says, whichever buckets it tries: what is held after the party's log, and where the chunk in
+-- Promises of each request for a bucket, whichever buckets it tries: which are held after the party's log, and where the chunk in
 -- the bucket lies.
 pub record Serves (pool : SharedPool) (old : PoolParty) (layout : Layout) (answer : Result TakenBucket AllocationError)
     (new : PoolParty) : Type 0 where
@@ -179,7 +179,7 @@ pub record IsAlignedTo (pool : SharedPool) (layout : Layout) (bucket : TakenBuck
   pub allocator : bucket.allocator ≡ pool
   pub aligned : (chunk_of bucket).place % layout.align ≡ 0
 
--- what a resize of a bucket's chunk says of the bucket
+-- the bucket after a resize of its chunk
 pub record IsResizedTo {E : Type 0} (pool : SharedPool) (old : TakenBucket) (answer : Result Chunk E) (new : TakenBucket)
     : Type 0 where
   pub resized : IfOk answer (λ chunk. new ≡ resized old chunk.len)
@@ -206,7 +206,7 @@ AreInterleaved a b = CommonInterleaving a.allocator.scene a.number a.log b.numbe
 
 -- ALL PARTIES
 
--- each of so many numbers is that of one of these parties
+-- each number below `count` is that of one of these parties
 abbrev pub HaveAllNumbers : ℕ → List PoolParty → Type 0
 HaveAllNumbers count parties = (number : ℕ) → number < count → Contains (map (λ party. party.number) parties) number
 

@@ -42,7 +42,7 @@ hint_in scene number log = fold (λ hint entry. hint_after hint entry.outcome) (
 abbrev pub hint_of : PoolParty → ℕ
 hint_of party = (hint_in party.allocator.scene party.number party.log).bucket
 
--- WHAT CALLS ADD TO A LOG
+-- ENTRIES OF CALLS
 
 abbrev pub taking_at : ℕ → ℕ → PoolLog
 taking_at party bucket = entry_of (TryAt party bucket) (Takes bucket) ∷ []
@@ -50,7 +50,7 @@ taking_at party bucket = entry_of (TryAt party bucket) (Takes bucket) ∷ []
 abbrev pub miss_at : ℕ → ℕ → PoolLog
 miss_at party bucket = entry_of (TryAt party bucket) (Misses bucket) ∷ []
 
--- where a search over so many buckets begins: at this one, or at bucket 0 where there is none of this number
+-- where a search over `buckets` buckets begins: at this one, or at bucket 0 where there is none of this number
 abbrev pub start_of : ℕ → ℕ → ℕ
 start_of buckets first = if nat_lt first buckets then first else 0
 
@@ -58,7 +58,7 @@ start_of buckets first = if nat_lt first buckets then first else 0
 abbrev pub probed : ℕ → ℕ → ℕ → ℕ
 probed buckets first probe = (start_of buckets first + probe) % buckets
 
--- a party's misses at so many probes of a search, from probe 0 up
+-- a party's misses at the first probes of a search
 abbrev pub misses : ℕ → ℕ → ℕ → ℕ → PoolLog
 misses buckets party first zero = []
 misses buckets party first (suc probe) = misses buckets party first probe ++ miss_at party (probed buckets first probe)
@@ -71,7 +71,7 @@ taking_search buckets party first probe = misses buckets party first probe ++ ta
 abbrev pub refused_search : ℕ → ℕ → ℕ → PoolLog
 refused_search buckets party first = misses buckets party first buckets
 
--- WHAT A REQUEST MAY BE ANSWERED
+-- ANSWERS TO REQUESTS
 
 -- a search of the party's took this bucket at some probe, and left the party so
 pub record TakesBySearch (party : PoolParty) (first bucket : ℕ) (new : PoolParty) : Type 0 where
@@ -81,13 +81,13 @@ pub record TakesBySearch (party : PoolParty) (first bucket : ℕ) (new : PoolPar
   pub adds : let buckets = party.allocator.scene.geometry.buckets in
       new ≡ with_entries party (taking_search buckets party.number first probe)
 
--- What a party's request may be answered whose search begins at this bucket, and what the party is then.
+-- Answers that a request may have whose search begins at this bucket, and the party after it.
 abbrev pub MayTakeFrom : ℕ → PoolParty → Layout → Result TakenBucket AllocationError → PoolParty → Type 0
 -- a search, which took some bucket
 MayTakeFrom first party layout (Ok bucket) new =
     MayTakeBucket party layout bucket.number × (bucket ≡ taken_bucket party.allocator bucket.number layout.size)
     × TakesBySearch party first bucket.number new
--- no step
+-- refused before any step: the party is as it was
 MayTakeFrom first party layout (Err SizeTooLarge) new = (party.allocator.scene.geometry.bucket.size < layout.size) × (new ≡ party)
 MayTakeFrom first party layout (Err AlignmentFailure) new =
     (layout.size ≤ party.allocator.scene.geometry.bucket.size) × (party.allocator.scene.geometry.bucket.align < layout.align)
@@ -100,7 +100,7 @@ MayTakeFrom first party layout (Err OutOfMemory) new =
 -- a pool never refuses so
 MayTakeFrom first party layout (Err SizeIsZero) new = ⊥
 
--- WHAT A REFUSED SEARCH HAS FOUND
+-- REFUSED SEARCHES
 
 -- In the party's interleaving there is this step of the search that follows these entries: at some probe of it, the party missed
 -- the bucket, which was held then in the run.

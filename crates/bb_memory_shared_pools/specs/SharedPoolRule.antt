@@ -1,4 +1,4 @@
--- The rule of a shared pool's words, what its seats and fields stand for, and what each step on a word tells the party that
+-- The rule of a shared pool's words, what its seats and fields stand for, and what each step on a word leaves of the seat that
 -- makes it.
 use Rattle.std.specs.Prelude.{◌≡◌, ℕ, ◌+◌, ◌-◌, ◌*◌, List, map, replicate, ◌<◌, ◌≤◌, ◌↔◌, []}
 use Rattle.std.specs.Prelude.{None, Bool, MatchBool, get_or, length, ◌≢◌, ◌∷◌, ◌++◌}
@@ -18,7 +18,7 @@ use Rattle.bb_memory_shared_pools.specs.SharedPool.{PoolParty, IsSharedScene, Sh
 use Rattle.bb_memory_shared_pools.specs.SharedPool.{return_entry, attach_entry, return_detached_entry, taking_pass}
 use Rattle.bb_memory_shared_pools.specs.declared.shared_pool.party.Hint.{Hint}
 use Rattle.bb_memory_shared_pools.specs.SharedPoolNextFit.{hint_in, probed, miss_at, misses, taking_at, taking_search}
-use Rattle.bb_memory_seats.specs.Seats.{AreSeated, IsAt, Numbered, Seat, alone, carrying, fresh_from, number_of}
+use Rattle.bb_memory_seats.specs.Seats.{AreSeated, IsAt, Numbered, View, alone, carrying, fresh_from, number_of}
 use Rattle.bb_memory_seats.specs.Seats.{numbered, standing_for, times_detached, view_log, HaveLogs, alone_with, times_in}
 use Rattle.bb_memory_pool_machine.specs.declared.steps.pool.PoolStep.TheVariants.{Try}
 use Rattle.bb_memory_pool_machine.specs.declared.steps.pool.PoolOutcome.TheVariants.{Takes}
@@ -31,7 +31,7 @@ word_of bucket = 8 + bucket
 abbrev pub bucket_of : ℕ → ℕ
 bucket_of word = word - 8
 
--- how many words the flags of so many buckets take
+-- how many words the flags of these buckets take
 abbrev pub words_for : ℕ → ℕ
 words_for buckets = 8 + buckets
 
@@ -54,7 +54,7 @@ abbrev pub numbered_of : PoolParty → NumberedLog
 numbered_of party = numbered party.number party.log
 
 abbrev pub SeatView : Type 0
-SeatView = Seat PoolScene PoolEntry
+SeatView = View PoolScene PoolEntry
 
 -- the pool of a seat in the table, and the party
 abbrev pub pool_in : TableId → SeatView → SharedPool
@@ -86,7 +86,7 @@ pub record IsPartySeat (number : ℕ) (hint : Hint) (me : Me ℕ SeatView) : Typ
 abbrev pub carried : Me ℕ SeatView → ℕ
 carried me = get_or me.0.detached 0 0
 
--- the seat stands for no party, and this bucket is detached there, with a chunk of so many bytes
+-- the seat stands for no party, and this bucket is detached there, with a chunk of `len` bytes
 pub record IsDetachedSeat (bucket len : ℕ) (me : Me ℕ SeatView) : Type 0 where
   pub is : me ≡ (carrying me.0.scene bucket, [])
   pub below : bucket < me.0.scene.geometry.buckets
@@ -157,72 +157,72 @@ no_bytes = record {
 abbrev pub nobody : SeatView
 nobody = standing_for (scene_at (pool_geometry (region_at 0 0) no_bytes 0) 0) []
 
--- WHAT A STEP TELLS
+-- STEPS
 
 -- an exchange took this bucket, which wasn't held after the party's log. The log then has the step
-pub record TellsTaking (scene : PoolScene) (number : ℕ) (log : PoolLog) (bucket : ℕ) (new : Me ℕ SeatView) : Type 0 where
+pub record AfterTryWin (scene : PoolScene) (number : ℕ) (log : PoolLog) (bucket : ℕ) (new : Me ℕ SeatView) : Type 0 where
   pub seat : IsSeatOf scene number (log ++ entry_of (Try number) (Takes bucket) ∷ []) new
   pub free : ¬ IsHeldAfter log bucket
 
 -- an exchange lost at this bucket, which is held after the log of a party that is the only one. The log then has the step
-pub record TellsLoss (scene : PoolScene) (number : ℕ) (log : PoolLog) (bucket : ℕ) (new : Me ℕ SeatView) : Type 0 where
+pub record AfterTryLoss (scene : PoolScene) (number : ℕ) (log : PoolLog) (bucket : ℕ) (new : Me ℕ SeatView) : Type 0 where
   pub seat : let loss = loss_at scene.geometry.buckets bucket in
       IsSeatOf scene number (log ++ entry_of (Try number) loss ∷ []) new
   pub held : scene.parties ≡ 1 → IsHeldAfter log bucket
 
-abbrev pub TellsTry : PoolScene → ℕ → PoolLog → ℕ → ℕ → Me ℕ SeatView → Type 0
-TellsTry scene number log bucket found new =
-    (found ≡ 0 → TellsTaking scene number log bucket new) × (found ≢ 0 → TellsLoss scene number log bucket new)
+abbrev pub AfterTry : PoolScene → ℕ → PoolLog → ℕ → ℕ → Me ℕ SeatView → Type 0
+AfterTry scene number log bucket found new =
+    (found ≡ 0 → AfterTryWin scene number log bucket new) × (found ≢ 0 → AfterTryLoss scene number log bucket new)
 
-abbrev pub HasEnded : PoolScene → ℕ → PoolLog → PoolLog → Me ℕ SeatView → Type 0
-HasEnded scene number log added new = IsSeatOfIdle scene number (log ++ added) new
+abbrev pub AfterCall : PoolScene → ℕ → PoolLog → PoolLog → Me ℕ SeatView → Type 0
+AfterCall scene number log added new = IsSeatOfIdle scene number (log ++ added) new
 
 -- a step of an idle party, which added this entry, took, attached or gave back this bucket, not held after the party's log
-pub record HasGained (scene : PoolScene) (number : ℕ) (log step : PoolLog) (bucket : ℕ) (new : Me ℕ SeatView) : Type 0 where
-  pub ended : HasEnded scene number log step new
+pub record AfterGain (scene : PoolScene) (number : ℕ) (log step : PoolLog) (bucket : ℕ) (new : Me ℕ SeatView) : Type 0 where
+  pub ended : AfterCall scene number log step new
   pub free : ¬ IsHeldAfter log bucket
 
 -- an idle party missed the bucket, which is held after the log of a party that is the only one
-pub record HasMissedAt (scene : PoolScene) (number : ℕ) (log : PoolLog) (bucket : ℕ) (new : Me ℕ SeatView) : Type 0 where
-  pub ended : HasEnded scene number log (miss_at number bucket) new
+pub record AfterMiss (scene : PoolScene) (number : ℕ) (log : PoolLog) (bucket : ℕ) (new : Me ℕ SeatView) : Type 0 where
+  pub ended : AfterCall scene number log (miss_at number bucket) new
   pub held : scene.parties ≡ 1 → IsHeldAfter log bucket
 
--- what a probe of a bucket by an idle party told: that it took the bucket, or missed it
-abbrev pub TellsProbe : PoolScene → ℕ → PoolLog → ℕ → Me ℕ SeatView → Bool → Type 0
-TellsProbe scene number log bucket new told = MatchBool told
-    (HasGained scene number log (taking_at number bucket) bucket new) (HasMissedAt scene number log bucket new)
+-- after a probe of a bucket by an idle party, which took the bucket or missed it
+abbrev pub AfterProbe : PoolScene → ℕ → PoolLog → ℕ → Me ℕ SeatView → Bool → Type 0
+AfterProbe scene number log bucket new told = MatchBool told
+    (AfterGain scene number log (taking_at number bucket) bucket new) (AfterMiss scene number log bucket new)
 
-abbrev pub TellsTryAt : PoolScene → ℕ → PoolLog → ℕ → ℕ → Me ℕ SeatView → Type 0
-TellsTryAt scene number log bucket found new =
-    (found ≡ 0 → HasGained scene number log (taking_at number bucket) bucket new)
-    × (found ≢ 0 → HasMissedAt scene number log bucket new)
+abbrev pub AfterTryAt : PoolScene → ℕ → PoolLog → ℕ → ℕ → Me ℕ SeatView → Type 0
+AfterTryAt scene number log bucket found new =
+    (found ≡ 0 → AfterGain scene number log (taking_at number bucket) bucket new)
+    × (found ≢ 0 → AfterMiss scene number log bucket new)
 
 -- An idle party's load of a flag. A taken one is a miss. A free one is no step of the log, and the party is as it was.
-abbrev pub TellsLookAt : PoolScene → ℕ → PoolLog → ℕ → ℕ → Me ℕ SeatView → Type 0
-TellsLookAt scene number log bucket found new =
-    (found ≡ 0 → IsSeatOfIdle scene number log new) × (found ≢ 0 → HasMissedAt scene number log bucket new)
+abbrev pub AfterLook : PoolScene → ℕ → PoolLog → ℕ → ℕ → Me ℕ SeatView → Type 0
+AfterLook scene number log bucket found new =
+    (found ≡ 0 → IsSeatOfIdle scene number log new) × (found ≢ 0 → AfterMiss scene number log bucket new)
 
 -- A load of a flag, which changes nothing: the party holds the bucket exactly where the word names it as the holder.
-abbrev pub TellsHeld : PoolScene → ℕ → PoolLog → ℕ → ℕ → Me ℕ SeatView → Type 0
-TellsHeld scene number log bucket found new =
+abbrev pub AfterHolderLoad : PoolScene → ℕ → PoolLog → ℕ → ℕ → Me ℕ SeatView → Type 0
+AfterHolderLoad scene number log bucket found new =
     (new ≡ (alone scene number log, [])) × ((found ≡ as_word (HeldBy number)) ↔ IsHeldAfter log bucket)
 
 -- a store of free
-abbrev pub TellsReturn : PoolScene → ℕ → PoolLog → ℕ → Me ℕ SeatView → Type 0
-TellsReturn scene number log bucket new = IsSeatOf scene number (log ++ return_entry number bucket) new
+abbrev pub AfterReturn : PoolScene → ℕ → PoolLog → ℕ → Me ℕ SeatView → Type 0
+AfterReturn scene number log bucket new = IsSeatOf scene number (log ++ return_entry number bucket) new
 
 -- A party detached this bucket: its log then has the step, and the bucket is detached at its seat.
-pub record TellsDetach (scene : PoolScene) (number : ℕ) (log : PoolLog) (bucket : ℕ) (new : Me ℕ SeatView) : Type 0 where
+pub record AfterDetach (scene : PoolScene) (number : ℕ) (log : PoolLog) (bucket : ℕ) (new : Me ℕ SeatView) : Type 0 where
   pub is : let longer : PoolLog = log ++ detach_entry number bucket in new ≡ (alone_with scene number longer bucket, [])
   pub interleaved : Interleaving scene number (log ++ detach_entry number bucket)
 
 -- a party detached this bucket, which has gone to a seat of its own
-abbrev pub HasDetachedAt : PoolScene → ℕ → PoolLog → ℕ → Me ℕ SeatView → Type 0
-HasDetachedAt scene number log bucket new = IsSeatOf scene number (log ++ detach_entry number bucket) new
+abbrev pub AfterDetachSplit : PoolScene → ℕ → PoolLog → ℕ → Me ℕ SeatView → Type 0
+AfterDetachSplit scene number log bucket new = IsSeatOf scene number (log ++ detach_entry number bucket) new
 
 -- A load by a seat that stands for these parties: there are flags, and a log for each of the pool's parties, which agree, and
 -- theirs are among them; no two are one.
-pub record TellsMeeting (scene : PoolScene) (parties : List NumberedLog) : Type 0 where
+pub record AfterMeetingLoad (scene : PoolScene) (parties : List NumberedLog) : Type 0 where
   pub flags : List Flag
   pub logs : List PoolLog
   pub agree : LogsAgree scene flags logs
@@ -230,28 +230,28 @@ pub record TellsMeeting (scene : PoolScene) (parties : List NumberedLog) : Type 
   pub theirs : HaveLogs scene.parties logs parties
   pub once : (number : ℕ) → number < scene.parties → times_in number parties ≤ 1
 
--- what a meeting of two found: they are different ones, no bucket is held after both logs, and one interleaving has both
-pub record TellsTwo (scene : PoolScene) (number : ℕ) (log : PoolLog) (other : ℕ) (other_log : PoolLog) : Type 0 where
+-- after a meeting of two: they are different ones, no bucket is held after both logs, and one interleaving has both
+pub record AfterMeeting (scene : PoolScene) (number : ℕ) (log : PoolLog) (other : ℕ) (other_log : PoolLog) : Type 0 where
   pub differ : number ≢ other
   pub apart : (bucket : ℕ) → IsHeldAfter log bucket → ¬ IsHeldAfter other_log bucket
   pub interleaved : CommonInterleaving scene number log other other_log
 
--- the steps as the table knows them, of which each is of the bucket whose flag is the word
-abbrev pub Telling : Type 1
-Telling = PoolScene → ℕ → PoolLog → ℕ → ℕ → Me ℕ SeatView → Type 0
+-- the steps as the table knows them, each of the bucket whose flag is the word
+abbrev pub StepEffect : Type 1
+StepEffect = PoolScene → ℕ → PoolLog → ℕ → ℕ → Me ℕ SeatView → Type 0
 
-abbrev pub tells_of : Telling → Me ℕ SeatView → ℕ → ℕ → Me ℕ SeatView → Type 0
-tells_of tells me bucket found new = tells me.0.scene (number_of me.0) (view_log me.0) bucket found new
+abbrev pub effect_of : StepEffect → Me ℕ SeatView → ℕ → ℕ → Me ℕ SeatView → Type 0
+effect_of tells me bucket found new = tells me.0.scene (number_of me.0) (view_log me.0) bucket found new
 
-abbrev pub at_flag : Telling → Step ℕ → Me ℕ SeatView → ℕ → Me ℕ SeatView → Type 0
-at_flag tells step old = tells_of tells old (bucket_of step.word)
+abbrev pub at_flag : StepEffect → Step ℕ → Me ℕ SeatView → ℕ → Me ℕ SeatView → Type 0
+at_flag tells step old = effect_of tells old (bucket_of step.word)
 
 abbrev pub returns : Step ℕ → Me ℕ SeatView → ℕ → Me ℕ SeatView → Type 0
-returns step old found new = TellsReturn old.0.scene (number_of old.0) (view_log old.0) (bucket_of step.word) new
+returns step old found new = AfterReturn old.0.scene (number_of old.0) (view_log old.0) (bucket_of step.word) new
 
 -- a load that changes nothing, by a seat that stands for any number of parties
 abbrev pub meets : Step ℕ → Me ℕ SeatView → ℕ → Me ℕ SeatView → Type 0
-meets step old found new = (new ≡ old) × TellsMeeting old.0.scene old.0.parties
+meets step old found new = (new ≡ old) × AfterMeetingLoad old.0.scene old.0.parties
 
 -- a load of a flag by a new seat, which stands for no party: the flag is found
 abbrev pub finds : Step ℕ → Me ℕ SeatView → ℕ → Me ℕ SeatView → Type 0
@@ -263,44 +263,44 @@ sees_detached step old found new = (new ≡ old) × ((sender : ℕ) × (found �
 
 -- a store by the party that detaches a bucket
 abbrev pub detaches : Step ℕ → Me ℕ SeatView → ℕ → Me ℕ SeatView → Type 0
-detaches step old found new = TellsDetach old.0.scene (number_of old.0) (view_log old.0) (bucket_of step.word) new
+detaches step old found new = AfterDetach old.0.scene (number_of old.0) (view_log old.0) (bucket_of step.word) new
 
 -- a store by an idle party at whose seat a bucket is detached, and which attaches that bucket
 abbrev pub attaches : Step ℕ → Me ℕ SeatView → ℕ → Me ℕ SeatView → Type 0
 attaches step old found new =
     let bucket = bucket_of step.word in
-    HasGained old.0.scene (number_of old.0) (view_log old.0) (attach_entry (number_of old.0) bucket) bucket new
+    AfterGain old.0.scene (number_of old.0) (view_log old.0) (attach_entry (number_of old.0) bucket) bucket new
 
 -- a store of free by an idle party at whose seat a bucket is detached, and which gives that bucket back
 abbrev pub returns_detached : Step ℕ → Me ℕ SeatView → ℕ → Me ℕ SeatView → Type 0
 returns_detached step old found new =
     let bucket = bucket_of step.word in
-    HasGained old.0.scene (number_of old.0) (view_log old.0) (return_detached_entry (number_of old.0) bucket) bucket new
+    AfterGain old.0.scene (number_of old.0) (view_log old.0) (return_detached_entry (number_of old.0) bucket) bucket new
 
 -- REQUESTS
 
 -- a pass took this bucket, which wasn't held after the log before
-pub record HasTaken (scene : PoolScene) (number : ℕ) (log : PoolLog) (new : Me ℕ SeatView) (bucket : ℕ) : Type 0 where
-  pub ended : HasEnded scene number log (taking_pass scene.geometry.buckets number bucket) new
+pub record AfterPassWin (scene : PoolScene) (number : ℕ) (log : PoolLog) (new : Me ℕ SeatView) (bucket : ℕ) : Type 0 where
+  pub ended : AfterCall scene number log (taking_pass scene.geometry.buckets number bucket) new
   pub below : bucket < scene.geometry.buckets
   pub free : ¬ IsHeldAfter log bucket
 
 -- a refused request, which added these entries: where the party is the only one, all buckets were held after its log
-pub record HasRefused (scene : PoolScene) (number : ℕ) (log refusal : PoolLog) (new : Me ℕ SeatView) : Type 0 where
-  pub ended : HasEnded scene number log refusal new
+pub record AfterRefusal (scene : PoolScene) (number : ℕ) (log refusal : PoolLog) (new : Me ℕ SeatView) : Type 0 where
+  pub ended : AfterCall scene number log refusal new
   pub held : scene.parties ≡ 1 → AreAllHeldAfter log scene.geometry.buckets
 
 -- a search under way: since it began, the seat's party has missed the buckets of the probes before this one
 pub record IsInSearch (scene : PoolScene) (number : ℕ) (log : PoolLog) (first probe : ℕ) (me : Me ℕ SeatView) : Type 0 where
-  pub ended : HasEnded scene number log (misses scene.geometry.buckets number first probe) me
+  pub ended : AfterCall scene number log (misses scene.geometry.buckets number first probe) me
   pub held : scene.parties ≡ 1 → (earlier : ℕ) → earlier < probe → IsHeldAfter log (probed scene.geometry.buckets first earlier)
 
 -- a search took this bucket at a probe, and it wasn't held after the log before
-pub record HasTakenFrom (scene : PoolScene) (number : ℕ) (log : PoolLog) (first : ℕ)
+pub record AfterSearchWin (scene : PoolScene) (number : ℕ) (log : PoolLog) (first : ℕ)
     (new : Me ℕ SeatView) (bucket : ℕ) : Type 0 where
   pub probe : ℕ
   pub before_end : probe < scene.geometry.buckets
   pub there : probed scene.geometry.buckets first probe ≡ bucket
-  pub ended : HasEnded scene number log (taking_search scene.geometry.buckets number first probe) new
+  pub ended : AfterCall scene number log (taking_search scene.geometry.buckets number first probe) new
   pub below : bucket < scene.geometry.buckets
   pub free : ¬ IsHeldAfter log bucket

@@ -2,7 +2,7 @@
 //!
 //! The modules of `shared_pool`, in the order in which to read them:
 //!
-//! - `flags`: their words, and the only calls that touch them. `rule`: what each step on them has to keep, and tells.
+//! - `flags`: their words, and the only calls that touch them. `rule`: what each step on them keeps.
 //! - `party`: one user's right to step. `meeting`: any number of parties at one seat. `all_parties`: what a user has who met all.
 //! - `buckets`: the pool itself, and a request by a pass. `next_fit`: requests that begin at the party's hint.
 //! - `bucket`: what a request answers. `by_number`: buckets by number and by place.

@@ -44,16 +44,15 @@ use std::alloc::Global;
 /// Of the two requests, `allocate_next_fit` is the one to begin with: its search begins at the party's hint, so what is held
 /// elsewhere costs it nothing. `allocate` tries the buckets from bucket 0 each time.
 ///
-/// Each call's promise is told by the party's log: the list of the atomic steps that the party made, each with what it found.
-/// Some interleaving of each party's log with some logs of the others is always one that the pool machine allows. A user who has
-/// all parties is told by `meet_all` that one interleaving has all their logs and no other steps; what follows is
-/// [`shared_pool_meeting_law`].
+/// Each call's promise speaks of the party's log: the list of the atomic steps that the party made, each with what it found.
+/// Some interleaving of each party's log with some logs of the others is always one that the pool machine allows. By `meet_all`
+/// a user who has all parties knows that one interleaving has their logs and no other steps: [`shared_pool_meeting_law`].
 ///
 /// Example: `comments::shared_pool` of `crates/examples`.
 pub type SharedPoolAllocator = SharedBucketPool<0, 0>;
 
 impl SharedPoolAllocator {
-    /// A pool over the region of `size` bytes at `start`, cut into buckets of this layout, with no bucket held, and its
+    /// Makes a pool over the region of `size` bytes at `start`, cut into buckets of this layout, with no bucket held, and its
     /// parties, numbered from 0. The start has to be greater than 0; start plus size, and the start rounded up to the bucket's
     /// alignment, at most `usize::MAX`; the bucket's size greater than 0; the buckets fewer than `u32::MAX`, and the parties at
     /// least 1. [`PoolAllocator::can_make`](crate::pool_allocator::PoolAllocator::can_make) tests all but the parties. Its only
@@ -76,7 +75,7 @@ impl SharedPoolAllocator {
         Self::make(alloc, whole, parties)
     }
 
-    /// Where the first bucket is: the region's start, rounded up to the bucket's alignment.
+    /// Returns where the first bucket is: the region's start, rounded up to the bucket's alignment.
     pub fn start_address(&self) -> usize
         ensures value { result
             ≡ first_place self.now.scene.geometry.region self.now.scene.geometry.bucket }
@@ -90,7 +89,7 @@ impl SharedPoolAllocator {
 ///
 /// A possible history of a party is an interleaving of its log, as `IsParty` has one: a list of allowed steps from the opening,
 /// in which the party's steps are exactly its log. The others' steps in it are some that explain the log, and needn't be those
-/// that were made. Two parties that met have such a list together, which `AreInterleaved` tells.
+/// that were made. Two parties that met have such a list together, as `AreInterleaved` says.
 pub fn shared_pool_law()
     // The takings and returns of a party's history are a run of the pool object from the empty list,
     // whichever layouts within the bucket's size and alignment were asked for.

@@ -118,7 +118,7 @@ same_layout a b size align = λ i. record {
 
 -- USUAL LAYOUTS
 
--- one of so many powers of two, from this one on
+-- one of a number of powers of two, from this one on
 abbrev IsAmong : ℕ → ℕ → ℕ → Type 0
 IsAmong align k zero = align ≡ 2 ^ k
 IsAmong align k (suc more) = (align ≡ 2 ^ k) ⊎ IsAmong align (k + 1) more

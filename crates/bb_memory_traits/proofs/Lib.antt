@@ -4,6 +4,7 @@ pub mod Layouts
 pub mod LeastPlaces
 mod LiveBytes
 pub mod LiveLists
+pub mod OneChunkLists
 pub mod PoolGeometries
 pub mod PoolLists
 pub mod PowersOfTwo

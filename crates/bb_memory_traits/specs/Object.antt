@@ -92,7 +92,7 @@ note_after_command after note other = note
 abbrev pub note_after_run : {Note : Type 0} → (Layout → Note → Note) → Note → List Command → Note
 note_after_run after note commands = fold (note_after_command after) note commands
 
--- What a command makes of an allocator, by the value, where this live list is out: a request as `takes` says of its answer, and a
+-- An allocator after a command, by the value, where this live list is out: a request as `takes` says of its answer, and a
 -- release as `frees` says of the place of the chunk at the position, with some layout. Every other command leaves the value.
 abbrev pub ValueStep : {Allocator : Type 0} → (Allocator → Layout → Result Chunk AllocationError → Allocator → Type 0) →
     (Allocator → ℕ → Layout → Allocator → Type 0) → List Chunk → Command → Reply → Allocator → Allocator → Type 0

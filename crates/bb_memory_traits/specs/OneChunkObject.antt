@@ -1,7 +1,8 @@
 -- The one-chunk object: one chunk at a time, which is all of the region from its place on.
-use Rattle.std.specs.Prelude.{◌≡◌, ◌≢◌, ℕ, ◌+◌, ◌-◌, ◌≤◌, ◌<◌, ◌⊎◌, List, [], Result, Ok, Err}
+use Rattle.std.specs.Prelude.{◌≡◌, ◌≢◌, ℕ, ◌+◌, ◌-◌, ◌≤◌, ◌<◌, ◌⊎◌, List, [], ◌∷◌, Option, Some, None, Result, Ok, Err}
+use Rattle.std.specs.Option.{ForSome}
 use Rattle.bb_memory_traits.specs.Chunk.{Region, region_end, Chunk, Layout, AllocationError, SizeIsZero, SizeTooLarge}
-use Rattle.bb_memory_traits.specs.Chunk.{AlignmentFailure, OutOfMemory, first_place}
+use Rattle.bb_memory_traits.specs.Chunk.{AlignmentFailure, IsRegion, IsSound, OutOfMemory, first_place, region_at}
 use Rattle.bb_memory_traits.specs.Object.{ResizableObject, resizable_object_of, AllocationGrowError, AllocationShrinkError}
 use Rattle.bb_memory_traits.specs.declared.allocator.AllocationGrowError.TheVariants as grow
 use Rattle.bb_memory_traits.specs.declared.allocator.AllocationShrinkError.TheVariants as shrink
@@ -56,3 +57,32 @@ MayShrink place old new (Err shrink.SizeIsZero) = ⊥
 abbrev pub one_chunk_object : Region → ResizableObject
 one_chunk_object region =
     resizable_object_of (MayAllocate region) (reserved_at region) (λ live. MayGrow region) (λ live. MayShrink)
+
+-- STANDS FOR
+
+-- the allocator's region, and the place of the chunk that is out
+pub record OneChunk : Type 0 where
+  pub region : Region
+  pub kept : Option ℕ
+
+abbrev pub one_chunk_of : ℕ → ℕ → Option ℕ → OneChunk
+one_chunk_of start size kept = record { region = region_at start size; kept = kept }
+
+-- the region has a byte at this place
+pub record HasByteAt (region : Region) (place : ℕ) : Type 0 where
+  pub above : region.start ≤ place
+  pub below : place < region_end region
+
+-- a place that is kept lies inside
+pub record IsOneChunk (one : OneChunk) : Type 0 where
+  pub region : IsRegion one.region
+  pub kept : ForSome one.kept (HasByteAt one.region)
+
+-- nothing is out where no place is kept, and otherwise one chunk, at that place
+abbrev pub IsKept : Option ℕ → List Chunk → Type 0
+IsKept None live = live ≡ []
+IsKept (Some place) live = (chunk : Chunk) × (live ≡ chunk ∷ []) × (chunk.place ≡ place)
+
+pub record StandsFor (one : OneChunk) (live : List Chunk) : Type 0 where
+  pub sound : IsSound one.region live
+  pub keeps : IsKept one.kept live

@@ -1,7 +1,7 @@
 //! The promises of allocators over a region, and runs of commands over any of them.
 ghost use Rattle.std.specs.Prelude.{◌≡◌, ◌∷◌, ◌++◌, ◌≤◌, ◌%◌, ℕ, Some, [], List, Result, Ok, Bool, IfOk, OnErr, slice_get, ◌<◌};
 ghost use Rattle.std.specs.Prelude.{false, slice_set};
-ghost use Rattle.bb_memory_traits.specs.Chunk.{Region, IsRegion, Chunk, IsInside, Layout, AllocationError, IsSound};
+ghost use Rattle.bb_memory_traits.specs.Chunk.{Region, Chunk, IsInside, Layout, AllocationError, IsSound};
 ghost use Rattle.bb_memory_traits.specs.Object.{released, PlacesDiffer, AllocationGrowError, AllocationShrinkError};
 ghost use Rattle.bb_memory_traits.specs.Request.{Requested, Grown};
 ghost use Rattle.bb_memory_traits.specs.HeldBytes.{held_region, ZeroesAnswered, part_behind};
@@ -212,22 +212,22 @@ pub trait BaseAllocator {
 
 /// An allocator whose chunks can be resized in place. A release takes out its chunk alone and closes up, and no two
 /// chunks of a list that it stands for have the same place. A resize never changes the allocator: what may be used of
-/// the part that is reserved for a chunk is told by the answer alone.
+/// the part that is reserved for a chunk stands in the answer alone.
 pub trait Allocator: BaseAllocator {
-    /// The figures that the answers to resizes depend on. The geometry fixes them, by the law `fixed`.
-    ghost Figures: { Type 0 };
+    /// Whatever the answers to resizes depend on. The geometry fixes it, by the law `fixed`.
+    ghost ResizeKey: { Type 0 };
 
-    ghost figures: { Self → Figures };
+    ghost resize_key: { Self → ResizeKey };
 
-    /// How many bytes are reserved for the chunk at a place.
-    ghost reserved_at: { Figures → ℕ → ℕ };
+    /// The number of bytes that are reserved for the chunk at a place.
+    ghost reserved_at: { ResizeKey → ℕ → ℕ };
 
-    /// The answers that an allocator of these figures may give on a live list to a resize of the chunk at a place, from an old
-    /// layout to a new one.
-    ghost may_grow: { Figures → List Chunk → ℕ → Layout → Layout
+    /// The answers that an allocator of this key may give on a live list to a resize of the chunk at a place, from an old layout
+    /// to a new one.
+    ghost may_grow: { ResizeKey → List Chunk → ℕ → Layout → Layout
         → Result Chunk AllocationGrowError → Type 0 };
 
-    ghost may_shrink: { Figures → List Chunk → ℕ → Layout → Layout
+    ghost may_shrink: { ResizeKey → List Chunk → ℕ → Layout → Layout
         → Result Chunk AllocationShrinkError → Type 0 };
 
     /// The promise of `grow` by the value alone: of the allocator as it was, the place, the old layout and the new one, the
@@ -239,10 +239,10 @@ pub trait Allocator: BaseAllocator {
     ghost shrinks: { Self → ℕ → Layout → Layout → Result Chunk AllocationShrinkError → Self
         → Type 0 } = { λ one place old new result after. Unit {0} };
 
-    /// How many bytes are reserved for the live chunk at this place.
+    /// Returns how many bytes are reserved for the live chunk at this place.
     fn reserved(&self, place: usize) -> usize
         requires { Self.may_release self.now place }
-        ensures { result ≡ reserved_at (figures self.now) place };
+        ensures { result ≡ reserved_at (resize_key self.now) place };
 
     /// Gives the live chunk at this place a larger size. The place has to be a multiple of the old alignment.
     fn grow(&mut self, place: usize, old: Layout, new: Layout) -> Result<Chunk, AllocationGrowError>
@@ -250,7 +250,7 @@ pub trait Allocator: BaseAllocator {
         requires aligned { place % old.align ≡ 0 }
         ensures answer { (live : List Chunk) (position : ℕ) (chunk : Chunk)
             → Self.stands_for self.old live → slice_get live position ≡ Some chunk
-            → chunk.place ≡ place → may_grow (figures self.old) live place old new result }
+            → chunk.place ≡ place → may_grow (resize_key self.old) live place old new result }
         ensures resized { IfOk result (λ grown. (live : List Chunk) (position : ℕ) (chunk : Chunk)
             → Self.stands_for self.old live → slice_get live position ≡ Some chunk
             → chunk.place ≡ place → Self.stands_for self.new (slice_set live position grown)) }
@@ -258,7 +258,7 @@ pub trait Allocator: BaseAllocator {
         ensures aligned { IfOk result (λ grown. grown.place % new.align ≡ 0) }
         ensures longer { IfOk result (λ grown. old.size < grown.len) }
         ensures long_enough { IfOk result (λ grown. new.size ≤ grown.len) }
-        ensures within { IfOk result (λ grown. grown.len ≤ reserved_at (figures self.old) place) }
+        ensures within { IfOk result (λ grown. grown.len ≤ reserved_at (resize_key self.old) place) }
         ensures inside { IfOk result (IsInside (Self.region_of (Self.geometry self.old))) }
         ensures unchanged { self.new ≡ self.old }
         ensures value { grows self.old place old new result self.new };
@@ -273,10 +273,10 @@ pub trait Allocator: BaseAllocator {
     ) -> Result<Chunk, AllocationShrinkError>
         requires live { Self.may_release self.old place }
         requires aligned { place % old.align ≡ 0 }
-        requires reserved { old.size ≤ reserved_at (figures self.old) place }
+        requires reserved { old.size ≤ reserved_at (resize_key self.old) place }
         ensures answer { (live : List Chunk) (position : ℕ) (chunk : Chunk)
             → Self.stands_for self.old live → slice_get live position ≡ Some chunk
-            → chunk.place ≡ place → may_shrink (figures self.old) live place old new result }
+            → chunk.place ≡ place → may_shrink (resize_key self.old) live place old new result }
         ensures resized { IfOk result (λ shrunk. (live : List Chunk) (position : ℕ) (chunk : Chunk)
             → Self.stands_for self.old live → slice_get live position ≡ Some chunk
             → chunk.place ≡ place → Self.stands_for self.new (slice_set live position shrunk)) }
@@ -284,7 +284,7 @@ pub trait Allocator: BaseAllocator {
         ensures aligned { IfOk result (λ shrunk. shrunk.place % new.align ≡ 0) }
         ensures shorter { IfOk result (λ shrunk. shrunk.len < old.size) }
         ensures long_enough { IfOk result (λ shrunk. new.size ≤ shrunk.len) }
-        ensures within { IfOk result (λ shrunk. shrunk.len ≤ reserved_at (figures self.old) place) }
+        ensures within { IfOk result (λ shrunk. shrunk.len ≤ reserved_at (resize_key self.old) place) }
         ensures inside { IfOk result (IsInside (Self.region_of (Self.geometry self.old))) }
         ensures unchanged { self.new ≡ self.old }
         ensures value { shrinks self.old place old new result self.new };
@@ -303,7 +303,7 @@ pub trait Allocator: BaseAllocator {
         requires aligned { place % old.align ≡ 0 }
         requires same_region { held_region region.old ≡ Self.region_of (Self.geometry self.old) }
         ensures grown { Grown Self.stands_for (Self.region_of (Self.geometry self.old))
-            (reserved_at (figures self.old) place) (may_grow (figures self.old)) grows
+            (reserved_at (resize_key self.old) place) (may_grow (resize_key self.old)) grows
             self.old place old new result self.new }
         ensures bytes { ZeroesAnswered (part_behind old.size) region.old region.new result }
     {
@@ -312,9 +312,9 @@ pub trait Allocator: BaseAllocator {
         Ok(grown)
     }
 
-    /// Allocators of one geometry have the same figures.
+    /// Allocators of one geometry have the same resize key.
     ghost fixed: { (one other : Self) → Self.geometry one ≡ Self.geometry other
-        → figures one ≡ figures other };
+        → resize_key one ≡ resize_key other };
 
     /// A release takes out the chunk at its place alone.
     ghost closes_up: { Self.RELEASE_EMPTIES ≡ false };
@@ -326,7 +326,7 @@ pub trait Allocator: BaseAllocator {
     /// No chunk of such a list is longer than what is reserved for it.
     ghost covered: { (allocator : Self) (live : List Chunk) (position : ℕ) (chunk : Chunk)
         → Self.stands_for allocator live → slice_get live position ≡ Some chunk
-        → chunk.len ≤ reserved_at (figures allocator) chunk.place };
+        → chunk.len ≤ reserved_at (resize_key allocator) chunk.place };
 
     /// A chunk that may be given back stands in each such list.
     ghost only_live: { (allocator : Self) (live : List Chunk) (place : ℕ)

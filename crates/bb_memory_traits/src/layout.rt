@@ -27,7 +27,7 @@ pub struct Layout {
 pub struct LayoutError {}
 
 impl Layout {
-    /// The layout of this size and alignment. It is refused exactly where the alignment is no power of two, or the size
+    /// Returns the layout of this size and alignment. It is refused exactly where the alignment is no power of two, or the size
     /// rounded up to a multiple of the alignment exceeds `isize::MAX`.
     #[inline]
     pub fn from_size_align(size: usize, align: usize) -> Result<Layout, LayoutError>
@@ -44,8 +44,8 @@ impl Layout {
         Ok(Layout { size, align })
     }
 
-    /// The layout of this size and alignment where both are at most this layout's. That leaves to test that the alignment is a
-    /// power of two. It is `None` where it isn't, or where one of them is greater.
+    /// Returns the layout of this size and alignment where both are at most this layout's. That leaves to test that the
+    /// alignment is a power of two. It is `None` where it isn't, or where one of them is greater.
     #[inline(always)]
     pub fn within(self, size: usize, align: usize) -> Option<Layout>
         ensures some { IsSome result
@@ -61,7 +61,7 @@ impl Layout {
         Some(Layout { size, align })
     }
 
-    /// The layout of no bytes, for a call in which the layout decides nothing.
+    /// Returns the layout of no bytes, for a call in which the layout decides nothing.
     #[inline]
     pub fn empty() -> Layout
         ensures size { result.size ≡ 0 }
@@ -70,7 +70,7 @@ impl Layout {
         Layout { size: 0, align: 1 }
     }
 
-    /// The size in bytes.
+    /// Returns the size in bytes.
     #[inline(always)]
     pub fn size(&self) -> usize
         ensures { result ≡ self.now.size }
@@ -78,7 +78,7 @@ impl Layout {
         self.size
     }
 
-    /// The alignment, a power of two.
+    /// Returns the alignment, a power of two.
     #[inline(always)]
     pub fn align(&self) -> usize
         ensures value { result ≡ self.now.align }
@@ -98,7 +98,7 @@ pub fn layout_law()
         → place % wider.align ≡ 0 → place % layout.align ≡ 0 }
 {}
 
-/// The least multiple of `align` that isn't below `v`, or `None` where that exceeds `usize::MAX`. The alignment has to be
+/// Returns the least multiple of `align` that isn't below `v`, or `None` where that exceeds `usize::MAX`. The alignment has to be
 /// a power of two, as that of a [`Layout`] is.
 ///
 /// Example: `comments::rounding` of `crates/examples`.

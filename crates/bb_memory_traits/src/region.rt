@@ -48,7 +48,7 @@ impl Region {
         start != 0 && start.checked_add(len).is_some()
     }
 
-    /// The place of the first byte.
+    /// Returns the place of the first byte.
     #[inline]
     pub fn start_address(&self) -> usize
         ensures value { result ≡ self.now.start }
@@ -57,7 +57,7 @@ impl Region {
         self.start
     }
 
-    /// How many bytes there are.
+    /// Returns the size in bytes.
     #[inline]
     pub fn size(&self) -> usize
         ensures { result ≡ length self.now.bytes }
@@ -65,7 +65,7 @@ impl Region {
         self.bytes.len()
     }
 
-    /// All bytes, from the start on.
+    /// Returns all bytes, from the start on.
     #[inline]
     pub fn bytes(&self) -> &[u8]
         ensures { result.now ≡ self.now.bytes }
@@ -73,7 +73,7 @@ impl Region {
         self.bytes.as_slice()
     }
 
-    /// The bytes of a chunk, which has to lie inside.
+    /// Returns the bytes of a chunk, which has to lie inside.
     #[inline]
     pub fn chunk(&self, c: Chunk) -> &[u8]
         requires { IsInside (held_region self.now) c }

@@ -1,7 +1,7 @@
 //! The examples that the doc comments of the libraries name. Contracts alone decide each `prove!`.
 #![tactic(auto, unfolding(bb_memory_traits::specs::LeastPlace::least_place))]
 
-ghost use Rattle.std.specs.Prelude.{◌≡◌, ◌≢◌, ◌<◌, []};
+ghost use Rattle.std.specs.Prelude.{◌≡◌, ◌<◌, []};
 ghost use Rattle.bb_memory.specs.OneChunk.{StandsFor};
 
 use bb_memory::allocator::{

@@ -53,7 +53,7 @@ pub fn taken_whole(pool: &mut FixedSizePoolAllocator<16>) -> Result<(), Allocati
     Ok(())
 }
 
-/// A pool tells beforehand whether it will give a bucket.
+/// A pool knows beforehand whether it will give a bucket.
 pub fn room_told(pool: &mut FixedSizePoolAllocator<16>) {
     let before = pool.has_room();
     let answer = pool.allocate(Layout::empty());

@@ -1,4 +1,4 @@
--- What a run of calls does to one sample: to one that is out before, and to one that a call of the run loans or publishes.
+-- One sample that is out, after a run of calls, and one that a call of the run loans or publishes.
 use Rattle.std.proofs.lemmas.Grind.{common_steps}
 use Rattle.std.proofs.Common.{◌≡◌, ◌≢◌, ℕ, zero, suc, ◌+◌, ◌-◌, ◌<◌, Bool, true, false, cond, List, [], ◌∷◌, drop, slice_get}
 use Rattle.std.proofs.Common.{refl, ap, sym, ◌∙◌, subst, arith, Option, None, Some}
@@ -115,7 +115,7 @@ module _ (may : Answers) (new : Book) (id : ℕ) where
   out-waits zero (gone, used) = (λ out. absurd (gone out), λ some. absurd (omega arith))
   out-waits (suc n) (i, sample, at, waits) = (λ out. omega arith, λ some. (i, sample, at))
 
-  -- a sample that waits for so many returns is out after a run exactly where fewer of its calls return it
+  -- a sample that waits for `returns` returns is out after a run exactly where fewer of its calls return it
   pub run-returns : (old : Book) (calls : List LoanCall) (replies : List LoanReply) (returns : ℕ) → IsBook old →
       HasReturns old id (Some returns) → IsRun (BookStep may) old calls replies new →
       IsOut new id ↔ (returns_in id calls < returns)

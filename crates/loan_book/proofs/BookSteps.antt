@@ -1,4 +1,4 @@
--- What a step of a book keeps, and what it does to one sample.
+-- A book after a step, and one sample of it.
 use Rattle.std.proofs.lemmas.Grind.{common_steps}
 use Rattle.std.proofs.Common.{◌≡◌, ◌≢◌, ℕ, ◌<◌, length, refl, ap, sym, ◌∙◌, subst, arith, Some, None, Option}
 use Rattle.std.specs.Prelude.{slice_get}
@@ -92,7 +92,7 @@ set-keeps book id other position sample returns (Some left) here apart (i, found
     apart (sym here.has_id ∙ sym (ap (λ (s : Sample). s.id) equal) ∙ there.has_id) in
     (i, found, record { at = slice_get-set_other book.out position i waiting elsewhere ∙ there.at; has_id = there.has_id }, waits)
 
--- the sample itself waits for so many returns
+-- the sample itself waits for `returns` returns
 pub own-set : (book : Book) (id position : ℕ) (sample : Sample) (returns : ℕ) → IsAt book id position sample →
     HasReturns (with_returns book position sample returns) id (Some returns)
 own-set book id position sample returns here =

@@ -82,7 +82,7 @@ IsBook-remove book position within is = record {
 abbrev pub fresh_sample : ℕ → Chunk → Sample
 fresh_sample id chunk = record { id = id; chunk = chunk; returns = None }
 
--- a search tells of returns to come that they are some, or none
+-- a search finds that there are returns to come, or none
 pub published_from : (returns : Option ℕ) → true ≡ is_some returns → (n : ℕ) × (returns ≡ Some n)
 published_from None some = cc
 published_from (Some n) some = (n, refl)

@@ -41,7 +41,7 @@ pub record IsAt (book : Book) (id position : ℕ) (sample : Sample) : Type 0 whe
 abbrev pub IsOut : Book → ℕ → Type 0
 IsOut book id = (position : ℕ) × (sample : Sample) × IsAt book id position sample
 
--- the sample of this id is out, and so many returns of it are to come
+-- the sample of this id is out, and this number of its returns is to come
 abbrev pub HasReturns : Book → ℕ → Option ℕ → Type 0
 HasReturns book id returns = (position : ℕ) × (sample : Sample) × IsAt book id position sample × (sample.returns ≡ returns)
 
@@ -81,7 +81,7 @@ abbrev pub IsAllocators : LoanError → Type 0
 IsAllocators (Allocation error) = Unit {0}
 IsAllocators _ = ⊥
 
--- a single request for so many bytes, at any place, made this note of the one before
+-- a single request for `size` bytes, at any place, made this note of the one before
 pub record IsAskedOnce {Note : Type 0} (note_after : Layout → Note → Note) (size : ℕ) (old new : Note) : Type 0 where
   pub layout : Layout
   pub many : layout.size ≡ size

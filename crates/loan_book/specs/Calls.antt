@@ -24,7 +24,7 @@ abbrev pub with_sample : Book → Chunk → Book
 with_sample book chunk =
     record { loaned = book.loaned + 1; out = book.out ++ record { id = book.loaned; chunk = chunk; returns = None } ∷ [] }
 
--- the book in which the sample at a position waits for so many returns
+-- the book in which the sample at a position waits for this number of returns
 abbrev pub with_returns : Book → ℕ → Sample → ℕ → Book
 with_returns book i sample returns = record book { out = slice_set book.out i (record sample { returns = Some returns }) }
 

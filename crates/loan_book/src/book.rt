@@ -19,7 +19,7 @@ use std::marker::Model;
 struct Sample {
     id: u64,
     chunk: Chunk,
-    /// How many returns are to come, or `None` until the sample is published.
+    /// The number of returns to come, or `None` until the sample is published.
     returns: Option<u32>,
 }
 
@@ -47,7 +47,7 @@ impl<A: Allocator> Model for LoanBook<A> {
 }
 
 impl<A: Allocator> LoanBook<A> {
-    /// A book over this allocator, of which no chunk may be out. The records of samples take their memory from `alloc`.
+    /// Makes a book over this allocator, of which no chunk may be out. The records of samples take their memory from `alloc`.
     pub fn new(alloc: Global, allocator: A) -> Self
         requires { A.stands_for allocator [] }
         ensures allocator { result.allocator ≡ allocator }
@@ -90,7 +90,7 @@ impl<A: Allocator> LoanBook<A> {
             (A.note_after (A.geometry self.old.allocator)) size
             (A.note self.old.allocator) (A.note self.new.allocator)) }
     {
-        // Proof hint: brings the type's invariant into scope.
+        // Proof hint, here and below: brings the type's invariant into scope.
         let _ = &self.next;
         let Ok(layout) = Layout::from_size_align(size, 1) else {
             return Err(LoanError::Size);
@@ -132,7 +132,6 @@ impl<A: Allocator> LoanBook<A> {
         ensures same_allocator { self.new.allocator ≡ self.old.allocator }
         ensures unchanged { OnErr result (self.new ≡ self.old) }
     {
-        // Proof hint: brings the type's invariant into scope.
         let _ = &self.next;
         let Some((position, returns)) = self.find(id) else {
             return Err(LoanError::UnknownSample);
@@ -163,7 +162,6 @@ impl<A: Allocator> LoanBook<A> {
             (λ left. left ≡ false → self.new.allocator ≡ self.old.allocator) }
         ensures unchanged { OnErr result (self.new ≡ self.old) }
     {
-        // Proof hint: brings the type's invariant into scope.
         let _ = &self.next;
         let Some((position, returns)) = self.find(id) else {
             return Err(LoanError::UnknownSample);
@@ -183,7 +181,6 @@ impl<A: Allocator> LoanBook<A> {
         ensures answer { IsTrue result ↔ IsOut self.now.book id }
         ensures stands { A.stands_for self.now.allocator (chunks_out self.now.book) }
     {
-        // Proof hint: brings the type's invariant into scope.
         let _ = &self.next;
         self.find(id).is_some()
     }
@@ -202,7 +199,6 @@ impl<A: Allocator> LoanBook<A> {
             → Loans (A.may_allocate (A.geometry self.now.allocator)) self.now.book size answer next
             → new ≡ next }
     {
-        // Proof hint: brings the type's invariant into scope.
         let _ = &self.next;
     }
 
@@ -221,7 +217,7 @@ impl<A: Allocator> LoanBook<A> {
         Some((position, self.out[position].returns))
     }
 
-    /// Has the sample at a position wait for so many returns.
+    /// Has the sample at a position wait for this number of returns.
     fn wait_for(&mut self, position: usize, returns: u32)
         requires there { position < length self.old.book.out }
         requires some { 0 < returns }

@@ -17,9 +17,9 @@ use std::alloc::{AllocError, Global};
 /// A call of a loan book.
 #[derive(Debug, Clone, Copy, PartialEq, Eq)]
 pub enum LoanCall {
-    /// A loan of so many bytes.
+    /// A loan of a size in bytes.
     Loan(usize),
-    /// The sample of this id is published for so many readers.
+    /// The sample of an id is published for a number of readers.
     Publish(u64, u32),
     /// The sample of this id is returned once.
     GiveBack(u64),
@@ -69,7 +69,7 @@ fn apply<A: Allocator>(book: &mut LoanBook<A>, call: LoanCall) -> LoanReply
 
 /// Makes the calls in order, and answers one reply a call. Afterwards the allocator stands for exactly the chunks of the
 /// samples that are out. The ids that are given count up from the number of samples that were loaned before. A published
-/// sample that waited for so many returns is still out exactly where fewer of the calls return it. So one that a call publishes
+/// sample that waited for returns is still out exactly where fewer of the calls return it. So one that a call publishes
 /// for r readers goes back at the r-th return behind that call, and not before; one that a call loans, and none publishes, at
 /// its first return.
 ///

@@ -1,4 +1,4 @@
--- What lines with layouts say.
+-- Lines with layouts.
 use Rattle.std.proofs.Common.{◌≡◌, ℕ, List, codes, Option, None, Some, ap, ◌∙◌}
 use Rattle.std.proofs.lemmas.Option.{none-some, same_Some}
 use Rattle.std.specs.Option.{option_map}

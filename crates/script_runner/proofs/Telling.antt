@@ -1,4 +1,4 @@
--- Texts one after another, and what is told of lines.
+-- Texts one after another, and the replies to lines.
 use Rattle.std.proofs.Common.{ℕ, ◌+◌, ◌<◌, ◌≡◌, List, [], ◌∷◌, ◌++◌, length, take, get_or, sym, ap, ap₂, ◌∙◌, refl, subst}
 use Rattle.std.proofs.Common.{Result, Ok, Err, OnOk}
 use Rattle.std.specs.List.{flat_map}
@@ -44,7 +44,7 @@ holders_more old mid new flags i below before more =
     let is : flag ≡ get_or flags i flag = unwrap_or-slice_get flags i Free ∙ get_or_default flags i Free flag below in
     texts_more flag_text old mid new (flag_text flag) flags i flag below is before more refl
 
--- a line more is told
+-- with one line more
 pub told_more : {S O C R : Type 0} (rules : Rules S O C R) (start mid end : S) (waiting before left : List C)
     (lines : List (Line C)) (line : Line C) (front added : List ℕ)
     → IsTold rules start waiting lines front mid before → IsStep rules mid before line added end left

@@ -54,7 +54,7 @@ pub record LiveState (A : Type 0) : Type 0 where
   pub allocator : A
   pub live : List Chunk
 
--- what is said of an allocator A that is made of an header O
+-- the rules for an allocator A that is made of a header O
 pub record AllocatorRules (A O : Type 0) : Type 1 where
   pub name : List ℕ
   pub is_header : O → Type 0
@@ -133,9 +133,9 @@ pub record CountedPoolRuns (old : CountedPool) (live : List Chunk) (commands : L
   pub runs : PoolRuns old.pool live commands replies new.pool left
   pub reads : new.reads ≡ reads_after old.pool.geometry.bucket (index_words old.pool.geometry.buckets) old.reads commands
 
--- the figures that `show` writes of either pool with so many chunks live, and then the rest of the line
-abbrev pub pool_figures : PoolGeometry → ℕ → List ℕ → List ℕ
-pool_figures geometry live rest =
+-- the state that `show` writes of either pool with `live` chunks, and then the rest of the line
+abbrev pub pool_state : PoolGeometry → ℕ → List ℕ → List ℕ
+pool_state geometry live rest =
     codes " size " ++ (decimal geometry.region.size ++ (codes " bucket " ++ (decimal geometry.bucket.size
     ++ (codes " align " ++ (decimal geometry.bucket.align ++ (codes " buckets " ++ (decimal geometry.buckets
     ++ (codes " live " ++ (decimal live ++ rest)))))))))
@@ -148,7 +148,7 @@ pool_rules = record {
   starts = BeginsPool;
   runs = CountedPoolRuns;
   state_text = λ pool live. codes "pool start " ++ (decimal (first_place pool.pool.geometry.region pool.pool.geometry.bucket)
-      ++ pool_figures pool.pool.geometry live (codes " reads " ++ (decimal pool.reads ++ codes "\n")));
+      ++ pool_state pool.pool.geometry live (codes " reads " ++ (decimal pool.reads ++ codes "\n")));
 }
 
 -- the pool's region is cut into the buckets that it has room for, but into at most 512; none is held, and none was before
@@ -163,5 +163,5 @@ fixed_rules = record {
   header_numbers = pool_numbers;
   starts = BeginsFixed;
   runs = λ old live commands replies new left. PoolRuns old.pool live commands replies new.pool left;
-  state_text = λ pool live. codes "fixed" ++ pool_figures pool.pool.geometry live (codes "\n");
+  state_text = λ pool live. codes "fixed" ++ pool_state pool.pool.geometry live (codes "\n");
 }

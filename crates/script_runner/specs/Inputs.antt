@@ -1,4 +1,4 @@
--- What is written of an input.
+-- The output for an input.
 use Rattle.std.specs.Io.KnownBytes.{Keeps, Appends}
 use Rattle.std.specs.Prelude.{ℕ, ◌≡◌, ◌≢◌, ◌-◌, ◌⊎◌, List, [], ◌∷◌, All, Option, IfSome, take}
 use Rattle.script_runner.specs.Scripts.{Kind, kind, SomeOf, header_words, Begins, AreScript, IsPlayed, IsLineText, Line, Status}

@@ -56,7 +56,7 @@ pub record LoansRun (old : LoanBook CountedPool) (calls : List LoanCall)
   pub geometry : new.allocator.pool.geometry ≡ old.allocator.pool.geometry
   pub stands : StandsFor new.allocator.pool (chunks_out new.book)
 
--- a fresh pool by the plan, and a book of which nothing was loaned yet
+-- a fresh pool by the plan, and a book that has loaned nothing yet
 pub record BeginsLoans (plan : PoolPlan) (loans : LoanBook CountedPool) : Type 0 where
   pub pool : BeginsPool plan loans.allocator
   pub book : loans.book ≡ record { loaned = 0; out = [] }

@@ -113,7 +113,7 @@ code_of InputFailed = 3
 code_of OutputFailed = 3
 code_of OutOfMemory = 4
 
--- what is told on standard error
+-- the text on standard error
 abbrev pub message_of : Status → Option (List ℕ)
 message_of Done = None
 message_of Unreadable = None

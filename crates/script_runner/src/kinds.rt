@@ -9,8 +9,8 @@ pub mod loan_pool;
 pub mod pool;
 pub mod steps;
 
-use crate::engine::driving::{Driven, Outcome, drive};
-use crate::kinds::allocators::Live;
+use crate::engine::driving::{Outcome, ScriptTarget, run_script};
+use crate::kinds::allocators::WithLiveList;
 use crate::kinds::loan_pool::LoanPool;
 use crate::kinds::pool::Fixed;
 use bb_memory_bump::bump_allocator::BumpAllocator;
@@ -23,12 +23,15 @@ use std::alloc::Global;
 
 /// The kinds of scripts, in the order in which a header is tried: each, and those behind it.
 pub type AllKinds = (
-    Live<BumpAllocator>,
+    WithLiveList<BumpAllocator>,
     (
-        Live<OneChunkAllocator>,
+        WithLiveList<OneChunkAllocator>,
         (
-            Live<PoolAllocator<Global>>,
-            (Live<Fixed>, (BumpWorld, (PoolWorld, (LoanPool, ())))),
+            WithLiveList<PoolAllocator<Global>>,
+            (
+                WithLiveList<Fixed>,
+                (BumpWorld, (PoolWorld, (LoanPool, ()))),
+            ),
         ),
     ),
 );
@@ -52,12 +55,12 @@ impl Kinds for () {
     }
 }
 
-impl<K: Driven, Others: Kinds> Kinds for (K, Others) {
+impl<K: ScriptTarget, Others: Kinds> Kinds for (K, Others) {
     ghost table = { kind K.rules ∷ Others.table };
 
     fn run(alloc: Global, name: &[u8], numbers: Numbers, rest: &[u8]) -> Outcome {
         match K::read_header(name, numbers) {
-            Some(header) => drive::<K>(alloc, header, rest),
+            Some(header) => run_script::<K>(alloc, header, rest),
             None => Others::run(alloc, name, numbers, rest),
         }
     }

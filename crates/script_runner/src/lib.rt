@@ -1,5 +1,5 @@
 //! Runs a script: reads it to its end, drives an allocator, a machine of steps or a loan book by it, and writes a line for each
-//! reply. What a script is, and how it is answered, is told in `docs/script-format.md`, and in `specs` for the clauses.
+//! reply. `docs/script-format.md` says what a script is, and how it is answered; `specs` says it for the clauses.
 //!
 //! The files, in the order in which to read them:
 //!

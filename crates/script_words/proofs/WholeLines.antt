@@ -1,4 +1,4 @@
--- What the lines of an input are, and that no others are.
+-- The lines of an input, and that it has no others.
 use Rattle.std.proofs.Common.{◌≡◌, ◌≢◌, ℕ, suc, zero, Bool, true, false, List, [], ◌∷◌, ◌++◌, length, take}
 use Rattle.std.proofs.Common.{take_all, drop, ◌==◌, ◌-◌, arith, ◌<◌, refl, sym, ap, ◌∙◌}
 use Rattle.std.proofs.Common.{inl, inr, ◌⊎◌, append_assoc, subst, append-nil, length-append, tests, All, Contains, eqb, Some}

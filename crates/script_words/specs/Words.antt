@@ -3,7 +3,7 @@ use Rattle.std.specs.Fmt.{decimal}
 use Rattle.std.specs.List.{flat_map, onto_first}
 use Rattle.std.specs.Prelude.{ℕ, ◌≡◌, ◌≢◌, ◌==◌, if◌then◌else◌, List, [], ◌∷◌, ◌++◌, All, Contains, ◌⊎◌, ◌^◌, ◌<◌, codes}
 use Rattle.bb_memory_traits.specs.Chunk.{Region, region_at}
-use Rattle.script_words.specs.declared.words.Figure.{Figure}
+use Rattle.script_words.specs.declared.words.Labelled.{Labelled}
 use Rattle.script_words.specs.declared.words.Numbers.TheVariants.{Zero, One, Two, Three, Four, Five}
 use Rattle.script_words.specs.declared.words.Text.{Text}
 use Rattle.script_words.specs.declared.words.Text.TheVariants.{Name, Line, Refused}
@@ -61,11 +61,11 @@ abbrev pub name_line : List ℕ → List ℕ
 name_line name = words_then name Zero (codes "\n")
 
 -- each label with its figure behind it, and then a text
-abbrev pub figures_then : List Figure → List ℕ → List ℕ
-figures_then [] text = text
-figures_then (figure ∷ figures) text = figure.0.now ++ (decimal figure.1 ++ figures_then figures text)
+abbrev pub labelled_then : List Labelled → List ℕ → List ℕ
+labelled_then [] text = text
+labelled_then (figure ∷ figures) text = figure.0.now ++ (decimal figure.1 ++ labelled_then figures text)
 
--- what is written of the first unreadable line, a line feed included
+-- the text for the first unreadable line, a line feed included
 abbrev pub unreadable_text : ℕ → List ℕ
 unreadable_text number = words_then (codes "line") (One number) (codes ": refused\n")
 

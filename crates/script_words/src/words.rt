@@ -1,11 +1,11 @@
 //! The words of a line: a name, and numbers in decimal, with a space between each two.
 ghost use Rattle.std.specs.Prelude.{◌≡◌, ◌≢◌, ◌↔◌, ◌^◌, ◌<◌, ◌++◌, ◌∷◌, [], ℕ, All, IsTrue, Some};
-ghost use Rattle.std.specs.Prelude.{IfNone, IfSome, OnOk, codes, length, slice_index};
+ghost use Rattle.std.specs.Prelude.{IfNone, IfSome, OnOk, length, slice_index};
 ghost use Rattle.std.specs.Fmt.{decimal};
 ghost use Rattle.std.specs.Option.{SomeIff};
 ghost use Rattle.bb_memory_traits.specs.Chunk.{IsRegion};
 ghost use Rattle.bb_memory_traits.specs.declared.layout.Layout.{Layout};
-ghost use Rattle.script_words.specs.Words.{Words, words, words_then, figures_then, text_bytes, list_of, AreWords, StartsWith};
+ghost use Rattle.script_words.specs.Words.{Words, words, words_then, labelled_then, text_bytes, list_of, AreWords, StartsWith};
 ghost use Rattle.script_words.specs.Words.{IsParty, region_of, bounds_numbers};
 
 use bb_memory_traits::layout::Layout;
@@ -16,6 +16,7 @@ use std::io::Write;
 /// The number of parties in scripts of steps.
 pub const PARTIES: u32 = 64;
 
+/// Numbers of a line, in their order.
 #[derive(Clone, Copy)]
 pub enum Numbers {
     Zero,
@@ -28,7 +29,7 @@ pub enum Numbers {
 
 impl Numbers {
     /// Adds a number at the end, where there is room.
-    fn and(self, last: usize) -> Option<Numbers>
+    fn with_last(self, last: usize) -> Option<Numbers>
         ensures more { IfSome result (λ more. list_of more ≡ list_of self ++ last ∷ []) }
         ensures full { IfNone result (length (list_of self) ≡ 5) }
     {
@@ -70,7 +71,7 @@ pub fn words(line: &[u8]) -> Option<(&[u8], Numbers)>
     while !rest.is_empty() {
         let (field, after) = split_before(&rest[1..], b' ');
         let last = number(field)?;
-        numbers = numbers.and(last)?;
+        numbers = numbers.with_last(last)?;
         rest = after;
     }
     Some((name, numbers))
@@ -128,6 +129,7 @@ pub enum Text {
 }
 
 impl Text {
+    /// Adds the text to `line`.
     pub fn write(self, line: &mut Vec<u8>) -> Result<(), AllocError>
         ensures { OnOk result (line.new.items ≡ line.old.items ++ text_bytes self) }
     {
@@ -156,7 +158,7 @@ pub fn write_words(
     line.extend_from_slice(name)?;
     let mut left = numbers;
     while let Some((number, rest)) = left.split_first() {
-        write_figure(b" ", number, line)?;
+        write_number(b" ", number, line)?;
         left = rest;
     }
     line.extend_from_slice(end)
@@ -164,33 +166,39 @@ pub fn write_words(
 
 /// A label, and the figure behind it.
 #[derive(Clone, Copy)]
-pub struct Figure(pub &'static [u8], pub usize);
+pub struct Labelled(pub &'static [u8], pub usize);
 
 /// Writes each label with its figure behind it, and then a text.
-pub fn write_figures(figures: &[Figure], end: &[u8], line: &mut Vec<u8>) -> Result<(), AllocError>
-    ensures { OnOk result (line.new.items ≡ line.old.items ++ figures_then figures.now end.now) }
+pub fn write_labelled(
+    figures: &[Labelled],
+    end: &[u8],
+    line: &mut Vec<u8>,
+) -> Result<(), AllocError>
+    ensures { OnOk result (line.new.items ≡ line.old.items ++ labelled_then figures.now end.now) }
 {
     let mut left = figures;
-    while let Some((Figure(label, value), rest)) = left.split_first() {
-        write_figure(label, *value, line)?;
+    while let Some((Labelled(label, value), rest)) = left.split_first() {
+        write_number(label, *value, line)?;
         left = rest;
     }
     line.extend_from_slice(end)
 }
 
-fn write_figure(label: &[u8], value: usize, line: &mut Vec<u8>) -> Result<(), AllocError>
+fn write_number(label: &[u8], value: usize, line: &mut Vec<u8>) -> Result<(), AllocError>
     ensures { OnOk result (line.new.items ≡ line.old.items ++ (label.now ++ decimal value)) }
 {
     line.extend_from_slice(label)?;
     write!(line, "{value}").map_err(|_| AllocError)
 }
 
-pub fn is(name: &[u8], text: &[u8]) -> bool
+/// Returns whether `name` is `text`.
+pub fn is_word(name: &[u8], text: &[u8]) -> bool
     ensures { IsTrue result ↔ (name.now ≡ text.now) }
 {
     name == text
 }
 
+/// Returns the layout of `size` and `align` in bytes, where they make one.
 pub fn layout(size: usize, align: usize) -> Option<Layout>
     ensures made { IfSome result (λ layout. (layout.size ≡ size) × (layout.align ≡ align)) }
     ensures each { (layout : Layout) → layout.size ≡ size → layout.align ≡ align
@@ -214,13 +222,14 @@ pub fn region(kind: &[u8], name: &[u8], numbers: Numbers) -> Option<Bounds>
         → numbers ≡ bounds_numbers bounds → result ≡ Some bounds }
 {
     match numbers {
-        Numbers::Two(start, size) if is(name, kind) && Region::can_make(start, size) => {
+        Numbers::Two(start, size) if is_word(name, kind) && Region::can_make(start, size) => {
             Some(Bounds { start, size })
         }
         _ => None,
     }
 }
 
+/// Returns the number of a party in scripts of steps, where there is such a party.
 pub fn party_of(number: usize) -> Option<u32>
     ensures { SomeIff result (IsParty number) number }
 {
@@ -232,7 +241,7 @@ pub fn party_of(number: usize) -> Option<u32>
 }
 
 /// Returns the number in 32 bits, where it fits.
-pub fn small(number: usize) -> Option<u32>
+pub fn to_u32(number: usize) -> Option<u32>
     ensures { SomeIff result (number < 2 ^ 32) number }
 {
     u32::try_from(number).ok()

@@ -1,4 +1,4 @@
-//! Marks by which a test and the sweep of refused memory tell each other where the making ends and the calls do, and whether
+//! Marks by which a test shows the sweep of refused memory where the making ends and the calls do, and whether
 //! memory was refused or given back. They are requests of sizes that no other has: `.ci/refuse.c` says which is refused when.
 #![tactic(auto)]
 
@@ -12,7 +12,7 @@ const FREED_MARK: usize = 100_043;
 
 const REFUSED_MARK: usize = 100_049;
 
-/// Tests that a request of so many bytes is granted, here or at a second trial: a sweep that refuses one request alone refuses no
+/// Tests that a request of `bytes` bytes is granted, here or at a second trial: a sweep that refuses one request alone refuses no
 /// mark.
 fn is_granted(alloc: Global, bytes: usize) -> bool {
     Vec::<u8>::with_capacity(alloc, bytes).is_ok() || Vec::<u8>::with_capacity(alloc, bytes).is_ok()

@@ -51,7 +51,7 @@ pub record HasAsked (layout : Layout) (party : BumpParty) : Type 0 where
   pub asked : MayTake before layout answer party
   pub none : before.log ≡ []
 
--- Workers, so many, have each asked for this layout once, of a region of which some was used. The space used then agrees with
+-- `workers` workers have each asked for this layout once, of a region that was used in part. The space used then agrees with
 -- their logs, which are all, and is the greatest position that one of them has seen.
 pub record IsCarved (region : Region) (used_before workers : ℕ) (layout : Layout) (used : ℕ) : Type 0 where
   pub parties : List BumpParty

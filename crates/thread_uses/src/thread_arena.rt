@@ -62,7 +62,7 @@ impl ThreadArena {
         }
     }
 
-    /// The chunk in which all chunks of this arena lie.
+    /// Returns the chunk in which all chunks of this arena lie.
     pub fn whole(&self) -> Chunk
         ensures { result ≡ self.now.whole }
     {

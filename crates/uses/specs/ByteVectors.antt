@@ -8,7 +8,7 @@ use Rattle.bb_memory_traits.specs.declared.layout.Layout.{Layout}
 use Rattle.bb_memory_traits.specs.declared.allocator.AllocationGrowError.{AllocationGrowError}
 use Rattle.uses.specs.declared.byte_vector.PushError.{PushError}
 use Rattle.uses.specs.declared.byte_vector.PushError.TheVariants.{TooLong, Full}
-use Rattle.uses.specs.Requests.{IsOfBytes}
+use Rattle.uses.specs.Slabs.{IsOfBytes}
 
 -- how far behind the region's start it begins, how many bytes it has room for, and how many it has
 pub record ByteVector : Type 0 where
@@ -31,22 +31,22 @@ pub record IsPushed (here there : HeldBytes) (old : ByteVector) (byte : ℕ) (ne
   pub behind : contents there new ≡ contents here old ++ byte ∷ []
   pub region : held_region there ≡ held_region here
 
--- what lies in the region apart from the byte behind the vector's last one stays
+-- every byte of the region but the one behind the vector's last stays
 abbrev pub KeepsOthers : HeldBytes → ByteVector → HeldBytes → Type 0
 KeepsOthers here vector there = (another : Chunk) → IsInside (held_region here) another
     → AreApart (record { place = here.start + vector.offset + vector.len; len = 1 }) another
     → bytes_in there another ≡ bytes_in here another
 
--- the answer may be given where a chunk of so many bytes is to grow by one: not every two layouts rule it out
+-- the answer may be given where a chunk is to grow by one byte: not every two layouts rule it out
 pub record MayGrowByOne (may_grow : Layout → Layout → Result Chunk AllocationGrowError → Type 0)
     (size : ℕ) (answer : Result Chunk AllocationGrowError) : Type 0 where
   pub may : ¬ ((old new : Layout) → IsOfBytes old size → IsOfBytes new (size + 1) → ¬ may_grow old new answer)
 
 -- why such a chunk wasn't grown
-abbrev pub IsWhyFull : (Layout → Layout → Result Chunk AllocationGrowError → Type 0) → ℕ → PushError → Type 0
+abbrev pub PushFails : (Layout → Layout → Result Chunk AllocationGrowError → Type 0) → ℕ → PushError → Type 0
 -- there is no layout of as many bytes, or of one more
-IsWhyFull may_grow size (TooLong cause) = (¬ IsLayout size 1) ⊎ (¬ IsLayout (size + 1) 1)
-IsWhyFull may_grow size (Full error) = MayGrowByOne may_grow size (Err error)
+PushFails may_grow size (TooLong cause) = (¬ IsLayout size 1) ⊎ (¬ IsLayout (size + 1) 1)
+PushFails may_grow size (Full error) = MayGrowByOne may_grow size (Err error)
 
 -- the chunk at this place has more bytes, as the allocator may make it longer
 pub record IsGrown (may_grow : Layout → Layout → Result Chunk AllocationGrowError → Type 0)
@@ -65,4 +65,4 @@ pub record MakesRoom (stands_for : List Chunk → Type 0)
       → IsGrown (may_grow live chunk.place) chunk.place old.capacity new.capacity)
   pub refused : IfErr result (λ error. (live : List Chunk) (position : ℕ) (chunk : Chunk)
       → stands_for live → slice_get live position ≡ Some chunk → chunk.place ≡ start + old.offset
-      → IsWhyFull (may_grow live chunk.place) old.capacity error)
+      → PushFails (may_grow live chunk.place) old.capacity error)

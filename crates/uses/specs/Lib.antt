@@ -1,2 +1,4 @@
+pub mod Budgets
 pub mod ByteVectors
-pub mod Requests
+pub mod Slabs
+pub mod Tenancies

@@ -5,8 +5,8 @@ ghost use Rattle.std.specs.Prelude.{IfOk, IfErr, OnOk, OnErr, length, slice_get,
 ghost use Rattle.bb_memory_traits.specs.Chunk.{Chunk, AreApart, IsInside};
 ghost use Rattle.bb_memory_traits.specs.HeldBytes.{held_region, bytes_in};
 ghost use Rattle.bb_memory_traits.specs.declared.layout.LayoutError.{LayoutError};
-ghost use Rattle.uses.specs.Requests.{IsOfBytes};
-ghost use Rattle.uses.specs.ByteVectors.{MayGrowByOne, IsGrown, IsPushed, IsWhyFull, KeepsOthers, LivesIn, MakesRoom, contents};
+ghost use Rattle.uses.specs.Slabs.{IsOfBytes};
+ghost use Rattle.uses.specs.ByteVectors.{MayGrowByOne, IsGrown, IsPushed, PushFails, KeepsOthers, LivesIn, MakesRoom, contents};
 
 use bb_memory_traits::allocator::{AllocationGrowError, Allocator, BaseAllocator};
 use bb_memory_traits::layout::{Chunk, Layout, LayoutError};
@@ -89,7 +89,7 @@ impl ByteVec {
         ensures others { self.new ≡ record self.old { capacity = self.new.capacity } }
         ensures unchanged { OnErr result (self.new ≡ self.old) }
         ensures answer { MakesRoom (A.stands_for allocator.old)
-            (A.may_grow (A.figures allocator.old)) region.now.start self.old result self.new }
+            (A.may_grow (A.resize_key allocator.old)) region.now.start self.old result self.new }
         ensures allocator { allocator.new ≡ allocator.old }
     {
         if self.len < self.capacity {
@@ -115,7 +115,7 @@ impl ByteVec {
         ensures apart { OnOk result (KeepsOthers region.old self.old region.new) }
         ensures unchanged { OnErr result ((self.new ≡ self.old) × (region.new ≡ region.old)) }
         ensures answer { MakesRoom (A.stands_for allocator.old)
-            (A.may_grow (A.figures allocator.old)) region.old.start self.old result self.new }
+            (A.may_grow (A.resize_key allocator.old)) region.old.start self.old result self.new }
         ensures offset { self.new.offset ≡ self.old.offset }
         ensures inside { self.new.offset + self.new.capacity ≤ length region.new.bytes }
         ensures region { held_region region.new ≡ held_region region.old }
@@ -179,11 +179,11 @@ fn grow_by_one<A: Allocator>(
     ensures grown { IfOk result (λ grown. (live : List Chunk) (position : ℕ) (chunk : Chunk)
         → A.stands_for allocator.old live → slice_get live position ≡ Some chunk
         → chunk.place ≡ place
-        → IsGrown (A.may_grow (A.figures allocator.old) live chunk.place) place size grown) }
+        → IsGrown (A.may_grow (A.resize_key allocator.old) live chunk.place) place size grown) }
     ensures refused { IfErr result (λ error. (live : List Chunk) (position : ℕ) (chunk : Chunk)
         → A.stands_for allocator.old live → slice_get live position ≡ Some chunk
         → chunk.place ≡ place
-        → IsWhyFull (A.may_grow (A.figures allocator.old) live chunk.place) size error) }
+        → PushFails (A.may_grow (A.resize_key allocator.old) live chunk.place) size error) }
     ensures unchanged { allocator.new ≡ allocator.old }
 {
     let (old, new) = layouts(size)?;
@@ -191,7 +191,7 @@ fn grow_by_one<A: Allocator>(
     Ok(grown.map_err(PushError::Full)?.len())
 }
 
-/// Returns the layouts of so many bytes, and of one more.
+/// Returns the layouts of `size` bytes, and of one more.
 fn layouts(size: usize) -> Result<(Layout, Layout), PushError>
     requires { size + 1 < 2 ^ 64 }
     ensures old { IfOk result (λ layouts. IsOfBytes layouts.0 size) }
@@ -204,7 +204,7 @@ fn layouts(size: usize) -> Result<(Layout, Layout), PushError>
     Ok((old, new))
 }
 
-/// Grows a live chunk of so many bytes by one.
+/// Grows the live chunk at `place` by one byte.
 fn grow<A: Allocator>(
     allocator: &mut A,
     place: usize,
@@ -217,7 +217,7 @@ fn grow<A: Allocator>(
     ensures answer { (live : List Chunk) (position : ℕ) (chunk : Chunk)
         → A.stands_for allocator.old live → slice_get live position ≡ Some chunk
         → chunk.place ≡ place
-        → MayGrowByOne (A.may_grow (A.figures allocator.old) live chunk.place) old.size result }
+        → MayGrowByOne (A.may_grow (A.resize_key allocator.old) live chunk.place) old.size result }
     ensures same_place { IfOk result (λ grown. grown.place ≡ place) }
     ensures longer { IfOk result (λ grown. old.size < grown.len) }
     ensures inside { IfOk result (IsInside (A.region_of (A.geometry allocator.old))) }

@@ -6,7 +6,7 @@ use bb_memory_traits::allocator::{
 use bb_memory_traits::layout::{Chunk, Layout};
 use std::marker::Model;
 
-/// An allocator that has at most so many chunks out. It is an allocator itself, so budgets nest.
+/// An allocator that has at most `budget` chunks out. It is an allocator itself, so budgets nest.
 #[derive(Drop)]
 pub struct ChunkBudget<A: BaseAllocator + Drop> {
     inner: A,
@@ -17,7 +17,7 @@ pub struct ChunkBudget<A: BaseAllocator + Drop> {
 impl<A: BaseAllocator + Drop> Model for ChunkBudget<A> {
     ghost use Rattle.std.specs.Prelude.{◌≡◌, ◌≤◌, List, length};
     ghost use Rattle.bb_memory_traits.specs.Chunk.{Chunk};
-    ghost use Rattle.uses.specs.Requests.{Budgeted};
+    ghost use Rattle.uses.specs.Budgets.{Budgeted};
 
     ghost Value = { Budgeted A };
 
@@ -31,7 +31,7 @@ impl<A: BaseAllocator + Drop> ChunkBudget<A> {
     ghost use Rattle.std.specs.Prelude.{◌≡◌, ◌≤◌, [], List, length};
     ghost use Rattle.bb_memory_traits.specs.Chunk.{Chunk};
 
-    /// Makes a budget of so many chunks, over an allocator that has nothing out.
+    /// Makes a budget of chunks, over an allocator that has nothing out.
     pub fn new(inner: A, budget: usize) -> Self
         requires { A.stands_for inner [] }
         ensures value { result ≡ record { inner = inner; budget = budget; out = 0 } }
@@ -60,7 +60,7 @@ impl<A: BaseAllocator + Drop> BaseAllocator for ChunkBudget<A> {
     ghost use Rattle.std.specs.Prelude.{◌≡◌, ◌<◌, ◌≤◌, ◌⊎◌, ℕ, List, Some, Err, length, slice_get, refl};
     ghost use Rattle.bb_memory_traits.specs.Chunk.{Chunk};
     ghost use Rattle.bb_memory_traits.specs.declared.allocator.AllocationError.TheVariants.{OutOfMemory};
-    ghost use Rattle.uses.specs.Requests.{Limited, TakesWithin};
+    ghost use Rattle.uses.specs.Budgets.{Limited, TakesWithin};
 
     const RELEASE_EMPTIES: bool = A::RELEASE_EMPTIES;
 
@@ -72,7 +72,7 @@ impl<A: BaseAllocator + Drop> BaseAllocator for ChunkBudget<A> {
 
     ghost region_of = { λ g. A.region_of g.inner };
 
-    // Where fewer chunks are out it answers as the allocator below, and where so many are out it refuses.
+    // Where fewer chunks are out than the budget, it answers as the allocator below; else it refuses.
     ghost may_allocate = { λ g live layout answer.
         ((length live < g.budget) × A.may_allocate g.inner live layout answer)
         ⊎ ((g.budget ≤ length live) × (answer ≡ Err OutOfMemory)) };
@@ -126,11 +126,11 @@ impl<A: BaseAllocator + Drop> BaseAllocator for ChunkBudget<A> {
 
 impl<A: Allocator + Drop> Allocator for ChunkBudget<A> {
     ghost use Rattle.std.proofs.Common.{ap, subst};
-    ghost use Rattle.uses.specs.Requests.{Limited};
+    ghost use Rattle.uses.specs.Budgets.{Limited};
 
-    ghost Figures = { A.Figures };
+    ghost ResizeKey = { A.ResizeKey };
 
-    ghost figures = { λ b. A.figures b.inner };
+    ghost resize_key = { λ b. A.resize_key b.inner };
 
     ghost reserved_at = { A.reserved_at };
 

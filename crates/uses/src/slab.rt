@@ -3,7 +3,7 @@ ghost use Rattle.std.specs.Prelude.{◌≡◌, ◌∷◌, ◌++◌, ◌<◌, [],
 ghost use Rattle.bb_memory_traits.specs.Chunk.{Chunk, IsSound};
 ghost use Rattle.bb_memory_traits.specs.declared.layout.Layout.{Layout};
 ghost use Rattle.bb_memory_traits.specs.HeldBytes.{HeldBytes, held_region};
-ghost use Rattle.uses.specs.Requests.{HoldsThen, IsOfBytes, MayGiveLonger, NotesRequest, Stores, records_in};
+ghost use Rattle.uses.specs.Slabs.{HoldsThen, IsOfBytes, MayGiveLonger, NotesRequest, Stores, records_in};
 
 use bb_memory_lists::lists::append_law;
 use bb_memory_traits::allocator::{AllocationError, Allocator, BaseAllocator};
@@ -37,7 +37,7 @@ pub struct Slab<A: Allocator + Drop> {
 impl<A: Allocator + Drop> Model for Slab<A> {
     ghost use Rattle.std.specs.Prelude.{◌≡◌};
     ghost use Rattle.bb_memory_traits.specs.HeldBytes.{held_region};
-    ghost use Rattle.uses.specs.Requests.{Records, records_in};
+    ghost use Rattle.uses.specs.Slabs.{Records, records_in};
 
     // A slab is its records, with their allocator and the chunks in which they lie.
     ghost Value = { Records A };

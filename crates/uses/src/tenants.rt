@@ -3,8 +3,8 @@ ghost use Rattle.std.specs.Prelude.{◌≡◌, ◌≢◌, ◌<◌, ◌≤◌, �
 ghost use Rattle.std.specs.Prelude.{IsOk, IsSome, IsTrue, OnOk, OnErr, length, remove, slice_get, slice_index_or, sum};
 ghost use Rattle.bb_memory_traits.specs.Chunk.{IsInside, IsSound};
 ghost use Rattle.uses.specs.declared.tenants.Lease.{Lease};
-ghost use Rattle.uses.specs.Requests.{HasLeft, IsRefusedUnasked, IsWhyNotAdmitted, IsWhyNotLeased, bytes_for, bytes_out};
-ghost use Rattle.uses.specs.Requests.{chunks_of, lease_at, limit_of, used_by, without_lease};
+ghost use Rattle.uses.specs.Tenancies.{HasLeft, IsRefusedUnasked, AdmitFails, LeaseFails, bytes_for, bytes_out};
+ghost use Rattle.uses.specs.Tenancies.{chunks_of, lease_at, limit_of, used_by, without_lease};
 
 use crate::slab::{self, return_last};
 use bb_memory_lists::lists::{Grouped, append_law, group_law, map_law, position_law, sum_law};
@@ -84,7 +84,7 @@ pub struct Tenants<A: Allocator + Drop> {
 
 impl<A: Allocator + Drop> Model for Tenants<A> {
     ghost use Rattle.std.specs.Prelude.{◌≡◌, ◌≤◌, ℕ, sum};
-    ghost use Rattle.uses.specs.Requests.{Tenancy, chunks_of, limit_of, used_by};
+    ghost use Rattle.uses.specs.Tenancies.{Tenancy, chunks_of, limit_of, used_by};
 
     // Tenants are their allocator, the whole, the limit of each, and the chunks that they hold.
     ghost Value = { Tenancy A };
@@ -124,7 +124,7 @@ impl<A: Allocator + Drop> Tenants<A> {
         ensures within { OnOk result (sum self.old.limits + limit ≤ self.old.whole) }
         ensures admitted { OnOk result
             (self.new ≡ record self.old { limits = self.old.limits ++ limit ∷ [] }) }
-        ensures refused { IfErr result (IsWhyNotAdmitted self.old limit) }
+        ensures refused { IfErr result (AdmitFails self.old limit) }
         ensures unchanged { OnErr result (self.new ≡ self.old) }
     {
         if limit > self.whole - self.promised {
@@ -204,7 +204,7 @@ impl<A: Allocator + Drop> Tenants<A> {
           allocator = self.new.allocator;
           leases = self.old.leases ++ record { tenant = tenant; chunk = chunk } ∷ [];
         }) }
-        ensures refused { IfErr result (IsWhyNotLeased
+        ensures refused { IfErr result (LeaseFails
             (A.may_allocate (A.geometry self.old.allocator) (chunks_of self.old.leases))
             self.old tenant layout) }
         ensures unasked { IfErr result (λ error. IsRefusedUnasked error → self.new ≡ self.old) }
@@ -235,7 +235,7 @@ impl<A: Allocator + Drop> Tenants<A> {
             (λ left. used_by tenant self.now.leases + left ≡ limit_of self.now.limits tenant) }
         ensures enough { OnOk result (HasLeft self.now tenant layout.size) }
         ensures unasked { IfErr result IsRefusedUnasked }
-        ensures refused { IfErr result (IsWhyNotLeased
+        ensures refused { IfErr result (LeaseFails
             (A.may_allocate (A.geometry self.now.allocator) (chunks_of self.now.leases))
             self.now tenant layout) }
     {

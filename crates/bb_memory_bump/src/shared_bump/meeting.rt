@@ -2,7 +2,7 @@
 ghost use Rattle.std.specs.Prelude.{◌≡◌, ◌≤◌, ◌++◌, [], All, map};
 ghost use Rattle.bb_memory_seats.specs.Seats.{HasNow, Stays, standing_for};
 ghost use Rattle.bb_memory_bump.specs.SharedBump.{meeting_at};
-ghost use Rattle.bb_memory_bump.specs.SharedBumpRule.{StandsAt, TellsMeeting, meeting_of, met_by, numbered_of, sight};
+ghost use Rattle.bb_memory_bump.specs.SharedBumpRule.{StandsAt, AfterMeetingLoad, meeting_of, met_by, numbered_of, sight};
 
 use super::rule::View;
 use super::{BumpParty, SharedBumpAllocator};
@@ -15,27 +15,27 @@ impl SharedBumpAllocator {
         requires rest { All (λ party. party.allocator ≡ self.now) rest.old.items }
         ensures table { seat.new.table_id ≡ seat.old.table_id }
         ensures seat { seat.new.me ≡ (meeting_of result seat.old.me.0, []) }
-        ensures told { TellsMeeting self.now.scene
+        ensures step { AfterMeetingLoad self.now.scene
             (map numbered_of rest.old.items ++ seat.old.me.0.parties) (met_by seat.old.me.0) result }
         ensures rest { HasNow (map (meeting_at result) rest.old.items) rest.old rest.new }
         ensures risen { All (λ party. party.met ≤ result) rest.old.items }
     {
         let Some(party) = rest.pop() else {
-            return self.position.find(seat);
+            return self.position.load_for_meeting(seat);
         };
         let BumpParty {
             number,
             seat: guest,
         } = party;
-        self.position.gather(seat, guest);
+        self.position.merge(seat, guest);
         let found = self.meet_rest(seat, rest);
-        let back = self.position.deal(seat);
+        let back = self.position.split_first(seat);
         rest.push_reserved(BumpParty { number, seat: back });
         found
     }
 
     /// These parties go to the seat, before its own.
-    pub(super) fn gather_rest(&self, seat: &mut Seat<u8, View>, mut rest: Vec<BumpParty>)
+    pub(super) fn merge_rest(&self, seat: &mut Seat<u8, View>, mut rest: Vec<BumpParty>)
         requires seat { StandsAt self.now seat.old.table_id seat.old.me }
         requires rest { All (λ party. party.allocator ≡ self.now) rest.items }
         ensures seat { Stays seat.old.table_id seat.new.table_id (seat.new.me
@@ -52,7 +52,7 @@ impl SharedBumpAllocator {
                 number: _,
                 seat: guest,
             } = party;
-            self.position.gather(seat, guest);
+            self.position.merge(seat, guest);
         }
     }
 }

@@ -1,4 +1,4 @@
-//! Parties, each of which is one user's right to step on a shared bump.
+//! Parties: each is one user's right to step on a shared bump.
 ghost use Rattle.std.specs.Prelude.{◌≡◌};
 ghost use Rattle.bb_memory_bump.specs.SharedBump.{IsParty, BumpParty};
 ghost use Rattle.bb_memory_bump.specs.SharedBumpRule.{IsPartySeat, party_in};
@@ -24,7 +24,7 @@ impl Model for BumpParty {
 }
 
 impl BumpParty {
-    /// The party's number, from 0 and below how many parties there are.
+    /// Returns the party's number, from 0 and below how many parties there are.
     pub fn number(&self) -> u32
         ensures value { result ≡ self.now.number }
 

@@ -1,19 +1,19 @@
 //! The position that threads share: its word, and the only calls that touch it.
 //!
-//! `read`, `exchange` and `load` make one atomic step each, by the seat of the party whose step it is, and tell that its log then
-//! ends with that step and what it found. `deal`, `gather`, `find` and `meet` only load the word, and are in no log; `open` and
-//! `close` are before and after all sharing.
+//! `read`, `exchange` and `load` make one atomic step each, by the seat of the party whose step it is. That party's log then
+//! ends with the step and what it found. `split_first`, `merge`, `load_for_meeting` and `meet` only load the word, and are in no
+//! log; `open` and `close` are before and after all sharing.
 ghost use Rattle.std.specs.Prelude.{◌≡◌, ◌≤◌, [], IfOk, Some};
 ghost use Rattle.bb_memory_bump_machine.specs.BumpMachine.{chunk_at, position_behind};
 ghost use Rattle.bb_memory_bump_machine.specs.BumpLogs.{call_in};
-ghost use Rattle.bb_memory_seats.specs.Seats.{IsDealt, MayGather, Stays, number_of, view_log};
-ghost use Rattle.bb_memory_bump.specs.SharedBumpRule.{IsIdleAt, IsSeatAt, StandsAt, all_parties, gathered, meeting_of, met_by};
-ghost use Rattle.bb_memory_bump.specs.SharedBumpRule.{scene_of, MayAsk, TellsExchange, TellsLoad, TellsMeeting, TellsRead};
-ghost use Rattle.bb_memory_bump.specs.SharedBumpRule.{TellsTwo, HasOneWord};
+ghost use Rattle.bb_memory_seats.specs.Seats.{IsSplit, MayMerge, Stays, number_of, view_log};
+ghost use Rattle.bb_memory_bump.specs.SharedBumpRule.{IsIdleAt, IsSeatAt, StandsAt, all_parties, merged, meeting_of, met_by};
+ghost use Rattle.bb_memory_bump.specs.SharedBumpRule.{scene_of, MayAsk, AfterExchange, AfterLoad, AfterMeetingLoad, AfterRead};
+ghost use Rattle.bb_memory_bump.specs.SharedBumpRule.{AfterMeeting, HasOneWord};
 ghost use Rattle.bb_memory_bump.specs.SharedBump.{SharedBump};
 
 use super::rule::{
-    Agreement, Asked, Exchanges, Gather, GiveFirst, Loads, Meets, Reads, Scene, View,
+    Agreement, Asked, Exchanges, GiveFirst, Loads, Meets, Merge, Reads, Scene, View,
 };
 use crate::layout::Layout;
 use atomic_table::{Seat, Table};
@@ -35,7 +35,7 @@ impl Model for Position {
 }
 
 impl Position {
-    /// The position at a scene's opening, and a seat that stands for all its parties.
+    /// Makes the position at a scene's opening, and a seat that stands for all its parties.
     pub(super) fn open(
         alloc: Global,
         scene: Scene,
@@ -49,10 +49,10 @@ impl Position {
         Ok((Position { table }, seat))
     }
 
-    /// A seat of its own for the first party that a seat stands for.
-    pub(super) fn deal(&self, rest: &mut Seat<u8, View>) -> Seat<u8, View>
+    /// Returns a seat of its own for the first party that a seat stands for.
+    pub(super) fn split_first(&self, rest: &mut Seat<u8, View>) -> Seat<u8, View>
         requires { rest.old.table_id ≡ self.now.table }
-        ensures { IsDealt rest.old.table_id rest.old.me rest.new.table_id rest.new.me
+        ensures { IsSplit rest.old.table_id rest.old.me rest.new.table_id rest.new.me
             result.table_id result.me }
     {
         self.table.shared.split_seat::<GiveFirst>(rest)
@@ -61,7 +61,7 @@ impl Position {
     /// The read that begins a request. For which layout it is, the step says by its type.
     pub(super) fn read<L: Asked>(&self, seat: &mut Seat<u8, View>, _layout: Layout) -> usize
         requires { MayAsk self.now seat.old.table_id seat.old.me L.layout _layout }
-        ensures { Stays seat.old.table_id seat.new.table_id (TellsRead self.now.scene
+        ensures { Stays seat.old.table_id seat.new.table_id (AfterRead self.now.scene
             (number_of seat.old.me.0) (view_log seat.old.me.0) (met_by seat.old.me.0)
             _layout result seat.new.me) }
     {
@@ -81,7 +81,7 @@ impl Position {
             ≡ Some (record { layout = layout; seen = seen }) }
         requires behind { let region = self.now.scene.region in
             behind ≡ position_behind region (chunk_at region seen layout) }
-        ensures { Stays seat.old.table_id seat.new.table_id (TellsExchange self.now.scene
+        ensures { Stays seat.old.table_id seat.new.table_id (AfterExchange self.now.scene
             (number_of seat.old.me.0) (view_log seat.old.me.0) (met_by seat.old.me.0)
             result seat.new.me) }
     {
@@ -93,7 +93,7 @@ impl Position {
     /// A load that asks how much is used.
     pub(super) fn load(&self, seat: &mut Seat<u8, View>) -> usize
         requires { IsIdleAt self.now seat.old.table_id seat.old.me }
-        ensures { Stays seat.old.table_id seat.new.table_id (TellsLoad self.now.scene
+        ensures { Stays seat.old.table_id seat.new.table_id (AfterLoad self.now.scene
             (number_of seat.old.me.0) (view_log seat.old.me.0) (met_by seat.old.me.0)
             result seat.new.me) }
     {
@@ -101,20 +101,20 @@ impl Position {
     }
 
     /// A guest's parties go to this seat, before its own.
-    pub(super) fn gather(&self, seat: &mut Seat<u8, View>, guest: Seat<u8, View>)
-        requires { MayGather self.now.table seat.old.table_id guest.table_id guest.me }
+    pub(super) fn merge(&self, seat: &mut Seat<u8, View>, guest: Seat<u8, View>)
+        requires { MayMerge self.now.table seat.old.table_id guest.table_id guest.me }
         ensures { Stays seat.old.table_id seat.new.table_id
-            (seat.new.me ≡ (gathered seat.old.me.0 guest.me.0, seat.old.me.1)) }
+            (seat.new.me ≡ (merged seat.old.me.0 guest.me.0, seat.old.me.1)) }
     {
-        self.table.shared.join_seat::<Gather>(seat, guest);
+        self.table.shared.join_seat::<Merge>(seat, guest);
     }
 
     /// A load that asks where the parties of one seat have met.
-    pub(super) fn find(&self, seat: &mut Seat<u8, View>) -> usize
+    pub(super) fn load_for_meeting(&self, seat: &mut Seat<u8, View>) -> usize
         requires { StandsAt self.now seat.old.table_id seat.old.me }
         ensures table { seat.new.table_id ≡ seat.old.table_id }
         ensures seat { seat.new.me ≡ (meeting_of result seat.old.me.0, []) }
-        ensures told { TellsMeeting self.now.scene seat.old.me.0.parties (met_by seat.old.me.0) result }
+        ensures step { AfterMeetingLoad self.now.scene seat.old.me.0.parties (met_by seat.old.me.0) result }
     {
         self.table.shared.load::<Meets>(seat, 0) as usize
     }
@@ -128,22 +128,22 @@ impl Position {
         ensures b { Stays b.old.table_id b.new.table_id
             (b.new.me ≡ (meeting_of result b.old.me.0, [])) }
         ensures risen { (met_by a.old.me.0 ≤ result) × (met_by b.old.me.0 ≤ result) }
-        ensures met { TellsTwo self.now.scene
+        ensures met { AfterMeeting self.now.scene
             (number_of a.old.me.0) (view_log a.old.me.0)
             (number_of b.old.me.0) (view_log b.old.me.0) result }
     {
-        let guest = self.deal(b);
-        self.gather(a, guest);
-        let found = self.find(a);
-        *b = self.deal(a);
+        let guest = self.split_first(b);
+        self.merge(a, guest);
+        let found = self.load_for_meeting(a);
+        *b = self.split_first(a);
         found
     }
 
-    /// The last position, once no thread shares it any more.
+    /// Returns the last position, once no thread shares it any more.
     pub(super) fn close(self, seat: Seat<u8, View>) -> usize
         requires table { seat.table_id ≡ self.table }
         requires scene { scene_of seat.me.0 ≡ self.scene }
-        ensures last { TellsMeeting self.scene seat.me.0.parties (met_by seat.me.0) result }
+        ensures last { AfterMeetingLoad self.scene seat.me.0.parties (met_by seat.me.0) result }
     {
         let Position { table } = self;
         let closed = table.close_with(seat);

@@ -3,7 +3,7 @@ ghost use Rattle.std.specs.Prelude.{◌≡◌, ◌≤◌, ◌%◌, false, IfSome
 ghost use Rattle.bb_memory_traits.specs.Chunk.{IsInside};
 ghost use Rattle.bb_memory_bump_machine.specs.BumpMachine.{fits};
 ghost use Rattle.bb_memory_seats.specs.Seats.{Stays, number_of, view_log};
-ghost use Rattle.bb_memory_bump.specs.SharedBumpRule.{met_by, HasRefused, HasWon, IsFor, MayAsk};
+ghost use Rattle.bb_memory_bump.specs.SharedBumpRule.{met_by, AfterRefusal, AfterWin, IsFor, MayAsk};
 
 use super::SharedBumpAllocator;
 use super::rule::{Asked, View};
@@ -15,9 +15,9 @@ impl SharedBumpAllocator {
     pub(super) fn claim<L: Asked>(&self, seat: &mut Seat<u8, View>, layout: Layout) -> Option<Chunk>
         requires { MayAsk self.now seat.old.table_id seat.old.me L.layout layout }
         ensures call { Stays seat.old.table_id seat.new.table_id (MatchOption result
-            (HasRefused self.now.scene (number_of seat.old.me.0) (view_log seat.old.me.0)
+            (AfterRefusal self.now.scene (number_of seat.old.me.0) (view_log seat.old.me.0)
             (met_by seat.old.me.0) layout seat.new.me)
-            (HasWon self.now.scene (number_of seat.old.me.0) (view_log seat.old.me.0)
+            (AfterWin self.now.scene (number_of seat.old.me.0) (view_log seat.old.me.0)
             (met_by seat.old.me.0) layout seat.new.me)) }
         ensures aligned { IfSome result (λ chunk. chunk.place % layout.align ≡ 0) }
         ensures inside { IfSome result (IsInside self.now.scene.region) }
@@ -42,7 +42,7 @@ impl SharedBumpAllocator {
         }
     }
 
-    /// The chunk that a layout gets at a position, where it fits there.
+    /// Returns the chunk that a layout gets at a position, where it fits there.
     fn place(&self, position: usize, layout: Layout) -> Option<Chunk>
         requires { position ≤ self.now.scene.region.size }
         ensures fits { MatchOption result (fits self.now.scene.region position layout ≡ false)

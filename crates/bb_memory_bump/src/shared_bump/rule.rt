@@ -1,10 +1,10 @@
-//! The rule of a shared bump's word, the steps on it, and how seats are dealt.
+//! The rule of a shared bump's word, the steps on it, and how seats are split.
 ghost use Rattle.bb_memory_traits.specs.Chunk.{region_at};
 ghost use Rattle.bb_memory_bump.specs.Bump.{Layout};
 ghost use Rattle.bb_memory_bump_machine.specs.BumpMachine.{BumpScene};
 ghost use Rattle.bb_memory_bump.specs.SharedBump.{scene_at};
 ghost use Rattle.bb_memory_bump.specs.SharedBumpRule.{SeatView, nobody, WordsAndLogsAgree, all_parties, reads, exchanges, loads};
-ghost use Rattle.bb_memory_bump.specs.SharedBumpRule.{meets, gathered};
+ghost use Rattle.bb_memory_bump.specs.SharedBumpRule.{meets, merged};
 ghost use Rattle.std.specs.Prelude.{Option, None};
 ghost use Rattle.bb_memory_seats.specs.Seats.{first_of, others_of};
 
@@ -44,7 +44,7 @@ impl TableRule<u8, View, Scene> for Agreement {
     ghost first = { all_parties };
 }
 
-/// The layout of a request, which a load can't be told.
+/// Carries a request's layout in a type, since a `Play` gets no arguments.
 pub(crate) trait Asked {
     ghost layout: { Option Layout };
 }
@@ -93,10 +93,10 @@ impl Split<View> for GiveFirst {
 }
 
 /// One seat stands for the parties of two.
-pub(crate) struct Gather;
+pub(crate) struct Merge;
 
-impl Join<View> for Gather {
-    ghost both = { gathered };
+impl Join<View> for Merge {
+    ghost both = { merged };
 
     ghost spent = { nobody };
 }

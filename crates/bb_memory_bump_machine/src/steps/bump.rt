@@ -1,5 +1,5 @@
 //! The bump machine's steps, and what holds of every list of them.
-ghost use Rattle.std.specs.Prelude.{◌≡◌, ◌+◌, ◌≤◌, ◌<◌, ◌++◌, ℕ, List, All};
+ghost use Rattle.std.specs.Prelude.{◌≡◌, ◌+◌, ◌≤◌, ◌<◌, ◌++◌, ℕ, List};
 ghost use Rattle.bb_memory_traits.specs.Chunk.{Chunk, IsSound};
 ghost use Rattle.bb_memory_bump_machine.specs.BumpMachine.{Layout, BumpScene, OngoingCall, IsIdle, IsInCall, left_by, BumpStep};
 ghost use Rattle.bb_memory_bump_machine.specs.BumpMachine.{Read, Exchange, Load, Loaded};

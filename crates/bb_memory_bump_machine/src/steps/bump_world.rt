@@ -101,7 +101,7 @@ impl Model for BumpWorld {
 }
 
 impl BumpWorld {
-    /// The machine over the region of `size` bytes at `start`, at position 0, with that many parties, all idle. The start
+    /// Makes the machine over the region of `size` bytes at `start`, at position 0, with that many parties, all idle. The start
     /// has to be greater than 0, and start plus size at most `usize::MAX`. It is refused only where memory was.
     pub fn new(
         alloc: Global,
@@ -151,14 +151,14 @@ impl BumpWorld {
         Ok(outcomes)
     }
 
-    /// The position: how many bytes are used, from the region's start to the end of the last chunk, padding included.
+    /// Returns the position: how many bytes are used, from the region's start to the end of the last chunk, padding included.
     pub fn used_space(&self) -> usize
         ensures { result ≡ self.now.state.position }
     {
         self.position
     }
 
-    /// The call of a party, as [`call_at`] has it.
+    /// Returns the call of a party, as [`call_at`] has it.
     fn call_of(&self, party: usize) -> Option<Option<OngoingCall>>
         ensures value { result ≡ slice_get self.now.state.calls party }
         ensures fitting { (call : OngoingCall) → result ≡ Some (Some call)
@@ -208,7 +208,7 @@ impl BumpWorld {
     }
 }
 
-/// The call of a party, if it is in one, where there is such a party.
+/// Returns the call of a party, if it is in one, where there is such a party.
 fn call_at(calls: &[Option<OngoingCall>], party: usize) -> Option<Option<OngoingCall>>
     ensures { result ≡ slice_get calls.now party }
 {

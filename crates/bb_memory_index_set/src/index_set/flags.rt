@@ -31,7 +31,7 @@ impl<const N: usize> Model for Flags<N> {
 }
 
 impl<const N: usize> Flags<N> {
-    /// The empty set of numbers below a bound, which is at most `N`.
+    /// Makes the empty set of numbers below a bound, which is at most `N`.
     pub fn new(bound: u32) -> Self
         requires { bound ≤ N }
         ensures { result ≡ fresh_set bound }

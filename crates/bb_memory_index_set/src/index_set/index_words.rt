@@ -22,7 +22,7 @@ impl Model for Counter {
 }
 
 impl Counter {
-    /// A counter that has counted nothing.
+    /// Makes a counter that has counted nothing.
     #[inline(always)]
     pub fn new() -> Counter
         ensures { result ≡ 0 }
@@ -30,7 +30,7 @@ impl Counter {
         Counter { count: 0 }
     }
 
-    /// How many words were read.
+    /// Returns the number of words that were read.
     #[inline(always)]
     pub fn count(&self) -> u32
         ensures { result ≡ self.now }
@@ -58,7 +58,8 @@ impl<A: Allocator> Model for IndexWords<A> {
 }
 
 impl<A: Allocator> IndexWords<A> {
-    /// So many words, all zero, and room for the list: eight bytes for each. It is refused only where a request for memory was.
+    /// Makes `len` words, all zero, and room for the list: eight bytes for each. It is refused only where a request for
+    /// memory was.
     pub fn new(alloc: A, len: usize) -> Result<Self, AllocError>
         requires { len < 2 ^ 32 }
         ensures zero { IfOk result (λ slots. slots.words ≡ replicate len 0) }

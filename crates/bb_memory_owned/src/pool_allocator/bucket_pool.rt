@@ -1,18 +1,16 @@
 //! Pools over a set of held buckets: what the pools of this crate have in common.
-ghost use Rattle.std.specs.Prelude.{◌≡◌, ◌≢◌, ◌↔◌, ◌≤◌, ℕ, false, true, List, OnOk, Some};
+ghost use Rattle.std.specs.Prelude.{◌≡◌, ◌≢◌, ◌↔◌, ◌≤◌, ℕ, false, true, List, Some};
 ghost use Rattle.std.specs.Prelude.{IfErr, IfSome, IsSome, IsTrue, length, max, remove, slice_get};
 ghost use Rattle.bb_memory_traits.specs.Chunk.{Chunk};
-ghost use Rattle.bb_memory_traits.specs.Object.{AnswersRun, ResizableStep};
-ghost use Rattle.bb_memory_traits.specs.PoolObject.{bucket_place, pool_object};
+ghost use Rattle.bb_memory_traits.specs.PoolObject.{bucket_place};
 ghost use Rattle.bb_memory_geometry.specs.Geometry.{TellsNumber, TellsPlace};
 ghost use Rattle.bb_memory_owned.specs.Pool.{held_count, Allocates, FreesBucket, HoldsPlace, IsPool, StandsFor, TakesBucket};
 ghost use Rattle.bb_memory_index_set.specs.IndexSets.{Has, Lacks, member_count};
-ghost use Rattle.bb_memory_owned.specs.Pool.{Takes, pool_of, reads_after, reads_of};
+ghost use Rattle.bb_memory_owned.specs.Pool.{Takes, pool_of, reads_of};
 
 use super::geometry::Geometry;
 use crate::allocator::{
-    AllocationError, AllocationGrowError, AllocationShrinkError, Allocator, BaseAllocator, Command,
-    Reply, run_full,
+    AllocationError, AllocationGrowError, AllocationShrinkError, Allocator, BaseAllocator,
 };
 use crate::layout::{Chunk, Layout};
 use bb_memory_index_set::index_set::{Counter, IndexSet};
@@ -51,7 +49,7 @@ impl<S: IndexSet> BucketPool<S> {
         self.geometry.count()
     }
 
-    /// The layout of each bucket, as it was asked for.
+    /// Returns the layout of each bucket, as it was asked for.
     #[inline]
     pub fn bucket_layout(&self) -> Layout
         ensures { result ≡ self.now.pool.geometry.bucket }
@@ -59,7 +57,7 @@ impl<S: IndexSet> BucketPool<S> {
         self.geometry.bucket()
     }
 
-    /// The size of a bucket in bytes, as it was asked for. The buckets are at least that far apart.
+    /// Returns the size of a bucket in bytes, as it was asked for. The buckets are at least that far apart.
     #[inline]
     pub fn bucket_size(&self) -> usize
         ensures { result ≡ self.now.pool.geometry.bucket.size }
@@ -67,7 +65,7 @@ impl<S: IndexSet> BucketPool<S> {
         self.geometry.bucket().size()
     }
 
-    /// The greatest alignment that a request may have, of which each bucket's place is a multiple.
+    /// Returns the greatest alignment that a request may have, of which each bucket's place is a multiple.
     #[inline]
     pub fn max_alignment(&self) -> usize
         ensures { result ≡ self.now.pool.geometry.bucket.align }
@@ -75,7 +73,7 @@ impl<S: IndexSet> BucketPool<S> {
         self.geometry.bucket().align()
     }
 
-    /// How many bytes the region has, as it was handed in.
+    /// Returns the size of the region in bytes, as it was handed in.
     #[inline]
     pub fn size(&self) -> usize
         ensures { result ≡ self.now.pool.geometry.region.size }
@@ -83,21 +81,22 @@ impl<S: IndexSet> BucketPool<S> {
         self.geometry.region_size()
     }
 
-    /// Where the bucket of this number begins, held or not, or `None` where there is no such bucket.
+    /// Returns where the bucket of this number begins, held or not, or `None` where there is no such bucket.
     pub fn place_at(&self, number: u32) -> Option<usize>
         ensures { TellsPlace self.now.pool.geometry number result }
     {
         self.geometry.place_at(number)
     }
 
-    /// The number of the bucket that begins at this place, held or not, or `None` where none does.
+    /// Returns the number of the bucket that begins at this place, held or not, or `None` where none does.
     pub fn number_at(&self, place: usize) -> Option<u32>
         ensures { TellsNumber self.now.pool.geometry place result }
     {
         self.geometry.number_at(place)
     }
 
-    /// How many buckets are held: as many as were given and not given back. No bucket is looked at, and no read is counted.
+    /// Returns the number of held buckets: those that were given and not given back. No bucket is looked at, and no read is
+    /// counted.
     #[inline]
     pub fn held_buckets(&self) -> u32
         ensures { result ≡ held_count self.now.pool }
@@ -184,7 +183,7 @@ impl<S: IndexSet> BucketPool<S> {
         true
     }
 
-    /// The number of the held bucket at this place, or `None` where no held one begins there.
+    /// Returns the number of the held bucket at this place, or `None` where no held one begins there.
     #[inline(always)]
     fn held_number(&self, place: usize) -> Option<usize>
         ensures held { IsSome result ↔ HoldsPlace self.now.pool place }
@@ -258,10 +257,10 @@ impl<S: IndexSet> BaseAllocator for BucketPool<S> {
 
     ghost frees = { λ old place _ new. FreesBucket old place new };
 
-    /// A chunk of `layout.size()` bytes in a bucket that isn't held; which one is left open. It is refused in this order: with
-    /// `SizeTooLarge` where the size is greater than the bucket's, with `AlignmentFailure` where the alignment is greater than
-    /// the bucket's, and with `OutOfMemory` where every bucket is held. A refusal leaves the pool as it was, but for what
-    /// `last_reads` answers, where there is one.
+    /// Allocates a chunk of `layout.size()` bytes in a bucket that isn't held; which one is left open. It is refused in this
+    /// order: with `SizeTooLarge` where the size is greater than the bucket's, with `AlignmentFailure` where the alignment is
+    /// greater than the bucket's, and with `OutOfMemory` where every bucket is held. A refusal leaves the pool as it was, but
+    /// for what `last_reads` answers, where there is one.
     #[inline(always)]
     fn allocate(&mut self, layout: Layout) -> Result<Chunk, AllocationError> {
         let mut counter = Counter::new();
@@ -273,17 +272,16 @@ impl<S: IndexSet> BaseAllocator for BucketPool<S> {
     /// Gives back the bucket at this place, which has to be held. The layout decides nothing.
     #[inline(always)]
     fn deallocate(&mut self, place: usize, _layout: Layout) {
-        let number = self.geometry.strides(place - self.geometry.first());
+        let number = self.geometry.whole_strides(place - self.geometry.first());
         self.held.release(number);
     }
 
     fn stands_for_some_list(&self) {
-        // Proof hint: brings the type's invariant into scope.
+        // Proof hint, here and below: brings the type's invariant into scope.
         let _ = &self.geometry;
     }
 
     fn answers_fit(&self) {
-        // Proof hint: brings the type's invariant into scope.
         let _ = &self.geometry;
     }
 
@@ -297,9 +295,9 @@ impl<S: IndexSet> Allocator for BucketPool<S> {
     ghost use Rattle.std.specs.Prelude.{refl};
     ghost use Rattle.bb_memory_traits.specs.PoolObject.{PoolGeometry, MayGrow, MayShrink};
 
-    ghost Figures = { PoolGeometry };
+    ghost ResizeKey = { PoolGeometry };
 
-    ghost figures = { λ pool. pool.pool.geometry };
+    ghost resize_key = { λ pool. pool.pool.geometry };
 
     ghost reserved_at = { λ geometry place. geometry.bucket.size };
 
@@ -313,7 +311,7 @@ impl<S: IndexSet> Allocator for BucketPool<S> {
     ghost shrinks = { λ pool place old new answer _.
         MayShrink pool.pool.geometry.bucket place old new answer };
 
-    /// How many bytes are reserved for the chunk at this place, which has to be a held bucket's: the bucket's size.
+    /// Returns the bytes that are reserved for the chunk at this place, which has to be a held bucket's: the bucket's size.
     #[inline]
     fn reserved(&self, _place: usize) -> usize {
         self.bucket_size()
@@ -356,28 +354,4 @@ impl<S: IndexSet> Allocator for BucketPool<S> {
     ghost covered = { λ pool. covered pool.pool };
 
     ghost only_live = { λ pool. held_is_live pool.pool };
-}
-
-/// Applies the commands in order, as [`run_full`] does: the replies and the live list are a run of the pool object over the
-/// pool's geometry, and the list is sound afterwards. The pool has to stand for the live list. `AllocError` comes only where
-/// memory was refused, and then the pool and the list are as before.
-pub fn run_pool<S: IndexSet>(
-    allocator: &mut BucketPool<S>,
-    live: &mut Vec<Chunk>,
-    commands: &[Command],
-) -> Result<Vec<Reply>, AllocError>
-    requires { StandsFor allocator.old.pool live.old.items }
-    ensures run { AnswersRun (λ pool. StandsFor pool.pool)
-        (λ pool. pool.pool.geometry)
-        (λ geometry. geometry.region)
-        (ResizableStep (pool_object allocator.old.pool.geometry))
-        (λ old layout answer new.
-        TakesBucket old layout answer new (S.words old.pool.geometry.buckets))
-        (λ old place _ new. FreesBucket old place new)
-        commands.now result allocator.old allocator.new live.old.items live.new.items }
-    ensures reads { OnOk result (allocator.new.reads ≡ reads_after
-        allocator.old.pool.geometry.bucket (S.words allocator.old.pool.geometry.buckets)
-        allocator.old.reads commands.now) }
-{
-    run_full(allocator, live, commands)
 }

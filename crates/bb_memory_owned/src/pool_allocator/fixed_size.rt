@@ -22,8 +22,8 @@ pub type FixedSizePoolAllocator<const MAX_NUMBER_OF_BUCKETS: usize> = BucketPool
 >;
 
 impl<const MAX_NUMBER_OF_BUCKETS: usize> FixedSizePoolAllocator<MAX_NUMBER_OF_BUCKETS> {
-    /// A pool over the region of `size` bytes at `start`, cut into buckets of this layout, with no bucket held. The start has
-    /// to be greater than 0; start plus size, and the start rounded up to the bucket's alignment, at most `usize::MAX`; the
+    /// Makes a pool over the region of `size` bytes at `start`, cut into buckets of this layout, with no bucket held. The start
+    /// has to be greater than 0; start plus size, and the start rounded up to the bucket's alignment, at most `usize::MAX`; the
     /// bucket's size greater than 0; and the buckets that there is room for fewer than `u32::MAX`, as the constant.
     /// [`FixedSizePoolAllocator::can_make`] tests all of it.
     pub fn new(bucket_layout: Layout, start: usize, size: usize) -> Self

@@ -45,7 +45,7 @@ pub fn pool_geometry_law()
 /// multiple of the bucket's alignment, and no two begin less than a stride apart. Each run from such a list, with resizes or
 /// without, leads to such a list again, which is sound. It does nothing: its contract is the law.
 pub fn pool_object_law()
-    // What a request may be answered.
+    // Answers to requests.
     ensures some_answer { (geometry : PoolGeometry) → AnswersAll (pool_object geometry).base }
     ensures one_cause { (geometry : PoolGeometry) (live : List Chunk) (layout : Layout)
         (one other : AllocationError)
@@ -72,7 +72,7 @@ pub fn pool_object_law()
         → IsPoolGeometry geometry → MayAllocate geometry live layout (Ok chunk)
         → IsInside geometry.region chunk }
 
-    // What a resize may be answered.
+    // Answers to resizes.
     ensures some_grow { (bucket : Layout) (place : ℕ) (old new : Layout)
         → (answer : Result Chunk AllocationGrowError) × MayGrow bucket place old new answer }
     ensures one_grow { (bucket : Layout) (place : ℕ) (old new : Layout)
@@ -122,7 +122,7 @@ pub fn pool_held_law()
         → place ≡ bucket_place pool.geometry i → HoldsPlace pool place }
 {}
 
-/// How many buckets a region is cut into, as a quotient, and so when it may be cut. It does nothing: its contract is the law.
+/// The law of the number of buckets of a region, as a quotient, and so of when it may be cut. It does nothing.
 pub fn pool_count_law()
     ensures count { (region : Region) (bucket : Layout) (geometry : PoolGeometry) → 0 < bucket.size
         → IsCut region bucket geometry

@@ -1,5 +1,5 @@
 //! The pool machine's steps, and what holds of every list of them.
-ghost use Rattle.std.specs.Prelude.{◌≡◌, ◌<◌, ◌↔◌, ℕ, List, Some, drop, take};
+ghost use Rattle.std.specs.Prelude.{◌≡◌, ◌<◌, ◌↔◌, ℕ, List, drop, take};
 ghost use Rattle.bb_memory_traits.specs.Chunk.{Region, Chunk, IsSound};
 ghost use Rattle.bb_memory_pool_machine.specs.PoolLogs.{Layout, history_of, log_of, IsRefusedAt, LosesAt, MissesAt, AreAsked};
 ghost use Rattle.bb_memory_pool_machine.specs.PoolLogs.{FoundHeld, IsCallRun, IsHeldInRun, IsPoolRun, WasDetached, IsHeldAfter};
@@ -19,7 +19,7 @@ pub enum Flag {
     DetachedBy(u32),
 }
 
-/// One atomic step over the pool's flags, of which each bucket has one.
+/// One atomic step over the pool's flags, one for each bucket.
 #[derive(Debug, Clone, Copy, PartialEq, Eq)]
 pub enum PoolStep {
     /// The party tries to take the next bucket of its pass, or begins a pass at bucket 0 where it is idle. It isn't
@@ -59,8 +59,8 @@ pub enum PoolOutcome {
     Attaches(u32),
 }
 
-/// Whatever steps any number of parties take over the flags of a pool, from the opening with all flags free. It does
-/// nothing: its contract is the theorem.
+/// The law of each list of steps that any number of parties take over the flags of a pool, from the opening with all flags free.
+/// It does nothing: its contract is the theorem.
 ///
 /// As each clause holds of every list of steps, it holds of each beginning of a list. So what is said of the list that a
 /// run leaves is said, by `every_step`, of a run's list at every step.

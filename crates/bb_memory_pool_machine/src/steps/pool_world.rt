@@ -27,7 +27,7 @@ impl Model for PoolWorld {
 }
 
 impl PoolWorld {
-    /// The machine over that many buckets, all flags free, with that many parties, all idle. It is refused only where
+    /// Makes the machine over that many buckets, all flags free, with that many parties, all idle. It is refused only where
     /// memory was.
     pub fn new(alloc: Global, buckets: u32, parties: u32) -> Result<PoolWorld, AllocError>
         ensures opened { IfOk result (λ world. world ≡ all_free buckets parties) }
@@ -68,14 +68,14 @@ impl PoolWorld {
         Ok(outcomes)
     }
 
-    /// How many buckets there are.
+    /// Returns the number of buckets.
     pub fn number_of_buckets(&self) -> u32
         ensures { result ≡ length self.now.flags }
     {
         self.flags.len() as u32
     }
 
-    /// The party that holds the bucket: `None` where its flag is free, where it is detached, or where there is no such
+    /// Returns the party that holds the bucket: `None` where its flag is free, where it is detached, or where there is no such
     /// bucket.
     pub fn holder(&self, bucket: u32) -> Option<u32>
         ensures { result ≡ holder_of self.now bucket }
@@ -190,7 +190,7 @@ impl PoolWorld {
     }
 }
 
-/// The flag of a bucket, or the pass of a party, where there is such a bucket or party.
+/// Returns the flag of a bucket, or the pass of a party, where there is such a bucket or party.
 fn found_at<T: Copy>(all: &[T], number: usize) -> Option<T>
     ensures value { result ≡ slice_get all.now number }
     ensures within { IsSome result → number < length all.now }

@@ -3,7 +3,7 @@ ghost use Rattle.std.specs.Prelude.{◌≡◌, ◌≢◌, ◌↔◌, ◌<◌, �
 ghost use Rattle.bb_memory_traits.specs.Chunk.{Chunk, IsSound};
 ghost use Rattle.bb_memory_traits.specs.PoolObject.{IsHeld};
 ghost use Rattle.bb_memory_pool_machine.specs.PoolMachine.{IsDetached, PoolScene, left_by};
-ghost use Rattle.bb_memory_pool_machine.specs.PoolLogs.{AreAsked, IsPoolRun, history_of, log_of, IsHeldAfter};
+ghost use Rattle.bb_memory_pool_machine.specs.PoolLogs.{AreAsked, IsPoolRun, history_of, log_of};
 ghost use Rattle.bb_memory_traits.specs.declared.layout.Layout.{Layout};
 ghost use Rattle.bb_memory_shared_pools.specs.SharedPool.{HasTaker, HaveMet, HoldApart, IsHeldByOne, IsHeldOrDetached};
 ghost use Rattle.bb_memory_shared_pools.specs.SharedPool.{IsSharedScene, PoolParty, TookOne, WasDetachedByOne, refused_pass};

@@ -8,7 +8,7 @@ use bb_memory_traits::layout::Chunk;
 use std::marker::Model;
 
 /// A token for a bucket that a party took of a shared pool, which it borrows. A return spends it. While the party's log holds the
-/// bucket, the pool's `bucket` gives another token for it, so a party may have several; after a return by one of them the others
+/// bucket, `by_number::bucket` makes another token for it, so a party may have several; after a return by one of them the others
 /// are stale. The bucket of a dropped token stays held until it is returned by another.
 #[derive(Drop)]
 pub struct Bucket<'a> {
@@ -30,7 +30,7 @@ impl<'a> Model for Bucket<'a> {
 }
 
 impl<'a> Bucket<'a> {
-    /// The bucket's number in its pool, from 0.
+    /// Returns the bucket's number in its pool, from 0.
     pub fn number(&self) -> u32
         ensures value { result ≡ self.now.number }
         ensures below { result < self.now.allocator.scene.geometry.buckets }
@@ -38,8 +38,8 @@ impl<'a> Bucket<'a> {
         self.number
     }
 
-    /// The chunk in the bucket: it begins at the bucket's place, and has the
-    /// token's length, which `allocate`, `bucket` or a resize gave it.
+    /// Returns the chunk in the bucket: it begins at the bucket's place, and has the token's length, which a request, `bucket` or
+    /// a resize gave it.
     pub fn chunk(&self) -> Chunk
         ensures value { result ≡ chunk_of self.now }
         ensures short { result.len ≤ self.now.allocator.scene.geometry.bucket.size }

@@ -1,15 +1,13 @@
 //! The shared pools: buckets with a flag each, on which any number of threads step.
-ghost use Rattle.std.specs.Prelude.{◌≡◌, ◌≢◌, ℕ, ◌<◌, ◌≤◌, ◌↔◌, ◌%◌, ◌^◌, [], All, IsErr, IfErr, IfOk};
-ghost use Rattle.std.specs.Prelude.{◌+◌, IfSome, MatchOption, length};
-ghost use Rattle.bb_memory_traits.specs.Chunk.{IsRegion, Chunk, IsInside};
-ghost use Rattle.bb_memory_traits.specs.PoolObject.{IsWithin, MayGrow, MayShrink};
+ghost use Rattle.std.specs.Prelude.{◌≡◌, ◌≢◌, ℕ, ◌<◌, ◌≤◌, ◌%◌, ◌^◌, [], All, IfErr, IfOk, ◌+◌, IfSome, MatchOption, length};
+ghost use Rattle.bb_memory_traits.specs.Chunk.{IsRegion, Chunk};
+ghost use Rattle.bb_memory_traits.specs.PoolObject.{MayGrow, MayShrink};
 ghost use Rattle.bb_memory_pool_machine.specs.PoolLogs.{IsHeldAfter};
 ghost use Rattle.bb_memory_seats.specs.Seats.{HasRoomFor, Stays, number_of, view_log};
-ghost use Rattle.bb_memory_shared_pools.specs.SharedPool.{AreAllHeldAfter, AreBothOf, AreFresh, AreInterleaved, HasTaker};
-ghost use Rattle.bb_memory_shared_pools.specs.SharedPool.{HaveMet, HoldApart, IsAlignedTo, IsResizedTo, IsSameParty};
-ghost use Rattle.bb_memory_shared_pools.specs.SharedPool.{IsSharedScene, MayTake, ServesAlone, chunk_of, refused_pass};
-ghost use Rattle.bb_memory_shared_pools.specs.SharedPool.{return_entry, with_entries};
-ghost use Rattle.bb_memory_shared_pools.specs.SharedPoolRule.{IsIdleAt, all_parties, HasRefused, HasTaken};
+ghost use Rattle.bb_memory_shared_pools.specs.SharedPool.{AreBothOf, AreFresh, AreInterleaved, HasTaker, HaveMet, HoldApart};
+ghost use Rattle.bb_memory_shared_pools.specs.SharedPool.{IsAlignedTo, IsResizedTo, IsSameParty, IsSharedScene, MayTake};
+ghost use Rattle.bb_memory_shared_pools.specs.SharedPool.{ServesAlone, chunk_of, refused_pass, return_entry, with_entries};
+ghost use Rattle.bb_memory_shared_pools.specs.SharedPoolRule.{IsIdleAt, all_parties, AfterRefusal, AfterPassWin};
 
 use super::bucket::Bucket;
 use super::flags::Flags;
@@ -45,7 +43,7 @@ impl<const CAPPED: usize, const MOST: usize> Model for SharedBucketPool<CAPPED, 
 }
 
 impl<const CAPPED: usize, const MOST: usize> SharedBucketPool<CAPPED, MOST> {
-    /// A pool over these buckets, with all flags free, and so many parties, which are idle.
+    /// Returns a pool over these buckets, with all flags free, and its parties, which are idle.
     pub(super) fn make(
         alloc: Global,
         geometry: Geometry,
@@ -78,7 +76,7 @@ impl<const CAPPED: usize, const MOST: usize> SharedBucketPool<CAPPED, MOST> {
         ensures { AreFresh self.now parties all.new.items }
     {
         for number in 0..parties {
-            let seat = self.flags.deal(&mut rest);
+            let seat = self.flags.split_first(&mut rest);
             let bucket = self.part_of(number);
             let hint = Hint {
                 bucket,
@@ -92,10 +90,10 @@ impl<const CAPPED: usize, const MOST: usize> SharedBucketPool<CAPPED, MOST> {
     fn pass(&self, party: u32, seat: &mut Seat<u8, View>) -> Option<u32>
         requires party { number_of seat.old.me.0 ≡ party }
         requires seat { IsIdleAt self.now seat.old.table_id seat.old.me }
-        ensures told { Stays seat.old.table_id seat.new.table_id (MatchOption result
-            (HasRefused self.now.scene (number_of seat.old.me.0) (view_log seat.old.me.0)
+        ensures step { Stays seat.old.table_id seat.new.table_id (MatchOption result
+            (AfterRefusal self.now.scene (number_of seat.old.me.0) (view_log seat.old.me.0)
             (refused_pass self.now.scene.geometry.buckets (number_of seat.old.me.0)) seat.new.me)
-            (HasTaken self.now.scene (number_of seat.old.me.0) (view_log seat.old.me.0)
+            (AfterPassWin self.now.scene (number_of seat.old.me.0) (view_log seat.old.me.0)
             seat.new.me)) }
         ensures fits { IfSome result (λ bucket. bucket + 1 < 2 ^ 32) }
     {
@@ -263,7 +261,7 @@ impl<const CAPPED: usize, const MOST: usize> SharedBucketPool<CAPPED, MOST> {
         Ok(shrunk)
     }
 
-    /// How many buckets there are: at most the constant of a fixed-size pool. They lie in a region, and there is a party.
+    /// Returns the number of buckets: at most the constant of a fixed-size pool. Its clauses also state the pool's invariant.
     pub fn number_of_buckets(&self) -> u32
         ensures value { result ≡ self.now.scene.geometry.buckets }
         ensures region { IsRegion self.now.scene.geometry.region }
@@ -273,35 +271,35 @@ impl<const CAPPED: usize, const MOST: usize> SharedBucketPool<CAPPED, MOST> {
         self.flags.geometry().count()
     }
 
-    /// How many parties the pool was made for. Where there are two at least, a party may detach a bucket for another.
+    /// Returns the number of parties that the pool was made for. With two at least, a party may detach a bucket for another.
     pub fn number_of_parties(&self) -> u32
         ensures value { result ≡ self.now.scene.parties }
     {
         self.flags.parties()
     }
 
-    /// The layout of each bucket, as it was asked for.
+    /// Returns the layout of each bucket, as it was asked for.
     pub fn bucket_layout(&self) -> Layout
         ensures { result ≡ self.now.scene.geometry.bucket }
     {
         self.flags.geometry().bucket()
     }
 
-    /// The size of a bucket in bytes, as it was asked for. The buckets are at least that far apart.
+    /// Returns the size of a bucket in bytes, as it was asked for. The buckets are at least that far apart.
     pub fn bucket_size(&self) -> usize
         ensures value { result ≡ self.now.scene.geometry.bucket.size }
     {
         self.flags.geometry().bucket().size()
     }
 
-    /// The greatest alignment that a request may have, of which each bucket's place is a multiple.
+    /// Returns the greatest alignment that a request may have, of which each bucket's place is a multiple.
     pub fn max_alignment(&self) -> usize
         ensures value { result ≡ self.now.scene.geometry.bucket.align }
     {
         self.flags.geometry().bucket().align()
     }
 
-    /// How many bytes the region has, as it was handed in.
+    /// Returns the size of the region in bytes, as it was handed in.
     pub fn size(&self) -> usize
         ensures value { result ≡ self.now.scene.geometry.region.size }
     {

@@ -11,7 +11,7 @@ use super::party::PoolParty;
 pub use bb_memory_pool_machine::steps::Flag;
 
 impl<const CAPPED: usize, const MOST: usize> SharedBucketPool<CAPPED, MOST> {
-    /// The number of the bucket at this place, or `None` where no bucket begins there.
+    /// Returns the number of the bucket at this place, or `None` where no bucket begins there.
     pub fn number_at(&self, place: usize) -> Option<u32>
         ensures below { IfSome result (λ number. number < self.now.scene.geometry.buckets) }
         ensures there { IfSome result (λ number.
@@ -23,7 +23,7 @@ impl<const CAPPED: usize, const MOST: usize> SharedBucketPool<CAPPED, MOST> {
         self.flags.geometry().number_at(place)
     }
 
-    /// Where the bucket of this number begins, or `None` where there is no such bucket.
+    /// Returns where the bucket of this number begins, or `None` where there is no such bucket.
     pub fn place_at(&self, number: u32) -> Option<usize>
         ensures { TellsPlace self.now.scene.geometry number result }
     {
@@ -53,11 +53,11 @@ impl<const CAPPED: usize, const MOST: usize> SharedBucketPool<CAPPED, MOST> {
     }
 }
 
-/// The bucket of this number again, with a chunk of `len` bytes, without a step. It is for a user that can keep no [`Bucket`],
-/// which borrows its pool, and kept the number in its place, as an interface for C does. So it is no call of the pool: it has to
-/// be imported. The party has to be this pool's, and its log has to hold the bucket: this party took it, and it wasn't given back
-/// since. The length has to be at most the bucket's size. Tokens that there are already stay: a return by one leaves the others
-/// stale, which still answer the bucket's number and chunk when another party has taken it.
+/// Returns the bucket of this number again, with a chunk of `len` bytes, without a step. It is for a user that can keep no
+/// [`Bucket`], which borrows its pool, and kept the number in its place, as an interface for C does. So it is no call of the
+/// pool: it has to be imported. The party has to be this pool's, and its log has to hold the bucket: this party took it, and it
+/// wasn't given back since. The length has to be at most the bucket's size. Tokens that there are already stay: a return by one
+/// leaves the others stale, which still answer the bucket's number and chunk when another party has taken it.
 ///
 /// Example: `comments::shared_pool_by_number` of `crates/examples`.
 pub fn bucket<'a, const CAPPED: usize, const MOST: usize>(

@@ -1,11 +1,8 @@
 //! Parties that cache the buckets that they gave back last: a layer over the shared pools.
-ghost use Rattle.std.specs.Prelude.{◌≡◌, ◌≢◌, ◌<◌, ◌≤◌, ◌↔◌, ◌∷◌, ◌++◌, [], ℕ, List, Contains, IfErr, IfOk, Ok, length};
-ghost use Rattle.std.specs.Prelude.{true, vec_capacity};
-ghost use Rattle.bb_memory_traits.specs.PoolObject.{IsWithin};
+ghost use Rattle.std.specs.Prelude.{◌≡◌, ◌≢◌, ◌<◌, ◌≤◌, ◌↔◌, [], ℕ, Contains, IfErr, IfOk, Ok, length, true, vec_capacity};
 ghost use Rattle.bb_memory_pool_machine.specs.PoolLogs.{IsHeldAfter};
-ghost use Rattle.bb_memory_shared_pools.specs.SharedPool.{AreBothOf, AreInterleaved, IsSameParty, attach_entry};
-ghost use Rattle.bb_memory_shared_pools.specs.SharedPool.{detach_entry, return_detached_entry, return_entry, taken_bucket};
-ghost use Rattle.bb_memory_shared_pools.specs.SharedPool.{with_entries};
+ghost use Rattle.bb_memory_shared_pools.specs.SharedPool.{AreBothOf, AreInterleaved, IsSameParty, attach_entry, detach_entry};
+ghost use Rattle.bb_memory_shared_pools.specs.SharedPool.{return_detached_entry, taken_bucket, with_entries};
 ghost use Rattle.bb_memory_shared_pools.specs.SharedPoolCaching.{AreCached, IsOut, ReturnsCaching, ServesCaching, returns_of};
 
 use super::bucket::Bucket;
@@ -18,11 +15,11 @@ use bb_memory_traits::layout::Layout;
 use std::alloc::{AllocError, Global};
 use std::marker::Model;
 
-/// How many numbers of four bytes fill two cache lines.
+/// The number of `u32` that fill two cache lines.
 const GAP: usize = 32;
 
-/// An empty list with room for so many numbers, and for a gap behind them: each call writes its party's list, which shares no
-/// cache line with what another thread's calls write. For no numbers it takes no memory.
+/// Returns an empty list with room for `most` numbers, and for a gap behind them: each call writes its party's list, which
+/// shares no cache line with what another thread's calls write. For no numbers it takes no memory.
 fn list_of(alloc: Global, most: u32) -> Result<Vec<u32>, AllocError>
     ensures items { IfOk result (λ list. list.items ≡ []) }
     ensures room { IfOk result (λ list. most ≤ vec_capacity list) }

@@ -52,7 +52,7 @@ impl Model for LostBucket {
 }
 
 impl DetachedBucket {
-    /// The bucket's number in its pool, from 0.
+    /// Returns the bucket's number in its pool, from 0.
     pub fn number(&self) -> u32
         ensures value { (result ≡ self.now.number)
             × (result < self.now.allocator.scene.geometry.buckets) }
@@ -60,7 +60,7 @@ impl DetachedBucket {
         self.number
     }
 
-    /// The length in bytes of the chunk in the bucket, as it was when the bucket was detached.
+    /// Returns the length in bytes of the chunk in the bucket, as it was when the bucket was detached.
     pub fn len(&self) -> usize
         ensures value { (result ≡ self.now.len)
             × (result ≤ self.now.allocator.scene.geometry.bucket.size) }
@@ -72,13 +72,13 @@ impl DetachedBucket {
 impl<const CAPPED: usize, const MOST: usize> SharedBucketPool<CAPPED, MOST> {
     /// Detaches a bucket from the party that holds it, so that another party can attach it, in any thread. The party's log gets
     /// this step, a store, and the flag stays taken. Detaching loads one word more, takes no memory and waits for nothing.
-    /// Conditions: the pool was made for two parties at least, as `number_of_parties` tells; the party and the bucket are this
+    /// Conditions: the pool was made for two parties at least, as `number_of_parties` returns; the party and the bucket are this
     /// pool's; and the party's log holds the bucket: this party took or attached it, and hasn't given it back or detached it
     /// since.
     ///
     /// Example: `comments::shared_pool_detached` of `crates/examples`.
     pub fn detach(&self, party: &mut PoolParty, bucket: Bucket<'_>) -> DetachedBucket
-        requires may { MayDetach self.now party.old bucket }
+        requires allowed { MayDetach self.now party.old bucket }
         ensures bucket { result ≡ bucket.entry }
         ensures party { HasDetached self.now party.old bucket.entry party.new }
     {
@@ -95,7 +95,7 @@ impl<const CAPPED: usize, const MOST: usize> SharedBucketPool<CAPPED, MOST> {
     /// back. The party's log gets this step, a store. Attaching loads one word more, takes no memory and waits for nothing.
     /// Condition: the party and the bucket are this pool's. There is no refusal.
     pub fn attach(&self, party: &mut PoolParty, detached: DetachedBucket) -> Bucket<'_>
-        requires own { AreOf self.now party.old detached }
+        requires same_pool { AreOf self.now party.old detached }
         ensures bucket { result ≡ detached }
         ensures party { HasAttached self.now party.old detached party.new }
     {
@@ -112,7 +112,7 @@ impl<const CAPPED: usize, const MOST: usize> SharedBucketPool<CAPPED, MOST> {
     /// Gives back a detached bucket by one store, which makes its flag free, as a party may that needs the bucket no more. The
     /// party's log gets this step. Condition: the party and the bucket are this pool's. There is no refusal.
     pub fn return_detached(&self, party: &mut PoolParty, detached: DetachedBucket)
-        requires own { AreOf self.now party.old detached }
+        requires same_pool { AreOf self.now party.old detached }
         ensures { HasReturned self.now party.old detached party.new }
     {
         let DetachedBucket {
@@ -127,7 +127,7 @@ impl<const CAPPED: usize, const MOST: usize> SharedBucketPool<CAPPED, MOST> {
     /// Gives back the detached bucket of this number, whose token was lost, by one store. It is refused where the bucket's flag
     /// doesn't say that it is detached, which the token rules out. The party and the token have to be this pool's.
     pub fn recover(&self, party: &mut PoolParty, number: u32, lost: LostBucket) -> bool
-        requires own { AreOf self.now party.old lost }
+        requires same_pool { AreOf self.now party.old lost }
         requires number { lost.number ≡ number }
         ensures recovered { result ≡ true }
         ensures party { HasReturned self.now party.old lost party.new }

@@ -7,12 +7,12 @@ use std::sync::atomic::Ordering;
 /// Figures of a shared pool. Where parties call meanwhile, each flag was read at a moment of its own.
 #[derive(Debug, Clone, Copy, PartialEq, Eq)]
 pub struct SharedPoolFigures {
-    /// How many buckets were held, cached or detached.
+    /// The number of buckets that were held, cached or detached.
     pub held: u32,
-    /// How many were found held at most so far: by a reading of the flags, or by a refused request, which finds each bucket held,
-    /// one after the other and not at one moment. More may have been held between two readings.
+    /// The greatest number that was found held so far: by a reading of the flags, or by a refused request, which finds each
+    /// bucket held, one after the other and not at one moment. More may have been held between two readings.
     pub greatest_held: u32,
-    /// How many requests were refused for want of a bucket.
+    /// The number of requests that were refused for want of a bucket.
     pub refused: u64,
 }
 
@@ -27,7 +27,7 @@ impl<const CAPPED: usize, const MOST: usize> SharedBucketPool<CAPPED, MOST> {
     }
 
     /// Figures, for any thread and while parties call. Each flag is loaded once. A detached bucket is held, though by no party.
-    /// No contract tells more of what a load finds while others step.
+    /// No contract says more of what a load finds while others step.
     pub fn figures(&self) -> SharedPoolFigures
         ensures held { result.held ≤ result.greatest_held }
         ensures greatest_held { result.greatest_held ≤ self.now.scene.geometry.buckets }

@@ -21,7 +21,7 @@ pub type SharedFixedSizePoolAllocator<const MAX_NUMBER_OF_BUCKETS: usize> = Shar
 >;
 
 impl<const MAX_NUMBER_OF_BUCKETS: usize> SharedFixedSizePoolAllocator<MAX_NUMBER_OF_BUCKETS> {
-    /// A pool over the region of `size` bytes at `start`, cut into buckets of this layout, with no bucket held, and its
+    /// Makes a pool over the region of `size` bytes at `start`, cut into buckets of this layout, with no bucket held, and its
     /// parties, numbered from 0. The start has to be greater than 0; start plus size, and the start rounded up to the bucket's
     /// alignment, at most `usize::MAX`; the bucket's size greater than 0; the buckets that there is room for fewer than
     /// `u32::MAX`, as the constant, and the parties at least 1.

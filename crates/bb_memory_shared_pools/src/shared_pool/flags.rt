@@ -2,9 +2,9 @@
 //!
 //! `try_flag`, `try_at`, `probe` and `give_back` make one logged step each, by the seat of the party whose step it is. That
 //! party's log then ends with the step and what it found. So do `detach`, `attach` and `return_detached`, each of which loads a
-//! word more for the seat of what is detached. `deal`, `gather`, `find`, `meet`, `is_held`, `is_detached` and `found` only load
-//! words, and are in no log; nor is the load with which `probe` begins, where it finds the flag free. `open` is before all
-//! sharing, and `geometry` touches no word.
+//! word more for the seat of what is detached. `split_first`, `merge`, `load_for_meeting`, `meet`, `is_held`, `is_detached` and
+//! `found` only load words, and are in no log; nor is the load with which `probe` begins, where it finds the flag free. `open` is
+//! before all sharing, and `geometry` touches no word.
 ghost use Rattle.std.specs.Prelude.{◌≡◌, ◌<◌, ◌≤◌, ◌↔◌, ◌^◌, [], IfOk, MatchBool, true};
 ghost use Rattle.bb_memory_traits.specs.Chunk.{IsRegion};
 ghost use Rattle.bb_memory_shared_pools.specs.SharedPool.{attach_entry, return_detached_entry};
@@ -14,12 +14,12 @@ ghost use Rattle.bb_memory_pool_machine.specs.declared.steps.pool.Flag.{Flag};
 ghost use Rattle.bb_memory_pool_machine.specs.declared.steps.pool.Flag.TheVariants.{DetachedBy, HeldBy};
 ghost use Rattle.bb_memory_pool_machine.specs.PoolLogs.{IsHeldAfter, MayBeFound, next_bucket};
 ghost use Rattle.bb_memory_shared_pools.specs.SharedPoolRule.{word_of, StandsAt, IsHeldAt, IsIdleAt, IsDetachedAt, all_parties};
-ghost use Rattle.bb_memory_shared_pools.specs.SharedPoolRule.{IsSeatAt, HasDetachedAt, HasGained, TellsProbe, as_word};
-ghost use Rattle.bb_memory_shared_pools.specs.SharedPoolRule.{TellsLoss, TellsMeeting, TellsReturn, TellsTaking, TellsTwo};
-ghost use Rattle.bb_memory_seats.specs.Seats.{IsDealt, MayGather, Stays, both_of, number_of, view_log};
+ghost use Rattle.bb_memory_shared_pools.specs.SharedPoolRule.{IsSeatAt, AfterDetachSplit, AfterGain, AfterProbe, AfterMeeting};
+ghost use Rattle.bb_memory_shared_pools.specs.SharedPoolRule.{AfterTryLoss, AfterMeetingLoad, AfterReturn, AfterTryWin, as_word};
+ghost use Rattle.bb_memory_seats.specs.Seats.{IsSplit, MayMerge, Stays, both_of, number_of, view_log};
 
 use super::rule::{
-    Agreement, Attaches, Detaches, Finds, Gather, GiveDetached, GiveFirst, LooksAt, Meets,
+    Agreement, Attaches, Detaches, Finds, GiveDetached, GiveFirst, LooksAt, Meets, Merge,
     Recognizes, Returns, ReturnsDetached, Scene, SeesDetached, TakeIn, Tries, TriesAt, View,
 };
 use atomic_table::{Seat, Table};
@@ -32,21 +32,21 @@ use std::sync::atomic::AtomicU64;
 /// The word of a free flag.
 const FREE: u64 = 0;
 
-/// The word of the flag of a bucket that this party holds.
+/// Returns the word of the flag of a bucket that this party holds.
 fn held_by(party: u32) -> u64
     ensures { result ≡ as_word (HeldBy party) }
 {
     2 * party as u64 + 1
 }
 
-/// The word of the flag of a bucket that this party has detached.
+/// Returns the word of the flag of a bucket that this party has detached.
 fn detached_by(party: u32) -> u64
     ensures { result ≡ as_word (DetachedBy party) }
 {
     2 * party as u64 + 2
 }
 
-/// The flag of this word.
+/// Returns the flag of this word.
 fn flag_of(word: u64) -> Flag
     requires { (flag : Flag) × (word ≡ as_word flag) × NamesMade (2 ^ 32) flag }
     ensures { word ≡ as_word result }
@@ -65,8 +65,8 @@ fn flag_of(word: u64) -> Flag
 /// The word of the first flag. The eight words before it, a cache line of them, are no flag: word 0 is loaded by meetings.
 const FIRST: usize = 8;
 
-/// The word of a bucket's flag. Flags stand in the order of their buckets: neighbours of one party's part of the pool share a
-/// cache line, and different parties' parts lie on different lines but at their borders.
+/// Returns the word of a bucket's flag. Flags stand in the order of their buckets: neighbours of one party's part of the pool
+/// share a cache line, and different parties' parts lie on different lines but at their borders.
 fn word_of(bucket: u32) -> usize
     ensures { result ≡ word_of bucket }
 {
@@ -78,7 +78,7 @@ fn word_of(bucket: u32) -> usize
 pub(super) struct Flags {
     table: Table<u8, View, Scene, Agreement, Global>,
     pub(super) scene: Scene,
-    /// How many requests were refused, and the greatest number of buckets that were found held. Contracts say nothing of them.
+    /// The number of refused requests, and the greatest number of buckets that were found held. No clause speaks of them.
     pub(super) refused: AtomicU64,
     pub(super) greatest: AtomicU64,
 }
@@ -100,7 +100,7 @@ impl Model for Flags {
 }
 
 impl Flags {
-    /// The flags at a scene's opening, all free, and a seat that stands for all its parties.
+    /// Makes the flags at a scene's opening, all free, and a seat that stands for all its parties.
     pub(super) fn open(alloc: Global, scene: Scene) -> Result<(Flags, Seat<u8, View>), AllocError>
         requires { 1 ≤ scene.parties }
         ensures scene { IfOk result (λ made. made.0.scene ≡ scene) }
@@ -120,25 +120,25 @@ impl Flags {
         Ok((flags, seat))
     }
 
-    /// A seat of its own for the first party that a seat stands for.
-    pub(super) fn deal(&self, rest: &mut Seat<u8, View>) -> Seat<u8, View>
+    /// Returns a seat of its own for the first party that a seat stands for.
+    pub(super) fn split_first(&self, rest: &mut Seat<u8, View>) -> Seat<u8, View>
         requires { rest.old.table_id ≡ self.now.table }
-        ensures { IsDealt rest.old.table_id rest.old.me rest.new.table_id rest.new.me
+        ensures { IsSplit rest.old.table_id rest.old.me rest.new.table_id rest.new.me
             result.table_id result.me }
     {
         self.table.shared.split_seat::<GiveFirst>(rest)
     }
 
-    /// One exchange on the flag of the bucket that the party tries next: whether it took the bucket.
+    /// Exchanges the flag of the bucket that the party tries next from free to held. Returns whether that took the bucket.
     pub(super) fn try_flag(&self, party: u32, seat: &mut Seat<u8, View>, bucket: u32) -> bool
         requires party { number_of seat.old.me.0 ≡ party }
         requires seat { IsSeatAt self.now seat.old.table_id seat.old.me }
         requires next { next_bucket (view_log seat.old.me.0) ≡ bucket }
         requires below { bucket < self.now.scene.geometry.buckets }
         ensures { Stays seat.old.table_id seat.new.table_id (MatchBool result
-            (TellsTaking self.now.scene (number_of seat.old.me.0) (view_log seat.old.me.0)
+            (AfterTryWin self.now.scene (number_of seat.old.me.0) (view_log seat.old.me.0)
             bucket seat.new.me)
-            (TellsLoss self.now.scene (number_of seat.old.me.0) (view_log seat.old.me.0)
+            (AfterTryLoss self.now.scene (number_of seat.old.me.0) (view_log seat.old.me.0)
             bucket seat.new.me)) }
     {
         let found = self
@@ -148,12 +148,12 @@ impl Flags {
         found == FREE
     }
 
-    /// One exchange on the flag of this bucket, by a party that is in no pass: whether it took the bucket.
+    /// Exchanges the flag of `bucket` from free to held, by a party in no pass. Returns whether that took the bucket.
     pub(super) fn try_at(&self, party: u32, seat: &mut Seat<u8, View>, bucket: u32) -> bool
         requires party { number_of seat.old.me.0 ≡ party }
         requires seat { IsIdleAt self.now seat.old.table_id seat.old.me }
         requires below { bucket < self.now.scene.geometry.buckets }
-        ensures { Stays seat.old.table_id seat.new.table_id (TellsProbe self.now.scene
+        ensures { Stays seat.old.table_id seat.new.table_id (AfterProbe self.now.scene
             (number_of seat.old.me.0) (view_log seat.old.me.0) bucket seat.new.me result) }
     {
         let shared = &self.table.shared;
@@ -168,7 +168,7 @@ impl Flags {
         requires party { number_of seat.old.me.0 ≡ party }
         requires seat { IsIdleAt self.now seat.old.table_id seat.old.me }
         requires below { bucket < self.now.scene.geometry.buckets }
-        ensures { Stays seat.old.table_id seat.new.table_id (TellsProbe self.now.scene
+        ensures { Stays seat.old.table_id seat.new.table_id (AfterProbe self.now.scene
             (number_of seat.old.me.0) (view_log seat.old.me.0) bucket seat.new.me result) }
     {
         let seen = self.table.shared.load::<LooksAt>(seat, word_of(bucket));
@@ -182,7 +182,7 @@ impl Flags {
     pub(super) fn give_back(&self, seat: &mut Seat<u8, View>, bucket: u32)
         requires seat { IsSeatAt self.now seat.old.table_id seat.old.me }
         requires held { IsHeldAt self.now seat.old.me bucket }
-        ensures { Stays seat.old.table_id seat.new.table_id (TellsReturn self.now.scene
+        ensures { Stays seat.old.table_id seat.new.table_id (AfterReturn self.now.scene
             (number_of seat.old.me.0) (view_log seat.old.me.0) bucket seat.new.me) }
     {
         self.table
@@ -190,7 +190,7 @@ impl Flags {
             .store::<Returns>(seat, word_of(bucket), FREE);
     }
 
-    /// A load of its word, which is in no log: whether the party holds this bucket.
+    /// Loads the flag of `bucket`, which is in no log. Returns whether the party holds the bucket.
     pub(super) fn is_held(&self, party: u32, seat: &mut Seat<u8, View>, bucket: u32) -> bool
         requires party { number_of seat.old.me.0 ≡ party }
         requires seat { IsSeatAt self.now seat.old.table_id seat.old.me }
@@ -203,7 +203,7 @@ impl Flags {
         found == held_by(party)
     }
 
-    /// A load of its word, which is in no log, by a new seat: the bucket's flag.
+    /// Loads the flag of `bucket` by a new seat, which is in no log, and returns it.
     pub(super) fn found(&self, bucket: u32) -> Flag
         requires { bucket < self.now.scene.geometry.buckets }
         ensures { MayBeFound self.now.scene bucket result }
@@ -214,7 +214,7 @@ impl Flags {
         flag_of(word)
     }
 
-    /// A load of its word, which is in no log, by a seat at which this bucket is detached: whether its flag says so.
+    /// Loads the flag of `bucket` by a seat at which the bucket is detached. Returns whether the flag says so.
     pub(super) fn is_detached(&self, seat: &mut Seat<u8, View>, bucket: u32) -> bool
         requires { IsDetachedAt self.now seat.old.table_id seat.old.me bucket }
         ensures seat { Stays seat.old.table_id seat.new.table_id (seat.new.me ≡ seat.old.me) }
@@ -237,7 +237,7 @@ impl Flags {
         requires others { 1 < self.now.scene.parties }
         requires seat { IsSeatAt self.now seat.old.table_id seat.old.me }
         requires held { IsHeldAt self.now seat.old.me bucket }
-        ensures step { Stays self.now.table seat.new.table_id (HasDetachedAt self.now.scene
+        ensures step { Stays self.now.table seat.new.table_id (AfterDetachSplit self.now.scene
             (number_of seat.old.me.0) (view_log seat.old.me.0) bucket seat.new.me) }
         ensures detached { IsDetachedAt self.now result.table_id result.me bucket }
     {
@@ -257,7 +257,7 @@ impl Flags {
         requires party { number_of seat.old.me.0 ≡ party }
         requires seat { IsIdleAt self.now seat.old.table_id seat.old.me }
         requires detached { IsDetachedAt self.now detached.table_id detached.me bucket }
-        ensures { Stays seat.old.table_id seat.new.table_id (HasGained self.now.scene
+        ensures { Stays seat.old.table_id seat.new.table_id (AfterGain self.now.scene
             (number_of seat.old.me.0) (view_log seat.old.me.0)
             (attach_entry (number_of seat.old.me.0) bucket) bucket seat.new.me) }
     {
@@ -275,7 +275,7 @@ impl Flags {
     )
         requires seat { IsIdleAt self.now seat.old.table_id seat.old.me }
         requires detached { IsDetachedAt self.now detached.table_id detached.me bucket }
-        ensures { Stays seat.old.table_id seat.new.table_id (HasGained self.now.scene
+        ensures { Stays seat.old.table_id seat.new.table_id (AfterGain self.now.scene
             (number_of seat.old.me.0) (view_log seat.old.me.0)
             (return_detached_entry (number_of seat.old.me.0) bucket) bucket seat.new.me) }
     {
@@ -285,20 +285,20 @@ impl Flags {
     }
 
     /// A guest's parties go to this seat, before its own.
-    pub(super) fn gather(&self, seat: &mut Seat<u8, View>, guest: Seat<u8, View>)
-        requires { MayGather self.now.table seat.old.table_id guest.table_id guest.me }
+    pub(super) fn merge(&self, seat: &mut Seat<u8, View>, guest: Seat<u8, View>)
+        requires { MayMerge self.now.table seat.old.table_id guest.table_id guest.me }
         ensures { Stays seat.old.table_id seat.new.table_id
             (seat.new.me ≡ (both_of seat.old.me.0 guest.me.0, seat.old.me.1)) }
     {
-        self.table.shared.join_seat::<Gather>(seat, guest);
+        self.table.shared.join_seat::<Merge>(seat, guest);
     }
 
     /// A load where the parties of one seat have met.
-    pub(super) fn find(&self, seat: &mut Seat<u8, View>)
+    pub(super) fn load_for_meeting(&self, seat: &mut Seat<u8, View>)
         requires { StandsAt self.now seat.old.table_id seat.old.me }
         ensures table { seat.new.table_id ≡ seat.old.table_id }
         ensures seat { seat.new.me ≡ seat.old.me }
-        ensures told { TellsMeeting self.now.scene seat.old.me.0.parties }
+        ensures step { AfterMeetingLoad self.now.scene seat.old.me.0.parties }
     {
         self.table.shared.load::<Meets>(seat, 0);
     }
@@ -309,30 +309,30 @@ impl Flags {
         requires b { IsSeatAt self.now b.old.table_id b.old.me }
         ensures a { Stays a.old.table_id a.new.table_id (a.new.me ≡ a.old.me) }
         ensures b { Stays b.old.table_id b.new.table_id (b.new.me ≡ b.old.me) }
-        ensures met { TellsTwo self.now.scene
+        ensures met { AfterMeeting self.now.scene
             (number_of a.old.me.0) (view_log a.old.me.0)
             (number_of b.old.me.0) (view_log b.old.me.0) }
     {
-        let guest = self.deal(b);
-        self.gather(a, guest);
-        self.find(a);
-        *b = self.deal(a);
+        let guest = self.split_first(b);
+        self.merge(a, guest);
+        self.load_for_meeting(a);
+        *b = self.split_first(a);
     }
 
-    /// How many flags are found taken, by one load each, which is in no log.
+    /// Loads each flag once, which is in no log, and returns how many are taken.
     pub(super) fn count_taken(&self) -> u32 {
         let is_taken = |bucket: &u32| self.table.shared.peek(word_of(*bucket)) != FREE;
         (0..self.scene.geometry.count()).filter(is_taken).count() as u32
     }
 
-    /// How many parties the flags were made for.
+    /// Returns the number of parties that the flags were made for.
     pub(super) fn parties(&self) -> u32
         ensures value { result ≡ self.now.scene.parties }
     {
         self.scene.parties
     }
 
-    /// The buckets that the flags are of.
+    /// Returns the buckets that the flags are of.
     pub(super) fn geometry(&self) -> &Geometry
         ensures value { result.now ≡ self.now.scene.geometry }
     {

@@ -1,7 +1,7 @@
 //! Any number of parties at one seat.
 ghost use Rattle.std.specs.Prelude.{◌≡◌, ◌++◌, All, map};
 ghost use Rattle.bb_memory_seats.specs.Seats.{HasNow};
-ghost use Rattle.bb_memory_shared_pools.specs.SharedPoolRule.{StandsAt, TellsMeeting, numbered_of};
+ghost use Rattle.bb_memory_shared_pools.specs.SharedPoolRule.{StandsAt, AfterMeetingLoad, numbered_of};
 
 use super::flags::Flags;
 use super::party::PoolParty;
@@ -15,12 +15,12 @@ impl Flags {
         requires rest { All (λ party. party.allocator ≡ self.now) rest.old.items }
         ensures table { seat.new.table_id ≡ seat.old.table_id }
         ensures seat { seat.new.me ≡ seat.old.me }
-        ensures told { TellsMeeting self.now.scene
+        ensures step { AfterMeetingLoad self.now.scene
             (map numbered_of rest.old.items ++ seat.old.me.0.parties) }
         ensures rest { HasNow rest.old.items rest.old rest.new }
     {
         let Some(party) = rest.pop() else {
-            self.find(seat);
+            self.load_for_meeting(seat);
             return;
         };
         let PoolParty {
@@ -28,9 +28,9 @@ impl Flags {
             seat: guest,
             hint,
         } = party;
-        self.gather(seat, guest);
+        self.merge(seat, guest);
         self.meet_rest(seat, rest);
-        let back = self.deal(seat);
+        let back = self.split_first(seat);
         rest.push_reserved(PoolParty {
             number,
             seat: back,

@@ -4,7 +4,7 @@ ghost use Rattle.bb_memory_pool_machine.specs.PoolLogs.{PoolLog};
 ghost use Rattle.bb_memory_seats.specs.Seats.{Stays, number_of, view_log};
 ghost use Rattle.bb_memory_shared_pools.specs.SharedPool.{ServesAlone};
 ghost use Rattle.bb_memory_shared_pools.specs.SharedPoolNextFit.{MayTakeFrom, probed, hint_of, part_of, refused_search};
-ghost use Rattle.bb_memory_shared_pools.specs.SharedPoolRule.{IsIdleAt, HasRefused, HasTakenFrom, IsInSearch};
+ghost use Rattle.bb_memory_shared_pools.specs.SharedPoolRule.{IsIdleAt, AfterRefusal, AfterSearchWin, IsInSearch};
 
 use super::bucket::Bucket;
 use super::buckets::SharedBucketPool;
@@ -14,7 +14,7 @@ use atomic_table::Seat;
 use bb_memory_traits::allocator::AllocationError;
 use bb_memory_traits::layout::Layout;
 
-/// The bucket that a probe tries, in a search over so many buckets that begins at bucket `first`.
+/// Returns the bucket that a probe tries, in a search over `buckets` buckets that begins at bucket `first`.
 fn probed(buckets: u32, first: u32, probe: u32) -> u32
     requires { probe < buckets }
     ensures value { result ≡ probed buckets first probe }
@@ -30,7 +30,7 @@ fn probed(buckets: u32, first: u32, probe: u32) -> u32
 }
 
 impl<const CAPPED: usize, const MOST: usize> SharedBucketPool<CAPPED, MOST> {
-    /// The first bucket of a party's own part of the pool, which is cut into as many parts as it has parties.
+    /// Returns the first bucket of a party's own part of the pool, which is cut into as many parts as it has parties.
     pub(super) fn part_of(&self, number: u32) -> u32
         requires { number < self.now.scene.parties }
         ensures { result ≡ part_of self.now.scene number }
@@ -44,11 +44,11 @@ impl<const CAPPED: usize, const MOST: usize> SharedBucketPool<CAPPED, MOST> {
     fn next_fit(&self, party: u32, seat: &mut Seat<u8, View>, first: u32) -> Option<u32>
         requires party { number_of seat.old.me.0 ≡ party }
         requires seat { IsIdleAt self.now seat.old.table_id seat.old.me }
-        ensures told { Stays seat.old.table_id seat.new.table_id (MatchOption result
-            (HasRefused self.now.scene (number_of seat.old.me.0) (view_log seat.old.me.0)
+        ensures step { Stays seat.old.table_id seat.new.table_id (MatchOption result
+            (AfterRefusal self.now.scene (number_of seat.old.me.0) (view_log seat.old.me.0)
             (refused_search self.now.scene.geometry.buckets (number_of seat.old.me.0) first)
             seat.new.me)
-            (HasTakenFrom self.now.scene (number_of seat.old.me.0) (view_log seat.old.me.0)
+            (AfterSearchWin self.now.scene (number_of seat.old.me.0) (view_log seat.old.me.0)
             first seat.new.me)) }
         ensures fits { IfSome result (λ bucket. bucket + 1 < 2 ^ 32) }
     {
@@ -71,11 +71,11 @@ impl<const CAPPED: usize, const MOST: usize> SharedBucketPool<CAPPED, MOST> {
         requires party { number_of seat.old.me.0 ≡ party }
         requires seat { IsIdleAt self.now seat.old.table_id seat.old.me }
         requires some { 0 < self.now.scene.geometry.buckets }
-        ensures told { Stays seat.old.table_id seat.new.table_id ((number : ℕ) (log : PoolLog)
+        ensures step { Stays seat.old.table_id seat.new.table_id ((number : ℕ) (log : PoolLog)
             → IsInSearch self.now.scene number log first 1 seat.old.me → MatchOption result
-            (HasRefused self.now.scene number log
+            (AfterRefusal self.now.scene number log
             (refused_search self.now.scene.geometry.buckets number first) seat.new.me)
-            (HasTakenFrom self.now.scene number log first seat.new.me)) }
+            (AfterSearchWin self.now.scene number log first seat.new.me)) }
         ensures fits { IfSome result (λ bucket. bucket + 1 < 2 ^ 32) }
     {
         let count = self.number_of_buckets();

@@ -1,4 +1,4 @@
-//! Parties, each of which is one user's right to step on a shared pool.
+//! Parties: each is one user's right to step on a shared pool.
 ghost use Rattle.std.specs.Prelude.{◌≡◌, ◌+◌, ◌<◌, ◌^◌};
 ghost use Rattle.bb_memory_pool_machine.specs.declared.steps.pool.PoolOutcome.TheVariants.{Gives, Takes};
 ghost use Rattle.bb_memory_shared_pools.specs.SharedPool.{IsParty};
@@ -57,7 +57,7 @@ impl Model for PoolParty {
 }
 
 impl PoolParty {
-    /// The party's number, from 0 and below how many parties there are.
+    /// Returns the party's number, from 0 and below how many parties there are.
     pub fn number(&self) -> u32
         ensures value { result ≡ self.now.number }
 

@@ -1,4 +1,4 @@
-//! The rule of a shared pool's words, and what each atomic step on them tells.
+//! The rule of a shared pool's words, and the atomic steps on them.
 use atomic_table::{Join, Play, Split, TableRule};
 use bb_memory_geometry::geometry::Geometry;
 use std::marker::Model;
@@ -45,27 +45,27 @@ impl TableRule<u8, View, Scene> for Agreement {
 pub(crate) struct Tries;
 
 impl Play<u8, View> for Tries {
-    ghost use Rattle.bb_memory_shared_pools.specs.SharedPoolRule.{TellsTry, at_flag};
+    ghost use Rattle.bb_memory_shared_pools.specs.SharedPoolRule.{AfterTry, at_flag};
 
-    ghost then = { at_flag TellsTry };
+    ghost then = { at_flag AfterTry };
 }
 
 /// An exchange from free to the party's number, by a party that is in no pass.
 pub(crate) struct TriesAt;
 
 impl Play<u8, View> for TriesAt {
-    ghost use Rattle.bb_memory_shared_pools.specs.SharedPoolRule.{TellsTryAt, at_flag};
+    ghost use Rattle.bb_memory_shared_pools.specs.SharedPoolRule.{AfterTryAt, at_flag};
 
-    ghost then = { at_flag TellsTryAt };
+    ghost then = { at_flag AfterTryAt };
 }
 
 /// A load of a flag by a party that is in no pass.
 pub(crate) struct LooksAt;
 
 impl Play<u8, View> for LooksAt {
-    ghost use Rattle.bb_memory_shared_pools.specs.SharedPoolRule.{TellsLookAt, at_flag};
+    ghost use Rattle.bb_memory_shared_pools.specs.SharedPoolRule.{AfterLook, at_flag};
 
-    ghost then = { at_flag TellsLookAt };
+    ghost then = { at_flag AfterLook };
 }
 
 /// A store of free, by a party after whose log the bucket is held.
@@ -86,13 +86,13 @@ impl Play<u8, View> for Meets {
     ghost then = { meets };
 }
 
-/// A load of a flag by a party, which tells whether the party holds the bucket.
+/// A load of a flag by a party, which finds whether the party holds the bucket.
 pub(crate) struct Recognizes;
 
 impl Play<u8, View> for Recognizes {
-    ghost use Rattle.bb_memory_shared_pools.specs.SharedPoolRule.{TellsHeld, at_flag};
+    ghost use Rattle.bb_memory_shared_pools.specs.SharedPoolRule.{AfterHolderLoad, at_flag};
 
-    ghost then = { at_flag TellsHeld };
+    ghost then = { at_flag AfterHolderLoad };
 }
 
 /// A load of a flag by a new seat.
@@ -175,9 +175,9 @@ impl Split<View> for GiveFirst {
 }
 
 /// One seat stands for the parties of two.
-pub(crate) struct Gather;
+pub(crate) struct Merge;
 
-impl Join<View> for Gather {
+impl Join<View> for Merge {
     ghost use Rattle.bb_memory_seats.specs.Seats.{both_of};
     ghost use Rattle.bb_memory_shared_pools.specs.SharedPoolRule.{nobody};
 

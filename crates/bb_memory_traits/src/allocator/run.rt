@@ -93,8 +93,8 @@ fn apply_grow<A: Allocator>(
     requires stands { A.stands_for allocator.old live.old.items }
     ensures { Applies A.stands_for A.geometry A.region_of A.note A.note_after
         (AllocatorStep (ResizableStep (resizable_object_of
-        (A.may_allocate (A.geometry allocator.old)) (A.reserved_at (A.figures allocator.old))
-        (A.may_grow (A.figures allocator.old)) (A.may_shrink (A.figures allocator.old))))
+        (A.may_allocate (A.geometry allocator.old)) (A.reserved_at (A.resize_key allocator.old))
+        (A.may_grow (A.resize_key allocator.old)) (A.may_shrink (A.resize_key allocator.old))))
         A.takes A.frees)
         (Command.Grow position old new) result allocator.old allocator.new live.old live.new }
 {
@@ -121,8 +121,8 @@ fn apply_shrink<A: Allocator>(
     requires stands { A.stands_for allocator.old live.old.items }
     ensures { Applies A.stands_for A.geometry A.region_of A.note A.note_after
         (AllocatorStep (ResizableStep (resizable_object_of
-        (A.may_allocate (A.geometry allocator.old)) (A.reserved_at (A.figures allocator.old))
-        (A.may_grow (A.figures allocator.old)) (A.may_shrink (A.figures allocator.old))))
+        (A.may_allocate (A.geometry allocator.old)) (A.reserved_at (A.resize_key allocator.old))
+        (A.may_grow (A.resize_key allocator.old)) (A.may_shrink (A.resize_key allocator.old))))
         A.takes A.frees)
         (Command.Shrink position old new) result allocator.old allocator.new live.old live.new }
 {
@@ -146,8 +146,8 @@ fn apply_full<A: Allocator>(allocator: &mut A, live: &mut Vec<Chunk>, command: C
     requires room { vec_len live.old < vec_capacity live.old }
     ensures { Applies A.stands_for A.geometry A.region_of A.note A.note_after
         (AllocatorStep (ResizableStep (resizable_object_of
-        (A.may_allocate (A.geometry allocator.old)) (A.reserved_at (A.figures allocator.old))
-        (A.may_grow (A.figures allocator.old)) (A.may_shrink (A.figures allocator.old))))
+        (A.may_allocate (A.geometry allocator.old)) (A.reserved_at (A.resize_key allocator.old))
+        (A.may_grow (A.resize_key allocator.old)) (A.may_shrink (A.resize_key allocator.old))))
         A.takes A.frees)
         command result allocator.old allocator.new live.old live.new }
 {
@@ -174,8 +174,8 @@ pub fn run_full<A: Allocator>(
     requires { A.stands_for allocator.old live.old.items }
     ensures run { AnswersRun A.stands_for A.geometry A.region_of
         (ResizableStep (resizable_object_of
-        (A.may_allocate (A.geometry allocator.old)) (A.reserved_at (A.figures allocator.old))
-        (A.may_grow (A.figures allocator.old)) (A.may_shrink (A.figures allocator.old))))
+        (A.may_allocate (A.geometry allocator.old)) (A.reserved_at (A.resize_key allocator.old))
+        (A.may_grow (A.resize_key allocator.old)) (A.may_shrink (A.resize_key allocator.old))))
         A.takes A.frees
         commands.now result allocator.old allocator.new live.old.items live.new.items }
     ensures note { OnOk result (A.note allocator.new ≡ note_after_run

@@ -28,7 +28,7 @@ impl Model for Chunk {
 }
 
 impl Chunk {
-    /// The chunk of a place and a length in bytes: `None` exactly where the place is 0 or place plus length exceeds
+    /// Makes the chunk of a place and a length in bytes: `None` exactly where the place is 0 or place plus length exceeds
     /// `usize::MAX`.
     #[inline(always)]
     pub fn new(place: usize, len: usize) -> Option<Chunk>
@@ -42,7 +42,7 @@ impl Chunk {
         Some(Chunk { place, len })
     }
 
-    /// The chunk of a place and a length in bytes, without a test. The place isn't 0, and place plus length is at most
+    /// Returns the chunk of a place and a length in bytes, without a test. The place isn't 0, and place plus length is at most
     /// `usize::MAX`: [`Chunk::new`] tests both.
     #[inline(always)]
     pub fn new_unchecked(place: usize, len: usize) -> Chunk
@@ -52,7 +52,7 @@ impl Chunk {
         Chunk { place, len }
     }
 
-    /// The chunk that a layout gets at or after `v`: `layout.size()` bytes at the least multiple of `layout.align()` that
+    /// Returns the chunk that a layout gets at or after `v`: `layout.size()` bytes at the least multiple of `layout.align()` that
     /// isn't below `v`, or `None` exactly where that chunk would end behind `end`. `v` isn't 0.
     #[inline(always)]
     pub fn at_or_after(v: usize, layout: Layout, end: usize) -> Option<Chunk>
@@ -70,7 +70,7 @@ impl Chunk {
         Some(Chunk::new_unchecked(before + 1, layout.size()))
     }
 
-    /// The place, which isn't 0.
+    /// Returns the place, which isn't 0.
     #[inline(always)]
     pub fn place(&self) -> usize
         ensures value { result ≡ self.now.place }
@@ -79,7 +79,7 @@ impl Chunk {
         self.place
     }
 
-    /// The length in bytes, which may be 0.
+    /// Returns the length in bytes, which may be 0.
     #[inline(always)]
     pub fn len(&self) -> usize
         ensures { result ≡ self.now.len }
@@ -103,7 +103,7 @@ impl Chunk {
         self.place + self.len
     }
 
-    /// Its first `size` bytes, of which it has to have so many.
+    /// Returns its first `size` bytes, which it has to have.
     ///
     /// Example: `comments::parts_of_a_chunk` of `crates/examples`.
     #[inline]
@@ -117,7 +117,7 @@ impl Chunk {
         }
     }
 
-    /// Returns the part behind the first `size` bytes, of which the chunk has to have so many.
+    /// Returns the part behind the first `size` bytes, which the chunk has to have.
     #[inline]
     pub fn behind(&self, size: usize) -> Chunk
         requires { size ≤ self.now.len }

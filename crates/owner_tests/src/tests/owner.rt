@@ -32,7 +32,7 @@ impl<A: BaseAllocator + Drop> Model for Owner<A> {
     ghost use Rattle.std.specs.Prelude.{◌≡◌};
     ghost use Rattle.bb_memory_traits.specs.HeldBytes.{held_region};
 
-    // Nothing is told of an owner.
+    // An owner promises nothing.
     ghost Value = { Unit {0} };
 
     ghost view = { λ _. tt };

@@ -81,9 +81,9 @@ impl<A: Reads + Drop> BaseAllocator for Counted<A> {
 }
 
 impl<A: Reads + Drop> Allocator for Counted<A> {
-    ghost Figures = { A.Figures };
+    ghost ResizeKey = { A.ResizeKey };
 
-    ghost figures = { λ c. A.figures c.inner };
+    ghost resize_key = { λ c. A.resize_key c.inner };
 
     ghost reserved_at = { A.reserved_at };
 

@@ -1,5 +1,5 @@
 //! The trait of the kinds of scripts, and from the lines of a script behind its header to the lines of its replies.
-ghost use Rattle.std.specs.Prelude.{◌≡◌, ◌++◌, ◌∷◌, [], List, ℕ, IfOk, OnOk, Bool, IfSome, Some};
+ghost use Rattle.std.specs.Prelude.{◌≡◌, ◌++◌, ◌∷◌, [], List, ℕ, IfOk, OnOk, IfSome, Some};
 ghost use Rattle.std.specs.List.{flat_map};
 ghost use Rattle.script_runner.specs.Inputs.{IsOutcome};
 ghost use Rattle.script_words.specs.Words.{MayStand, words_text, lines_of, text_bytes};
@@ -10,7 +10,7 @@ use script_words::words::{Numbers, Text};
 use std::alloc::{AllocError, Global};
 
 /// A kind of script: it is made by a header, takes commands, and gives one reply to each.
-pub trait Driven: Drop {
+pub trait ScriptTarget: Drop {
     /// The value that a header names.
     type Header: Drop;
 
@@ -33,7 +33,7 @@ pub trait Driven: Drop {
 
     fn make(alloc: Global, header: Self::Header) -> Result<Self, AllocError>
         requires { rules.is_header header }
-        ensures { IfOk result (λ driven. rules.starts header driven) };
+        ensures { IfOk result (λ target. rules.starts header target) };
 
     fn read(name: &[u8], numbers: Numbers) -> Option<Self::Command>
         ensures written { IfSome result (λ command. rules.is_command command
@@ -71,13 +71,13 @@ pub enum Outcome {
 }
 
 /// Checks every line behind the header, and then makes what the script drives and runs it.
-pub fn drive<K: Driven>(alloc: Global, header: K::Header, rest: &[u8]) -> Outcome
+pub fn run_script<K: ScriptTarget>(alloc: Global, header: K::Header, rest: &[u8]) -> Outcome
     requires header { K.rules.is_header header }
     requires stand { MayStand (header_words K.rules header) }
     ensures { IsOutcome (kind K.rules ∷ []) (words_text (header_words K.rules header) ∷ lines_of rest.now) result }
 {
     match read_script::<K>(alloc, rest) {
-        Ok(Ok(script)) => match answer::<K>(alloc, header, &script) {
+        Ok(Ok(script)) => match run_lines::<K>(alloc, header, &script) {
             Ok(text) => Outcome::Answered(text),
             Err(_) => Outcome::OutOfMemory,
         },
@@ -87,7 +87,7 @@ pub fn drive<K: Driven>(alloc: Global, header: K::Header, rest: &[u8]) -> Outcom
 }
 
 /// Makes what the script drives, and runs the script on it. Returns the text to write.
-fn answer<K: Driven>(
+fn run_lines<K: ScriptTarget>(
     alloc: Global,
     header: K::Header,
     script: &[Line<K::Command>],
@@ -96,50 +96,50 @@ fn answer<K: Driven>(
     ensures { IfOk result (λ text. (first : K) × (last : K) × K.rules.starts header first
         × IsPlayed K.rules first script.now text.items last) }
 {
-    let mut driven = K::make(alloc, header)?;
+    let mut target = K::make(alloc, header)?;
     let mut waiting = Vec::new(alloc);
     let mut text = Vec::new(alloc);
     for line in script {
-        take(alloc, &mut driven, line, &mut waiting, &mut text)?;
+        run_line(alloc, &mut target, line, &mut waiting, &mut text)?;
     }
-    tell(alloc, &mut driven, &waiting, &mut text)?;
+    write_replies(alloc, &mut target, &waiting, &mut text)?;
     Ok(text)
 }
 
 /// Takes a line: a command waits, and a `show` has what waits run, and then the state written.
-fn take<K: Driven>(
+fn run_line<K: ScriptTarget>(
     alloc: Global,
-    driven: &mut K,
+    target: &mut K,
     line: &Line<K::Command>,
     waiting: &mut Vec<K::Command>,
     text: &mut Vec<u8>,
 ) -> Result<(), AllocError>
     ensures { OnOk result ((added : List ℕ)
-        × IsStep K.rules driven.old waiting.old.items line.now added driven.new waiting.new.items
+        × IsStep K.rules target.old waiting.old.items line.now added target.new waiting.new.items
         × (text.new.items ≡ text.old.items ++ added)) }
 {
     match line {
         Line::Command(command) => Ok(waiting.push(*command)?),
         Line::Show => {
-            tell(alloc, driven, waiting, text)?;
+            write_replies(alloc, target, waiting, text)?;
             waiting.clear();
-            driven.write_state(text)
+            target.write_state(text)
         }
     }
 }
 
 /// Runs commands, and adds the line of each reply.
-fn tell<K: Driven>(
+fn write_replies<K: ScriptTarget>(
     alloc: Global,
-    driven: &mut K,
+    target: &mut K,
     commands: &[K::Command],
     text: &mut Vec<u8>,
 ) -> Result<(), AllocError>
     ensures { OnOk result ((replies : List K.Reply)
-        × K.rules.runs driven.old commands.now replies driven.new
+        × K.rules.runs target.old commands.now replies target.new
         × (text.new.items ≡ text.old.items ++ flat_map K.rules.reply_text replies)) }
 {
-    let replies = driven.run(alloc, commands)?;
+    let replies = target.run(alloc, commands)?;
     for reply in &replies {
         K::reply_text(reply).write(text)?;
     }

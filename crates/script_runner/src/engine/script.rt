@@ -3,8 +3,8 @@ ghost use Rattle.std.specs.Prelude.{◌≡◌, ◌<◌, ◌∷◌, [], length, I
 ghost use Rattle.script_words.specs.Words.{lines_of};
 ghost use Rattle.script_runner.specs.Scripts.{IsLine, line_text, AreScript, IsFirstUnreadable, IsLineText};
 
-use crate::engine::driving::Driven;
-use script_words::words::{is, split_before, words};
+use crate::engine::driving::ScriptTarget;
+use script_words::words::{is_word, split_before, words};
 use std::alloc::{AllocError, Global};
 
 /// A line behind the header.
@@ -15,7 +15,7 @@ pub enum Line<C> {
 }
 
 /// Reads the lines behind the header, or returns the index of the first that is unreadable.
-pub fn read_script<K: Driven>(
+pub fn read_script<K: ScriptTarget>(
     alloc: Global,
     input: &[u8],
 ) -> Result<Result<Vec<Line<K::Command>>, usize>, AllocError>
@@ -40,12 +40,12 @@ pub fn read_script<K: Driven>(
 }
 
 /// Parses a line behind the header.
-fn read_line<K: Driven>(text: &[u8]) -> Option<Line<K::Command>>
+fn read_line<K: ScriptTarget>(text: &[u8]) -> Option<Line<K::Command>>
     ensures written { IfSome result (λ line. IsLine K.rules line
         × (text.now ≡ line_text K.rules line)) }
     ensures unreadable { IfNone result (¬ IsLineText K.rules text.now) }
 {
-    if K::can_show() && is(text, b"show") {
+    if K::can_show() && is_word(text, b"show") {
         return Some(Line::Show);
     }
     let (name, numbers) = words(text)?;

@@ -6,20 +6,22 @@ ghost use Rattle.bb_memory_owned.specs.OneChunk.{StandsFor as OneChunkStandsFor}
 ghost use Rattle.bb_memory_traits.specs.BumpObject.{StandsFor as BumpStandsFor};
 ghost use Rattle.bb_memory_traits.specs.Chunk.{Chunk};
 
-use crate::engine::driving::Driven;
+use crate::engine::driving::ScriptTarget;
 use bb_memory_bump::bump_allocator::BumpAllocator;
 use bb_memory_owned::one_chunk_allocator::OneChunkAllocator;
 use bb_memory_traits::allocator::{
     AllocationError, AllocationGrowError, AllocationShrinkError, Command, Reply, run_base, run_full,
 };
 use bb_memory_traits::layout::Chunk;
-use script_words::words::{Bounds, Figure, Numbers, Text, is, layout, region, write_figures};
+use script_words::words::{
+    Bounds, Labelled, Numbers, Text, is_word, layout, region, write_labelled,
+};
 use std::alloc::{AllocError, Global};
 use std::io::Write;
 use std::marker::Model;
 
 /// An allocator that a script drives: how it is made by a header, run, and shown.
-pub trait Scripted: Drop {
+pub trait ScriptedAllocator: Drop {
     /// The value that a header names.
     type Header: Drop;
 
@@ -55,12 +57,12 @@ pub trait Scripted: Drop {
 
 /// An allocator, and the chunks that it has out.
 #[derive(Drop)]
-pub struct Live<A: Scripted> {
+pub struct WithLiveList<A: ScriptedAllocator> {
     allocator: A,
     live: Vec<Chunk>,
 }
 
-impl<A: Scripted> Model for Live<A> {
+impl<A: ScriptedAllocator> Model for WithLiveList<A> {
     ghost Value = { LiveState A };
 
     ghost view = { λ a. record { allocator = a.allocator; live = a.live.items } };
@@ -68,7 +70,7 @@ impl<A: Scripted> Model for Live<A> {
     ghost invariant = { λ a. A.stands_for a.allocator a.live.items };
 }
 
-impl<A: Scripted> Driven for Live<A> {
+impl<A: ScriptedAllocator> ScriptTarget for WithLiveList<A> {
     type Header = A::Header;
 
     type Command = Command;
@@ -88,21 +90,21 @@ impl<A: Scripted> Driven for Live<A> {
     fn make(alloc: Global, header: A::Header) -> Result<Self, AllocError> {
         let allocator = A::make(alloc, header)?;
         let live = Vec::new(alloc);
-        Ok(Live { allocator, live })
+        Ok(WithLiveList { allocator, live })
     }
 
     fn read(name: &[u8], numbers: Numbers) -> Option<Command> {
         match numbers {
-            Numbers::One(position) if is(name, b"free") => Some(Command::Release(position)),
-            Numbers::Two(size, align) if is(name, b"alloc") => {
+            Numbers::One(position) if is_word(name, b"free") => Some(Command::Release(position)),
+            Numbers::Two(size, align) if is_word(name, b"alloc") => {
                 Some(Command::Allocate(layout(size, align)?))
             }
             Numbers::Five(position, old_size, old_align, size, align) => {
                 let old = layout(old_size, old_align)?;
                 let new = layout(size, align)?;
-                if is(name, b"grow") {
+                if is_word(name, b"grow") {
                     Some(Command::Grow(position, old, new))
-                } else if is(name, b"shrink") {
+                } else if is_word(name, b"shrink") {
                     Some(Command::Shrink(position, old, new))
                 } else {
                     None
@@ -144,7 +146,7 @@ impl<A: Scripted> Driven for Live<A> {
     }
 }
 
-impl Scripted for BumpAllocator {
+impl ScriptedAllocator for BumpAllocator {
     type Header = Bounds;
 
     ghost rules = { bump_rules };
@@ -166,15 +168,15 @@ impl Scripted for BumpAllocator {
     fn write_state(&self, _live: usize, line: &mut Vec<u8>) -> Result<(), AllocError> {
         writeln!(line, "{self}").map_err(|_| AllocError)?;
         let figures = [
-            Figure(b"used ", self.used_space()),
-            Figure(b" free ", self.free_space()),
-            Figure(b" total ", self.total_space()),
+            Labelled(b"used ", self.used_space()),
+            Labelled(b" free ", self.free_space()),
+            Labelled(b" total ", self.total_space()),
         ];
-        write_figures(&figures, b"\n", line)
+        write_labelled(&figures, b"\n", line)
     }
 }
 
-impl Scripted for OneChunkAllocator {
+impl ScriptedAllocator for OneChunkAllocator {
     type Header = Bounds;
 
     ghost rules = { one_chunk_rules };
@@ -195,17 +197,18 @@ impl Scripted for OneChunkAllocator {
 
     fn write_state(&self, _live: usize, line: &mut Vec<u8>) -> Result<(), AllocError> {
         let figures = [
-            Figure(b"one start ", self.start_address()),
-            Figure(b" size ", self.size()),
+            Labelled(b"one start ", self.start_address()),
+            Labelled(b" size ", self.size()),
         ];
         if self.has_chunk_available() {
-            write_figures(&figures, b" available yes\n", line)
+            write_labelled(&figures, b" available yes\n", line)
         } else {
-            write_figures(&figures, b" available no\n", line)
+            write_labelled(&figures, b" available no\n", line)
         }
     }
 }
 
+/// Returns the name of a refused request's error.
 pub fn refusal(error: AllocationError) -> &'static [u8]
     ensures { result.now ≡ refusal_name error }
 {

@@ -2,17 +2,18 @@
 ghost use Rattle.std.specs.Prelude.{◌≡◌};
 ghost use Rattle.script_runner.specs.LoanPool.{loan_refusal_name, loan_pool_rules};
 
-use crate::engine::driving::Driven;
-use crate::kinds::allocators::{Scripted, refusal};
+use crate::engine::driving::ScriptTarget;
+use crate::kinds::allocators::{ScriptedAllocator, refusal};
 use crate::kinds::pool::{PoolPlan, pool_plan};
 use bb_memory_owned::pool_allocator::PoolAllocator;
 use loan_book::{LoanBook, LoanCall, LoanError, LoanReply, run_loans};
-use script_words::words::{Numbers, Text, is, small};
+use script_words::words::{Numbers, Text, is_word, to_u32};
 use std::alloc::{AllocError, Global};
 
+/// A loan book over a pool.
 pub type LoanPool = LoanBook<PoolAllocator<Global>>;
 
-impl Driven for LoanPool {
+impl ScriptTarget for LoanPool {
     type Header = PoolPlan;
 
     type Command = LoanCall;
@@ -30,25 +31,25 @@ impl Driven for LoanPool {
     }
 
     fn make(alloc: Global, header: PoolPlan) -> Result<Self, AllocError> {
-        let pool = <PoolAllocator<Global> as Scripted>::make(alloc, header)?;
+        let pool = <PoolAllocator<Global> as ScriptedAllocator>::make(alloc, header)?;
         Ok(LoanBook::new(alloc, pool))
     }
 
     fn read(name: &[u8], numbers: Numbers) -> Option<LoanCall> {
         match numbers {
             Numbers::One(number) => {
-                if is(name, b"loan") {
+                if is_word(name, b"loan") {
                     Some(LoanCall::Loan(number))
-                } else if is(name, b"back") {
+                } else if is_word(name, b"back") {
                     Some(LoanCall::GiveBack(number as u64))
-                } else if is(name, b"out") {
+                } else if is_word(name, b"out") {
                     Some(LoanCall::IsOut(number as u64))
                 } else {
                     None
                 }
             }
-            Numbers::Two(id, readers) if is(name, b"publish") => {
-                Some(LoanCall::Publish(id as u64, small(readers)?))
+            Numbers::Two(id, readers) if is_word(name, b"publish") => {
+                Some(LoanCall::Publish(id as u64, to_u32(readers)?))
             }
             _ => None,
         }

@@ -3,13 +3,11 @@ ghost use Rattle.std.specs.Prelude.{◌≡◌, IfSome, Some};
 ghost use Rattle.script_runner.specs.Allocators.{IsPoolPlan, pool_numbers, pool_rules, fixed_rules};
 ghost use Rattle.bb_memory_owned.specs.Pool.{StandsFor};
 
-use crate::kinds::allocators::Scripted;
-use bb_memory_owned::pool_allocator::{
-    FixedSizePoolAllocator, PoolAllocator, run_fixed_pool, run_pool,
-};
-use bb_memory_traits::allocator::{Command, Reply};
+use crate::kinds::allocators::ScriptedAllocator;
+use bb_memory_owned::pool_allocator::{FixedSizePoolAllocator, PoolAllocator};
+use bb_memory_traits::allocator::{Command, Reply, run_full};
 use bb_memory_traits::layout::{Chunk, Layout};
-use script_words::words::{Figure, Numbers, is, layout, write_figures};
+use script_words::words::{Labelled, Numbers, is_word, layout, write_labelled};
 use std::alloc::{AllocError, Global};
 
 /// The region that a pool cuts, and the layout of each of its buckets.
@@ -28,7 +26,7 @@ pub fn pool_plan(kind: &[u8], name: &[u8], numbers: Numbers) -> Option<PoolPlan>
         → numbers ≡ pool_numbers plan → result ≡ Some plan }
 {
     match numbers {
-        Numbers::Four(start, size, bucket, align) if is(name, kind) => {
+        Numbers::Four(start, size, bucket, align) if is_word(name, kind) => {
             let bucket = layout(bucket, align)?;
             let plan = PoolPlan {
                 start,
@@ -41,7 +39,7 @@ pub fn pool_plan(kind: &[u8], name: &[u8], numbers: Numbers) -> Option<PoolPlan>
     }
 }
 
-impl Scripted for PoolAllocator<Global> {
+impl ScriptedAllocator for PoolAllocator<Global> {
     type Header = PoolPlan;
 
     ghost rules = { pool_rules };
@@ -61,26 +59,27 @@ impl Scripted for PoolAllocator<Global> {
     }
 
     fn run(&mut self, live: &mut Vec<Chunk>, calls: &[Command]) -> Result<Vec<Reply>, AllocError> {
-        run_pool(self, live, calls)
+        run_full(self, live, calls)
     }
 
     fn write_state(&self, live: usize, line: &mut Vec<u8>) -> Result<(), AllocError> {
         let figures = [
-            Figure(b"pool start ", self.start_address()),
-            Figure(b" size ", self.size()),
-            Figure(b" bucket ", self.bucket_size()),
-            Figure(b" align ", self.max_alignment()),
-            Figure(b" buckets ", self.number_of_buckets() as usize),
-            Figure(b" live ", live),
-            Figure(b" reads ", self.last_reads() as usize),
+            Labelled(b"pool start ", self.start_address()),
+            Labelled(b" size ", self.size()),
+            Labelled(b" bucket ", self.bucket_size()),
+            Labelled(b" align ", self.max_alignment()),
+            Labelled(b" buckets ", self.number_of_buckets() as usize),
+            Labelled(b" live ", live),
+            Labelled(b" reads ", self.last_reads() as usize),
         ];
-        write_figures(&figures, b"\n", line)
+        write_labelled(&figures, b"\n", line)
     }
 }
 
+/// The fixed pool of scripts: at most 512 buckets.
 pub type Fixed = FixedSizePoolAllocator<512>;
 
-impl Scripted for Fixed {
+impl ScriptedAllocator for Fixed {
     type Header = PoolPlan;
 
     ghost rules = { fixed_rules };
@@ -96,17 +95,17 @@ impl Scripted for Fixed {
     }
 
     fn run(&mut self, live: &mut Vec<Chunk>, calls: &[Command]) -> Result<Vec<Reply>, AllocError> {
-        run_fixed_pool(self, live, calls)
+        run_full(self, live, calls)
     }
 
     fn write_state(&self, live: usize, line: &mut Vec<u8>) -> Result<(), AllocError> {
         let figures = [
-            Figure(b"fixed size ", self.size()),
-            Figure(b" bucket ", self.bucket_size()),
-            Figure(b" align ", self.max_alignment()),
-            Figure(b" buckets ", self.number_of_buckets() as usize),
-            Figure(b" live ", live),
+            Labelled(b"fixed size ", self.size()),
+            Labelled(b" bucket ", self.bucket_size()),
+            Labelled(b" align ", self.max_alignment()),
+            Labelled(b" buckets ", self.number_of_buckets() as usize),
+            Labelled(b" live ", live),
         ];
-        write_figures(&figures, b"\n", line)
+        write_labelled(&figures, b"\n", line)
     }
 }

@@ -1,15 +1,15 @@
 //! Machines that a script drives by their steps.
 ghost use Rattle.script_runner.specs.Steps.{bump_step_rules, pool_step_rules};
 
-use crate::engine::driving::Driven;
+use crate::engine::driving::ScriptTarget;
 use bb_memory_bump_machine::steps::{BumpOutcome, BumpStep, BumpWorld};
 use bb_memory_pool_machine::steps::{PoolOutcome, PoolStep, PoolWorld};
 use script_words::words::{
-    Bounds, Numbers, PARTIES, Text, is, layout, party_of, region, small, write_words,
+    Bounds, Numbers, PARTIES, Text, is_word, layout, party_of, region, to_u32, write_words,
 };
 use std::alloc::{AllocError, Global};
 
-impl Driven for BumpWorld {
+impl ScriptTarget for BumpWorld {
     type Header = Bounds;
 
     type Command = BumpStep;
@@ -32,18 +32,18 @@ impl Driven for BumpWorld {
 
     fn read(name: &[u8], numbers: Numbers) -> Option<BumpStep> {
         match numbers {
-            Numbers::Zero if is(name, b"clear") => Some(BumpStep::Clear),
+            Numbers::Zero if is_word(name, b"clear") => Some(BumpStep::Clear),
             Numbers::One(party) => {
                 let party = party_of(party)?;
-                if is(name, b"exchange") {
+                if is_word(name, b"exchange") {
                     Some(BumpStep::Exchange { party })
-                } else if is(name, b"load") {
+                } else if is_word(name, b"load") {
                     Some(BumpStep::Load { party })
                 } else {
                     None
                 }
             }
-            Numbers::Three(party, size, align) if is(name, b"read") => {
+            Numbers::Three(party, size, align) if is_word(name, b"read") => {
                 let party = party_of(party)?;
                 let layout = layout(size, align)?;
                 Some(BumpStep::Read { party, layout })
@@ -78,7 +78,7 @@ impl Driven for BumpWorld {
 
 const MOST_BUCKETS: usize = 4096;
 
-impl Driven for PoolWorld {
+impl ScriptTarget for PoolWorld {
     type Header = u32;
 
     type Command = PoolStep;
@@ -93,7 +93,7 @@ impl Driven for PoolWorld {
 
     fn read_header(name: &[u8], numbers: Numbers) -> Option<u32> {
         match numbers {
-            Numbers::One(count) if count <= MOST_BUCKETS && is(name, b"steps-pool") => {
+            Numbers::One(count) if count <= MOST_BUCKETS && is_word(name, b"steps-pool") => {
                 Some(count as u32)
             }
             _ => None,
@@ -106,13 +106,13 @@ impl Driven for PoolWorld {
 
     fn read(name: &[u8], numbers: Numbers) -> Option<PoolStep> {
         match numbers {
-            Numbers::One(party) if is(name, b"try") => {
+            Numbers::One(party) if is_word(name, b"try") => {
                 let party = party_of(party)?;
                 Some(PoolStep::Try { party })
             }
-            Numbers::Two(party, bucket) if is(name, b"give") => {
+            Numbers::Two(party, bucket) if is_word(name, b"give") => {
                 let party = party_of(party)?;
-                let bucket = small(bucket)?;
+                let bucket = to_u32(bucket)?;
                 Some(PoolStep::GiveBack { party, bucket })
             }
             _ => None,

@@ -15,7 +15,7 @@ use test_marks::refuse_memory;
 /// A bucket's number, and its chunk's place and length.
 pub(super) type Found = (u32, usize, usize);
 
-/// Makes a pool over so many bytes, or fails where there is no such pool, or memory was refused.
+/// Makes a pool over `size` bytes, or fails where there is no such pool, or memory was refused.
 fn pool_of(
     alloc: Global,
     size: usize,
@@ -34,7 +34,7 @@ fn pool_of(
     }
 }
 
-/// Makes a pool over so many bytes, a second time where memory was refused. It may be refused from here on.
+/// Makes a pool over `size` bytes, a second time where memory was refused. It may be refused from here on.
 pub(super) fn pool_at_last(
     rt: &(impl Abort + AllocGlobal),
     size: usize,
@@ -65,7 +65,7 @@ pub(super) fn last_of(
     parties.pop().expect(rt, "there is a party")
 }
 
-/// Makes a pool over so many bytes, with its two parties.
+/// Makes a pool over `size` bytes, with its two parties.
 pub(super) fn two(
     rt: &(impl Abort + AllocGlobal),
     size: usize,

@@ -8,7 +8,7 @@ pub(super) struct Slots {
 }
 
 impl Slots {
-    /// Makes so many words, all 0.
+    /// Makes `count` words, all 0.
     pub(super) fn new(rt: &(impl Abort + AllocGlobal), count: usize) -> Slots {
         let mut words = Vec::new(rt.alloc());
         for _ in 0..count {
@@ -25,7 +25,7 @@ impl Slots {
             .is_some_and(|word| word.swap(1, Ordering::SeqCst) == 0)
     }
 
-    /// Marks so many words, from this one on. Returns whether all of them are there and weren't marked.
+    /// Marks `count` words, from this one on. Returns whether all of them are there and weren't marked.
     pub(super) fn mark_all(&self, from: usize, count: usize) -> bool {
         (from..from.saturating_add(count)).all(|at| self.mark(at))
     }

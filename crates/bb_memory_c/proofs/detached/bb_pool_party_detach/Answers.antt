@@ -1,4 +1,4 @@
-use Rattle.bb_memory_c.proofs.Made.{answers_of_both}
+use Rattle.bb_handles.proofs.OpenHandles.{answers_of_both}
 use Rattle.bb_memory_c.proofs.detached.bb_pool_party_detach.Goals as goal
 
 pub returns : goal.returns

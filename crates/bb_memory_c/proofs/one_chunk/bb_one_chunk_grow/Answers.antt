@@ -1,4 +1,4 @@
-use Rattle.bb_memory_c.proofs.Made.{answers, told_of}
+use Rattle.bb_handles.proofs.OpenHandles.{answers, told_of}
 use Rattle.bb_memory_c.proofs.one_chunk.bb_one_chunk_grow.Goals as goal
 
 pub returns-in-Some : goal.returns-in-Some

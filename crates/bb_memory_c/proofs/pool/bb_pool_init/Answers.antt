@@ -1,7 +1,7 @@
 use Rattle.std.proofs.Common.{◌∙◌, Some, ap, refl, sym}
 use Rattle.bb_memory_traits.specs.Chunk.{region_at}
-use Rattle.bb_memory_c.proofs.Layouts.{either_way, fails_alone, lacks_alone}
-use Rattle.bb_memory_c.proofs.Makers.{not-cut, tried}
+use Rattle.bb_handles.proofs.Layouts.{either_way, fails_alone, lacks_alone}
+use Rattle.bb_handles.proofs.Makers.{not-cut, tried}
 use Rattle.bb_memory_c.proofs.pool.bb_pool_init.Goals as goal
 
 pub returns-in-Err : goal.returns-in-Err

@@ -1,5 +1,5 @@
 use Rattle.std.proofs.Common.{rules}
-use Rattle.bb_memory_c.proofs.Made.{answers}
+use Rattle.bb_handles.proofs.OpenHandles.{answers}
 use Rattle.bb_memory_c.proofs.shared_pool.bb_pool_party_cache.Goals as goal
 
 pub returns-in-Ok : goal.returns-in-Ok

@@ -1,6 +1,6 @@
 use Rattle.std.proofs.Common.{rules}
 use Rattle.bb_memory_c.proofs.Cached.{joined-emptied}
-use Rattle.bb_memory_c.proofs.Made.{answers}
+use Rattle.bb_handles.proofs.OpenHandles.{answers}
 use Rattle.bb_memory_c.proofs.shared_pool.bb_pool_party_flush.Goals as goal
 
 pub invariant_of-joined : goal.invariant_of-joined

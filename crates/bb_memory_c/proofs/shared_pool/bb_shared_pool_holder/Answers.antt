@@ -1,5 +1,5 @@
 use Rattle.std.proofs.Common.{rules}
-use Rattle.bb_memory_c.proofs.Made.{answers}
+use Rattle.bb_handles.proofs.OpenHandles.{answers}
 use Rattle.bb_memory_c.proofs.shared_pool.bb_shared_pool_holder.Goals as goal
 
 pub returns-then-number-number_of_buckets : goal.returns-then-number-number_of_buckets

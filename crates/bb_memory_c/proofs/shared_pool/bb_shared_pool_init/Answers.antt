@@ -1,5 +1,5 @@
 use Rattle.std.proofs.Common.{◌∙◌, arith, rules, sym}
-use Rattle.bb_memory_c.proofs.Makers.{not-cut, tried}
+use Rattle.bb_handles.proofs.Makers.{not-cut, tried}
 use Rattle.bb_memory_c.proofs.Unjoined.{unjoined-fresh}
 use Rattle.bb_memory_c.proofs.shared_pool.bb_shared_pool_init.Goals as goal
 

@@ -45,7 +45,7 @@ pub(super) const NO_MEMORY: LoanReply = Refused(LoanError::Memory);
 /// The refusal by a full allocator.
 pub(super) const FULL: LoanReply = Refused(LoanError::Allocation(AllocationError::OutOfMemory));
 
-/// Loans so many bytes, a second time where memory was refused: then the samples of before are out, and the next one isn't.
+/// Loans `size` bytes, a second time where memory was refused: then the samples of before are out, and the next one isn't.
 fn loan<A: Allocator + Drop>(
     rt: &(impl Abort + AllocGlobal),
     book: &mut LoanBook<A>,

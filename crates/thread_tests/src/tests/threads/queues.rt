@@ -69,7 +69,7 @@ fn send_one<P: MessagePool>(
     }
 }
 
-/// Sends so many messages.
+/// Sends `MESSAGES` messages.
 fn send_all<P: MessagePool>(
     pool: &SharedPoolAllocator,
     mut party: PoolParty,
@@ -95,7 +95,7 @@ fn send_all<P: MessagePool>(
     (party, sent)
 }
 
-/// Receives so many messages.
+/// Receives `MESSAGES` messages.
 fn receive_all<P: MessagePool>(
     pool: &SharedPoolAllocator,
     mut party: PoolParty,

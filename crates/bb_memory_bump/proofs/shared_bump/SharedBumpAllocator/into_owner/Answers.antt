@@ -1,15 +1,15 @@
 use Rattle.std.proofs.Common.{ap, sym, subst, ◌∙◌, arith}
 use Rattle.bb_memory_bump_machine.specs.BumpLogs.{seen_in}
-use Rattle.bb_memory_bump.proofs.SharedBumpClosings.{TellsLast, last_of}
+use Rattle.bb_memory_bump.proofs.SharedBumpClosings.{AfterLast, last_of}
 use Rattle.bb_memory_bump.proofs.shared_bump.SharedBumpAllocator.into_owner.Goals as goal
 
 last : (c : goal.After-at_position) →
-    TellsLast c.args.self.scene c.args.party.number c.args.party.log c.args.party.met c.at_position.result.used
+    AfterLast c.args.self.scene c.args.party.number c.args.party.log c.args.party.met c.at_position.result.used
 last c =
     let found = last_of c.party.inside.seat.table_id c.self.inside.position.scene c.args.self.scene c.party.inside.number
     c.party.inside.seat.me c.args.party c.close-used.result c.party.invariant c.party.view_is
     (ap (λ b. b.scene) c.self.view_is) c.close-used.ensures.last in
-    subst (TellsLast c.args.self.scene c.args.party.number c.args.party.log c.args.party.met)
+    subst (AfterLast c.args.self.scene c.args.party.number c.args.party.log c.args.party.met)
     (sym (ap (λ b. b.used) c.at_position.ensures)) found
 
 pub returns-clause-seen : goal.returns-clause-seen

@@ -4,8 +4,8 @@ use Rattle.std.proofs.lemmas.List.{map-append}
 use Rattle.std.proofs.lemmas.List.Elements.{All-map, All-push}
 use Rattle.bb_memory_bump.specs.SharedBump.{BumpParty, IsSharedScene, meeting_at}
 use Rattle.bb_memory_seats.specs.Seats.{alone, view_log}
-use Rattle.bb_memory_bump.specs.SharedBumpRule.{met_by, numbered_of, party_in, scene_of, sight, TellsMeeting}
-use Rattle.bb_memory_bump.proofs.SharedBumpGatherings.{all_gathered, have_met, met_seat, none_met}
+use Rattle.bb_memory_bump.specs.SharedBumpRule.{met_by, numbered_of, party_in, scene_of, sight, AfterMeetingLoad}
+use Rattle.bb_memory_bump.proofs.SharedBumpMerges.{all_merged, have_met, met_seat, none_met}
 use Rattle.bb_memory_bump.proofs.SharedBumpWholes.{met_apart}
 use Rattle.bb_memory_bump.proofs.shared_bump.SharedBumpAllocator.meet_all.Goals as goal
 
@@ -15,7 +15,7 @@ invariant_of-push_reserved c =
     let me = c.party.inside.seat.me in
     let found = c.meet_rest.result in
     let first = map numbered_of c.pop.new.self.items in
-    let told : TellsMeeting scene (first ++ (me.0.parties ++ [])) (met_by me.0) found = search rules in
+    let told : AfterMeetingLoad scene (first ++ (me.0.parties ++ [])) (met_by me.0) found = search rules in
     let same : scene_of me.0 ≡ scene = search rules in
     let back : c.meet_rest.new.seat.me ≡ (alone (sight scene found) c.party.inside.number (view_log me.0), []) = search rules in
     met_seat scene c.party.inside.number (met_by me.0) found first [] me c.meet_rest.new.seat.me c.party.invariant same told back
@@ -29,8 +29,8 @@ returns-in-Some c =
     let found = c.meet_rest.result in
     let is = c.in-Some.ensures.items in
     let met : met_by c.party.inside.seat.me.0 ≡ party.met = search rules in
-    let all = all_gathered _ _ _ _ _ rest c.party.invariant c.party.view_is is in
-    let told : TellsMeeting bump.scene (map numbered_of items) (met_by c.party.inside.seat.me.0) found = search rules in
+    let all = all_merged _ _ _ _ _ rest c.party.invariant c.party.view_is is in
+    let told : AfterMeetingLoad bump.scene (map numbered_of items) (met_by c.party.inside.seat.me.0) found = search rules in
     let shared : IsSharedScene bump.scene = search rules in
     let value = party_in c.meet_rest.new.seat.table_id c.party.inside.number c.meet_rest.new.seat.me.0 in
     let back : value ≡ meeting_at found party = search rules in

@@ -14,7 +14,7 @@ loop-number-preserved c =
     let bump = c.args.self.now in
     let before = c.loop-number.invariant in
     let next = fresh_more {E = BumpEntry} c.loop-number.number c.args.parties (omega arith) in
-    let value : BumpParty = party_in c.deal-seat.result.table_id c.loop-number.number c.deal-seat.result.me.0 in
+    let value : BumpParty = party_in c.split_first-seat.result.table_id c.loop-number.number c.split_first-seat.result.me.0 in
     let value_is : value ≡ fresh_party bump c.loop-number.number = search rules in
     let more = given_more (fresh_party bump) c.loop-number.all.items value (λ j below. before.fresh j (omega arith))
     (value_is ∙ ap (fresh_party bump) (sym before.long)) in

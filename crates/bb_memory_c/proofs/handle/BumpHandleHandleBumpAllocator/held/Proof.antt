@@ -1,6 +1,6 @@
 use Rattle.bb_memory_bump.specs.contracts.bump_allocator.BumpAllocator.{the_row as made}
 use Rattle.bb_memory_c.specs.contracts.handle.BumpHandle.{the_row as handle}
-use Rattle.bb_memory_c.proofs.Owners.{lends, part_of, refl}
+use Rattle.bb_handles.proofs.LentHandles.{lends, part_of, refl}
 use Rattle.bb_memory_c.proofs.handle.BumpHandleHandleBumpAllocator.held.Statement.{statement}
 use Rattle.bb_memory_c.proofs.handle.BumpHandleHandleBumpAllocator.held.Code as code
 

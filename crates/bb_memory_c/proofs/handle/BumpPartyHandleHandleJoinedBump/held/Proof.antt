@@ -1,6 +1,6 @@
 use Rattle.bb_memory_c.specs.contracts.shared_bump.JoinedBump.{the_row as made}
 use Rattle.bb_memory_c.specs.contracts.handle.BumpPartyHandle.{the_row as handle}
-use Rattle.bb_memory_c.proofs.Owners.{lends, part_of, refl}
+use Rattle.bb_handles.proofs.LentHandles.{lends, part_of, refl}
 use Rattle.bb_memory_c.proofs.handle.BumpPartyHandleHandleJoinedBump.held.Statement.{statement}
 use Rattle.bb_memory_c.proofs.handle.BumpPartyHandleHandleJoinedBump.held.Code as code
 

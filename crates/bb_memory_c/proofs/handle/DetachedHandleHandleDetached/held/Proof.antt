@@ -1,6 +1,6 @@
 use Rattle.bb_memory_c.specs.contracts.detached.Detached.{the_row as made}
 use Rattle.bb_memory_c.specs.contracts.handle.DetachedHandle.{the_row as handle}
-use Rattle.bb_memory_c.proofs.Owners.{lends, part_of, refl}
+use Rattle.bb_handles.proofs.LentHandles.{lends, part_of, refl}
 use Rattle.bb_memory_c.proofs.handle.DetachedHandleHandleDetached.held.Statement.{statement}
 use Rattle.bb_memory_c.proofs.handle.DetachedHandleHandleDetached.held.Code as code
 

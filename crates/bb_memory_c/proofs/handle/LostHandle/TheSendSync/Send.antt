@@ -1,5 +1,5 @@
 use Rattle.bb_memory_shared_pools.proofs.shared_pool.detached.LostBucket.TheSendSync.{the_send}
-use Rattle.bb_memory_c.proofs.Crossing.{IsSend, owned, owning_send, two_send}
+use Rattle.bb_memory_c.proofs.SentHandles.{IsSend, owned, owning_send, two_send}
 use Rattle.bb_memory_c.specs.contracts.handle.LostHandle.{the_row, the_type}
 
 pub send : IsSend the_row

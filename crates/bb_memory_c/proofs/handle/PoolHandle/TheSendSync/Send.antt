@@ -1,5 +1,5 @@
-use Rattle.bb_memory_c.proofs.pool.Pool.TheSendSync.{the_send}
-use Rattle.bb_memory_c.proofs.Crossing.{IsSend, owned, owning_send, two_send}
+use Rattle.bb_handles.proofs.one_owner.Pool.TheSendSync.{the_send}
+use Rattle.bb_memory_c.proofs.SentHandles.{IsSend, owned, owning_send, two_send}
 use Rattle.bb_memory_c.specs.contracts.handle.PoolHandle.{the_row, the_type}
 
 pub send : IsSend the_row

@@ -1,6 +1,6 @@
 use Rattle.bb_memory_c.specs.contracts.shared_bump.BumpParties.{the_row as made}
 use Rattle.bb_memory_c.specs.contracts.handle.SharedBumpHandle.{the_row as handle}
-use Rattle.bb_memory_c.proofs.Owners.{lends, part_of, refl}
+use Rattle.bb_handles.proofs.LentHandles.{lends, part_of, refl}
 use Rattle.bb_memory_c.proofs.handle.SharedBumpHandleHandleBumpParties.held.Statement.{statement}
 use Rattle.bb_memory_c.proofs.handle.SharedBumpHandleHandleBumpParties.held.Code as code
 

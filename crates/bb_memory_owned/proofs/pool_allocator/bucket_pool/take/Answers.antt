@@ -44,7 +44,7 @@ returns-in_err-admit g c =
       greatest = omega (arith, c.requires.at_least);
     }
 
--- a request within a bucket reads as a set of so many numbers does
+-- a request within a bucket reads as a set of its numbers does
 within_reads : (words : ℕ → ℕ) (count : ℕ) (geometry : PoolGeometry) (layout : Layout) → IsWithin geometry.bucket layout →
     count ≡ geometry.buckets → min (words count) 1 ≡ reads_of geometry.bucket (words geometry.buckets) layout
 within_reads words count geometry layout within same =

@@ -8,14 +8,14 @@ loop-command-preserved g c =
     let A = g.A.BaseAllocator in
     let old = c.loop-command.invariant in
     let same = old.geometry in
-    let figures = g.met.A.Allocator.fixed c.loop-command.allocator c.args.allocator.now same in
+    let resize_key = g.met.A.Allocator.fixed c.loop-command.allocator c.args.allocator.now same in
     let i = c.loop-command.command-index in
     let done : take (i + 1) c.args.commands.now ≡ take i c.args.commands.now ++ c.command-item.result ∷ [] =
     take_more c.args.commands.now i c.command-item.result (omega arith)
     ∙ ap (λ x. take i c.args.commands.now ++ x ∷ []) (sym c.command-item.is) in
     record {
       run = rw (done, c.push_reserved.ensures.items)
-          (IsRun-push _ _ _ _ _ _ _ _ old.run (rw (same, figures) at c.apply_full-reply.ensures.step));
+          (IsRun-push _ _ _ _ _ _ _ _ old.run (rw (same, resize_key) at c.apply_full-reply.ensures.step));
       fits = rw (done, c.push_reserved.ensures.items)
           (EachGiven-push _ _ _ _ _ (omega (arith, length-take-le i c.args.commands.now (omega arith))) old.fits
           (λ layout chunk asked given. rw same at (c.apply_full-reply.ensures.fits layout chunk asked given)));

@@ -8,10 +8,10 @@ abbrev pub invariant-loop-command : goal.invariant-loop-command
 invariant-loop-command g l =
     let A = g.A.BaseAllocator in
     let B = g.A.Allocator in
-    let figures = B.figures l.fn.allocator in
+    let resize_key = B.resize_key l.fn.allocator in
     record {
       run : IsRun (AllocatorStep (ResizableStep (resizable_object_of (A.may_allocate (A.geometry l.fn.allocator))
-          (B.reserved_at figures) (B.may_grow figures) (B.may_shrink figures))) A.takes A.frees)
+          (B.reserved_at resize_key) (B.may_grow resize_key) (B.may_shrink resize_key))) A.takes A.frees)
           (l.fn.allocator, l.fn.live.items) (take l.command-index l.commands) l.replies.items (l.allocator, l.live.items);
       fits : EachGiven (Fits (A.region_of (A.geometry l.fn.allocator))) (take l.command-index l.commands) l.replies.items;
       stands : A.stands_for l.allocator l.live.items;

@@ -1,5 +1,4 @@
-use Rattle.std.proofs.Common.{arith}
-use Rattle.std.proofs.Common.{◌∙◌, sym, subst, refl, Some, Ok, Err}
+use Rattle.std.proofs.Common.{arith, ◌∙◌, sym, subst, refl, Some, Ok, Err}
 use Rattle.loan_book.specs.declared.error.LoanError.TheVariants.{UnknownSample, AlreadyPublished, NoReaders}
 use Rattle.loan_book.specs.Book.{Book, HasReturns}
 use Rattle.loan_book.specs.Calls.{Publishes}

@@ -6,7 +6,7 @@ use Rattle.script_runner.proofs.engine.script.read_line.Goals as goal
 
 pub returns-in_err-read-clause-unreadable : goal.returns-in_err-read-clause-unreadable
 returns-in_err-read-clause-unreadable g c =
-    let rules = g.K.Driven.rules in
+    let rules = g.K.ScriptTarget.rules in
     let no_show : IsTrue rules.can_show → c.args.text.now ≡ codes "show" → ⊥ = grind (arith, common_steps) in
     rw c.from_residual-in_err-read.ensures (unread_line rules (words c.in_ok-name.name.now c.in_ok-name.numbers)
     c.args.text.now c.in_ok-name.ensures.written c.in_err-read.ensures.each no_show)

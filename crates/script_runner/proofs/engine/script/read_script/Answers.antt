@@ -8,7 +8,7 @@ use Rattle.script_runner.proofs.engine.script.read_script.Goals as goal
 
 pub returns-in_default-read_line-clause-unreadable : goal.returns-in_default-read_line-clause-unreadable
 returns-in_default-read_line-clause-unreadable g c =
-    let rules = g.K.Driven.rules in
+    let rules = g.K.ScriptTarget.rules in
     let line : List ℕ = c.in-Some.line.now in
     let lines = c.loop-line.script.items in
     let before = map (line_text rules) lines in
@@ -23,7 +23,7 @@ returns-in_default-read_line-clause-within g c = omega (arith, c.loop-line.invar
 
 pub loop-line-preserved : goal.loop-line-preserved
 loop-line-preserved g c =
-    let rules = g.K.Driven.rules in
+    let rules = g.K.ScriptTarget.rules in
     let lines = c.loop-line.script.items in
     let grown = c.push.new.self.items in
     let before = map (line_text rules) lines in

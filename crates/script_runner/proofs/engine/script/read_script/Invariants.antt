@@ -6,7 +6,7 @@ use Rattle.script_runner.proofs.engine.script.read_script.Given as goal
 -- the lines so far are the script's
 abbrev pub invariant-loop-line : goal.invariant-loop-line
 invariant-loop-line g l =
-    let rules = g.K.Driven.rules in
+    let rules = g.K.ScriptTarget.rules in
     record {
       read : lines_of l.input ≡ map (line_text rules) l.script.items ++ lines_of l.left;
       allowed : All (IsLine rules) l.script.items;

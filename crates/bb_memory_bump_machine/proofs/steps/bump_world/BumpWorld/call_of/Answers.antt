@@ -1,5 +1,4 @@
-use Rattle.std.proofs.Common.{arith}
-use Rattle.std.proofs.Common.{sym, ◌∙◌, subst, IsSome}
+use Rattle.std.proofs.Common.{arith, sym, ◌∙◌, subst, IsSome}
 use Rattle.bb_memory_bump_machine.specs.BumpMachine.{AllFitting}
 use Rattle.bb_memory_bump_machine.specs.BumpWorld.{BumpWorld}
 use Rattle.bb_memory_lists.proofs.SliceGets.{slice_get-some}

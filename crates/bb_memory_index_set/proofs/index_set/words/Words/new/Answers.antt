@@ -1,7 +1,7 @@
 use Rattle.std.proofs.lemmas.Grind.{common_steps}
 use Rattle.std.proofs.Common.{◌≡◌, ◌∙◌, ℕ, List, ap, refl, arith, set, ◌-◌}
 use Rattle.bb_memory_index_set.specs.IndexSets.{index_words, Slots}
-use Rattle.bb_memory_index_set.proofs.AsideNumbers.{less_none}
+use Rattle.bb_memory_index_set.proofs.LastFreed.{less_none}
 use Rattle.bb_memory_index_set.proofs.NumberWords.{fresh_whole, fresh_part, last_word, zeros}
 use Rattle.bb_memory_index_set.proofs.OpenWords.{fresh_set}
 use Rattle.bb_memory_index_set.proofs.Tallies.{tally-fresh}

@@ -1,7 +1,7 @@
 use Rattle.std.proofs.Common.{◌-◌, ◌/◌, ℕ, List, ◌∙◌, ap, set, get_or, arith, length, length-set}
-use Rattle.bb_memory_index_set.proofs.AsideNumbers.{others_have, put_back}
+use Rattle.bb_memory_index_set.proofs.LastFreed.{others_have, put_back}
 use Rattle.bb_memory_index_set.proofs.NumberWords.{has_word}
-use Rattle.bb_memory_index_set.proofs.OpenWords.{set_opened, set_still, named_hand}
+use Rattle.bb_memory_index_set.proofs.OpenWords.{set_opened, set_still, named_current}
 use Rattle.bb_memory_index_set.proofs.Listings.{room_left}
 use Rattle.bb_memory_index_set.proofs.Tallies.{tally-some}
 use Rattle.bb_memory_index_set.proofs.index_set.words.Words.put_back.Goals.{then-self-gt0, else-self-gt0}
@@ -10,7 +10,7 @@ use Rattle.bb_memory_index_set.proofs.index_set.words.Words.put_back.Goals as go
 pub overflow_sub-self : goal.overflow_sub-self
 overflow_sub-self g c =
     let inside = c.self.inside in
-    let has = (others_have _ inside.aside c.args.number (rw (← c.self.view_is) at c.requires)).1 in
+    let has = (others_have _ inside.last_freed c.args.number (rw (← c.self.view_is) at c.requires)).1 in
     tally-some _ inside.count inside.most c.args.number c.self.invariant.2 has
 
 pub clear-was_full-requires : goal.clear-was_full-requires
@@ -20,10 +20,10 @@ pub list-requires : goal.list-requires
 list-requires g c =
     let inside = c.self.inside in
     let told = c.clear-was_full.ensures in
-    let has = (others_have _ inside.aside c.args.number (rw (← c.self.view_is) at c.requires)).1 in
+    let has = (others_have _ inside.last_freed c.args.number (rw (← c.self.view_is) at c.requires)).1 in
     let is = c.self.invariant.0 in
     let within = (has_word inside.bound inside.words.words c.args.number is.are has).1 in
-    let left = room_left _ _ _ inside.top (c.args.number / 64) is.listing within
+    let left = room_left _ _ _ inside.open_count (c.args.number / 64) is.listing within
     (λ clear. clear (told.was_full c.if-was_full.true)) in
     let room = is.room in
     omega (arith, left, room, ap length told.listed, c.if-self-gt0.true)
@@ -37,31 +37,31 @@ invariant_of-self g c =
     let told = c.clear-was_full.ensures in
     let is = c.self.invariant.0 in
     let in_set = rw (← c.self.view_is) at c.requires in
-    let has = (others_have _ inside.aside c.args.number in_set).1 in
-    let left = put_back inside.bound words _ inside.aside c.args.number is.are c.self.invariant.1 in_set told.bit in
+    let has = (others_have _ inside.last_freed c.args.number in_set).1 in
+    let left = put_back inside.bound words _ inside.last_freed c.args.number is.are c.self.invariant.1 in_set told.bit in
     let within = (has_word inside.bound words c.args.number is.are has).1 in
     let full = told.was_full c.if-was_full.true in
-    let fits = room_left _ _ _ inside.top at is.listing within (λ clear. clear full) in
+    let fits = room_left _ _ _ inside.open_count at is.listing within (λ clear. clear full) in
     let room = is.room in
     elim c.if-self-gt0.branch [
       | then-self-gt0 w ↦
-          let named = w.list.ensures.listed ∙ ap (λ (l : List ℕ). set l (inside.top - 1) inside.hand) told.listed in
+          let named = w.list.ensures.listed ∙ ap (λ (l : List ℕ). set l (inside.open_count - 1) inside.current) told.listed in
           rw (w.self-inside-is, w.list.ensures.words) (
             set_opened inside.bound words listed c.clear-was_full.new.self.words w.list.new.self.listed
-                inside.hand inside.top at is
+                inside.current inside.open_count at is
                 left.are told.others within full told.not_full
-                (ap length named ∙ length-set listed (inside.top - 1) inside.hand)
+                (ap length named ∙ length-set listed (inside.open_count - 1) inside.current)
                 (λ k h. ap (λ (l : List ℕ). get_or l k 0) named
-                ∙ named_hand listed inside.hand inside.top k h (omega (arith, fits, room))),
-            left.still_aside,
+                ∙ named_current listed inside.current inside.open_count k h (omega (arith, fits, room))),
+            left.still_last_freed,
             left.tally inside.count inside.most c.self.invariant.2,
           )
       | else-self-gt0 w ↦
           rw w.self-inside-is (
-            set_opened inside.bound words listed c.clear-was_full.new.self.words c.clear-was_full.new.self.listed inside.hand
-                inside.top at is left.are told.others within full told.not_full (ap length told.listed)
+            set_opened inside.bound words listed c.clear-was_full.new.self.words c.clear-was_full.new.self.listed inside.current
+                inside.open_count at is left.are told.others within full told.not_full (ap length told.listed)
                 (λ k h. absurd (omega (arith, h, w.if-self-gt0.false))),
-            left.still_aside,
+            left.still_last_freed,
             left.tally inside.count inside.most c.self.invariant.2,
           )
     ]
@@ -73,11 +73,11 @@ invariant_of-self-else-was_full g c =
     let told = c.clear-was_full.ensures in
     let is = c.self.invariant.0 in
     let in_set = rw (← c.self.view_is) at c.requires in
-    let left = put_back inside.bound words _ inside.aside c.args.number is.are c.self.invariant.1 in_set told.bit in (
+    let left = put_back inside.bound words _ inside.last_freed c.args.number is.are c.self.invariant.1 in_set told.bit in (
       set_still inside.bound words inside.words.listed c.clear-was_full.new.self.words c.clear-was_full.new.self.listed
-          inside.hand inside.top (c.args.number / 64) is left.are told.others
+          inside.current inside.open_count (c.args.number / 64) is left.are told.others
           (told.was_open c.if-was_full.false) told.not_full told.listed,
-      left.still_aside,
+      left.still_last_freed,
       left.tally inside.count inside.most c.self.invariant.2,
     )
 
@@ -85,7 +85,8 @@ pub returns-after-self-gt0-clause-numbers : goal.returns-after-self-gt0-clause-n
 returns-after-self-gt0-clause-numbers g c =
     let inside = c.self.inside in
     let in_set = rw (← c.self.view_is) at c.requires in
-    let left = put_back inside.bound inside.words.words _ inside.aside c.args.number c.self.invariant.0.are c.self.invariant.1
+    let left = put_back inside.bound inside.words.words _ inside.last_freed c.args.number c.self.invariant.0.are
+    c.self.invariant.1
     in_set c.clear-was_full.ensures.bit in
     elim c.if-self-gt0.branch [
       | then-self-gt0 w ↦ rw (← c.self.view_is, w.self-inside-is, w.list.ensures.words) left.less
@@ -96,6 +97,7 @@ pub returns-else-was_full-clause-numbers : goal.returns-else-was_full-clause-num
 returns-else-was_full-clause-numbers g c =
     let inside = c.self.inside in
     let in_set = rw (← c.self.view_is) at c.requires in
-    let left = put_back inside.bound inside.words.words _ inside.aside c.args.number c.self.invariant.0.are c.self.invariant.1
+    let left = put_back inside.bound inside.words.words _ inside.last_freed c.args.number c.self.invariant.0.are
+    c.self.invariant.1
     in_set c.clear-was_full.ensures.bit in
     rw (← c.self.view_is) left.less

@@ -1,5 +1,5 @@
 use Rattle.std.proofs.Common.{arith}
-use Rattle.bb_memory_index_set.proofs.AsideNumbers.{apart_in, has_bound, others_have}
+use Rattle.bb_memory_index_set.proofs.LastFreed.{apart_in, has_bound, others_have}
 use Rattle.bb_memory_index_set.proofs.NumberWords.{bit_tells}
 use Rattle.bb_memory_index_set.proofs.index_set.words.WordsIndexSet.has.Goals as goal
 

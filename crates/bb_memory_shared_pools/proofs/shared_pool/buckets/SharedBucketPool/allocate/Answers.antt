@@ -36,7 +36,7 @@ invariant_of-party g c =
     seated_then c.args.self.now party.seat.table_id me party.number party.hint c.party.invariant own
     c.pass.new.seat.me _ c.follow_taking.new.self (c.follow_taking.ensures
     ∙ hint-taking c.args.self.now.scene.geometry.buckets (number_of me.0) c.in-Some.number party.hint)
-    c.in-Some.ensures.told.step.ended
+    c.in-Some.ensures.step.step.ended
 
 pub invariant_of-party-in-None : goal.invariant_of-party-in-None
 invariant_of-party-in-None g c =
@@ -45,7 +45,7 @@ invariant_of-party-in-None g c =
     let me = party.seat.me in
     let buckets = c.args.self.now.scene.geometry.buckets in
     seated_then c.args.self.now party.seat.table_id me party.number party.hint c.party.invariant own
-    c.pass.new.seat.me _ party.hint (hint-losses buckets (number_of me.0) buckets party.hint) c.in-None.ensures.told.step.ended
+    c.pass.new.seat.me _ party.hint (hint-losses buckets (number_of me.0) buckets party.hint) c.in-None.ensures.step.step.ended
 
 pub returns-in-Some-clause-serves : goal.returns-in-Some-clause-serves
 returns-in-Some-clause-serves g c =
@@ -57,7 +57,7 @@ returns-in-Some-clause-serves g c =
     c.args.layout c.party.invariant (invariant_of-party g c) c.party.view_is c.requires.party c.self.inside.flags
     c.in-Some.number c.size.result
     (pass_took c.args.self.now.scene (number_of old.seat.me.0) (view_log old.seat.me.0) new.me c.in-Some.number
-    c.in-Some.ensures.told.step)
+    c.in-Some.ensures.step.step)
     c.self.view_is c.size.ensures within.size within.align
 
 pub returns-in-None-clause-serves : goal.returns-in-None-clause-serves
@@ -66,21 +66,21 @@ returns-in-None-clause-serves g c =
     let new = c.pass.new.seat in
     refused c.args.self.now old.seat.table_id new.table_id old.seat.me new.me old.number old.hint _ _ c.args.party.now
     c.args.layout c.party.invariant (invariant_of-party-in-None g c) c.party.view_is c.requires.party OutOfMemory
-    (pass_lost c.args.self.now.scene (number_of old.seat.me.0) (view_log old.seat.me.0) new.me c.in-None.ensures.told.step)
+    (pass_lost c.args.self.now.scene (number_of old.seat.me.0) (view_log old.seat.me.0) new.me c.in-None.ensures.step.step)
 
 pub returns-in-Some-clause-party : goal.returns-in-Some-clause-party
 returns-in-Some-clause-party g c =
     let old = c.party.inside in
     let new = c.pass.new.seat in
     stays c.args.self.now old.seat.table_id new.table_id old.seat.me new.me old.number old.hint _ _ c.args.party.now c.args.layout
-    c.party.invariant (invariant_of-party g c) c.party.view_is c.requires.party (Some c.in-Some.number) c.pass.ensures.told.table
+    c.party.invariant (invariant_of-party g c) c.party.view_is c.requires.party (Some c.in-Some.number) c.pass.ensures.step.table
     (pass_took c.args.self.now.scene (number_of old.seat.me.0) (view_log old.seat.me.0) new.me c.in-Some.number
-    c.in-Some.ensures.told.step)
+    c.in-Some.ensures.step.step)
 
 pub returns-in-None-clause-party : goal.returns-in-None-clause-party
 returns-in-None-clause-party g c =
     let old = c.party.inside in
     let new = c.pass.new.seat in
     stays c.args.self.now old.seat.table_id new.table_id old.seat.me new.me old.number old.hint _ _ c.args.party.now c.args.layout
-    c.party.invariant (invariant_of-party-in-None g c) c.party.view_is c.requires.party None c.pass.ensures.told.table
-    (pass_lost c.args.self.now.scene (number_of old.seat.me.0) (view_log old.seat.me.0) new.me c.in-None.ensures.told.step)
+    c.party.invariant (invariant_of-party-in-None g c) c.party.view_is c.requires.party None c.pass.ensures.step.table
+    (pass_lost c.args.self.now.scene (number_of old.seat.me.0) (view_log old.seat.me.0) new.me c.in-None.ensures.step.step)

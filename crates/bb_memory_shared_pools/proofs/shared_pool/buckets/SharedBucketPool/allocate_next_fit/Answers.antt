@@ -35,9 +35,9 @@ invariant_of-party-2 g c =
     seated_then c.args.self.now party.seat.table_id me party.number party.hint c.party.invariant own
     c.next_fit-found.new.seat.me _ c.follow_taking.new.self
     (c.follow_taking.ensures
-    ∙ hint_by_search c.args.self.now.scene.geometry.buckets (number_of me.0) party.hint.bucket c.in-Some.ensures.told.step.probe
-    c.in-Some.number party.hint c.in-Some.ensures.told.step.there)
-    c.in-Some.ensures.told.step.ended
+    ∙ hint_by_search c.args.self.now.scene.geometry.buckets (number_of me.0) party.hint.bucket c.in-Some.ensures.step.step.probe
+    c.in-Some.number party.hint c.in-Some.ensures.step.step.there)
+    c.in-Some.ensures.step.step.ended
 
 pub invariant_of-party : goal.invariant_of-party
 invariant_of-party g c =
@@ -47,13 +47,13 @@ invariant_of-party g c =
     let buckets = c.args.self.now.scene.geometry.buckets in
     seated_then c.args.self.now party.seat.table_id me party.number party.hint c.party.invariant own
     c.next_fit-found.new.seat.me _ party.hint (hint-misses buckets (number_of me.0) party.hint.bucket buckets party.hint)
-    c.in_default.ensures.told.step.ended
+    c.in_default.ensures.step.step.ended
 
 pub returns-clause-serves : goal.returns-clause-serves
 returns-clause-serves g c =
     let old = c.party.inside in
     let new = c.next_fit-found.new.seat in
-    let took = c.in-Some.ensures.told.step in
+    let took = c.in-Some.ensures.step.step in
     let geometry = c.geometry.ensures.value ∙ ap (λ (p : SharedPool). p.scene.geometry) c.self.view_is in
     let within = subst (λ (x : PoolGeometry). IsWithin x.bucket c.args.layout) geometry c.in_ok-admit.ensures in
     served c.args.self.now old.seat.table_id new.table_id old.seat.me new.me old.number old.hint _ _ c.args.party.now
@@ -70,7 +70,7 @@ returns-in_default-clause-serves g c =
     refused c.args.self.now old.seat.table_id new.table_id old.seat.me new.me old.number old.hint _ _ c.args.party.now
     c.args.layout c.party.invariant (invariant_of-party g c) c.party.view_is c.requires.party OutOfMemory
     (search_lost c.args.self.now.scene (number_of old.seat.me.0) (view_log old.seat.me.0) old.hint.bucket new.me
-    c.in_default.ensures.told.step)
+    c.in_default.ensures.step.step)
 
 pub returns-clause-party : goal.returns-clause-party
 returns-clause-party g c =
@@ -78,9 +78,9 @@ returns-clause-party g c =
     let new = c.next_fit-found.new.seat in
     stays c.args.self.now old.seat.table_id new.table_id old.seat.me new.me old.number old.hint _ _ c.args.party.now c.args.layout
     c.party.invariant (invariant_of-party-2 g c) c.party.view_is c.requires.party (Some c.in-Some.number)
-    c.next_fit-found.ensures.told.table
+    c.next_fit-found.ensures.step.table
     (search_took c.args.self.now.scene (number_of old.seat.me.0) (view_log old.seat.me.0) old.hint.bucket new.me c.in-Some.number
-    c.in-Some.ensures.told.step)
+    c.in-Some.ensures.step.step)
 
 pub returns-in_default-clause-party : goal.returns-in_default-clause-party
 returns-in_default-clause-party g c =
@@ -88,6 +88,6 @@ returns-in_default-clause-party g c =
     let new = c.next_fit-found.new.seat in
     stays c.args.self.now old.seat.table_id new.table_id old.seat.me new.me old.number old.hint _ _ c.args.party.now c.args.layout
     c.party.invariant (invariant_of-party g c) c.party.view_is c.requires.party None
-    c.next_fit-found.ensures.told.table
+    c.next_fit-found.ensures.step.table
     (search_lost c.args.self.now.scene (number_of old.seat.me.0) (view_log old.seat.me.0) old.hint.bucket new.me
-    c.in_default.ensures.told.step)
+    c.in_default.ensures.step.step)

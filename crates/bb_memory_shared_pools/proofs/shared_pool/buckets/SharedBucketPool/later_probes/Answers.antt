@@ -7,8 +7,8 @@ use Rattle.bb_memory_shared_pools.specs.SharedPoolRule.{IsInSearch, SeatView}
 use Rattle.bb_memory_shared_pools.proofs.SharedPoolNextFit.{idle_where, search_goes_on, search_refuses, search_takes}
 use Rattle.bb_memory_shared_pools.proofs.shared_pool.buckets.SharedBucketPool.later_probes.Goals as goal
 
-pub returns-then-probe-clause-told : goal.returns-then-probe-clause-told
-returns-then-probe-clause-told g c =
+pub returns-then-probe-clause-step : goal.returns-then-probe-clause-step
+returns-then-probe-clause-step g c =
     let is = c.probed-bucket.ensures.value ∙ ap (λ (n : ℕ). probed n c.args.first c.loop-probe.probe)
     c.number_of_buckets-count.ensures.value in
     record {
@@ -32,8 +32,8 @@ loop-probe-preserved g c =
           missed;
     }
 
-pub returns-clause-told : goal.returns-clause-told
-returns-clause-told g c =
+pub returns-clause-step : goal.returns-clause-step
+returns-clause-step g c =
     let scene : PoolScene = c.args.self.now.scene in
     let end : c.loop-probe.probe ≡ scene.geometry.buckets = omega arith in
     record {

@@ -1,11 +1,11 @@
 use Rattle.std.proofs.Common.{rules}
-use Rattle.bb_memory_shared_pools.proofs.SharedPoolGatherings.{agrees, all_gathered, none_met}
+use Rattle.bb_memory_shared_pools.proofs.SharedPoolMerges.{agrees, all_merged, none_met}
 use Rattle.bb_memory_shared_pools.proofs.SharedPoolWholes.{met_apart, one_served}
 use Rattle.bb_memory_shared_pools.proofs.shared_pool.buckets.SharedBucketPool.meet_all.Goals as goal
 
 pub returns-in-Some-clause-met : goal.returns-in-Some-clause-met
 returns-in-Some-clause-met g c =
-    let all = all_gathered _ _ _ _ _ _ c.pop.new.self.items c.party.invariant c.party.view_is c.in-Some.ensures.items in
+    let all = all_merged _ _ _ _ _ _ c.pop.new.self.items c.party.invariant c.party.view_is c.in-Some.ensures.items in
     agrees c.args.self.now.scene c.args.parties.now.items (search rules)
 
 pub returns-in-Some-clause-apart : goal.returns-in-Some-clause-apart

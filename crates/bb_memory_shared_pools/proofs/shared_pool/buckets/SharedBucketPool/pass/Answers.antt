@@ -3,8 +3,8 @@ use Rattle.bb_memory_seats.specs.Seats.{number_of, view_log}
 use Rattle.bb_memory_shared_pools.proofs.SharedPoolPasses.{IsPassing, goes_on, refuses, takes}
 use Rattle.bb_memory_shared_pools.proofs.shared_pool.buckets.SharedBucketPool.pass.Goals as goal
 
-pub returns-then-try_flag-clause-told : goal.returns-then-try_flag-clause-told
-returns-then-try_flag-clause-told g c =
+pub returns-then-try_flag-clause-step : goal.returns-then-try_flag-clause-step
+returns-then-try_flag-clause-step g c =
     let me = c.args.seat.now.me in record {
       table = c.try_flag.ensures.table ∙ c.loop-bucket.invariant.table;
       step = takes c.args.self.now.scene (number_of me.0) (view_log me.0) c.loop-bucket.seat.me c.try_flag.new.seat.me
@@ -22,8 +22,8 @@ loop-bucket-preserved g c =
           (rw c.if-try_flag.false at (rw c.self.view_is at c.try_flag.ensures.step));
     }
 
-pub returns-clause-told : goal.returns-clause-told
-returns-clause-told g c =
+pub returns-clause-step : goal.returns-clause-step
+returns-clause-step g c =
     let scene = c.args.self.now.scene in
     let me = c.args.seat.now.me in
     let all : c.loop-bucket.bucket ≡ scene.geometry.buckets = omega arith in record {

@@ -13,9 +13,9 @@ invariant_of-push_reserved g c =
     let scene = c.args.self.now.scene in
     let number = c.loop-number.number in
     let more = fresh_more {E = PoolEntry} number c.args.parties (omega arith) in
-    let seated : c.deal-seat.result.me ≡ (alone scene number [], []) = search rules in
+    let seated : c.split_first-seat.result.me ≡ (alone scene number [], []) = search rules in
     party_seat scene number (record { bucket = c.part_of-bucket.result; came_back = false }) []
-    c.deal-seat.result.me (no_step scene number c.deal-seat.result.me seated)
+    c.split_first-seat.result.me (no_step scene number c.split_first-seat.result.me seated)
     (let made = c.requires.parties in omega arith)
     (subst (λ (p : SharedPool). IsSharedScene p.scene) c.self.view_is c.self.invariant.shared)
     (λ i. record { bucket = c.part_of-bucket.ensures i; came_back = false })
@@ -25,7 +25,7 @@ loop-number-preserved g c =
     let pool = c.args.self.now in
     let before = c.loop-number.invariant in
     let next = fresh_more {E = PoolEntry} c.loop-number.number c.args.parties (omega arith) in
-    let value : PoolParty = party_in c.deal-seat.result.table_id c.loop-number.number c.deal-seat.result.me.0 in
+    let value : PoolParty = party_in c.split_first-seat.result.table_id c.loop-number.number c.split_first-seat.result.me.0 in
     let value_is : value ≡ fresh_party pool c.loop-number.number = search rules in
     let more = given_more (fresh_party pool) c.loop-number.all.items value (λ j below. before.fresh j (omega arith))
     (value_is ∙ ap (fresh_party pool) (sym before.long)) in

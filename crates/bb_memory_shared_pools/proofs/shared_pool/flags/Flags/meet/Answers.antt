@@ -1,7 +1,7 @@
 use Rattle.std.proofs.Common.{List, ℕ, ◌++◌, ap, ◌∙◌, subst}
 use Rattle.atomic_table.specs.Table.{Me}
 use Rattle.bb_memory_seats.specs.Seats.{head_of, number_of, view_log}
-use Rattle.bb_memory_shared_pools.specs.SharedPoolRule.{NumberedLog, SeatView, TellsMeeting}
+use Rattle.bb_memory_shared_pools.specs.SharedPoolRule.{NumberedLog, SeatView, AfterMeetingLoad}
 use Rattle.bb_memory_shared_pools.proofs.SharedPoolMeetings.{two_met}
 use Rattle.bb_memory_shared_pools.proofs.shared_pool.flags.Flags.meet.Goals as goal
 
@@ -11,8 +11,8 @@ returns-clause-met c =
     let a = c.args.a.now.me in
     let b = c.args.b.now.me in
     let own = ap (λ (m : Me ℕ SeatView). m.0.parties) c.requires.a.seat.is in
-    let guest = ap (λ (m : Me ℕ SeatView). m.0.parties) c.deal-guest.ensures.first
+    let guest = ap (λ (m : Me ℕ SeatView). m.0.parties) c.split_first-guest.ensures.first
     ∙ ap (λ (m : Me ℕ SeatView). head_of m.0.parties) c.requires.b.seat.is in
-    let both = ap (λ (m : Me ℕ SeatView). m.0.parties) c.gather.ensures.step ∙ λ i. guest i ++ own i in
+    let both = ap (λ (m : Me ℕ SeatView). m.0.parties) c.merge.ensures.step ∙ λ i. guest i ++ own i in
     two_met scene (number_of a.0) (view_log a.0) (number_of b.0) (view_log b.0)
-    (subst (λ (parties : List NumberedLog). TellsMeeting scene parties) both c.find.ensures.told)
+    (subst (λ (parties : List NumberedLog). AfterMeetingLoad scene parties) both c.load_for_meeting.ensures.step)

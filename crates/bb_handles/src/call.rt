@@ -1,0 +1,221 @@
+//! The calls of C, each written once over any handle.
+ghost use Rattle.std.specs.Prelude.{◌≡◌, ◌≢◌, None, Some, IsFalse, IsTrue};
+ghost use Rattle.bb_handles.specs.Answers.{malloc_refused, ok};
+ghost use Rattle.bb_handles.specs.Calls.{AnswersFree, AnswersInfo, AnswersJoin, AnswersLeave, AnswersNumber, AnswersPlace};
+ghost use Rattle.bb_handles.specs.Calls.{AnswersRequest, AnswersReturn, AnswersTake, AnswersWhether, IfBoth, TellsRequest};
+ghost use Rattle.bb_handles.specs.Calls.{TellsTake};
+
+use crate::answer::{Answer, Figure};
+use crate::code;
+use crate::handle::Handle;
+use crate::kind::{Bucketed, Gives, Keeps, Shares};
+use crate::layout::layout_of;
+use std::alloc::Global;
+
+/// Returns whether something is made behind the handle, which stays.
+pub fn is_made<M: Drop, H: Handle<M>>(handle: &mut H) -> bool
+    ensures made { IsTrue result → H.made handle.old ≢ None }
+    ensures empty { IsFalse result → H.made handle.old ≡ None }
+    ensures unchanged { H.made handle.new ≡ H.made handle.old }
+{
+    match handle.made_mut() {
+        Some(_) => true,
+        None => false,
+    }
+}
+
+/// Puts what was made behind an empty handle, in memory of its own, or answers `BB_MALLOC_REFUSED`: then it stays empty.
+pub fn keep<M: Drop, H: Handle<M>>(handle: &mut H, alloc: Global, made: M) -> u32
+    requires { H.made handle.old ≡ None }
+    ensures ok { result ≡ ok → H.made handle.new ≡ Some made }
+    ensures refused { result ≢ ok → (result ≡ malloc_refused) × (H.made handle.new ≡ None) }
+{
+    let Ok(made) = Box::new(alloc, made) else {
+        return code::MALLOC_REFUSED;
+    };
+    handle.put(made);
+    code::OK
+}
+
+/// Frees what is behind the handle, which is empty then.
+pub fn free<M: Drop, H: Handle<M>>(handle: &mut H, alloc: Global) -> u32
+    ensures { AnswersFree (H.made handle.old) (H.made handle.new) result }
+{
+    let Some(made) = handle.take(alloc) else {
+        return code::UNINITIALIZED;
+    };
+    drop(made);
+    code::OK
+}
+
+/// Fills C's struct with the figures of what is made.
+pub fn info<I: Copy, M: Gives<I>, H: Handle<M>>(handle: &mut H, to: &mut I) -> u32
+    ensures { AnswersInfo (H.made handle.old) (H.made handle.new) to.old to.new result M.may_show }
+{
+    let Some(made) = handle.made_mut() else {
+        return code::UNINITIALIZED;
+    };
+    *to = made.show();
+    code::OK
+}
+
+/// Asks for a chunk of `size` bytes at a multiple of `align`.
+pub fn request<I, M: Gives<I>, H: Handle<M>>(handle: &mut H, size: usize, align: usize) -> Answer
+    ensures { AnswersRequest (H.made handle.old) (H.made handle.new) size align result M.may_give }
+{
+    let Some(made) = handle.made_mut() else {
+        return Answer::refusal(code::UNINITIALIZED);
+    };
+    match layout_of(size, align) {
+        Some(layout) => Answer::of(made.give(layout)),
+        None => Answer::refusal(code::INVALID_LAYOUT),
+    }
+}
+
+/// Asks for a chunk of `size` bytes at a multiple of `align`, apart from the calls that are answered quickly.
+#[inline(never)]
+fn ask<I, M: Gives<I>>(made: &mut M, size: usize, align: usize) -> Answer
+    ensures { TellsRequest made.old made.new size align result M.may_give }
+{
+    match layout_of(size, align) {
+        Some(layout) => Answer::of(made.give(layout)),
+        None => Answer::refusal(code::INVALID_LAYOUT),
+    }
+}
+
+/// Asks for a chunk of `size` bytes at a multiple of `align`, in a bucket.
+pub fn request_bucket<I, M: Gives<I> + Bucketed, H: Handle<M>>(
+    handle: &mut H,
+    size: usize,
+    align: usize,
+) -> Answer
+    ensures { AnswersRequest (H.made handle.old) (H.made handle.new) size align result M.may_give }
+{
+    let Some(made) = handle.made_mut() else {
+        return Answer::refusal(code::UNINITIALIZED);
+    };
+    match made.limit().within(size, align) {
+        Some(layout) => Answer::of(made.give(layout)),
+        None => ask(made, size, align),
+    }
+}
+
+/// Takes a whole bucket by a search, apart from the takings that need none, which are then straight-line code.
+#[inline(never)]
+fn search<M: Bucketed>(made: &mut M) -> Answer
+    ensures { TellsTake made.old made.new result M.may_take }
+{
+    Answer::of(made.take())
+}
+
+/// Takes a whole bucket.
+pub fn take<M: Bucketed, H: Handle<M>>(handle: &mut H) -> Answer
+    ensures { AnswersTake (H.made handle.old) (H.made handle.new) result M.may_take }
+{
+    let Some(made) = handle.made_mut() else {
+        return Answer::refusal(code::UNINITIALIZED);
+    };
+    if made.is_short() {
+        Answer::of(made.take())
+    } else {
+        search(made)
+    }
+}
+
+/// Gives back the chunk at this place, if one is held there.
+pub fn give_back<M: Keeps, H: Handle<M>>(handle: &mut H, place: usize) -> u32
+    ensures { AnswersReturn (H.made handle.old) (H.made handle.new) result
+        (λ made. M.holds made place) (λ made after. M.frees made place after) }
+{
+    let Some(made) = handle.made_mut() else {
+        return code::UNINITIALIZED;
+    };
+    if made.give_back(place) {
+        code::OK
+    } else {
+        code::NOT_HELD
+    }
+}
+
+/// Tells whether a chunk is held at this place: 1 or 0.
+pub fn holds<M: Keeps, H: Handle<M>>(handle: &mut H, place: usize) -> Figure
+    ensures { AnswersWhether (H.made handle.old) (H.made handle.new) result (λ made. M.holds made place) }
+{
+    match handle.made_mut() {
+        Some(made) => Figure::of(if made.is_held(place) { 1 } else { 0 }),
+        None => Figure::refusal(code::UNINITIALIZED),
+    }
+}
+
+/// Tells where the bucket of this number begins.
+pub fn place<M: Bucketed, H: Handle<M>>(handle: &mut H, number: u32) -> Figure
+    ensures { AnswersPlace (H.made handle.old) (H.made handle.new) result number M.geometry }
+{
+    let Some(made) = handle.made_mut() else {
+        return Figure::refusal(code::UNINITIALIZED);
+    };
+    match made.place_of(number) {
+        Some(place) => Figure::of(place),
+        None => Figure::refusal(code::NOT_A_BUCKET),
+    }
+}
+
+/// Tells the number of the bucket at this place.
+pub fn number<M: Bucketed, H: Handle<M>>(handle: &mut H, place: usize) -> Figure
+    ensures { AnswersNumber (H.made handle.old) (H.made handle.new) result place M.geometry }
+{
+    let Some(made) = handle.made_mut() else {
+        return Figure::refusal(code::UNINITIALIZED);
+    };
+    match made.number_of(place) {
+        Some(number) => Figure::of(number as usize),
+        None => Figure::refusal(code::NOT_A_BUCKET),
+    }
+}
+
+/// Makes a party that hasn't joined join, behind a handle that has to be empty.
+pub fn join<M: Shares<P>, P: Drop, H: Handle<M>, S: Handle<P>>(
+    handle: &mut H,
+    alloc: Global,
+    joined: &mut S,
+) -> u32
+    ensures { AnswersJoin (H.made handle.old) (H.made handle.new) (S.made joined.old) (S.made joined.new)
+        result M.unjoined M.with_party M.joins }
+{
+    if is_made(joined) {
+        return code::ALREADY_INITIALIZED;
+    }
+    let Some(shared) = handle.made_mut() else {
+        return code::UNINITIALIZED;
+    };
+    let party = match shared.join_last(alloc) {
+        Ok(party) => party,
+        Err(code) => return code,
+    };
+    joined.put(party);
+    code::OK
+}
+
+/// Ends a party, whose handle is empty then. It may join again.
+pub fn leave<M: Shares<P>, P: Drop, H: Handle<M>, S: Handle<P>>(
+    handle: &mut H,
+    alloc: Global,
+    joined: &mut S,
+) -> u32
+    requires { IfBoth (H.made handle.old) (S.made joined.old) M.knows }
+    ensures { AnswersLeave (H.made handle.old) (H.made handle.new) (S.made joined.old)
+        (S.made joined.new) result M.is_at M.leaves M.with_party }
+{
+    let Some(shared) = handle.made_mut() else {
+        return code::UNINITIALIZED;
+    };
+    let Some(party) = joined.take(alloc) else {
+        return code::UNINITIALIZED;
+    };
+    if !shared.has_joined(&party) {
+        joined.put(party);
+        return code::OTHER_POOL;
+    }
+    shared.take_back(Box::into_inner(party));
+    code::OK
+}

@@ -1,6 +1,0 @@
-use Rattle.std.proofs.Common.{arith}
-use Rattle.bb_memory_bump.proofs.SharedBumpSeats.{gathers}
-use Rattle.bb_memory_bump.proofs.shared_bump.position.Position.gather.Goals as goal
-
-pub join_seat-requires : goal.join_seat-requires
-join_seat-requires c = grind (arith, gathers)
