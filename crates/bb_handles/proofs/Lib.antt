@@ -1,5 +1,6 @@
 pub mod Layouts
 pub mod LentHandles
 pub mod Makers
+pub mod ManyCalls
 pub mod OpenHandles
 pub mod Repr

@@ -1,7 +1,7 @@
 -- Promises of the calls of a handle. `old` and `new` stand for what is behind it before and after the call, and `told` is
 -- C's answer; behind an empty handle is `None`.
 use Rattle.std.specs.Prelude.{◌≡◌, ◌≢◌, ◌↔◌, ◌⊎◌, ◌<◌, ◌≤◌, ◌∷◌, ◌++◌, [], ℕ, List, Option, Some, None, Result, Err, length}
-use Rattle.std.specs.Prelude.{IfSome, IfOk, IfErr, OnErr}
+use Rattle.std.specs.Prelude.{Ok, IfSome, IfOk, IfErr, OnErr, drop, slice_get, take}
 use Rattle.std.specs.Align.{IsLayout}
 use Rattle.bb_memory_traits.specs.Chunk.{Chunk, Region}
 use Rattle.bb_memory_traits.specs.PoolObject.{HasBucket, PoolGeometry, bucket_place}
@@ -142,6 +142,48 @@ pub record TellsReturn (held gone stays : Type 0) (code : ℕ) : Type 0 where
 abbrev pub AnswersReturn : {X : Type 0} → Option X → Option X → ℕ → (X → Type 0) → (X → X → Type 0) → Type 0
 AnswersReturn old new code holds frees =
     Answers old new (code ≡ uninitialized) (λ made after. TellsReturn (holds made) (frees made after) (after ≡ made) code)
+
+-- MANY AT ONCE: as that many calls, one after another
+
+-- whole buckets are taken, which begin at these places
+abbrev pub TakesEach : {X : Type 0} → (X → Result Chunk AllocationError → X → Type 0) → X → List ℕ → X → Type 0
+TakesEach may made [] after = after ≡ made
+TakesEach {X = X} may made (place ∷ places) after =
+    (chunk : Chunk) × (next : X) × (place ≡ chunk.place) × may made (Ok chunk) next × TakesEach may next places after
+
+-- Whole buckets are taken, and their places are in the first slots. Where slots are left, the next taking was refused.
+pub record TakesMany {X : Type 0} (made after : X) (before slots : List ℕ) (count : ℕ)
+    (may : X → Result Chunk AllocationError → X → Type 0) : Type 0 where
+  pub last : X
+  pub taken : TakesEach may made (take count slots) last
+  pub at_most : count ≤ length before
+  pub others : drop count slots ≡ drop count before
+  pub all : count ≡ length before → after ≡ last
+  pub refused : count < length before → may last (Err OutOfMemory) after
+
+abbrev pub AnswersTakings : {X : Type 0} → Option X → Option X → List ℕ → List ℕ → Figure
+    → (X → Result Chunk AllocationError → X → Type 0) → Type 0
+AnswersTakings old new before slots told may =
+    Answers old new ((told ≡ no_figure uninitialized) × (slots ≡ before))
+    (λ made after. (told ≡ figure_of told.number) × TakesMany made after before slots told.number may)
+
+-- what is held at each of these places is given back
+abbrev pub FreesEach : {X : Type 0} → (X → ℕ → Type 0) → (X → ℕ → X → Type 0) → X → List ℕ → X → Type 0
+FreesEach holds frees made [] after = after ≡ made
+FreesEach {X = X} holds frees made (place ∷ places) after =
+    holds made place × ((next : X) × frees made place next × FreesEach holds frees next places after)
+
+-- What is held at the first of these places is given back, and nothing is held at the next one.
+pub record FreesMany {X : Type 0} (made after : X) (places : List ℕ) (count : ℕ) (holds : X → ℕ → Type 0)
+    (frees : X → ℕ → X → Type 0) : Type 0 where
+  pub freed : FreesEach holds frees made (take count places) after
+  pub at_most : count ≤ length places
+  pub stopped : IfSome (slice_get places count) (λ place. ¬ holds after place)
+
+abbrev pub AnswersReturns : {X : Type 0} → Option X → Option X → List ℕ → Figure → (X → ℕ → Type 0) → (X → ℕ → X → Type 0)
+    → Type 0
+AnswersReturns old new places told holds frees = Answers old new (told ≡ no_figure uninitialized)
+    (λ made after. (told ≡ figure_of told.number) × FreesMany made after places told.number holds frees)
 
 -- RESIZES: all stays
 

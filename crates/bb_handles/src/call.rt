@@ -2,8 +2,8 @@
 ghost use Rattle.std.specs.Prelude.{◌≡◌, ◌≢◌, None, Some, IsFalse, IsTrue};
 ghost use Rattle.bb_handles.specs.Answers.{malloc_refused, ok};
 ghost use Rattle.bb_handles.specs.Calls.{AnswersFree, AnswersInfo, AnswersJoin, AnswersLeave, AnswersNumber, AnswersPlace};
-ghost use Rattle.bb_handles.specs.Calls.{AnswersRequest, AnswersReturn, AnswersTake, AnswersWhether, IfBoth, TellsRequest};
-ghost use Rattle.bb_handles.specs.Calls.{TellsTake};
+ghost use Rattle.bb_handles.specs.Calls.{AnswersRequest, AnswersReturn, AnswersReturns, AnswersTake, AnswersTakings};
+ghost use Rattle.bb_handles.specs.Calls.{AnswersWhether, FreesMany, IfBoth, TakesMany, TellsRequest, TellsTake};
 
 use crate::answer::{Answer, Figure};
 use crate::code;
@@ -134,6 +134,55 @@ pub fn give_back<M: Keeps, H: Handle<M>>(handle: &mut H, place: usize) -> u32
         code::OK
     } else {
         code::NOT_HELD
+    }
+}
+
+/// Takes whole buckets, one after another, until each slot has the place of one or none is left, and returns how many.
+fn take_each<M: Bucketed>(made: &mut M, slots: &mut [usize]) -> usize
+    ensures { TakesMany made.old made.new slots.old slots.new result M.may_take }
+{
+    let mut count = 0;
+    for slot in slots.iter_mut() {
+        let Ok(chunk) = made.take() else {
+            return count;
+        };
+        *slot = chunk.place();
+        count += 1;
+    }
+    count
+}
+
+/// Takes whole buckets, at most as many as there are slots, and writes their places into the first of these.
+pub fn take_many<M: Bucketed, H: Handle<M>>(handle: &mut H, slots: &mut [usize]) -> Figure
+    ensures { AnswersTakings (H.made handle.old) (H.made handle.new) slots.old slots.new result M.may_take }
+{
+    match handle.made_mut() {
+        Some(made) => Figure::of(take_each(made, slots)),
+        None => Figure::refusal(code::UNINITIALIZED),
+    }
+}
+
+/// Gives back the chunks at these places, one after another, up to the first place where none is held, and returns how many.
+fn give_back_each<M: Keeps>(made: &mut M, places: &[usize]) -> usize
+    ensures { FreesMany made.old made.new places.now result M.holds M.frees }
+{
+    let mut count = 0;
+    for place in places {
+        if !made.give_back(*place) {
+            return count;
+        }
+        count += 1;
+    }
+    count
+}
+
+/// Gives back the chunks at these places, up to the first place where none is held.
+pub fn give_back_many<M: Keeps, H: Handle<M>>(handle: &mut H, places: &[usize]) -> Figure
+    ensures { AnswersReturns (H.made handle.old) (H.made handle.new) places.now result M.holds M.frees }
+{
+    match handle.made_mut() {
+        Some(made) => Figure::of(give_back_each(made, places)),
+        None => Figure::refusal(code::UNINITIALIZED),
     }
 }
 

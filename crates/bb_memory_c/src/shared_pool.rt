@@ -8,8 +8,9 @@ ghost use Rattle.bb_memory_shared_pools.specs.SharedPoolCaching.{CachingParty, I
 ghost use Rattle.bb_handles.specs.Answers.{figure_of, no_figure};
 ghost use Rattle.bb_handles.specs.declared.code.TheConstants.{OK as ok, UNINITIALIZED as uninitialized};
 ghost use Rattle.bb_handles.specs.Calls.{Answers, AnswersFree, AnswersInfo, AnswersJoin, AnswersLeave, AnswersNumber};
-ghost use Rattle.bb_handles.specs.Calls.{AnswersPlace, AnswersPoolMake, AnswersRequest, AnswersReturn, AnswersTake};
-ghost use Rattle.bb_handles.specs.Calls.{AnswersWhether, HasRoom, IfBoth, IsThere, MayBeShared, count_unjoined};
+ghost use Rattle.bb_handles.specs.Calls.{AnswersPlace, AnswersPoolMake, AnswersRequest, AnswersReturn, AnswersReturns};
+ghost use Rattle.bb_handles.specs.Calls.{AnswersTake, AnswersTakings, AnswersWhether, HasRoom, IfBoth, IsThere, MayBeShared};
+ghost use Rattle.bb_handles.specs.Calls.{count_unjoined};
 ghost use Rattle.bb_handles.specs.OneOwner.{pool_info};
 ghost use Rattle.bb_memory_c.specs.SharedPools.{AreFreshOver, ArePlaces, AreUnjoined, CountsOut, GivesAllBack, GivesBack};
 ghost use Rattle.bb_memory_c.specs.SharedPools.{GivesChunk, HoldsAt, HoldsPlace, IsAt, IsIdleAt, IsJoinedAt, JoinsAt, Knows};
@@ -277,6 +278,7 @@ impl Keeps for JoinedPool {
         self.held_at(place).is_some()
     }
 
+    #[inline(always)]
     fn give_back(&mut self, place: usize) -> bool {
         match self.numbered(place) {
             Some(number) => self.give_back_if_out(number),
@@ -538,6 +540,28 @@ pub extern "C" fn bb_pool_party_deallocate(handle: &mut PoolPartyHandle, place: 
         (λ party. HoldsPlace party place) (λ party. GivesBack party place) }
 {
     call::give_back(handle, place)
+}
+
+/// Takes whole buckets, at most as many as there are slots, and writes their places into the first of these. Returns how many: fewer
+/// where the next taking was refused.
+#[unsafe(no_mangle)]
+pub extern "C" fn bb_pool_party_take_many(handle: &mut PoolPartyHandle, slots: &mut [usize]) -> Figure
+    ensures { AnswersTakings handle.old.value handle.new.value slots.old slots.new result
+        (λ joined. GivesChunk joined (geometry_of joined).bucket) }
+{
+    call::take_many(handle, slots)
+}
+
+/// Gives back the buckets at these places, in their order, up to the first place of no bucket that this party holds. Returns how
+/// many.
+#[unsafe(no_mangle)]
+pub extern "C" fn bb_pool_party_deallocate_many(
+    handle: &mut PoolPartyHandle,
+    places: &[usize],
+) -> Figure
+    ensures { AnswersReturns handle.old.value handle.new.value places.now result HoldsPlace GivesBack }
+{
+    call::give_back_many(handle, places)
 }
 
 /// Tells whether this is the place of a bucket that this party holds: 1 or 0.

@@ -1,0 +1,10 @@
+use Rattle.std.proofs.Common.{◌≡◌, take, drop}
+use Rattle.bb_handles.specs.Calls.{TakesEach}
+use Rattle.bb_handles.proofs.call.take_each.Given as goal
+
+abbrev pub invariant-loop-slot : goal.invariant-loop-slot
+invariant-loop-slot g l = record {
+  counted : l.count ≡ l.slot-index;
+  taken : TakesEach g.M.Bucketed.may_take l.initial.made (take l.slot-index l.slots) l.made;
+  others : drop l.slot-index l.slots ≡ drop l.slot-index l.initial.slots;
+}
