@@ -173,6 +173,13 @@ CALLS_OF(dpdk)
 CALLS_OF(party)
 CALLS_OF(whole)
 
+// The burst of a party by calls of many.
+static size_t many_burst(void) {
+    size_t taken[BURST];
+    return bb_pool_party_take_many(party, taken, BURST).number == BURST &&
+           bb_pool_party_deallocate_many(party, taken, BURST).number == BURST;
+}
+
 // The ring of rtrb, which shared_bench has: each end owns a position, which it stores in one sequentially consistent step, and
 // keeps a copy of the other's, which it loads anew where the copy says that the ring is full or empty. The positions are 128
 // bytes apart.
@@ -253,6 +260,7 @@ static const kind kinds[] = {
     {"C take", {CALLS(whole), NULL, NULL}, NULL, 0},
     {"C caching", {CALLS(party), ENDS(attached)}, NULL, BURST},
     {"C caching take", {CALLS(whole), NULL, NULL}, NULL, BURST},
+    {"C caching many", {NULL, many_burst, NULL, NULL, NULL}, NULL, BURST},
     {"ring alone", {NULL, NULL, NULL, ENDS(none)}, NULL, 0},
 };
 static const struct {

@@ -128,10 +128,9 @@ static inline const char *bb_text(uint32_t code) {
     case BB_NOT_A_BUCKET: return "no bucket has the number or begins there"; case BB_UNINITIALIZED: return "the handle is empty";
     case BB_LAYOUT_MISMATCH: return "the chunk cannot have the old layout"; case BB_NO_PARTY: return "no party is left to join";
     case BB_NO_READER: return "it waits for no reader"; case BB_MALLOC_REFUSED: return "malloc refused";
-    case BB_MORE_THAN_RESERVED: return "the new size is greater than what is reserved";
     case BB_NO_BUCKET: return "the region has no room for the buckets"; case BB_PARTIES_JOINED: return "not each party has left";
     case BB_OTHER_POOL: return "it is of another pool or bump"; case BB_ONE_PARTY: return "the pool has no other party";
-    default: return "not a code of bb_memory";
+    case BB_MORE_THAN_RESERVED: return "the new size is greater than what is reserved"; default: return "not a code of bb_memory";
     }
 }
 
@@ -189,8 +188,7 @@ uint32_t bb_one_chunk_destroy(bb_one_chunk *);
 // A chunk of at least `size` bytes, up to the region's end. BB_OUT_OF_MEMORY where one is out, where none of the region is
 // left behind the first multiple of `align`, or less than `size` bytes are.
 BB_MUST_USE bb_answer bb_one_chunk_allocate(bb_one_chunk *, size_t size, size_t align);
-// Gives back the chunk at this place; BB_NOT_HELD where none that is out begins there.
-uint32_t bb_one_chunk_deallocate(bb_one_chunk *, bb_address place);
+uint32_t bb_one_chunk_deallocate(bb_one_chunk *, bb_address place);      // BB_NOT_HELD where no chunk that is out begins here
 // A resize names the chunk that is out by its place, which it keeps, its old layout and its new one. The causes, in this order:
 // BB_UNINITIALIZED; BB_INVALID_LAYOUT, of either; BB_NOT_HELD; BB_LAYOUT_MISMATCH; then the function's own. The old size is the
 // host's word: it is compared with the new one, and of a shrink with what is reserved, which is all of the region from the place
@@ -226,10 +224,8 @@ uint32_t bb_pool_destroy(bb_pool *);
 BB_MUST_USE bb_answer bb_pool_allocate(bb_pool *, size_t size, size_t align);
 // A whole bucket, as by a request of a bucket's own size and alignment. BB_OUT_OF_MEMORY where every bucket is held.
 BB_MUST_USE bb_answer bb_pool_take(bb_pool *);
-// Gives back the bucket at this place; BB_NOT_HELD where it isn't that of a held bucket.
-uint32_t bb_pool_deallocate(bb_pool *, bb_address place);
-// 1 where this is the place of a held bucket, else 0.
-bb_figure bb_pool_holds(bb_pool *, bb_address place);
+uint32_t bb_pool_deallocate(bb_pool *, bb_address place);                // BB_NOT_HELD where no held bucket begins here
+bb_figure bb_pool_holds(bb_pool *, bb_address place);                    // 1 where a held bucket begins here, else 0
 // The start is that of bucket 0: the region's start rounded up to the bucket's alignment. The size is the region's as it was
 // passed. `greatest_held` is the greatest number of buckets that were held at one time so far.
 struct bb_pool_info { size_t start_address, size, bucket_size, max_alignment, number_of_buckets, held_buckets, greatest_held; };
@@ -293,6 +289,10 @@ BB_MUST_USE bb_answer bb_pool_party_allocate(bb_pool_party *, size_t size, size_
 BB_MUST_USE bb_answer bb_pool_party_take(bb_pool_party *);               // a whole bucket, as above
 // As of a pool, of the buckets that this party holds and doesn't cache. `greatest_held` is the greatest number that `info` found.
 uint32_t bb_pool_party_deallocate(bb_pool_party *, bb_address place);
+// As that many calls, one after another: `count` buckets are taken, or as many as there are, and their places are in the first
+// slots; the buckets at these places are given back, up to the first that is BB_NOT_HELD. The number says how many.
+BB_MUST_USE bb_figure bb_pool_party_take_many(bb_pool_party *, bb_place *slots, size_t count);
+bb_figure bb_pool_party_deallocate_many(bb_pool_party *, const bb_place *places, size_t count);
 bb_figure bb_pool_party_holds(bb_pool_party *, bb_address place);
 uint32_t bb_pool_party_info(bb_pool_party *, struct bb_pool_info *);
 bb_figure bb_pool_party_place_at(const bb_pool_party *, uint32_t number);

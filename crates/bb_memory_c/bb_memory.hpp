@@ -233,6 +233,18 @@ inline error deallocate(bb_pool_party *to, const void *place) {
     return static_cast<error>(bb_pool_party_deallocate(to, place));
 }
 
+// As that many calls do: takes whole buckets, whose places are in the first slots then, and gives back the buckets at these
+// places up to the first that is refused. Each returns how many.
+inline std::size_t take_many(bb_pool_party *from, void **slots, std::size_t count) {
+    std::size_t taken = bb_pool_party_take_many(from, slots, count).number;
+    for (std::size_t at = 0; at < taken; at++) tell_taking(slots[at]);
+    return taken;
+}
+inline std::size_t deallocate_many(bb_pool_party *to, void *const *places, std::size_t count) {
+    for (std::size_t at = 0; at < count; at++) tell_return(places[at]);
+    return bb_pool_party_deallocate_many(to, places, count).number;
+}
+
 // Destroys a T, and gives its bucket back. With `void` it gives back alone.
 template <class T, class Handle>
 struct give_back {

@@ -143,8 +143,8 @@ void lists_in_threads() {
     expect(pool.info()->pool.held_buckets == buckets && pool.info()->refused == 0, "any thread sees it");
 }
 
-// Two threads in turn make a value in the one bucket, and give it back; at last one leaves with it. The turns order no memory, so
-// the checker of threads would see a race, were it told of no taking or no return.
+// Two threads in turn make a value in the one bucket, and give it back, by calls of one or of many; at last one leaves with it.
+// The turns order no memory, so the checker of threads would see a race, were it told of no taking or no return.
 void values_in_threads() {
     constexpr int turns = 1000;
     bb::shared_pool pool;
@@ -156,13 +156,19 @@ void values_in_threads() {
         for (int at = own; at < turns; at += 2) {
             while (turn.load(std::memory_order_relaxed) != at)
                 std::this_thread::yield();
-            auto value = bb::make<int>(party.get(), at);
-            expect(value && *value == at, "the bucket is there");
-            if (at == turns - 2) {
-                expect(value.release() != nullptr, "a value isn't given back");
-                party.leave();
+            if (at % 4 < 2) {
+                void *place = nullptr;
+                expect(bb::take_many(party.get(), &place, 1) == 1, "one bucket of many is there");
+                ::new (place) int(at);
+                expect(bb::deallocate_many(party.get(), &place, 1) == 1, "one of many goes back");
+            } else {
+                auto value = bb::make<int>(party.get(), at);
+                expect(value && *value == at, "the bucket is there");
+                if (at == turns - 2) {
+                    expect(value.release() != nullptr, "a value isn't given back");
+                    party.leave();
+                }
             }
-            value.reset();
             turn.store(at + 1, std::memory_order_relaxed);
         }
     };

@@ -190,6 +190,8 @@ functions! {
     bb_pool_party_allocate(usize, usize) -> Answer;
     bb_pool_party_take() -> Answer;
     bb_pool_party_deallocate(*const c_void) -> u32;
+    bb_pool_party_take_many(*mut c_void, usize) -> Figure;
+    bb_pool_party_deallocate_many(*const c_void, usize) -> Figure;
     bb_pool_party_holds(*const c_void) -> Figure;
     bb_pool_party_info(*mut PoolInfo) -> u32;
     bb_pool_party_place_at(u32) -> Figure;

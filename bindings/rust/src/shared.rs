@@ -10,6 +10,7 @@ use core::alloc::Layout;
 use core::fmt;
 use core::mem::MaybeUninit;
 use core::ptr::NonNull;
+use core::slice;
 use std::sync::{Arc, Mutex};
 
 static BUMP_PARTIES: Joining = Joining {
@@ -312,6 +313,53 @@ impl<'region> PoolParty<'region> {
     pub fn flush(&self) {
         // SAFETY: as above.
         expect_ok(unsafe { ffi::bb_pool_party_flush(self.owned.handle()) });
+    }
+
+    /// Takes whole buckets, as that many calls of [`take`](Pool::take) do, until each slot has the place of one or a taking is
+    /// refused. Returns the slots that have one.
+    ///
+    /// ```
+    /// use bb_memory::{Pool, SharedPoolAllocator};
+    /// use core::{alloc::Layout, mem::MaybeUninit};
+    ///
+    /// let pool = SharedPoolAllocator::with_buckets(Layout::new::<[u8; 64]>(), 16, 1)?;
+    /// let party = pool.join()?;
+    /// party.cache(8)?;
+    /// let mut slots = [MaybeUninit::uninit(); 8];
+    /// let places = party.take_many(&mut slots);
+    /// assert_eq!((places.len(), party.held_buckets()), (8, 8));
+    /// // Their bytes aren't used any more.
+    /// assert_eq!(unsafe { party.try_deallocate_many(places) }, 8);
+    /// # Ok::<(), Box<dyn std::error::Error>>(())
+    /// ```
+    pub fn take_many<'slots>(
+        &self,
+        slots: &'slots mut [MaybeUninit<NonNull<u8>>],
+    ) -> &'slots mut [NonNull<u8>] {
+        let (first, len) = (slots.as_mut_ptr(), slots.len());
+        // SAFETY: the function is of this kind, no other call has the handle, and it writes places into the slots.
+        let told = unsafe { ffi::bb_pool_party_take_many(self.owned.handle(), first.cast(), len) };
+        let taken = number_if(ffi::OK, told).unwrap_or(0);
+        for slot in &mut slots[..taken] {
+            // SAFETY: a place was written here, as a number.
+            let place = unsafe { slot.as_ptr().cast::<usize>().read() };
+            slot.write(self.owned.at(place));
+        }
+        // SAFETY: these slots have just been written.
+        unsafe { slice::from_raw_parts_mut(first.cast(), taken) }
+    }
+
+    /// Gives back the buckets at these places, as that many calls of [`try_deallocate`](Pool::try_deallocate) do, up to the first
+    /// that is refused. Returns how many.
+    ///
+    /// # Safety
+    ///
+    /// Nothing reads or writes their bytes from now on.
+    pub unsafe fn try_deallocate_many(&self, places: &[NonNull<u8>]) -> usize {
+        let (first, len) = (places.as_ptr().cast(), places.len());
+        // SAFETY: the function is of this kind, no other call has the handle, and there are that many places.
+        let told = unsafe { ffi::bb_pool_party_deallocate_many(self.owned.handle(), first, len) };
+        number_if(ffi::OK, told).unwrap_or(0)
     }
 
     /// Detaches the bucket at this place, which this party holds, with a chunk of `len` bytes. It is then in `detached`, which

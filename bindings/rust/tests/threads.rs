@@ -5,6 +5,7 @@ use bb_memory::{
     SharedPoolAllocator,
 };
 use std::alloc::Layout;
+use std::mem::MaybeUninit;
 use std::ptr::NonNull;
 use std::sync::mpsc;
 use std::thread;
@@ -306,6 +307,30 @@ fn nothing_is_made_for_no_party() {
     refuses(SharedPoolAllocator::over(bucket(), &mut region, u32::MAX), InitError::InvalidArgument);
     refuses(SharedPoolAllocator::with_buckets(bucket(), 0, 1), InitError::InvalidArgument);
     refuses(SharedBumpAllocator::with_bytes(0, 1), InitError::InvalidArgument);
+}
+
+#[test]
+fn a_party_takes_and_returns_many_as_one_by_one() {
+    let pool = SharedPoolAllocator::with_buckets(bucket(), 4, 2).unwrap();
+    let (one, other) = (pool.join().unwrap(), pool.join().unwrap());
+    one.cache(2).unwrap();
+    let mut slots = [MaybeUninit::uninit(); 3];
+    let places = one.take_many(&mut slots);
+    assert!(places.iter().all(|place| one.holds(*place)) && one.held_buckets() == 3);
+    // One bucket is left.
+    let mut more = [MaybeUninit::uninit(); 2];
+    assert_eq!(other.take_many(&mut more).len(), 1);
+    assert_eq!(other.take_many(&mut more).len(), 0);
+    // SAFETY: the chunks aren't used any more. The bucket of the third place is back, so no more are returned.
+    unsafe {
+        assert_eq!(other.try_deallocate_many(places), 0);
+        let again = [places[1], places[0], places[1], places[2]];
+        assert_eq!(one.try_deallocate_many(&again), 2);
+    }
+    assert!(one.holds(places[2]) && one.held_buckets() == 1);
+    // Both are cached, and the last one comes first.
+    assert_eq!(one.take_many(&mut more), [places[0], places[1]]);
+    assert!(one.take_many(&mut []).is_empty());
 }
 
 #[test]

@@ -542,8 +542,8 @@ pub extern "C" fn bb_pool_party_deallocate(handle: &mut PoolPartyHandle, place: 
     call::give_back(handle, place)
 }
 
-/// Takes whole buckets, at most as many as there are slots, and writes their places into the first of these. Returns how many: fewer
-/// where the next taking was refused.
+/// Takes whole buckets, as that many calls of `bb_pool_party_take` do, until each slot has one's place or a taking is refused.
+/// Returns how many: their places are in the first slots.
 #[unsafe(no_mangle)]
 pub extern "C" fn bb_pool_party_take_many(handle: &mut PoolPartyHandle, slots: &mut [usize]) -> Figure
     ensures { AnswersTakings handle.old.value handle.new.value slots.old slots.new result
@@ -552,8 +552,8 @@ pub extern "C" fn bb_pool_party_take_many(handle: &mut PoolPartyHandle, slots: &
     call::take_many(handle, slots)
 }
 
-/// Gives back the buckets at these places, in their order, up to the first place of no bucket that this party holds. Returns how
-/// many.
+/// Gives back the buckets at these places, as that many calls of `bb_pool_party_deallocate` do, up to the first that is refused.
+/// Returns how many.
 #[unsafe(no_mangle)]
 pub extern "C" fn bb_pool_party_deallocate_many(
     handle: &mut PoolPartyHandle,

@@ -604,6 +604,35 @@ static void run_caching(void) {
     EXPECT(bb_detached_destroy(&detached) == BB_OK);
 }
 
+// A party takes many buckets and gives many back as one by one: where none is left fewer, and up to a place that it doesn't hold.
+// Slots behind the taken ones stay as they are.
+static void run_many(void) {
+    bb_shared_pool pool = BB_EMPTY;
+    bb_pool_party one = BB_EMPTY, other = BB_EMPTY;
+    size_t slots[4] = {1, 2, 3, 4}, more[3] = {5, 6, 7};
+    EXPECT(has_none(bb_pool_party_take_many(&one, slots, 4), BB_UNINITIALIZED) && slots[0] == 1);
+    EXPECT(has_none(bb_pool_party_deallocate_many(&one, slots, 4), BB_UNINITIALIZED));
+    EXPECT(bb_shared_pool_init(&pool, 64, 8, 4096, 64 * 5, 2) == BB_OK && bb_shared_pool_join(&pool, &one) == BB_OK);
+    EXPECT(bb_shared_pool_join(&pool, &other) == BB_OK && bb_pool_party_cache(&one, 2) == BB_OK);
+    requests = 0;
+    EXPECT(is(bb_pool_party_take_many(&one, slots, 3), 3) && slots[3] == 4 && same(of_pool_party(&one).held_buckets, 3));
+    for (size_t at = 0; at < 3; at++) EXPECT(is(bb_pool_party_holds(&one, slots[at]), 1));
+    EXPECT(is(bb_pool_party_take_many(&other, more, 3), 2) && more[2] == 7 && same(of_pool_party(&other).held_buckets, 2));
+    EXPECT(is(bb_pool_party_take_many(&one, slots + 3, 1), 0) && slots[3] == 4);
+    EXPECT(is(bb_pool_party_take_many(&one, NULL, 0), 0) && is(bb_pool_party_deallocate_many(&one, NULL, 0), 0));
+    // Neither the other's bucket nor one that is back is held.
+    EXPECT(is(bb_pool_party_deallocate_many(&one, more, 2), 0) && same(of_pool_party(&other).held_buckets, 2));
+    const size_t back[4] = {slots[2], slots[0], slots[2], slots[1]};
+    EXPECT(is(bb_pool_party_deallocate_many(&one, back, 4), 2) && is(bb_pool_party_holds(&one, slots[1]), 1));
+    // Both are cached, and the one that came back last is first.
+    EXPECT(is(bb_pool_party_take_many(&one, more, 3), 2) && more[0] == slots[0] && more[1] == slots[2] && more[2] == 7);
+    // The third one goes to the pool.
+    EXPECT(is(bb_pool_party_deallocate_many(&one, slots, 3), 3) && is(bb_pool_party_take_many(&other, more, 3), 1));
+    EXPECT(more[0] == slots[2] && requests == 0);
+    EXPECT(bb_shared_pool_destroy(&pool) == BB_OK && bb_pool_party_destroy(&one) == BB_OK);
+    EXPECT(bb_pool_party_destroy(&other) == BB_OK);
+}
+
 // A party of another pool or bump, and a bucket of another pool or one that is read, are refused by codes, and stay as they are.
 static void run_others(void) {
     bb_shared_pool pool = BB_EMPTY, far = BB_EMPTY;
@@ -841,6 +870,7 @@ int main(void) {
     run_reset();
     run_parties_come_and_go();
     run_caching();
+    run_many();
     run_others();
     run_nested();
     run_detached();

@@ -11,7 +11,8 @@ loop-slot-preserved g c =
     let index = c.loop-slot.slot-index in
     let before = c.loop-slot.invariant in
     let within : index < length slots = omega (arith, c.loop-slot-test.true) in
-    let taken = take_more_set slots index c.place.result within ∙ ap (λ (p : ℕ). take index slots ++ p ∷ []) c.place.ensures.value in
+    let taken = take_more_set slots index c.place.result within
+    ∙ ap (λ (place : ℕ). take index slots ++ place ∷ []) c.place.ensures.value in
     record {
       counted = ap (λ (n : ℕ). n + 1) before.counted;
       taken = subst (λ (ps : List ℕ). TakesEach g.M.Bucketed.may_take c.args.made.now ps c.take.new.self) (sym taken)
