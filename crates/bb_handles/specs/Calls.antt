@@ -167,13 +167,13 @@ AnswersTakings old new before slots told may =
     Answers old new ((told ≡ no_figure uninitialized) × (slots ≡ before))
     (λ made after. (told ≡ figure_of told.number) × TakesMany made after before slots told.number may)
 
--- what is held at each of these places is given back
+-- a chunk is held at each of these places, and is given back
 abbrev pub FreesEach : {X : Type 0} → (X → ℕ → Type 0) → (X → ℕ → X → Type 0) → X → List ℕ → X → Type 0
 FreesEach holds frees made [] after = after ≡ made
 FreesEach {X = X} holds frees made (place ∷ places) after =
     holds made place × ((next : X) × frees made place next × FreesEach holds frees next places after)
 
--- What is held at the first of these places is given back, and nothing is held at the next one.
+-- The chunks at the first of these places are given back, and none is held at the next one.
 pub record FreesMany {X : Type 0} (made after : X) (places : List ℕ) (count : ℕ) (holds : X → ℕ → Type 0)
     (frees : X → ℕ → X → Type 0) : Type 0 where
   pub freed : FreesEach holds frees made (take count places) after
