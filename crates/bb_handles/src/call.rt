@@ -141,15 +141,15 @@ pub fn give_back<M: Keeps, H: Handle<M>>(handle: &mut H, place: usize) -> u32
 fn take_each<M: Bucketed>(made: &mut M, slots: &mut [usize]) -> usize
     ensures { TakesMany made.old made.new slots.old slots.new result M.may_take }
 {
-    let mut count = 0;
+    let mut taken = 0;
     for slot in slots.iter_mut() {
         let Ok(chunk) = made.take() else {
-            return count;
+            return taken;
         };
         *slot = chunk.place();
-        count += 1;
+        taken += 1;
     }
-    count
+    taken
 }
 
 /// Takes whole buckets, at most as many as there are slots, and writes their places into the first of these.
@@ -166,14 +166,14 @@ pub fn take_many<M: Bucketed, H: Handle<M>>(handle: &mut H, slots: &mut [usize])
 fn give_back_each<M: Keeps>(made: &mut M, places: &[usize]) -> usize
     ensures { FreesMany made.old made.new places.now result M.holds M.frees }
 {
-    let mut count = 0;
+    let mut returned = 0;
     for place in places {
         if !made.give_back(*place) {
-            return count;
+            return returned;
         }
-        count += 1;
+        returned += 1;
     }
-    count
+    returned
 }
 
 /// Gives back the chunks at these places, up to the first place where none is held.

@@ -26,11 +26,11 @@ pub returns : goal.returns
 returns g c =
     let places = c.args.places.now in
     let counted = sym c.loop-place.invariant.counted in
-    let end : length places ≤ c.loop-place.count = omega (arith, counted, c.loop-place-test.false) in
+    let end : length places ≤ c.loop-place.returned = omega (arith, counted, c.loop-place-test.false) in
     record {
       freed = subst (λ (n : ℕ). FreesEach g.M.Keeps.holds g.M.Keeps.frees c.args.made.now (take n places) c.loop-place.made)
           counted c.loop-place.invariant.freed;
       at_most = omega (arith, counted, c.loop-place.auto.place-index-end);
       stopped = subst (λ at. IfSome at (λ place. ¬ g.M.Keeps.holds c.loop-place.made place))
-          (sym (slice_get_past places c.loop-place.count end)) (record {});
+          (sym (slice_get_past places c.loop-place.returned end)) (record {});
     }

@@ -4,6 +4,6 @@ use Rattle.bb_handles.proofs.call.give_back_each.Given as goal
 
 abbrev pub invariant-loop-place : goal.invariant-loop-place
 invariant-loop-place g l = record {
-  counted : l.count ≡ l.place-index;
+  counted : l.returned ≡ l.place-index;
   freed : FreesEach g.M.Keeps.holds g.M.Keeps.frees l.initial.made (take l.place-index l.places) l.made;
 }

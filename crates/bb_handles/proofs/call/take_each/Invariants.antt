@@ -4,7 +4,7 @@ use Rattle.bb_handles.proofs.call.take_each.Given as goal
 
 abbrev pub invariant-loop-slot : goal.invariant-loop-slot
 invariant-loop-slot g l = record {
-  counted : l.count ≡ l.slot-index;
+  counted : l.taken ≡ l.slot-index;
   taken : TakesEach g.M.Bucketed.may_take l.initial.made (take l.slot-index l.slots) l.made;
   others : drop l.slot-index l.slots ≡ drop l.slot-index l.initial.slots;
 }
