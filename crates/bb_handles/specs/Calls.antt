@@ -143,19 +143,22 @@ abbrev pub AnswersReturn : {X : Type 0} → Option X → Option X → ℕ → (X
 AnswersReturn old new code holds frees =
     Answers old new (code ≡ uninitialized) (λ made after. TellsReturn (holds made) (frees made after) (after ≡ made) code)
 
--- MANY AT ONCE: as that many calls, one after another
+-- MANY AT ONCE: as that many calls
 
--- whole buckets are taken, which begin at these places
-abbrev pub TakesEach : {X : Type 0} → (X → Result Chunk AllocationError → X → Type 0) → X → List ℕ → X → Type 0
-TakesEach may made [] after = after ≡ made
-TakesEach {X = X} may made (place ∷ places) after =
-    (chunk : Chunk) × (next : X) × (place ≡ chunk.place) × may made (Ok chunk) next × TakesEach may next places after
+-- a step is made at each of these places, one after another
+abbrev pub AtEach : {X : Type 0} → (X → ℕ → X → Type 0) → X → List ℕ → X → Type 0
+AtEach step made [] after = after ≡ made
+AtEach {X = X} step made (place ∷ places) after = (next : X) × step made place next × AtEach step next places after
+
+-- a whole bucket is taken, which begins at this place
+abbrev pub TakesAt : {X : Type 0} → (X → Result Chunk AllocationError → X → Type 0) → X → ℕ → X → Type 0
+TakesAt may made place after = (chunk : Chunk) × (place ≡ chunk.place) × may made (Ok chunk) after
 
 -- Whole buckets are taken, and their places are in the first slots. Where slots are left, the next taking was refused.
 pub record TakesMany {X : Type 0} (made after : X) (before slots : List ℕ) (count : ℕ)
     (may : X → Result Chunk AllocationError → X → Type 0) : Type 0 where
   pub last : X
-  pub taken : TakesEach may made (take count slots) last
+  pub taken : AtEach (TakesAt may) made (take count slots) last
   pub at_most : count ≤ length before
   pub others : drop count slots ≡ drop count before
   pub all : count ≡ length before → after ≡ last
@@ -163,20 +166,17 @@ pub record TakesMany {X : Type 0} (made after : X) (before slots : List ℕ) (co
 
 abbrev pub AnswersTakings : {X : Type 0} → Option X → Option X → List ℕ → List ℕ → Figure
     → (X → Result Chunk AllocationError → X → Type 0) → Type 0
-AnswersTakings old new before slots told may =
-    Answers old new ((told ≡ no_figure uninitialized) × (slots ≡ before))
+AnswersTakings old new before slots told may = Answers old new ((told ≡ no_figure uninitialized) × (slots ≡ before))
     (λ made after. (told ≡ figure_of told.number) × TakesMany made after before slots told.number may)
 
--- a chunk is held at each of these places, and is given back
-abbrev pub FreesEach : {X : Type 0} → (X → ℕ → Type 0) → (X → ℕ → X → Type 0) → X → List ℕ → X → Type 0
-FreesEach holds frees made [] after = after ≡ made
-FreesEach {X = X} holds frees made (place ∷ places) after =
-    holds made place × ((next : X) × frees made place next × FreesEach holds frees next places after)
+-- the chunk that is held at this place is given back
+abbrev pub FreesAt : {X : Type 0} → (X → ℕ → Type 0) → (X → ℕ → X → Type 0) → X → ℕ → X → Type 0
+FreesAt holds frees made place after = holds made place × frees made place after
 
 -- The chunks at the first of these places are given back, and none is held at the next one.
 pub record FreesMany {X : Type 0} (made after : X) (places : List ℕ) (count : ℕ) (holds : X → ℕ → Type 0)
     (frees : X → ℕ → X → Type 0) : Type 0 where
-  pub freed : FreesEach holds frees made (take count places) after
+  pub freed : AtEach (FreesAt holds frees) made (take count places) after
   pub at_most : count ≤ length places
   pub stopped : IfSome (slice_get places count) (λ place. ¬ holds after place)
 

@@ -545,7 +545,10 @@ pub extern "C" fn bb_pool_party_deallocate(handle: &mut PoolPartyHandle, place: 
 /// Takes whole buckets, as that many calls of `bb_pool_party_take` do, until each slot has one's place or a taking is refused.
 /// Returns how many: their places are in the first slots.
 #[unsafe(no_mangle)]
-pub extern "C" fn bb_pool_party_take_many(handle: &mut PoolPartyHandle, slots: &mut [usize]) -> Figure
+pub extern "C" fn bb_pool_party_take_many(
+    handle: &mut PoolPartyHandle,
+    slots: &mut [usize],
+) -> Figure
     ensures { AnswersTakings handle.old.value handle.new.value slots.old slots.new result
         (λ joined. GivesChunk joined (geometry_of joined).bucket) }
 {

@@ -1,10 +1,10 @@
-use Rattle.std.proofs.Common.{◌≡◌, take, drop}
-use Rattle.bb_handles.specs.Calls.{TakesEach}
+use Rattle.std.proofs.Common.{◌≡◌, drop, take}
+use Rattle.bb_handles.specs.Calls.{AtEach, TakesAt}
 use Rattle.bb_handles.proofs.call.take_each.Given as goal
 
 abbrev pub invariant-loop-slot : goal.invariant-loop-slot
 invariant-loop-slot g l = record {
   counted : l.taken ≡ l.slot-index;
-  taken : TakesEach g.M.Bucketed.may_take l.initial.made (take l.slot-index l.slots) l.made;
+  made : AtEach (TakesAt g.M.Bucketed.may_take) l.initial.made (take l.slot-index l.slots) l.made;
   others : drop l.slot-index l.slots ≡ drop l.slot-index l.initial.slots;
 }
