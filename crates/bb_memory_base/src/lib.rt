@@ -1,12 +1,13 @@
 //! The ground of the allocators, passed on from the crates that have its parts, and what `==` says of all their types.
 //!
-//! - `allocator`, `layout`, `region`: of `bb_memory_traits`. `lists`: of `bb_memory_lists`.
+//! - `allocator`, `layout`, `region`: of `bb_memory_traits`, and runs of `bb_memory_runs`. `lists`: of `bb_memory_lists`.
 //! - `steps`: of `bb_memory_bump_machine` and `bb_memory_pool_machine`.
 //! - `equality`: what `==` says of the types of these crates.
 #![tactic(auto)]
 
 pub use bb_memory_lists::lists;
-pub use bb_memory_traits::{allocator, layout, region};
+pub use bb_memory_traits::{layout, region};
 
+pub mod allocator;
 pub mod equality;
 pub mod steps;

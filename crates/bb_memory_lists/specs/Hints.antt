@@ -1,7 +1,6 @@
 -- Lemmas of std by one name, for the attribute `using`, which takes no name with a dash.
 use Rattle.std.proofs.lemmas.List.{map-append, map-set, take-map, drop-map}
-use Rattle.std.proofs.lemmas.Grind.{common_steps}
-use Rattle.std.proofs.lemmas.Option.{gets, slice_get-map}
+use Rattle.std.proofs.lemmas.Option.{slice_get-map}
 use Rattle.std.proofs.Math.Seq.{map-set_same, set-append_seam}
 
 pub ruleset parts_of_lists = (
@@ -13,5 +12,3 @@ pub ruleset parts_of_lists = (
   slice_get-map,
   set-append_seam,
 )
-
-pub ruleset lists = (parts_of_lists, common_steps, gets)

@@ -5,8 +5,7 @@ use Rattle.std.proofs.Common.{slice_get, slice_set, remove, refl, sym, ◌∙◌
 use Rattle.std.specs.Option.{ForSome}
 use Rattle.std.proofs.lemmas.Bool.{cases_lt}
 use Rattle.bb_memory_traits.specs.Chunk.{Region, region_end, Chunk, chunk_end, IsInside, first_place}
-use Rattle.bb_memory_owned.specs.OneChunk.{Layout, AllocationError, AllocationGrowError, AllocationShrinkError, OneChunk}
-use Rattle.bb_memory_owned.specs.OneChunk.{HasByteAt, IsOneChunk, IsKept, StandsFor}
+use Rattle.bb_memory_owned.specs.OneChunk.{Layout, AllocationError, OneChunk, HasByteAt, IsOneChunk, IsKept, StandsFor}
 use Rattle.bb_memory_traits.proofs.OneChunkLists.{only_chunk}
 use Rattle.bb_memory_traits.specs.declared.allocator.AllocationError.TheVariants.{OutOfMemory}
 use Rattle.bb_memory_traits.specs.Object.{IsRun, Step, ResizableStep}
@@ -14,9 +13,7 @@ use Rattle.bb_memory_traits.specs.declared.allocator.Command.{Command}
 use Rattle.bb_memory_traits.specs.declared.allocator.Reply.{Reply}
 use Rattle.bb_memory_traits.proofs.LeastPlaces.{least_place-is, least_place-multiple}
 use Rattle.bb_memory_traits.proofs.LiveLists.{sound_from_order}
-use Rattle.bb_memory_traits.specs.OneChunkObject.{reserved_at, rest_from, MayAllocate, MayGrow, MayShrink, one_chunk_object}
-use Rattle.bb_memory_traits.specs.declared.allocator.AllocationGrowError.TheVariants as grow
-use Rattle.bb_memory_traits.specs.declared.allocator.AllocationShrinkError.TheVariants as shrink
+use Rattle.bb_memory_traits.specs.OneChunkObject.{rest_from, MayAllocate, one_chunk_object}
 use Rattle.bb_memory_owned.proofs.KeptRuns as kept_runs
 
 abbrev one_of : Region → Option ℕ → OneChunk
@@ -74,44 +71,6 @@ one_answer region live layout (Ok c) (Ok d) first second = ap Ok (first.2 ∙ sy
 one_answer region live layout (Ok c) (Err OutOfMemory) first second = absurd (gives_or_refuses region live layout c first second)
 one_answer region live layout (Err OutOfMemory) (Ok c) first second = absurd (gives_or_refuses region live layout c second first)
 one_answer region live layout one other first second = grind (arith, first, second)
-
--- there is an answer to each request to grow
-pub some_grow : (region : Region) (place : ℕ) (old new : Layout) →
-    (answer : Result Chunk AllocationGrowError) × MayGrow region place old new answer
-some_grow region place old new =
-    elim (cases_lt old.size new.size) [
-      | inr smaller ↦ (Err grow.GrowWouldShrink, smaller)
-      | inl longer ↦ elim (cases_lt old.align new.align) [
-        | inl coarser ↦ (Err grow.AlignmentFailure, (longer, coarser))
-        | inr aligned ↦ elim (cases_lt (reserved_at region place) new.size) [
-          | inl far ↦ (Err grow.OutOfMemory, (longer, aligned, far))
-          | inr near ↦ (Ok (rest_from region place), (longer, aligned, near, refl))
-        ]
-      ]
-    ]
-
--- there is no other answer to it
-pub one_grow : (region : Region) (place : ℕ) (old new : Layout) (one other : Result Chunk AllocationGrowError) →
-    MayGrow region place old new one → MayGrow region place old new other → one ≡ other
-one_grow region place old new (Ok c) (Ok d) first second = ap Ok (first.3 ∙ sym second.3)
-one_grow region place old new one other first second = grind (arith, first, second)
-
--- there is an answer to each request to shrink
-pub some_shrink : (place : ℕ) (old new : Layout) → (answer : Result Chunk AllocationShrinkError) × MayShrink place old new answer
-some_shrink place old new =
-    elim (cases_lt new.size old.size) [
-      | inr larger ↦ (Err shrink.ShrinkWouldGrow, larger)
-      | inl smaller ↦ elim (cases_lt old.align new.align) [
-        | inl coarser ↦ (Err shrink.AlignmentFailure, (smaller, coarser))
-        | inr aligned ↦ (Ok (record { place = place; len = new.size }), (smaller, aligned, refl))
-      ]
-    ]
-
--- there is no other answer to it
-pub one_shrink : (place : ℕ) (old new : Layout) (one other : Result Chunk AllocationShrinkError) →
-    MayShrink place old new one → MayShrink place old new other → one ≡ other
-one_shrink place old new (Ok c) (Ok d) first second = ap Ok (first.2 ∙ sym second.2)
-one_shrink place old new one other first second = grind (arith, first, second)
 
 -- a chunk that is given begins at a multiple of the alignment
 pub answer-aligned : (region : Region) (live : List Chunk) (layout : Layout) (chunk : Chunk) →

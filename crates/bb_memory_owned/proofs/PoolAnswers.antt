@@ -1,18 +1,13 @@
 -- Answers of the pool object.
-use Rattle.std.proofs.Common.{◌≡◌, ◌≢◌, ℕ, zero, suc, ◌<◌, ◌%◌, List, Result, Ok, Err, refl, sym, ◌∙◌, ap, subst, ◌⊎◌, inl, inr}
+use Rattle.std.proofs.Common.{◌≡◌, ◌≢◌, ℕ, zero, suc, ◌<◌, ◌%◌, List, Result, Ok, Err, refl, ◌∙◌, ap, subst, ◌⊎◌, inl, inr}
 use Rattle.std.proofs.Common.{arith}
 use Rattle.std.specs.Prelude.{All}
 use Rattle.std.proofs.lemmas.Bool.{cases_lt}
 use Rattle.bb_memory_traits.specs.Chunk.{Chunk, IsInside}
-use Rattle.bb_memory_traits.specs.PoolObject.{PoolGeometry, bucket_place, IsPoolGeometry, IsHeld, IsWithin, MayAllocate, MayGrow}
-use Rattle.bb_memory_traits.specs.PoolObject.{MayShrink, chunk_in}
+use Rattle.bb_memory_traits.specs.PoolObject.{PoolGeometry, bucket_place, IsPoolGeometry, IsHeld, IsWithin, MayAllocate, chunk_in}
 use Rattle.bb_memory_traits.specs.declared.layout.Layout.{Layout}
 use Rattle.bb_memory_traits.specs.declared.allocator.AllocationError.{AllocationError}
 use Rattle.bb_memory_traits.specs.declared.allocator.AllocationError.TheVariants.{SizeTooLarge, AlignmentFailure, OutOfMemory}
-use Rattle.bb_memory_traits.specs.declared.allocator.AllocationGrowError.{AllocationGrowError}
-use Rattle.bb_memory_traits.specs.declared.allocator.AllocationGrowError.TheVariants as grow
-use Rattle.bb_memory_traits.specs.declared.allocator.AllocationShrinkError.{AllocationShrinkError}
-use Rattle.bb_memory_traits.specs.declared.allocator.AllocationShrinkError.TheVariants as shrink
 use Rattle.bb_memory_traits.proofs.PoolGeometries.{bucket_place-aligned}
 use Rattle.bb_memory_traits.proofs.PoolLists.{count_at, at_from_count, count_from_at, inside_from_bucket}
 use Rattle.bb_memory_geometry.proofs.Measures.{bucket_place-multiple}
@@ -120,47 +115,3 @@ answer-inside geometry live layout chunk is (i, may, given) =
       placed = ap (λ (c : Chunk). c.place) given;
       short = omega (arith, ap (λ (c : Chunk). c.len) given);
     })
-
--- RESIZES
-
--- there is an answer to each request to grow
-pub some_grow : (bucket : Layout) (place : ℕ) (old new : Layout) →
-    (answer : Result Chunk AllocationGrowError) × MayGrow bucket place old new answer
-some_grow bucket place old new =
-    elim (cases_lt old.size new.size) [
-      | inr smaller ↦ (Err grow.GrowWouldShrink, smaller)
-      | inl longer ↦ elim (cases_lt bucket.align new.align) [
-        | inl coarse ↦ (Err grow.AlignmentFailure, (longer, coarse))
-        | inr fine ↦ elim (cases_lt bucket.size new.size) [
-          | inl large ↦ (Err grow.OutOfMemory, (longer, fine, large))
-          | inr small ↦ (
-            Ok (record { place = place; len = new.size }),
-            (longer, record { size = small; align = fine }, refl),
-          )
-        ]
-      ]
-    ]
-
--- there is no other answer to it
-pub one_grow : (bucket : Layout) (place : ℕ) (old new : Layout) (one other : Result Chunk AllocationGrowError) →
-    MayGrow bucket place old new one → MayGrow bucket place old new other → one ≡ other
-one_grow bucket place old new (Ok c) (Ok d) first second = ap Ok (first.2 ∙ sym second.2)
-one_grow bucket place old new one other first second = grind (arith, first, second)
-
--- there is an answer to each request to shrink
-pub some_shrink : (bucket : Layout) (place : ℕ) (old new : Layout) →
-    (answer : Result Chunk AllocationShrinkError) × MayShrink bucket place old new answer
-some_shrink bucket place old new =
-    elim (cases_lt new.size old.size) [
-      | inr larger ↦ (Err shrink.ShrinkWouldGrow, larger)
-      | inl smaller ↦ elim (cases_lt bucket.align new.align) [
-        | inl coarse ↦ (Err shrink.AlignmentFailure, (smaller, coarse))
-        | inr fine ↦ (Ok (record { place = place; len = new.size }), (smaller, fine, refl))
-      ]
-    ]
-
--- there is no other answer to it
-pub one_shrink : (bucket : Layout) (place : ℕ) (old new : Layout) (one other : Result Chunk AllocationShrinkError) →
-    MayShrink bucket place old new one → MayShrink bucket place old new other → one ≡ other
-one_shrink bucket place old new (Ok c) (Ok d) first second = ap Ok (first.2 ∙ sym second.2)
-one_shrink bucket place old new one other first second = grind (arith, first, second)

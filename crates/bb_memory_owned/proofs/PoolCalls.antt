@@ -229,8 +229,7 @@ FitsBucket bucket place size answer = IfOk answer (λ resized. resized.place ≡
 
 pub MayGrow-fits : (bucket : Layout) (place : ℕ) (old new : Layout) (answer : Result Chunk AllocationGrowError) →
     MayGrow bucket place old new answer → FitsBucket bucket place new.size answer
-MayGrow-fits bucket place old new (Ok grown) (longer, within, given) =
-    let small = within.size in
+MayGrow-fits bucket place old new (Ok grown) (longer, fine, small, given) =
     let len = ap (λ (c : Chunk). c.len) given in (ap (λ (c : Chunk). c.place) given, omega arith, omega arith)
 MayGrow-fits bucket place old new (Err error) may = (tt, tt, tt)
 

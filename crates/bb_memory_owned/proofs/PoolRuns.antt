@@ -126,8 +126,8 @@ kept_lists geometry = record {
       ];
   left = released_list geometry;
   grown = λ live position chunk resized from to list may told place.
-      let small = told.1.size in
-      resized_list geometry live position chunk resized list may.at place (omega (arith, ap (λ (c : Chunk). c.len) told.2));
+      let small = told.2 in
+      resized_list geometry live position chunk resized list may.at place (omega (arith, ap (λ (c : Chunk). c.len) told.3));
   shrunk = λ live position chunk resized from to list may told place.
       resized_list geometry live position chunk resized list may.grown.at place
       (let reserved : from.size ≤ geometry.bucket.size = may.within in

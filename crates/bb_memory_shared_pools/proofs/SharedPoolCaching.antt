@@ -14,7 +14,7 @@ use Rattle.bb_memory_shared_pools.specs.SharedPool.{return_entry, taken_bucket, 
 use Rattle.bb_memory_shared_pools.specs.SharedPoolCaching.{AreCached, CachingParty, IsOut, TakesCaching, returns_of}
 use Rattle.bb_memory_shared_pools.specs.SharedPoolNextFit.{MayTakeFrom, hint_of}
 use Rattle.bb_memory_shared_pools.proofs.SharedPoolLaws.{held_below}
-use Rattle.bb_memory_shared_pools.proofs.SharedPoolRequests.{not_within, refused_by_search, unasked}
+use Rattle.bb_memory_shared_pools.proofs.SharedPoolRequests.{not_within, refused_unasked, unasked}
 use Rattle.bb_memory_geometry.specs.Geometry.{Admits}
 
 -- a token's number
@@ -143,7 +143,7 @@ pub unasked_answer : (old : CachingParty) (layout : Layout) (error : AllocationE
     Admits old.party.allocator.scene.geometry.bucket layout (Err error) → TakesCaching old layout (Err error) old
 unasked_answer old layout error is refused =
     let bucket = old.party.allocator.scene.geometry.bucket in
-    let answer = refused_by_search (hint_of old.party) old.party layout error refused in record {
+    let answer = refused_unasked old.party _ layout error refused in record {
       cached = λ before last within at. absurd (not_within bucket layout error refused within);
       searched = λ none. record {
         answer = answer;

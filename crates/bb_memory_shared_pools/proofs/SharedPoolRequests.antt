@@ -19,8 +19,7 @@ use Rattle.bb_memory_pool_machine.proofs.PoolSteps.{test_apart}
 use Rattle.bb_memory_seats.specs.Seats.{number_of, view_log}
 use Rattle.bb_memory_geometry.proofs.Measures.{bucket-inside, bucket_place-multiple}
 use Rattle.bb_memory_shared_pools.specs.declared.shared_pool.party.Hint.{Hint}
-use Rattle.bb_memory_shared_pools.specs.SharedPool.{AreAllHeldAfter, IsParty, MayTake, PoolParty, ServesAlone, SharedPool}
-use Rattle.bb_memory_shared_pools.specs.SharedPoolNextFit.{MayTakeFrom}
+use Rattle.bb_memory_shared_pools.specs.SharedPool.{AreAllHeldAfter, IsParty, MayRefuse, PoolParty, ServesAlone, SharedPool}
 use Rattle.bb_memory_shared_pools.specs.SharedPool.{chunk_of, taken_bucket}
 use Rattle.bb_memory_shared_pools.specs.SharedPoolRule.{IsPartySeat, SeatView, party_in, pool_in, AfterCall}
 use Rattle.bb_memory_shared_pools.proofs.SharedPoolParties.{is_party}
@@ -137,20 +136,13 @@ not_within bucket layout AlignmentFailure large within = absurd (omega (arith, l
 not_within bucket layout SizeIsZero refused within = absurd refused
 not_within bucket layout OutOfMemory refused within = absurd refused
 
--- it is refused so by a pass, and by a search
-pub refused_by_pass : (party : PoolParty) (layout : Layout) (error : AllocationError) →
-    Admits party.allocator.scene.geometry.bucket layout (Err error) → MayTake party layout (Err error) party
-refused_by_pass party layout SizeTooLarge large = (large, refl)
-refused_by_pass party layout AlignmentFailure large = (large.0, large.1, refl)
-refused_by_pass party layout SizeIsZero refused = absurd refused
-refused_by_pass party layout OutOfMemory refused = absurd refused
-
-pub refused_by_search : (first : ℕ) (party : PoolParty) (layout : Layout) (error : AllocationError) →
-    Admits party.allocator.scene.geometry.bucket layout (Err error) → MayTakeFrom first party layout (Err error) party
-refused_by_search first party layout SizeTooLarge large = (large, refl)
-refused_by_search first party layout AlignmentFailure large = (large.0, large.1, refl)
-refused_by_search first party layout SizeIsZero refused = absurd refused
-refused_by_search first party layout OutOfMemory refused = absurd refused
+-- it is refused so before a pass and before a search
+pub refused_unasked : (party : PoolParty) (entries : PoolLog) (layout : Layout) (error : AllocationError) →
+    Admits party.allocator.scene.geometry.bucket layout (Err error) → MayRefuse party entries layout error party
+refused_unasked party entries layout SizeTooLarge large = (large, refl)
+refused_unasked party entries layout AlignmentFailure large = (large.0, large.1, refl)
+refused_unasked party entries layout SizeIsZero refused = absurd refused
+refused_unasked party entries layout OutOfMemory refused = absurd refused
 
 -- a request that is refused without a step
 pub unasked : (pool : SharedPool) (party : PoolParty) (layout : Layout) (error : AllocationError) → IsParty party →

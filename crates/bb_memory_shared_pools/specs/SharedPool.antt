@@ -115,24 +115,26 @@ pub record MayTakeBucket (party : PoolParty) (layout : Layout) (bucket : ℕ) : 
   pub below : bucket < party.allocator.scene.geometry.buckets
   pub free : ¬ IsHeldAfter party.log bucket
 
--- Answers that a party's request may have, and the party after it.
+-- Why a party's request may be refused, and the party after it. `entries` are those of a search that took no bucket.
+abbrev pub MayRefuse : PoolParty → PoolLog → Layout → AllocationError → PoolParty → Type 0
+-- refused before any step: the party is as it was
+MayRefuse party entries layout SizeTooLarge new = (party.allocator.scene.geometry.bucket.size < layout.size) × (new ≡ party)
+MayRefuse party entries layout AlignmentFailure new =
+    (layout.size ≤ party.allocator.scene.geometry.bucket.size) × (party.allocator.scene.geometry.bucket.align < layout.align)
+    × (new ≡ party)
+MayRefuse party entries layout OutOfMemory new =
+    IsWithin party.allocator.scene.geometry.bucket layout × (new ≡ with_entries party entries)
+-- a pool never refuses so
+MayRefuse party entries layout SizeIsZero new = ⊥
+
+-- Answers that a party's request may have, by a whole pass, which took some bucket or lost at each, and the party after it.
 abbrev pub MayTake : PoolParty → Layout → Result TakenBucket AllocationError → PoolParty → Type 0
--- a whole pass, which took some bucket
 MayTake party layout (Ok bucket) new =
     let buckets = party.allocator.scene.geometry.buckets in
     MayTakeBucket party layout bucket.number × (bucket ≡ taken_bucket party.allocator bucket.number layout.size)
     × (new ≡ with_entries party (taking_pass buckets party.number bucket.number))
--- refused before any step: the party is as it was
-MayTake party layout (Err SizeTooLarge) new = (party.allocator.scene.geometry.bucket.size < layout.size) × (new ≡ party)
-MayTake party layout (Err AlignmentFailure) new =
-    (layout.size ≤ party.allocator.scene.geometry.bucket.size) × (party.allocator.scene.geometry.bucket.align < layout.align)
-    × (new ≡ party)
--- a whole pass, which lost at each bucket
-MayTake party layout (Err OutOfMemory) new =
-    let buckets = party.allocator.scene.geometry.buckets in
-    IsWithin party.allocator.scene.geometry.bucket layout × (new ≡ with_entries party (refused_pass buckets party.number))
--- a pool never refuses so
-MayTake party layout (Err SizeIsZero) new = ⊥
+MayTake party layout (Err error) new =
+    MayRefuse party (refused_pass party.allocator.scene.geometry.buckets party.number) layout error new
 
 -- INTERLEAVINGS
 

@@ -1,19 +1,16 @@
 -- Next fit: requests of a shared pool's party that probe each bucket from the party's hint on, what they add to the party's log,
 -- and what they may be answered.
-use Rattle.std.specs.Prelude.{◌≡◌, ℕ, zero, suc, ◌+◌, ◌*◌, ◌/◌, ◌%◌, ◌<◌, ◌≤◌, nat_lt, if◌then◌else◌, [], ◌∷◌, ◌++◌, Result, Ok}
-use Rattle.std.specs.Prelude.{Err, fold, take, true, false, ◌&&◌}
-use Rattle.bb_memory_traits.specs.PoolObject.{IsWithin}
+use Rattle.std.specs.Prelude.{◌≡◌, ℕ, zero, suc, ◌+◌, ◌*◌, ◌/◌, ◌%◌, ◌<◌, nat_lt, if◌then◌else◌, [], ◌∷◌, ◌++◌, Result, take}
+use Rattle.std.specs.Prelude.{Err, Ok, fold, true, false, ◌&&◌}
 use Rattle.bb_memory_pool_machine.specs.PoolMachine.{PoolScene}
 use Rattle.bb_memory_pool_machine.specs.PoolLogs.{PoolLog, entries_by, entry_of, history_of, IsHeldInRun, MissesAt}
 use Rattle.bb_memory_traits.specs.declared.layout.Layout.{Layout}
 use Rattle.bb_memory_traits.specs.declared.allocator.AllocationError.{AllocationError}
-use Rattle.bb_memory_traits.specs.declared.allocator.AllocationError.TheVariants.{SizeIsZero, SizeTooLarge, AlignmentFailure}
-use Rattle.bb_memory_traits.specs.declared.allocator.AllocationError.TheVariants.{OutOfMemory}
 use Rattle.bb_memory_pool_machine.specs.declared.steps.pool.PoolStep.TheVariants.{TryAt}
 use Rattle.bb_memory_pool_machine.specs.declared.steps.pool.PoolOutcome.{PoolOutcome}
 use Rattle.bb_memory_pool_machine.specs.declared.steps.pool.PoolOutcome.TheVariants.{Takes, Misses, Gives}
 use Rattle.bb_memory_shared_pools.specs.declared.shared_pool.party.Hint.{Hint}
-use Rattle.bb_memory_shared_pools.specs.SharedPool.{IsParty, MayTakeBucket, PoolParty, TakenBucket, taken_bucket, with_entries}
+use Rattle.bb_memory_shared_pools.specs.SharedPool.{IsParty, MayRefuse, MayTakeBucket, PoolParty, TakenBucket, taken_bucket, with_entries}
 
 -- WHERE A SEARCH BEGINS
 
@@ -81,24 +78,14 @@ pub record TakesBySearch (party : PoolParty) (first bucket : ℕ) (new : PoolPar
   pub adds : let buckets = party.allocator.scene.geometry.buckets in
       new ≡ with_entries party (taking_search buckets party.number first probe)
 
--- Answers that a request may have whose search begins at this bucket, and the party after it.
+-- Answers that a request may have, by a search that begins at this bucket, which took some bucket or missed each, and the party
+-- after it.
 abbrev pub MayTakeFrom : ℕ → PoolParty → Layout → Result TakenBucket AllocationError → PoolParty → Type 0
--- a search, which took some bucket
 MayTakeFrom first party layout (Ok bucket) new =
     MayTakeBucket party layout bucket.number × (bucket ≡ taken_bucket party.allocator bucket.number layout.size)
     × TakesBySearch party first bucket.number new
--- refused before any step: the party is as it was
-MayTakeFrom first party layout (Err SizeTooLarge) new = (party.allocator.scene.geometry.bucket.size < layout.size) × (new ≡ party)
-MayTakeFrom first party layout (Err AlignmentFailure) new =
-    (layout.size ≤ party.allocator.scene.geometry.bucket.size) × (party.allocator.scene.geometry.bucket.align < layout.align)
-    × (new ≡ party)
--- a whole search, which missed each bucket
-MayTakeFrom first party layout (Err OutOfMemory) new =
-    let buckets = party.allocator.scene.geometry.buckets in
-    IsWithin party.allocator.scene.geometry.bucket layout
-    × (new ≡ with_entries party (refused_search buckets party.number first))
--- a pool never refuses so
-MayTakeFrom first party layout (Err SizeIsZero) new = ⊥
+MayTakeFrom first party layout (Err error) new =
+    MayRefuse party (refused_search party.allocator.scene.geometry.buckets party.number first) layout error new
 
 -- REFUSED SEARCHES
 

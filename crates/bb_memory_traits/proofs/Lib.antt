@@ -8,5 +8,6 @@ pub mod OneChunkLists
 pub mod PoolGeometries
 pub mod PoolLists
 pub mod PowersOfTwo
+pub mod Resizes
 pub mod Runs
 mod Written

@@ -4,8 +4,7 @@ use Rattle.std.specs.Option.{ForSome}
 use Rattle.bb_memory_traits.specs.Chunk.{Region, region_end, Chunk, Layout, AllocationError, SizeIsZero, SizeTooLarge}
 use Rattle.bb_memory_traits.specs.Chunk.{AlignmentFailure, IsRegion, IsSound, OutOfMemory, first_place, region_at}
 use Rattle.bb_memory_traits.specs.Object.{ResizableObject, resizable_object_of, AllocationGrowError, AllocationShrinkError}
-use Rattle.bb_memory_traits.specs.declared.allocator.AllocationGrowError.TheVariants as grow
-use Rattle.bb_memory_traits.specs.declared.allocator.AllocationShrinkError.TheVariants as shrink
+use Rattle.bb_memory_traits.specs.Object.{MayGrowAt, MayShrinkAt}
 
 -- how much there is from a place to the region's end
 abbrev pub reserved_at : Region → ℕ → ℕ
@@ -35,23 +34,12 @@ MayAllocate region live layout (Err SizeIsZero) = ⊥
 MayAllocate region live layout (Err SizeTooLarge) = ⊥
 MayAllocate region live layout (Err AlignmentFailure) = ⊥
 
--- Answers that it may give where the chunk at a place is to grow from an old layout to a new one, and when.
+-- All that is reserved is given to a chunk that grows. No resize makes the alignment greater.
 abbrev pub MayGrow : Region → ℕ → Layout → Layout → Result Chunk AllocationGrowError → Type 0
-MayGrow region place old new (Ok grown) =
-    (old.size < new.size) × (new.align ≤ old.align) × (new.size ≤ reserved_at region place) × (grown ≡ rest_from region place)
-MayGrow region place old new (Err grow.GrowWouldShrink) = new.size ≤ old.size
-MayGrow region place old new (Err grow.AlignmentFailure) = (old.size < new.size) × (old.align < new.align)
-MayGrow region place old new (Err grow.OutOfMemory) =
-    (old.size < new.size) × (new.align ≤ old.align) × (reserved_at region place < new.size)
+MayGrow region place old = MayGrowAt (reserved_at region place) old.align (reserved_at region place) place old
 
--- Answers that it may give where that chunk is to shrink, and when: it then has exactly the new size.
 abbrev pub MayShrink : ℕ → Layout → Layout → Result Chunk AllocationShrinkError → Type 0
-MayShrink place old new (Ok shrunk) =
-    (new.size < old.size) × (new.align ≤ old.align) × (shrunk ≡ record { place = place; len = new.size })
-MayShrink place old new (Err shrink.ShrinkWouldGrow) = old.size ≤ new.size
-MayShrink place old new (Err shrink.AlignmentFailure) = (new.size < old.size) × (old.align < new.align)
--- no call is refused so
-MayShrink place old new (Err shrink.SizeIsZero) = ⊥
+MayShrink place old = MayShrinkAt old.align place old
 
 -- the list decides nothing for a resize
 abbrev pub one_chunk_object : Region → ResizableObject

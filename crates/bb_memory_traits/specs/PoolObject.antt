@@ -4,8 +4,7 @@ use Rattle.bb_memory_traits.specs.Chunk.{Region, region_end, Layout, first_place
 use Rattle.bb_memory_traits.specs.Chunk.{SizeTooLarge, AlignmentFailure, OutOfMemory}
 use Rattle.bb_memory_traits.specs.LeastPlace.{least_place}
 use Rattle.bb_memory_traits.specs.Object.{ResizableObject, resizable_object_of, AllocationGrowError, AllocationShrinkError}
-use Rattle.bb_memory_traits.specs.declared.allocator.AllocationGrowError.TheVariants as grow
-use Rattle.bb_memory_traits.specs.declared.allocator.AllocationShrinkError.TheVariants as shrink
+use Rattle.bb_memory_traits.specs.Object.{MayGrowAt, MayShrinkAt}
 
 -- Where the buckets of a region lie. Buckets are numbered from 0.
 
@@ -86,24 +85,12 @@ MayAllocate geometry live layout (Err OutOfMemory) =
 -- no call is refused so
 MayAllocate geometry live layout (Err SizeIsZero) = ⊥
 
--- Answers that it may give where the chunk at a place is to grow from an old layout to a new one, and when: it then has exactly
--- the new size.
+-- a chunk that grows has exactly the new size, and no alignment is greater than the bucket's
 abbrev pub MayGrow : Layout → ℕ → Layout → Layout → Result Chunk AllocationGrowError → Type 0
-MayGrow bucket place old new (Ok grown) =
-    (old.size < new.size) × IsWithin bucket new × (grown ≡ record { place = place; len = new.size })
-MayGrow bucket place old new (Err grow.GrowWouldShrink) = new.size ≤ old.size
-MayGrow bucket place old new (Err grow.AlignmentFailure) = (old.size < new.size) × (bucket.align < new.align)
-MayGrow bucket place old new (Err grow.OutOfMemory) =
-    (old.size < new.size) × (new.align ≤ bucket.align) × (bucket.size < new.size)
+MayGrow bucket place old new = MayGrowAt bucket.size bucket.align new.size place old new
 
--- Answers that it may give where that chunk is to shrink, and when.
 abbrev pub MayShrink : Layout → ℕ → Layout → Layout → Result Chunk AllocationShrinkError → Type 0
-MayShrink bucket place old new (Ok shrunk) =
-    (new.size < old.size) × (new.align ≤ bucket.align) × (shrunk ≡ record { place = place; len = new.size })
-MayShrink bucket place old new (Err shrink.ShrinkWouldGrow) = old.size ≤ new.size
-MayShrink bucket place old new (Err shrink.AlignmentFailure) = (new.size < old.size) × (bucket.align < new.align)
--- no call is refused so
-MayShrink bucket place old new (Err shrink.SizeIsZero) = ⊥
+MayShrink bucket = MayShrinkAt bucket.align
 
 -- A bucket is reserved for its chunk, whole. The list decides nothing for a resize, and a release closes up.
 abbrev pub pool_object : PoolGeometry → ResizableObject

@@ -1,4 +1,4 @@
-//! The promises of allocators over a region, and runs of commands over any of them.
+//! The promises of allocators over a region, and commands to any of them.
 ghost use Rattle.std.specs.Prelude.{◌≡◌, ◌∷◌, ◌++◌, ◌≤◌, ◌%◌, ℕ, Some, [], List, Result, Ok, Bool, IfOk, OnErr, slice_get, ◌<◌};
 ghost use Rattle.std.specs.Prelude.{false, slice_set};
 ghost use Rattle.bb_memory_traits.specs.Chunk.{Region, Chunk, IsInside, Layout, AllocationError, IsSound};
@@ -6,11 +6,8 @@ ghost use Rattle.bb_memory_traits.specs.Object.{released, PlacesDiffer, Allocati
 ghost use Rattle.bb_memory_traits.specs.Request.{Requested, Grown};
 ghost use Rattle.bb_memory_traits.specs.HeldBytes.{held_region, ZeroesAnswered, part_behind};
 
-mod run;
-
 use crate::layout::{Chunk, Layout};
 use crate::region::Region;
-pub use run::{run_base, run_full};
 use thiserror::Error;
 
 /// Why a request was refused.

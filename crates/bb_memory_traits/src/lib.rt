@@ -1,13 +1,12 @@
-//! Layouts, chunks, regions, the traits of allocators, and runs of commands over any allocator: the ground of this workspace.
+//! Layouts, chunks, regions, and the traits of allocators: the ground of this workspace.
 //!
 //! The modules, in the order in which to read them:
 //!
 //! - `layout`: what is asked for, a size with an alignment, and the least place. In `layout/chunk` what is given.
 //! - `region`: the bytes of a region, lent chunk by chunk.
-//! - `allocator`: the traits that an allocator meets, why one refuses, and commands with their replies. In `allocator/run` runs
-//!   of commands over any allocator.
+//! - `allocator`: the traits that an allocator meets, why one refuses, and commands with their replies.
 //!
-//! Crate `bb_memory_base` passes all of it on, with the machines of atomic steps.
+//! Crate `bb_memory_base` passes all of it on, with runs of commands (`bb_memory_runs`) and the machines of atomic steps.
 #![tactic(auto)]
 
 pub mod allocator;

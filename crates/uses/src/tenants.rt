@@ -7,7 +7,7 @@ ghost use Rattle.uses.specs.Tenancies.{HasLeft, IsRefusedUnasked, AdmitFails, Le
 ghost use Rattle.uses.specs.Tenancies.{chunks_of, lease_at, limit_of, used_by, without_lease};
 
 use crate::slab::{self, return_last};
-use bb_memory_lists::lists::{Grouped, append_law, group_law, map_law, position_law, sum_law};
+use bb_memory_lists::lists::{Grouped, append_law, group_law, map_law, sum_law};
 use bb_memory_traits::allocator::{AllocationError, Allocator, BaseAllocator};
 use bb_memory_traits::layout::{Chunk, Layout};
 use std::alloc::{AllocError, Global};
@@ -176,7 +176,7 @@ impl<A: Allocator + Drop> Tenants<A> {
             → ((tenant : ℕ) → used_by tenant self.now.leases ≡ slice_index_or used tenant 0)
             → result ≡ sum used }
     {
-        leases_law();
+        group_law::<Lease>();
         out_within(&self.leases, self.promised)
     }
 
@@ -332,44 +332,6 @@ pub fn over_limit<A: Allocator + Drop>(alloc: Global, allocator: A) -> Result<()
     let refused = tenants.allocate(tenant, layout).is_err();
     prove!(refused);
     Ok(())
-}
-
-/// Laws of leases. One more or less changes its own tenant's use alone, and is a chunk more or less that is out. A tenant holds
-/// the chunk that it was given last, and those that it held before. All tenants' bytes together are the bytes that are out. It
-/// does nothing: its contract is the law.
-pub fn leases_law()
-    ensures more { (leases : List Lease) (lease : Lease) (tenant : ℕ)
-        → used_by tenant (leases ++ lease ∷ []) ≡ used_by tenant leases + bytes_for tenant lease }
-    ensures less { (leases : List Lease) (position : ℕ) (lease : Lease) (tenant : ℕ)
-        → slice_get leases position ≡ Some lease
-        → (used_by tenant (remove leases position) + bytes_for tenant lease
-        ≡ used_by tenant leases) }
-    ensures own { (lease : Lease) → bytes_for lease.tenant lease ≡ lease.chunk.len }
-    ensures others { (lease : Lease) (other : ℕ) → other ≢ lease.tenant
-        → bytes_for other lease ≡ 0 }
-    ensures chunks { (leases : List Lease) (lease : Lease)
-        → chunks_of (leases ++ lease ∷ []) ≡ chunks_of leases ++ lease.chunk ∷ [] }
-    ensures chunk { (leases : List Lease) (position : ℕ) (lease : Lease)
-        → slice_get leases position ≡ Some lease
-        → slice_get (chunks_of leases) position ≡ Some lease.chunk }
-    ensures rest { (leases : List Lease) (position : ℕ)
-        → chunks_of (remove leases position) ≡ remove (chunks_of leases) position }
-    ensures held { (leases : List Lease) (lease : Lease)
-        → IsSome (lease_at lease.tenant lease.chunk.place (leases ++ lease ∷ [])) }
-    ensures others_kept { (leases : List Lease) (lease : Lease) (tenant place : ℕ)
-        → IsSome (lease_at tenant place leases)
-        → IsSome (lease_at tenant place (leases ++ lease ∷ [])) }
-    ensures together { (leases : List Lease) (used : List ℕ)
-        → ((tenant : ℕ) → used_by tenant leases ≡ slice_index_or used tenant 0)
-        → bytes_out leases ≡ sum used }
-    ensures within { (leases : List Lease) (limits : List ℕ)
-        → ((tenant : ℕ) → used_by tenant leases ≤ limit_of limits tenant)
-        → bytes_out leases ≤ sum limits }
-{
-    use_law();
-    chunks_law();
-    position_law::<Lease>();
-    group_law::<Lease>();
 }
 
 /// One lease more or less changes its own tenant's use alone.

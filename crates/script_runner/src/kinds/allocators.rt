@@ -9,8 +9,9 @@ ghost use Rattle.bb_memory_traits.specs.Chunk.{Chunk};
 use crate::engine::driving::ScriptTarget;
 use bb_memory_bump::bump_allocator::BumpAllocator;
 use bb_memory_owned::one_chunk_allocator::OneChunkAllocator;
+use bb_memory_runs::{run_base, run_full};
 use bb_memory_traits::allocator::{
-    AllocationError, AllocationGrowError, AllocationShrinkError, Command, Reply, run_base, run_full,
+    AllocationError, AllocationGrowError, AllocationShrinkError, Command, Reply,
 };
 use bb_memory_traits::layout::Chunk;
 use script_words::words::{

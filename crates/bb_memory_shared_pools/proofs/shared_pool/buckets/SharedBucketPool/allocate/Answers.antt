@@ -6,7 +6,7 @@ use Rattle.bb_memory_seats.specs.Seats.{number_of, view_log}
 use Rattle.bb_memory_shared_pools.specs.SharedPool.{IsParty, PoolParty, SharedPool}
 use Rattle.bb_memory_shared_pools.proofs.SharedPoolParties.{is_party, seated_then}
 use Rattle.bb_memory_shared_pools.proofs.SharedPoolPasses.{pass_lost, pass_took}
-use Rattle.bb_memory_shared_pools.proofs.SharedPoolRequests.{refused, refused_by_pass, served, stays, unasked}
+use Rattle.bb_memory_shared_pools.proofs.SharedPoolRequests.{refused, refused_unasked, served, stays, unasked}
 use Rattle.bb_memory_geometry.specs.Geometry.{Admits}
 use Rattle.bb_memory_shared_pools.proofs.SharedPoolTries.{hint-losses, hint-taking}
 use Rattle.bb_memory_shared_pools.proofs.shared_pool.buckets.SharedBucketPool.allocate.Goals as goal
@@ -23,7 +23,7 @@ returns-in_err-admit g c =
     refused in
     let is = subst IsParty c.party.view_is (is_party _ _ _ _ c.party.invariant) in
     rw told record {
-      answer = refused_by_pass party c.args.layout error its;
+      answer = refused_unasked party _ c.args.layout error its;
       party = c.requires.party;
       serves = unasked c.args.self.now party c.args.layout error is refused;
     }

@@ -4,7 +4,7 @@ use Rattle.bb_memory_traits.specs.declared.allocator.AllocationError.TheVariants
 use Rattle.bb_memory_seats.specs.Seats.{number_of, view_log}
 use Rattle.bb_memory_shared_pools.specs.SharedPool.{IsParty, PoolParty, SharedPool}
 use Rattle.bb_memory_shared_pools.proofs.SharedPoolParties.{is_party, seated_then}
-use Rattle.bb_memory_shared_pools.proofs.SharedPoolRequests.{refused, refused_by_search, served, stays, unasked}
+use Rattle.bb_memory_shared_pools.proofs.SharedPoolRequests.{refused, refused_unasked, served, stays, unasked}
 use Rattle.bb_memory_geometry.specs.Geometry.{Admits}
 use Rattle.std.specs.Prelude.{Err}
 use Rattle.bb_memory_shared_pools.proofs.SharedPoolNextFit.{hint-misses, hint_by_search, search_lost, search_took}
@@ -22,7 +22,7 @@ returns-in_err-admit g c =
     refused in
     let is = subst IsParty c.party.view_is (is_party _ _ _ _ c.party.invariant) in
     rw told record {
-      answer = refused_by_search _ party c.args.layout error its;
+      answer = refused_unasked party _ c.args.layout error its;
       party = c.requires.party;
       serves = unasked c.args.self.now party c.args.layout error is refused;
     }

@@ -1,7 +1,8 @@
 use Rattle.std.proofs.Common.{◌≡◌, ◌+◌, ◌≤◌, take, length, vec_len, vec_capacity}
-use Rattle.bb_memory_traits.specs.Object.{AllocatorStep, IsRun, EachGiven, note_after_run, ResizableStep, resizable_object_of}
+use Rattle.bb_memory_traits.specs.Object.{IsRun, note_after_run, ResizableStep, resizable_object_of}
+use Rattle.bb_memory_runs.specs.Runs.{AllocatorStep, EachGiven}
 use Rattle.bb_memory_traits.specs.Chunk.{Fits}
-use Rattle.bb_memory_traits.proofs.allocator.run.run_full.Given as goal
+use Rattle.bb_memory_runs.proofs.run_full.Given as goal
 
 -- the commands so far are a run, and there is room for what is left
 abbrev pub invariant-loop-command : goal.invariant-loop-command

@@ -1,7 +1,8 @@
 use Rattle.std.proofs.Common.{◌≡◌, ◌+◌, ◌≤◌, take, length, vec_len, vec_capacity}
-use Rattle.bb_memory_traits.specs.Object.{object_of, AllocatorStep, Step, IsRun, EachGiven, note_after_run}
+use Rattle.bb_memory_traits.specs.Object.{object_of, Step, IsRun, note_after_run}
+use Rattle.bb_memory_runs.specs.Runs.{AllocatorStep, EachGiven}
 use Rattle.bb_memory_traits.specs.Chunk.{Fits}
-use Rattle.bb_memory_traits.proofs.allocator.run.run_base.Given as goal
+use Rattle.bb_memory_runs.proofs.run_base.Given as goal
 
 -- the commands so far are a run, and there is room for what is left
 abbrev pub invariant-loop-command : goal.invariant-loop-command
