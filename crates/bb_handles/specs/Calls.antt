@@ -131,8 +131,7 @@ pub record TellsTake {X : Type 0} (made after : X) (told : Answer) (may : X → 
   pub refused : IfErr answer (λ error. error ≡ OutOfMemory)
 
 abbrev pub AnswersTake : {X : Type 0} → Option X → Option X → Answer → (X → Result Chunk AllocationError → X → Type 0) → Type 0
-AnswersTake old new told may =
-    Answers old new (told ≡ refused uninitialized) (λ made after. TellsTake made after told may)
+AnswersTake old new told may = Answers old new (told ≡ refused uninitialized) (λ made after. TellsTake made after told may)
 
 -- A return of what is held at a place. Where nothing is held, it is refused, and all stays.
 pub record TellsReturn (held gone stays : Type 0) (code : ℕ) : Type 0 where

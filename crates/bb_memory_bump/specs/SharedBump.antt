@@ -37,8 +37,7 @@ pub record BumpParty : Type 0 where
 
 -- the party of this number, which has made no step
 abbrev pub fresh_party : SharedBump → ℕ → BumpParty
-fresh_party allocator number =
-    record { allocator = allocator; number = number; log = []; met = 0 }
+fresh_party allocator number = record { allocator = allocator; number = number; log = []; met = 0 }
 
 -- all `count` parties of a bump, numbered from 0, and none has made a step
 pub record AreFresh (allocator : SharedBump) (count : ℕ) (parties : List BumpParty) : Type 0 where
@@ -77,10 +76,6 @@ greatest_seen [] = 0
 greatest_seen (party ∷ parties) = max (seen_by party) (greatest_seen parties)
 
 -- ENTRIES OF CALLS
-
--- a load, which found this position
-abbrev pub load_entry : ℕ → ℕ → BumpLog
-load_entry party position = entry_of (Load party) (Loaded position) ∷ []
 
 -- A request under way, and the position that it has seen: a read, and then losses, each at a greater position. The layout fits
 -- at each of them.
@@ -157,7 +152,7 @@ pub record IsSameParty (old new : BumpParty) : Type 0 where
 -- A load of the party's found this position: it is at least what the party had seen, and its floor, and at most the size; and
 -- exactly what it had seen where it is the only one.
 pub record HasLoaded (bump : SharedBump) (old : BumpParty) (found : ℕ) (new : BumpParty) : Type 0 where
-  pub logged : new ≡ with_entries old (load_entry old.number found)
+  pub logged : new ≡ with_entries old (entry_of (Load old.number) (Loaded found) ∷ [])
   pub number : new.number ≡ old.number
   pub is_party : IsParty new
   pub seen : seen_by old ≤ found

@@ -99,15 +99,11 @@ calls_begun_in log = count_by (λ entry. is_beginning entry.outcome) log
 
 -- THE CALL OF A PARTY
 
--- the call, which has now seen this position
-abbrev pub seen_at : ℕ → OngoingCall → OngoingCall
-seen_at position call = record { layout = call.layout; seen = position }
-
 -- the call of a party after an outcome of its own step: a read that sees a position begins one, a loss at which the layout fits
 -- goes on with it, and a win or a refusal ends it
 abbrev pub call_left : BumpOutcome → BumpStep → Option OngoingCall → Option OngoingCall
 call_left (Sees position) (Read party layout) call = Some (record { layout = layout; seen = position })
-call_left (Loses position) step call = option_map (λ ongoing. seen_at position ongoing) call
+call_left (Loses position) step call = option_map (λ ongoing. record ongoing { seen = position }) call
 call_left (Wins chunk) step call = None
 call_left (RefusedAtRead position) step call = None
 call_left (RefusedAtLoss position) step call = None

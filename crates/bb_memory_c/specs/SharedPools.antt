@@ -138,13 +138,10 @@ GivesChunk joined layout answer after =
 abbrev pub GivesBack : CachingParty → ℕ → CachingParty → Type 0
 GivesBack joined place after = (number : ℕ) × HoldsAt joined place number × ReturnsCaching joined number after
 
--- the party once it has given back what it cached, by a step each
-abbrev pub flushed : CachingParty → PoolParty
-flushed joined = with_entries joined.party (caching.returns_of joined.party.number joined.cached)
-
--- the party caches nothing then, and at most `most` buckets from then on
+-- the party gave back what it cached, by a step each: it caches nothing then, and at most `most` buckets from then on
 abbrev pub emptied : CachingParty → ℕ → CachingParty
-emptied joined most = record { party = flushed joined; cached = []; most = most }
+emptied joined most = let returns = caching.returns_of joined.party.number joined.cached in
+    record { party = with_entries joined.party returns; cached = []; most = most }
 
 -- The code where the party is to cache at most that many, and no more than the pool has: memory for their list may be
 -- refused, and then all stays.
@@ -224,8 +221,7 @@ MayDetachChunk joined place len = MayDetachAt joined place × (len ≤ (geometry
 
 -- the party detached the bucket of a number, by one step; the token of the detached bucket has a chunk of `len` bytes
 pub record HasDetached (joined : CachingParty) (number len : ℕ) (after : CachingParty) (token : TakenBucket) : Type 0 where
-  pub detached : after
-      ≡ record joined { party = with_entries joined.party (detach_entry joined.party.number number) }
+  pub detached : after ≡ record joined { party = with_entries joined.party (detach_entry joined.party.number number) }
   pub its : token ≡ taken_bucket joined.party.allocator number len
 
 -- The code where a party is to detach the bucket at a place, with a chunk of that many bytes: each cause of a refusal where
@@ -249,8 +245,7 @@ KnowsInside joined detached = IfSome detached.inside (λ token. AreKnown start_o
 
 -- the party attached the detached bucket, by one step; the chunk in it lies in the region
 pub record HasAttached (joined : CachingParty) (token : TakenBucket) (after : CachingParty) : Type 0 where
-  pub attached : after
-      ≡ record joined { party = with_entries joined.party (attach_entry joined.party.number token.number) }
+  pub attached : after ≡ record joined { party = with_entries joined.party (attach_entry joined.party.number token.number) }
   pub inside : IsInside (geometry_of joined).region (chunk_of token)
 
 -- the party gave back the detached bucket of this number, by one step

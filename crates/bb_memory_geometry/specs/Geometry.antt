@@ -36,8 +36,7 @@ abbrev pub Shifts : ℕ → Option ℕ → Type 0
 Shifts divisor shift = IfSome shift (λ k. (k < 64) × (divisor ≡ 2 ^ k))
 
 -- the first bucket's place, the stride and its shift are these, and the buckets lie in a region
-pub record IsMeasured (geometry : PoolGeometry) (first step : ℕ) (shift : Option ℕ)
-    : Type 0 where
+pub record IsMeasured (geometry : PoolGeometry) (first step : ℕ) (shift : Option ℕ) : Type 0 where
   pub is_region : IsRegion geometry.region
   pub is_geometry : IsPoolGeometry geometry
   pub begins : first ≡ first_place geometry.region geometry.bucket
@@ -45,8 +44,7 @@ pub record IsMeasured (geometry : PoolGeometry) (first step : ℕ) (shift : Opti
   pub shifts : Shifts step shift
 
 abbrev pub IsPlaceOfBucket : PoolGeometry → ℕ → Type 0
-IsPlaceOfBucket geometry place =
-    (i : ℕ) × (i < geometry.buckets) × (place ≡ bucket_place geometry i)
+IsPlaceOfBucket geometry place = (i : ℕ) × (i < geometry.buckets) × (place ≡ bucket_place geometry i)
 
 -- the number of the bucket that begins at the place, or none where no bucket does
 pub record TellsNumber (geometry : PoolGeometry) (place : ℕ) (told : Option ℕ) : Type 0 where

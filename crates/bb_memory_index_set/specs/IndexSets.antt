@@ -104,9 +104,7 @@ pub record IsListing (bound : ℕ) (Open : ℕ → Type 0) (named : ℕ → ℕ)
   pub all : (at : ℕ) → at < bound → Open at → (k : ℕ) × (k < open_count) × (named k ≡ at)
 
 -- the words hold a set, one of them is current, and those that aren't full are listed or current
-pub record IsWordSet
-    (bound : ℕ) (words : List ℕ) (listed : List ℕ) (current : ℕ) (open_count : ℕ)
-    : Type 0 where
+pub record IsWordSet (bound : ℕ) (words : List ℕ) (listed : List ℕ) (current : ℕ) (open_count : ℕ) : Type 0 where
   pub are : AreIndexWords bound words
   pub room : length listed ≡ length words - 1
   pub listing : IsListing (length words) (IsOpen words) (open_word listed current open_count) open_count

@@ -10,8 +10,7 @@ use Rattle.bb_memory_traits.specs.OneChunkObject.{HasRoom, LacksRoom}
 pub use Rattle.bb_memory_traits.specs.OneChunkObject.{HasByteAt, IsKept, IsOneChunk, OneChunk, StandsFor, one_chunk_of}
 
 -- A request by the value alone: its answer, and the allocator after it.
-pub record Takes (old : OneChunk) (layout : Layout) (answer : Result Chunk AllocationError)
-    (new : OneChunk) : Type 0 where
+pub record Takes (old : OneChunk) (layout : Layout) (answer : Result Chunk AllocationError) (new : OneChunk) : Type 0 where
   -- each outcome, both ways
   pub accepted : IsOk answer ↔ ((old.kept ≡ None) × HasRoom old.region layout)
   pub refused : (answer ≡ Err OutOfMemory) ↔ (IsSome old.kept ⊎ LacksRoom old.region layout)

@@ -85,15 +85,13 @@ Takes pool layout (Ok chunk) new =
 Takes pool layout (Err SizeTooLarge) new = (pool.geometry.bucket.size < layout.size) × (new ≡ pool)
 Takes pool layout (Err AlignmentFailure) new =
     (layout.size ≤ pool.geometry.bucket.size) × (pool.geometry.bucket.align < layout.align) × (new ≡ pool)
-Takes pool layout (Err OutOfMemory) new =
-    IsWithin pool.geometry.bucket layout × IsFull pool.held × (new ≡ pool)
+Takes pool layout (Err OutOfMemory) new = IsWithin pool.geometry.bucket layout × IsFull pool.held × (new ≡ pool)
 -- a pool never refuses so
 Takes pool layout (Err SizeIsZero) new = ⊥
 
 -- the held bucket at the place is freed, and no other
 abbrev pub Frees : Pool → ℕ → Pool → Type 0
-Frees pool place new =
-    (i : ℕ) → Has pool.held i → place ≡ bucket_place pool.geometry i → new ≡ with_flag pool i false
+Frees pool place new = (i : ℕ) → Has pool.held i → place ≡ bucket_place pool.geometry i → new ≡ with_flag pool i false
 
 abbrev pub held_count : Pool → ℕ
 held_count pool = member_count pool.held
@@ -131,8 +129,7 @@ pub record TakesBucket (old : CountedPool) (layout : Layout) (answer : Result Ch
 -- how many of `words` index words a request for the layout reads: one if there is one, and none where its size or its alignment
 -- is refused
 abbrev pub reads_of : Layout → ℕ → Layout → ℕ
-reads_of bucket words layout =
-    if nat_le layout.size bucket.size && nat_le layout.align bucket.align then min words 1 else 0
+reads_of bucket words layout = if nat_le layout.size bucket.size && nat_le layout.align bucket.align then min words 1 else 0
 
 -- All that a pool of `words` index words promises of a request for this layout.
 abbrev pub Allocates : CountedPool → Layout → Result Chunk AllocationError → CountedPool → ℕ → Type 0
@@ -156,8 +153,7 @@ pub record FreesBucket (old : CountedPool) (place : ℕ) (new : CountedPool) : T
 
 -- how many the last request of these commands reads, or as many as before where they have none
 abbrev pub reads_after : Layout → ℕ → ℕ → List Command → ℕ
-reads_after bucket words before commands =
-    note_after_run (λ layout reads. reads_of bucket words layout) before commands
+reads_after bucket words before commands = note_after_run (λ layout reads. reads_of bucket words layout) before commands
 
 -- LAWS OF HELD BUCKETS AND THEIR PLACES
 
@@ -177,8 +173,7 @@ bucket_held_at pool place holds =
     )
 
 -- a held bucket's place is held
-pub held_at_bucket : (pool : Pool) (place i : ℕ) → Has pool.held i → place ≡ bucket_place pool.geometry i →
-    HoldsPlace pool place
+pub held_at_bucket : (pool : Pool) (place i : ℕ) → Has pool.held i → place ≡ bucket_place pool.geometry i → HoldsPlace pool place
 unfolding holds_place
 held_at_bucket pool place i has there =
     let count : ℕ = length pool.held in

@@ -57,8 +57,7 @@ pub record AnswersRun {Allocator Geometry Alloc Error : Type 0} (stands_for : Al
     (frees : Allocator → ℕ → Layout → Allocator → Type 0) (commands : List Command)
     (answer : Result (Vec Reply Alloc) Error) (old new : Allocator) (live left : List Chunk) : Type 0 where
   pub run : IfOk answer (λ replies. IsRun Steps live commands replies.items left)
-  pub values : IfOk answer (λ replies.
-      IsRun (AllocatorStep Steps takes frees) (old, live) commands replies.items (new, left))
+  pub values : IfOk answer (λ replies. IsRun (AllocatorStep Steps takes frees) (old, live) commands replies.items (new, left))
   pub stands : OnOk answer (stands_for new left)
   pub sound : OnOk answer (IsSound (region_of (geometry_of old)) left)
   pub fits : IfOk answer (λ replies. EachGiven (Fits (region_of (geometry_of old))) commands replies.items)

@@ -23,8 +23,7 @@ pub record View (S E : Type 0) : Type 0 where
   pub detached : List ℕ
 
 abbrev pub seat_of : {S E : Type 0} → S → List (Numbered E) → List ℕ → View S E
-seat_of scene parties detached =
-    record { scene = scene; parties = parties; detached = detached }
+seat_of scene parties detached = record { scene = scene; parties = parties; detached = detached }
 
 abbrev pub standing_for : {S E : Type 0} → S → List (Numbered E) → View S E
 standing_for scene parties = seat_of scene parties []

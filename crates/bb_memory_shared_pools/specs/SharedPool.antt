@@ -50,8 +50,7 @@ pub record AreFresh (allocator : SharedPool) (count : ℕ) (parties : List PoolP
   pub theirs : All (λ party. party.allocator ≡ allocator) parties
 
 abbrev pub with_entries : PoolParty → PoolLog → PoolParty
-with_entries party entries =
-    record { allocator = party.allocator; number = party.number; log = party.log ++ entries }
+with_entries party entries = record { allocator = party.allocator; number = party.number; log = party.log ++ entries }
 
 -- a bucket that was taken: the pool that it belongs to, its number there, and how many bytes its chunk has
 pub record TakenBucket : Type 0 where

@@ -119,10 +119,14 @@ IsPoolPlan plan = MayBeCut (region_at plan.start plan.size) plan.bucket
 abbrev pub pool_numbers : PoolPlan → Numbers
 pool_numbers plan = Four plan.start plan.size plan.bucket.size plan.bucket.align
 
--- the pool's region is cut into all the buckets that it has room for; none is held, none was before, and no index word was read
+-- The region is cut into all the buckets that it has room for, and the pool has those that `cut` leaves of them. None is held,
+-- none was before, and no index word was read.
+abbrev pub BeginsWith : (PoolGeometry → PoolGeometry) → PoolPlan → CountedPool → Type 0
+BeginsWith cut plan pool = (whole : PoolGeometry) × IsCut (region_at plan.start plan.size) plan.bucket whole
+    × (pool ≡ counted (fresh_pool (cut whole)) 0 0)
+
 abbrev pub BeginsPool : PoolPlan → CountedPool → Type 0
-BeginsPool plan pool = (geometry : PoolGeometry) × IsCut (region_at plan.start plan.size) plan.bucket geometry
-    × (pool ≡ counted (fresh_pool geometry) 0 0)
+BeginsPool = BeginsWith (λ whole. whole)
 
 abbrev pub PoolRuns : Pool → List Chunk → List Command → List Reply → Pool → List Chunk → Type 0
 PoolRuns = Runs (λ pool. pool.geometry) (λ geometry. ResizableStep (pool_object geometry)) PoolStandsFor
@@ -151,17 +155,12 @@ pool_rules = record {
       ++ pool_state pool.pool.geometry live (codes " reads " ++ (decimal pool.reads ++ codes "\n")));
 }
 
--- the pool's region is cut into the buckets that it has room for, but into at most 512; none is held, and none was before
-abbrev pub BeginsFixed : PoolPlan → CountedPool → Type 0
-BeginsFixed plan pool = (whole : PoolGeometry) × IsCut (region_at plan.start plan.size) plan.bucket whole
-    × (pool ≡ counted (fresh_pool (at_most 512 whole)) 0 0)
-
 abbrev pub fixed_rules : AllocatorRules CountedPool PoolPlan
 fixed_rules = record {
   name = codes "fixed";
   is_header = IsPoolPlan;
   header_numbers = pool_numbers;
-  starts = BeginsFixed;
+  starts = BeginsWith (at_most 512);
   runs = λ old live commands replies new left. PoolRuns old.pool live commands replies new.pool left;
   state_text = λ pool live. codes "fixed" ++ pool_state pool.pool.geometry live (codes "\n");
 }

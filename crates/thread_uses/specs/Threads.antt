@@ -25,15 +25,13 @@ pub record Asks {P A : Type 0} (may_take : P → Layout → A → P → Type 0) 
   pub asked : may_take old layout answer new
 
 -- the answer of a request by next fit, and the party then
-pub record MayTakeNextFit (old : PoolParty) (layout : Layout) (answer : Result TakenBucket AllocationError) (new : PoolParty)
-    : Type 0 where
-  pub taken : MayTakeFrom (hint_of old) old layout answer new
+abbrev pub MayTakeNextFit : PoolParty → Layout → Result TakenBucket AllocationError → PoolParty → Type 0
+MayTakeNextFit old = MayTakeFrom (hint_of old) old
 
 -- the party's steps are one request by next fit
 pub record HasAskedNextFit (layout : Layout) (party : PoolParty) : Type 0 where
   pub before : PoolParty
-  pub answer : Result TakenBucket AllocationError
-  pub asked : MayTakeNextFit before layout answer party
+  pub asked : Asks MayTakeNextFit layout before party
   pub none : before.log ≡ []
 
 -- as many parties come back as went out, all of them this pool's, and the steps of each are one request by next fit
@@ -47,8 +45,7 @@ pub record AllComeBack (layout : Layout) (pool : SharedPool) (old new : List Poo
 -- the party's steps are one request for this layout
 pub record HasAsked (layout : Layout) (party : BumpParty) : Type 0 where
   pub before : BumpParty
-  pub answer : Result Chunk AllocationError
-  pub asked : MayTake before layout answer party
+  pub asked : Asks MayTake layout before party
   pub none : before.log ≡ []
 
 -- `workers` workers have each asked for this layout once, of a region that was used in part. The space used then agrees with

@@ -78,8 +78,7 @@ pub record Records (A : Type 0) : Type 0 where
 -- A request to store these bytes: of the records before it, its answer, and the records then. The words of the
 -- allocator below are its geometry and what it may answer.
 pub record Stores {A G : Type 0} (geometry_of : A → G) (may_allocate : G → List Chunk → Answers)
-    (old : Records A) (bytes : List ℕ) (result : Result (Unit {0}) InsertError) (new : Records A)
-    : Type 0 where
+    (old : Records A) (bytes : List ℕ) (result : Result (Unit {0}) InsertError) (new : Records A) : Type 0 where
   pub appended : OnOk result (new.records ≡ old.records ++ bytes ∷ [])
   pub chunk : OnOk result (HasOneMore (may_allocate (geometry_of old.allocator) old.chunks) (length bytes) old.chunks new.chunks)
   pub refused : IfErr result (InsertFails (may_allocate (geometry_of old.allocator) old.chunks) (length bytes))

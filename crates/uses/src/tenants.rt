@@ -1,5 +1,5 @@
 //! Tenants of one allocator, each with a limit of its own.
-ghost use Rattle.std.specs.Prelude.{◌≡◌, ◌≢◌, ◌<◌, ◌≤◌, ◌+◌, ◌%◌, ◌↔◌, ◌∷◌, ◌++◌, [], ℕ, List, Some, Ok, IfOk, IfErr, IfSome};
+ghost use Rattle.std.specs.Prelude.{◌≡◌, ◌<◌, ◌≤◌, ◌+◌, ◌%◌, ◌↔◌, ◌∷◌, ◌++◌, [], ℕ, List, Some, Ok, IfOk, IfErr, IfSome};
 ghost use Rattle.std.specs.Prelude.{IsOk, IsSome, IsTrue, OnOk, OnErr, length, remove, slice_get, slice_index_or, sum};
 ghost use Rattle.bb_memory_traits.specs.Chunk.{IsInside, IsSound};
 ghost use Rattle.uses.specs.declared.tenants.Lease.{Lease};
@@ -223,8 +223,8 @@ impl<A: Allocator + Drop> Tenants<A> {
             return_last(&mut self.allocator, chunk, layout);
             return Err(LeaseError::TooLong);
         }
-        use_law();
-        chunks_law();
+        sum_law::<Lease>();
+        map_law::<Lease, Chunk>();
         self.leases.push_reserved(Lease { tenant, chunk });
         Ok(chunk)
     }
@@ -275,7 +275,7 @@ impl<A: Allocator + Drop> Tenants<A> {
     {
         let lease = self.leases[position];
         give_back(&mut self.allocator, &self.leases, position, lease);
-        use_law();
+        sum_law::<Lease>();
         self.leases.remove(position);
     }
 
@@ -318,7 +318,7 @@ fn give_back<A: Allocator>(allocator: &mut A, leases: &Vec<Lease>, position: usi
     ensures geometry { A.geometry allocator.new ≡ A.geometry allocator.old }
     ensures unasked { A.note allocator.new ≡ A.note allocator.old }
 {
-    chunks_law();
+    map_law::<Lease, Chunk>();
     slab::give_back(allocator, lease.chunk);
 }
 
@@ -332,32 +332,4 @@ pub fn over_limit<A: Allocator + Drop>(alloc: Global, allocator: A) -> Result<()
     let refused = tenants.allocate(tenant, layout).is_err();
     prove!(refused);
     Ok(())
-}
-
-/// One lease more or less changes its own tenant's use alone.
-fn use_law()
-    ensures more { (leases : List Lease) (lease : Lease) (tenant : ℕ)
-        → used_by tenant (leases ++ lease ∷ []) ≡ used_by tenant leases + bytes_for tenant lease }
-    ensures less { (leases : List Lease) (position : ℕ) (lease : Lease) (tenant : ℕ)
-        → slice_get leases position ≡ Some lease
-        → (used_by tenant (remove leases position) + bytes_for tenant lease
-        ≡ used_by tenant leases) }
-    ensures own { (lease : Lease) → bytes_for lease.tenant lease ≡ lease.chunk.len }
-    ensures others { (lease : Lease) (other : ℕ) → other ≢ lease.tenant
-        → bytes_for other lease ≡ 0 }
-{
-    sum_law::<Lease>();
-}
-
-/// One lease more or less is a chunk more or less that is out.
-fn chunks_law()
-    ensures chunks { (leases : List Lease) (lease : Lease)
-        → chunks_of (leases ++ lease ∷ []) ≡ chunks_of leases ++ lease.chunk ∷ [] }
-    ensures chunk { (leases : List Lease) (position : ℕ) (lease : Lease)
-        → slice_get leases position ≡ Some lease
-        → slice_get (chunks_of leases) position ≡ Some lease.chunk }
-    ensures rest { (leases : List Lease) (position : ℕ)
-        → chunks_of (remove leases position) ≡ remove (chunks_of leases) position }
-{
-    map_law::<Lease, Chunk>();
 }
