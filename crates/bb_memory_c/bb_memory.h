@@ -65,10 +65,10 @@ extern "C" {
 #endif
 
 // The version of this library, as text and by its numbers. The last of them grows with each version, for `#if`.
-#define BB_VERSION "1.0.0"
+#define BB_VERSION "1.0.1"
 #define BB_VERSION_MAJOR 1
 #define BB_VERSION_MINOR 0
-#define BB_VERSION_PATCH 0
+#define BB_VERSION_PATCH 1
 #define BB_VERSION_NUMBER (BB_VERSION_MAJOR * 10000 + BB_VERSION_MINOR * 100 + BB_VERSION_PATCH)
 // The number in the shared library's SONAME. It grows where a function goes, or a type, a struct's fields or a code's number
 // changes. So a program runs with each library of its number from the version on with which it was linked.
@@ -289,8 +289,8 @@ BB_MUST_USE bb_answer bb_pool_party_allocate(bb_pool_party *, size_t size, size_
 BB_MUST_USE bb_answer bb_pool_party_take(bb_pool_party *);               // a whole bucket, as above
 // As of a pool, of the buckets that this party holds and doesn't cache. `greatest_held` is the greatest number that `info` found.
 uint32_t bb_pool_party_deallocate(bb_pool_party *, bb_address place);
-// As that many calls, one after another: `count` buckets are taken, or as many as there are, and their places are in the first
-// slots; the buckets at these places are given back, up to the first that is BB_NOT_HELD. The number says how many.
+// As `count` calls, one after another (of 0 the array may be NULL): buckets are taken, as many as there are, and their places
+// are in the first slots; the buckets at these places are given back, up to the first that is BB_NOT_HELD. It says how many.
 BB_MUST_USE bb_figure bb_pool_party_take_many(bb_pool_party *, bb_place *slots, size_t count);
 bb_figure bb_pool_party_deallocate_many(bb_pool_party *, const bb_place *places, size_t count);
 bb_figure bb_pool_party_holds(bb_pool_party *, bb_address place);

@@ -138,8 +138,7 @@ AfterRead scene number log met layout found new =
 
 -- the exchange of the call that the party is in
 abbrev pub AfterExchange : BumpScene → ℕ → BumpLog → ℕ → ℕ → Me ℕ SeatView → Type 0
-AfterExchange scene number log met found new =
-    (call : OngoingCall) → call_in log ≡ Some call → AfterStep scene number log met
+AfterExchange scene number log met found new = (call : OngoingCall) → call_in log ≡ Some call → AfterStep scene number log met
     (Exchange number) (exchange_move scene.region found call).outcome found new
 
 abbrev pub AfterLoad : BumpScene → ℕ → BumpLog → ℕ → ℕ → Me ℕ SeatView → Type 0

@@ -103,7 +103,7 @@ calls_begun_in log = count_by (λ entry. is_beginning entry.outcome) log
 -- goes on with it, and a win or a refusal ends it
 abbrev pub call_left : BumpOutcome → BumpStep → Option OngoingCall → Option OngoingCall
 call_left (Sees position) (Read party layout) call = Some (record { layout = layout; seen = position })
-call_left (Loses position) step call = option_map (λ ongoing. record ongoing { seen = position }) call
+call_left (Loses position) step call = option_map (λ ongoing. record { layout = ongoing.layout; seen = position }) call
 call_left (Wins chunk) step call = None
 call_left (RefusedAtRead position) step call = None
 call_left (RefusedAtLoss position) step call = None
@@ -235,8 +235,7 @@ decided _ asked = []
 -- the calls that these steps decide, in order
 abbrev pub bump_calls : Region → BumpState → List BumpStep → List BumpCall
 bump_calls region state [] = []
-bump_calls region state (step ∷ steps) =
-    decided (bump_step region state step).outcome (asked_by state step)
+bump_calls region state (step ∷ steps) = decided (bump_step region state step).outcome (asked_by state step)
     ++ bump_calls region (bump_step region state step).state steps
 
 abbrev pub calls_of : BumpScene → List BumpStep → List BumpCall

@@ -278,6 +278,7 @@ impl Keeps for JoinedPool {
         self.held_at(place).is_some()
     }
 
+    // Inlined into both of its callers, as a single return is quicker so.
     #[inline(always)]
     fn give_back(&mut self, place: usize) -> bool {
         match self.numbered(place) {

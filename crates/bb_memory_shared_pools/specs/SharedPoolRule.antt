@@ -193,8 +193,7 @@ AfterProbe scene number log bucket new told = MatchBool told
     (AfterGain scene number log (taking_at number bucket) bucket new) (AfterMiss scene number log bucket new)
 
 abbrev pub AfterTryAt : PoolScene → ℕ → PoolLog → ℕ → ℕ → Me ℕ SeatView → Type 0
-AfterTryAt scene number log bucket found new =
-    (found ≡ 0 → AfterGain scene number log (taking_at number bucket) bucket new)
+AfterTryAt scene number log bucket found new = (found ≡ 0 → AfterGain scene number log (taking_at number bucket) bucket new)
     × (found ≢ 0 → AfterMiss scene number log bucket new)
 
 -- An idle party's load of a flag. A taken one is a miss. A free one is no step of the log, and the party is as it was.

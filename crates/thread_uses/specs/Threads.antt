@@ -25,13 +25,15 @@ pub record Asks {P A : Type 0} (may_take : P → Layout → A → P → Type 0) 
   pub asked : may_take old layout answer new
 
 -- the answer of a request by next fit, and the party then
-abbrev pub MayTakeNextFit : PoolParty → Layout → Result TakenBucket AllocationError → PoolParty → Type 0
-MayTakeNextFit old = MayTakeFrom (hint_of old) old
+pub record MayTakeNextFit (old : PoolParty) (layout : Layout) (answer : Result TakenBucket AllocationError) (new : PoolParty)
+    : Type 0 where
+  pub taken : MayTakeFrom (hint_of old) old layout answer new
 
 -- the party's steps are one request by next fit
 pub record HasAskedNextFit (layout : Layout) (party : PoolParty) : Type 0 where
   pub before : PoolParty
-  pub asked : Asks MayTakeNextFit layout before party
+  pub answer : Result TakenBucket AllocationError
+  pub asked : MayTakeNextFit before layout answer party
   pub none : before.log ≡ []
 
 -- as many parties come back as went out, all of them this pool's, and the steps of each are one request by next fit
