@@ -1,5 +1,6 @@
 //! The promises of allocators over a region, and runs of commands over any of them.
 pub use bb_memory_runs::{run_base, run_full};
 pub use bb_memory_traits::allocator::{
-    AllocationError, AllocationGrowError, AllocationShrinkError, Allocator, BaseAllocator, Command, Reply,
+    AllocationError, AllocationGrowError, AllocationShrinkError, Allocator, BaseAllocator, Command,
+    Reply,
 };
