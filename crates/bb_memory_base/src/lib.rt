@@ -1,6 +1,7 @@
-//! The ground of the allocators, passed on from the crates that have its parts, and what `==` says of all their types.
+//! The ground of the allocators, passed on from the crates that have its parts, runs of commands, and what `==` says of all types.
 //!
-//! - `allocator`, `layout`, `region`: of `bb_memory_traits`, and runs of `bb_memory_runs`. `lists`: of `bb_memory_lists`.
+//! - `allocator`: of `bb_memory_traits`, and runs of commands over any allocator.
+//! - `layout`, `region`: of `bb_memory_traits`. `lists`: of `bb_memory_lists`.
 //! - `steps`: of `bb_memory_bump_machine` and `bb_memory_pool_machine`.
 //! - `equality`: what `==` says of the types of these crates.
 #![tactic(auto)]

@@ -6,7 +6,7 @@
 //! - `region`: the bytes of a region, lent chunk by chunk.
 //! - `allocator`: the traits that an allocator meets, why one refuses, and commands with their replies.
 //!
-//! Crate `bb_memory_base` passes all of it on, with runs of commands (`bb_memory_runs`) and the machines of atomic steps.
+//! Crate `bb_memory_base` passes all of it on, with runs of commands over any allocator and the machines of atomic steps.
 #![tactic(auto)]
 
 pub mod allocator;
