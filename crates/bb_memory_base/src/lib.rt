@@ -1,4 +1,4 @@
-//! The ground of the allocators, passed on from the crates that have its parts, runs of commands, and what `==` says of all types.
+//! The ground of the allocators, passed on from the crates that have its parts, with runs of commands and what `==` says.
 //!
 //! - `allocator`: of `bb_memory_traits`, and runs of commands over any allocator.
 //! - `layout`, `region`: of `bb_memory_traits`. `lists`: of `bb_memory_lists`.

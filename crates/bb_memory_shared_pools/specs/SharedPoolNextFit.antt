@@ -10,7 +10,8 @@ use Rattle.bb_memory_pool_machine.specs.declared.steps.pool.PoolStep.TheVariants
 use Rattle.bb_memory_pool_machine.specs.declared.steps.pool.PoolOutcome.{PoolOutcome}
 use Rattle.bb_memory_pool_machine.specs.declared.steps.pool.PoolOutcome.TheVariants.{Takes, Misses, Gives}
 use Rattle.bb_memory_shared_pools.specs.declared.shared_pool.party.Hint.{Hint}
-use Rattle.bb_memory_shared_pools.specs.SharedPool.{IsParty, MayRefuse, MayTakeBucket, PoolParty, TakenBucket, taken_bucket, with_entries}
+use Rattle.bb_memory_shared_pools.specs.SharedPool.{IsParty, MayRefuse, MayTakeBucket, PoolParty, TakenBucket}
+use Rattle.bb_memory_shared_pools.specs.SharedPool.{taken_bucket, with_entries}
 
 -- WHERE A SEARCH BEGINS
 
