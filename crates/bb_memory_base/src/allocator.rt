@@ -1,8 +1,6 @@
-//! The promises of allocators over a region, and in `allocator/run` runs of commands over any of them.
-mod run;
-
+//! The promises of allocators over a region, and runs of commands over any of them.
+pub use bb_memory_runs::{run_base, run_full};
 pub use bb_memory_traits::allocator::{
     AllocationError, AllocationGrowError, AllocationShrinkError, Allocator, BaseAllocator, Command,
     Reply,
 };
-pub use run::{run_base, run_full};

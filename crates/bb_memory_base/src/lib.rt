@@ -1,6 +1,6 @@
-//! The ground of the allocators, passed on from the crates that have its parts, with runs of commands and what `==` says.
+//! The ground of the allocators, passed on from the crates that have its parts, and what `==` says.
 //!
-//! - `allocator`: of `bb_memory_traits`, and runs of commands over any allocator.
+//! - `allocator`: of `bb_memory_traits` and `bb_memory_runs`.
 //! - `layout`, `region`: of `bb_memory_traits`. `lists`: of `bb_memory_lists`.
 //! - `steps`: of `bb_memory_bump_machine` and `bb_memory_pool_machine`.
 //! - `equality`: what `==` says of the types of these crates.

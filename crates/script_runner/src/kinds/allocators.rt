@@ -7,9 +7,9 @@ ghost use Rattle.bb_memory_traits.specs.BumpObject.{StandsFor as BumpStandsFor};
 ghost use Rattle.bb_memory_traits.specs.Chunk.{Chunk};
 
 use crate::engine::driving::ScriptTarget;
-use bb_memory_base::allocator::{run_base, run_full};
 use bb_memory_bump::bump_allocator::BumpAllocator;
 use bb_memory_owned::one_chunk_allocator::OneChunkAllocator;
+use bb_memory_runs::{run_base, run_full};
 use bb_memory_traits::allocator::{
     AllocationError, AllocationGrowError, AllocationShrinkError, Command, Reply,
 };

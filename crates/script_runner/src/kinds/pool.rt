@@ -4,8 +4,8 @@ ghost use Rattle.script_runner.specs.Allocators.{IsPoolPlan, pool_numbers, pool_
 ghost use Rattle.bb_memory_owned.specs.Pool.{StandsFor};
 
 use crate::kinds::allocators::ScriptedAllocator;
-use bb_memory_base::allocator::run_full;
 use bb_memory_owned::pool_allocator::{FixedSizePoolAllocator, PoolAllocator};
+use bb_memory_runs::run_full;
 use bb_memory_traits::allocator::{Command, Reply};
 use bb_memory_traits::layout::{Chunk, Layout};
 use script_words::words::{Labelled, Numbers, is_word, layout, write_labelled};

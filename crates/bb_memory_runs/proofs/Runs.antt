@@ -11,7 +11,7 @@ use Rattle.bb_memory_traits.specs.declared.allocator.Command.{Command}
 use Rattle.bb_memory_traits.specs.declared.allocator.Reply.{Reply}
 use Rattle.bb_memory_traits.specs.declared.allocator.Command.TheVariants.{Allocate}
 use Rattle.bb_memory_traits.specs.declared.allocator.Reply.TheVariants as reply
-use Rattle.bb_memory_base.specs.Runs.{AllocatorStep, EachGiven}
+use Rattle.bb_memory_runs.specs.Runs.{AllocatorStep, EachGiven}
 
 -- a run of an allocator with its live list is a run of the object on the list
 pub IsRun-listed : {Allocator : Type 0} (Steps : List Chunk → Command → Reply → List Chunk → Type 0)

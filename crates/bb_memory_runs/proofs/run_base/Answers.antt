@@ -1,30 +1,29 @@
 use Rattle.std.proofs.Common.{◌≡◌, ◌+◌, ◌∷◌, ◌++◌, [], take, ap, sym, ◌∙◌, arith}
 use Rattle.std.proofs.lemmas.List.{take_more, take_all, length-take-le}
 use Rattle.bb_memory_traits.proofs.Runs.{IsRun-push}
-use Rattle.bb_memory_base.proofs.Runs.{IsRun-listed, EachGiven-push, note-push}
-use Rattle.bb_memory_base.proofs.allocator.run.run_full.Goals as goal
+use Rattle.bb_memory_runs.proofs.Runs.{IsRun-listed, EachGiven-push, note-push}
+use Rattle.bb_memory_runs.proofs.run_base.Goals as goal
 
 pub loop-command-preserved : goal.loop-command-preserved
 loop-command-preserved g c =
     let A = g.A.BaseAllocator in
     let old = c.loop-command.invariant in
     let same = old.geometry in
-    let resize_key = g.met.A.Allocator.fixed c.loop-command.allocator c.args.allocator.now same in
     let i = c.loop-command.command-index in
     let done : take (i + 1) c.args.commands.now ≡ take i c.args.commands.now ++ c.command-item.result ∷ [] =
     take_more c.args.commands.now i c.command-item.result (omega arith)
     ∙ ap (λ x. take i c.args.commands.now ++ x ∷ []) (sym c.command-item.is) in
     record {
       run = rw (done, c.push_reserved.ensures.items)
-          (IsRun-push _ _ _ _ _ _ _ _ old.run (rw (same, resize_key) at c.apply_full-reply.ensures.step));
+          (IsRun-push _ _ _ _ _ _ _ _ old.run (rw same at c.apply_base-reply.ensures.step));
       fits = rw (done, c.push_reserved.ensures.items)
           (EachGiven-push _ _ _ _ _ (omega (arith, length-take-le i c.args.commands.now (omega arith))) old.fits
-          (λ layout chunk asked given. rw same at (c.apply_full-reply.ensures.fits layout chunk asked given)));
-      stands = c.apply_full-reply.ensures.stands;
-      geometry = c.apply_full-reply.ensures.geometry ∙ same;
+          (λ layout chunk asked given. rw same at (c.apply_base-reply.ensures.fits layout chunk asked given)));
+      stands = c.apply_base-reply.ensures.stands;
+      geometry = c.apply_base-reply.ensures.geometry ∙ same;
       note = rw done (note-push (A.note_after (A.geometry c.args.allocator.now)) (A.note c.args.allocator.now)
-          (take i c.args.commands.now) _ _ c.command-item.result old.note (rw same at c.apply_full-reply.ensures.note));
-      room = omega (arith, c.apply_full-reply.ensures.len, c.apply_full-reply.ensures.capacity);
+          (take i c.args.commands.now) _ _ c.command-item.result old.note (rw same at c.apply_base-reply.ensures.note));
+      room = omega (arith, c.apply_base-reply.ensures.len, c.apply_base-reply.ensures.capacity);
       told = omega arith;
       space = omega arith;
     }

@@ -1,16 +1,18 @@
 use Rattle.std.proofs.Common.{◌≡◌, ◌+◌, ◌≤◌, take, length, vec_len, vec_capacity}
-use Rattle.bb_memory_traits.specs.Object.{object_of, Step, IsRun, note_after_run}
-use Rattle.bb_memory_base.specs.Runs.{AllocatorStep, EachGiven}
+use Rattle.bb_memory_traits.specs.Object.{IsRun, note_after_run, ResizableStep, resizable_object_of}
+use Rattle.bb_memory_runs.specs.Runs.{AllocatorStep, EachGiven}
 use Rattle.bb_memory_traits.specs.Chunk.{Fits}
-use Rattle.bb_memory_base.proofs.allocator.run.run_base.Given as goal
+use Rattle.bb_memory_runs.proofs.run_full.Given as goal
 
 -- the commands so far are a run, and there is room for what is left
 abbrev pub invariant-loop-command : goal.invariant-loop-command
 invariant-loop-command g l =
     let A = g.A.BaseAllocator in
+    let B = g.A.Allocator in
+    let resize_key = B.resize_key l.fn.allocator in
     record {
-      run : IsRun (AllocatorStep
-          (Step (object_of A.RELEASE_EMPTIES (A.may_allocate (A.geometry l.fn.allocator)))) A.takes A.frees)
+      run : IsRun (AllocatorStep (ResizableStep (resizable_object_of (A.may_allocate (A.geometry l.fn.allocator))
+          (B.reserved_at resize_key) (B.may_grow resize_key) (B.may_shrink resize_key))) A.takes A.frees)
           (l.fn.allocator, l.fn.live.items) (take l.command-index l.commands) l.replies.items (l.allocator, l.live.items);
       fits : EachGiven (Fits (A.region_of (A.geometry l.fn.allocator))) (take l.command-index l.commands) l.replies.items;
       stands : A.stands_for l.allocator l.live.items;

@@ -1,6 +1,6 @@
 use Rattle.std.proofs.Common.{arith}
 use Rattle.std.proofs.lemmas.Grind.{elements}
-use Rattle.bb_memory_base.proofs.allocator.run.apply_base.Goals as goal
+use Rattle.bb_memory_runs.proofs.apply_base.Goals as goal
 
 pub deallocate-requires : goal.deallocate-requires
 deallocate-requires g c = grind (arith, elements)

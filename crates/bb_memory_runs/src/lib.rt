@@ -1,8 +1,10 @@
 //! Runs of commands over any allocator.
+#![tactic(auto)]
+
 ghost use Rattle.std.specs.Prelude.{◌≡◌, ◌<◌, OnOk, IfSome, None, vec_len, vec_capacity};
 ghost use Rattle.bb_memory_traits.specs.Chunk.{Chunk};
 ghost use Rattle.bb_memory_traits.specs.Object.{object_of, Step, MayBeGrown, ResizableStep, note_after_run, resizable_object_of};
-ghost use Rattle.bb_memory_base.specs.Runs.{AllocatorStep, AnswersRun, Applies};
+ghost use Rattle.bb_memory_runs.specs.Runs.{AllocatorStep, AnswersRun, Applies};
 
 use bb_memory_traits::allocator::{Allocator, BaseAllocator, Command, Reply};
 use bb_memory_traits::layout::{Chunk, Layout};
