@@ -123,7 +123,7 @@ MayGrowAt reserved most len place old new (Err grow.AlignmentFailure) = (old.siz
 MayGrowAt reserved most len place old new (Err grow.OutOfMemory) =
     (old.size < new.size) × (new.align ≤ most) × (reserved < new.size)
 
--- Answers where it is to shrink there, and when: it has exactly the new size then.
+-- Answers where a chunk is to shrink at its place, and when: it has exactly the new size then.
 abbrev pub MayShrinkAt : (most place : ℕ) → Layout → Layout → Result Chunk AllocationShrinkError → Type 0
 MayShrinkAt most place old new (Ok shrunk) =
     (new.size < old.size) × (new.align ≤ most) × (shrunk ≡ record { place = place; len = new.size })

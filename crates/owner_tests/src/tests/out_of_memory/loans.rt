@@ -17,7 +17,7 @@ pub(super) fn one_book(alloc: Global) -> LoanBook<OneChunkAllocator> {
     LoanBook::new(alloc, OneChunkAllocator::new(4096, 64))
 }
 
-/// Makes a call.
+/// Makes a call of a book, and returns its reply.
 pub(super) fn reply<A: Allocator + Drop>(book: &mut LoanBook<A>, call: LoanCall) -> LoanReply {
     // This does nothing: it is a proof.
     book.law();

@@ -14,10 +14,10 @@ use std::thread;
 use std::thread::Threads;
 use thread_uses::pool_messages::{receive, send};
 
-/// How many messages are sent.
+/// The number of messages that are sent.
 const MESSAGES: u32 = 1000;
 
-/// How often an end looks whether it gets on, and lets others run where it doesn't.
+/// The number of times that an end looks whether it gets on, and lets others run where it doesn't.
 const TRIES: u32 = 10_000_000;
 
 /// The pool of a queue's messages, which a type names so.

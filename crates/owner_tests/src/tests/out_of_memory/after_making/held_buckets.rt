@@ -8,7 +8,7 @@ use std::alloc::Global;
 use std::process::Abort;
 use test_marks::refuse_memory;
 
-/// How many buckets are held, how many were at most, and whether there is room for one more.
+/// The buckets that are held, the most that were, and whether there is room for one more.
 type Counts = (u32, u32, bool);
 
 /// The place of a number, the number of a place, and whether the bucket there is held.
