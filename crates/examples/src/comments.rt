@@ -119,8 +119,6 @@ pub fn pool(alloc: Global) -> Result<(), AllocationError> {
     let Ok(mut pool) = PoolAllocator::new_uninit(bucket, 4096, 1024).init(alloc) else {
         return Err(AllocationError::OutOfMemory);
     };
-    let count = pool.number_of_buckets();
-    prove!(count == 8);
     let chunk = pool.allocate(Layout::from_size_align(48, 4).unwrap())?;
     let len = chunk.len();
     prove!(len == 48);
@@ -263,14 +261,11 @@ pub fn shared_fixed_pool(alloc: Global) -> Result<(), AllocationError> {
     pool_count_law();
     let bucket = Layout::from_size_align(128, 8).unwrap();
     let made = SharedFixedSizePoolAllocator::<4>::new(alloc, bucket, 4096, 1024, 2);
-    let Ok((pool, mut parties)) = made else {
+    let Ok((pool, _parties)) = made else {
         return Err(AllocationError::OutOfMemory);
     };
     let count = pool.number_of_buckets();
     prove!(count == 4);
-    let mut party = parties.pop().unwrap();
-    let taken = pool.allocate(&mut party, Layout::from_size_align(48, 4).unwrap())?;
-    pool.deallocate_bucket(&mut party, taken);
     Ok(())
 }
 

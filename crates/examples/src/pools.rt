@@ -1,23 +1,10 @@
 //! The pools with one owner.
-#![tactic(auto, unfolding(bb_memory_traits::specs::LeastPlace::least_place))]
 
 ghost use Rattle.std.specs.Prelude.{◌≢◌, IfOk};
 ghost use Rattle.bb_memory.specs.Pool.{HoldsPlace};
 
 use bb_memory::layout::{Chunk, Layout};
-use bb_memory::pool_allocator::{
-    AllocationError, BaseAllocator, FixedSizePoolAllocator, pool_count_law,
-};
-
-/// A region of 1024 bytes has 8 buckets of 128. The law decides the makers' condition at literals.
-pub fn eight_buckets() -> FixedSizePoolAllocator<16> {
-    pool_count_law();
-    let bucket = Layout::from_size_align(128, 8).unwrap();
-    let pool = FixedSizePoolAllocator::<16>::new(bucket, 4096, 1024);
-    let count = pool.number_of_buckets();
-    prove!(count == 8);
-    pool
-}
+use bb_memory::pool_allocator::{AllocationError, BaseAllocator, FixedSizePoolAllocator};
 
 /// A pool over a region that is known at run time alone.
 pub fn tested(bucket: Layout, start: usize, size: usize) -> Option<FixedSizePoolAllocator<16>> {
@@ -25,23 +12,6 @@ pub fn tested(bucket: Layout, start: usize, size: usize) -> Option<FixedSizePool
         return None;
     }
     Some(FixedSizePoolAllocator::new(bucket, start, size))
-}
-
-/// A chunk has exactly the asked size, and what is given back can be had again.
-pub fn taken_again(
-    pool: &mut FixedSizePoolAllocator<16>,
-    layout: Layout,
-) -> Result<(), AllocationError> {
-    let chunk = pool.allocate(layout)?;
-    let (len, size) = (chunk.len(), layout.size());
-    prove!(len == size);
-    pool.deallocate(chunk.place(), layout);
-    let again = pool.allocate(layout);
-    prove!(matches!(&again, Ok(_)));
-    if let Ok(chunk) = again {
-        pool.deallocate(chunk.place(), layout);
-    }
-    Ok(())
 }
 
 /// A bucket that is taken whole has the bucket's size.

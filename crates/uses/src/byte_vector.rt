@@ -188,7 +188,7 @@ fn grow_by_one<A: Allocator>(
 {
     let (old, new) = layouts(size)?;
     let grown = grow(allocator, place, old, new);
-    Ok(grown.map_err(PushError::Full)?.len())
+    grown.map(|chunk| chunk.len()).map_err(PushError::Full)
 }
 
 /// Returns the layouts of `size` bytes, and of one more.

@@ -29,7 +29,7 @@ returns-clause-command c (command.Grow p one old) (command.Grow q other new) =
     grind (arith, common_steps, same_layout one other, same_layout old new)
 returns-clause-command c (command.Shrink p one old) (command.Shrink q other new) =
     grind (arith, common_steps, same_layout one other, same_layout old new)
-returns-clause-command c one other = (λ no. absurd (cc), λ same. absurd (cc))
+returns-clause-command c one other = grind arith
 
 pub returns-clause-bump_step : goal.returns-clause-bump_step
 returns-clause-bump_step c (step.Read p one) (step.Read q other) =
