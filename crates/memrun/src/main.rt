@@ -3,16 +3,12 @@
 //! exit status.
 #![tactic(auto)]
 
-use script_runner::{Status, run};
+use script_runner::run;
 use std::io;
-use std::io::BufWriter;
 use std::process::ExitCode;
 
 fn main(rt: HostRuntime) -> ExitCode {
-    let status = match BufWriter::new(rt.alloc(), io::writer(&rt)) {
-        Ok(mut output) => run(rt.alloc(), rt.reader(), &mut output),
-        Err(_) => Status::OutOfMemory,
-    };
+    let status = run(rt.alloc(), rt.reader(), &mut io::writer(&rt));
     if let Some(text) = status.message() {
         let _ = eprintln!(rt; "memrun: {text}");
     }
