@@ -1,5 +1,2 @@
 mod Layouts
-mod ScriptLines
-mod Sending
-mod Tables
 mod Telling

@@ -18,7 +18,7 @@ use Rattle.bb_memory_geometry.specs.Geometry.{MayBeCut}
 use Rattle.script_words.specs.Words.{Words, words, words_then, region_of, bounds_numbers, name_line}
 use Rattle.script_words.specs.declared.words.Bounds.{Bounds}
 use Rattle.script_words.specs.declared.words.Numbers.{Numbers}
-use Rattle.script_runner.specs.Scripts.{Rules}
+use Rattle.script_engine.specs.Scripts.{Rules}
 use Rattle.script_runner.specs.declared.kinds.pool.PoolPlan.{PoolPlan}
 use Rattle.script_words.specs.declared.words.Numbers.TheVariants.{One, Two, Five, Four}
 use Rattle.bb_memory_traits.specs.declared.allocator.AllocationError.TheVariants as refused

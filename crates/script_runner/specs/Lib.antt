@@ -1,5 +1,4 @@
 pub mod Allocators
-pub mod Inputs
+pub mod Kinds
 pub mod LoanPool
-pub mod Scripts
 pub mod Steps

@@ -1,9 +1,9 @@
 //! Laws of every input and every status. Nothing here does anything: each contract is a law.
 ghost use Rattle.std.specs.Prelude.{◌≡◌, ◌↔◌, List, ℕ, IsTrue};
-ghost use Rattle.script_runner.specs.Scripts.{Status};
+ghost use Rattle.script_engine.specs.declared.status.Status.{Status};
 ghost use Rattle.script_words.specs.Words.{lines_of, AreLines};
 
-use crate::status::Status;
+use script_engine::status::Status;
 
 /// The lines of an input: none of them has a line feed, and each is ended by one, the last perhaps by the end of the input.
 /// An input has these lines and no others. It does nothing: its contract is the law.

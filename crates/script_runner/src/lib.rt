@@ -3,21 +3,16 @@
 //!
 //! The files, in the order in which to read them:
 //!
-//! - `running`: from the bytes of a script to the bytes that it is answered. `status`: how a run ends. `laws`: what holds of
-//!   every input and every status.
-//! - `engine`, what all kinds of scripts share. `driving` says what a kind of script has to have, and runs a script of a kind;
-//!   `script` cuts the input into lines and reads them.
+//! - `running`: from the bytes of a script to the bytes that it is answered. `laws`: what holds of every input and every status.
 //! - `kinds`, the table of the kinds: `allocators` and `pool`, `steps` for both machines, `loan_pool`.
 //!
-//! The words of a line are those of crate `script_words`.
+//! What all kinds share is crate `script_engine`, and the words of a line crate `script_words`.
 #![tactic(auto)]
 
-mod engine;
 mod kinds;
 mod laws;
 mod running;
-mod status;
 
 pub use laws::{equality_law, lines_law};
 pub use running::run;
-pub use status::Status;
+pub use script_engine::status::Status;

@@ -6,7 +6,6 @@ ghost use Rattle.bb_memory_owned.specs.OneChunk.{StandsFor as OneChunkStandsFor}
 ghost use Rattle.bb_memory_traits.specs.BumpObject.{StandsFor as BumpStandsFor};
 ghost use Rattle.bb_memory_traits.specs.Chunk.{Chunk};
 
-use crate::engine::driving::ScriptTarget;
 use bb_memory_bump::bump_allocator::BumpAllocator;
 use bb_memory_owned::one_chunk_allocator::OneChunkAllocator;
 use bb_memory_runs::{run_base, run_full};
@@ -14,6 +13,7 @@ use bb_memory_traits::allocator::{
     AllocationError, AllocationGrowError, AllocationShrinkError, Command, Reply,
 };
 use bb_memory_traits::layout::Chunk;
+use script_engine::driving::ScriptKind;
 use script_words::words::{
     Bounds, Labelled, Numbers, Text, is_word, layout, region, write_labelled,
 };
@@ -71,7 +71,9 @@ impl<A: ScriptedAllocator> Model for WithLiveList<A> {
     ghost invariant = { λ a. A.stands_for a.allocator a.live.items };
 }
 
-impl<A: ScriptedAllocator> ScriptTarget for WithLiveList<A> {
+impl<A: ScriptedAllocator> ScriptKind for WithLiveList<A> {
+    type State = WithLiveList<A>;
+
     type Header = A::Header;
 
     type Command = Command;
@@ -88,7 +90,7 @@ impl<A: ScriptedAllocator> ScriptTarget for WithLiveList<A> {
         A::read_header(name, numbers)
     }
 
-    fn make(alloc: Global, header: A::Header) -> Result<Self, AllocError> {
+    fn make(alloc: Global, header: A::Header) -> Result<WithLiveList<A>, AllocError> {
         let allocator = A::make(alloc, header)?;
         let live = Vec::new(alloc);
         Ok(WithLiveList { allocator, live })
@@ -115,8 +117,12 @@ impl<A: ScriptedAllocator> ScriptTarget for WithLiveList<A> {
         }
     }
 
-    fn run(&mut self, _alloc: Global, commands: &[Command]) -> Result<Vec<Reply>, AllocError> {
-        self.allocator.run(&mut self.live, commands)
+    fn run(
+        state: &mut WithLiveList<A>,
+        _alloc: Global,
+        commands: &[Command],
+    ) -> Result<Vec<Reply>, AllocError> {
+        state.allocator.run(&mut state.live, commands)
     }
 
     fn reply_text(reply: &Reply) -> Text {
@@ -142,8 +148,8 @@ impl<A: ScriptedAllocator> ScriptTarget for WithLiveList<A> {
         }
     }
 
-    fn write_state(&self, line: &mut Vec<u8>) -> Result<(), AllocError> {
-        self.allocator.write_state(self.live.len(), line)
+    fn write_state(state: &WithLiveList<A>, line: &mut Vec<u8>) -> Result<(), AllocError> {
+        state.allocator.write_state(state.live.len(), line)
     }
 }
 

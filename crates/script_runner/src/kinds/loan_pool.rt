@@ -2,18 +2,20 @@
 ghost use Rattle.std.specs.Prelude.{◌≡◌};
 ghost use Rattle.script_runner.specs.LoanPool.{loan_refusal_name, loan_pool_rules};
 
-use crate::engine::driving::ScriptTarget;
 use crate::kinds::allocators::{ScriptedAllocator, refusal};
 use crate::kinds::pool::{PoolPlan, pool_plan};
 use bb_memory_owned::pool_allocator::PoolAllocator;
 use loan_book::{LoanBook, LoanCall, LoanError, LoanReply, run_loans};
+use script_engine::driving::ScriptKind;
 use script_words::words::{Numbers, Text, is_word, to_u32};
 use std::alloc::{AllocError, Global};
 
-/// A loan book over a pool.
-pub type LoanPool = LoanBook<PoolAllocator<Global>>;
+/// Scripts that drive a loan book over a pool.
+pub struct LoanPool {}
 
-impl ScriptTarget for LoanPool {
+impl ScriptKind for LoanPool {
+    type State = LoanBook<PoolAllocator<Global>>;
+
     type Header = PoolPlan;
 
     type Command = LoanCall;
@@ -30,7 +32,7 @@ impl ScriptTarget for LoanPool {
         pool_plan(b"loan-pool", name, numbers)
     }
 
-    fn make(alloc: Global, header: PoolPlan) -> Result<Self, AllocError> {
+    fn make(alloc: Global, header: PoolPlan) -> Result<Self::State, AllocError> {
         let pool = <PoolAllocator<Global> as ScriptedAllocator>::make(alloc, header)?;
         Ok(LoanBook::new(alloc, pool))
     }
@@ -55,8 +57,12 @@ impl ScriptTarget for LoanPool {
         }
     }
 
-    fn run(&mut self, alloc: Global, calls: &[LoanCall]) -> Result<Vec<LoanReply>, AllocError> {
-        let replies = run_loans(alloc, self, calls)?;
+    fn run(
+        book: &mut Self::State,
+        alloc: Global,
+        calls: &[LoanCall],
+    ) -> Result<Vec<LoanReply>, AllocError> {
+        let replies = run_loans(alloc, book, calls)?;
         if replies.contains(&LoanReply::Refused(LoanError::Memory)) {
             return Err(AllocError);
         }
@@ -78,7 +84,7 @@ impl ScriptTarget for LoanPool {
         }
     }
 
-    fn write_state(&self, _line: &mut Vec<u8>) -> Result<(), AllocError> {
+    fn write_state(_: &Self::State, _: &mut Vec<u8>) -> Result<(), AllocError> {
         Ok(())
     }
 }

@@ -1,15 +1,20 @@
 //! Machines that a script drives by their steps.
 ghost use Rattle.script_runner.specs.Steps.{bump_step_rules, pool_step_rules};
 
-use crate::engine::driving::ScriptTarget;
 use bb_memory_bump_machine::steps::{BumpOutcome, BumpStep, BumpWorld};
 use bb_memory_pool_machine::steps::{PoolOutcome, PoolStep, PoolWorld};
+use script_engine::driving::ScriptKind;
 use script_words::words::{
     Bounds, Numbers, PARTIES, Text, is_word, layout, party_of, region, to_u32, write_words,
 };
 use std::alloc::{AllocError, Global};
 
-impl ScriptTarget for BumpWorld {
+/// Scripts that take a bump's steps.
+pub struct BumpSteps {}
+
+impl ScriptKind for BumpSteps {
+    type State = BumpWorld;
+
     type Header = Bounds;
 
     type Command = BumpStep;
@@ -26,7 +31,7 @@ impl ScriptTarget for BumpWorld {
         region(b"steps-bump", name, numbers)
     }
 
-    fn make(alloc: Global, header: Bounds) -> Result<Self, AllocError> {
+    fn make(alloc: Global, header: Bounds) -> Result<BumpWorld, AllocError> {
         BumpWorld::new(alloc, header.start, header.size, PARTIES)
     }
 
@@ -52,8 +57,12 @@ impl ScriptTarget for BumpWorld {
         }
     }
 
-    fn run(&mut self, _alloc: Global, steps: &[BumpStep]) -> Result<Vec<BumpOutcome>, AllocError> {
-        self.replay(steps)
+    fn run(
+        world: &mut BumpWorld,
+        _alloc: Global,
+        steps: &[BumpStep],
+    ) -> Result<Vec<BumpOutcome>, AllocError> {
+        world.replay(steps)
     }
 
     fn reply_text(outcome: &BumpOutcome) -> Text {
@@ -71,14 +80,19 @@ impl ScriptTarget for BumpWorld {
         }
     }
 
-    fn write_state(&self, line: &mut Vec<u8>) -> Result<(), AllocError> {
-        write_words(b"used", Numbers::One(self.used_space()), b"\n", line)
+    fn write_state(world: &BumpWorld, line: &mut Vec<u8>) -> Result<(), AllocError> {
+        write_words(b"used", Numbers::One(world.used_space()), b"\n", line)
     }
 }
 
 const MOST_BUCKETS: usize = 4096;
 
-impl ScriptTarget for PoolWorld {
+/// Scripts that take a pool's steps.
+pub struct PoolSteps {}
+
+impl ScriptKind for PoolSteps {
+    type State = PoolWorld;
+
     type Header = u32;
 
     type Command = PoolStep;
@@ -100,7 +114,7 @@ impl ScriptTarget for PoolWorld {
         }
     }
 
-    fn make(alloc: Global, header: u32) -> Result<Self, AllocError> {
+    fn make(alloc: Global, header: u32) -> Result<PoolWorld, AllocError> {
         PoolWorld::new(alloc, header, PARTIES)
     }
 
@@ -119,8 +133,12 @@ impl ScriptTarget for PoolWorld {
         }
     }
 
-    fn run(&mut self, _alloc: Global, steps: &[PoolStep]) -> Result<Vec<PoolOutcome>, AllocError> {
-        self.replay(steps)
+    fn run(
+        world: &mut PoolWorld,
+        _alloc: Global,
+        steps: &[PoolStep],
+    ) -> Result<Vec<PoolOutcome>, AllocError> {
+        world.replay(steps)
     }
 
     fn reply_text(outcome: &PoolOutcome) -> Text {
@@ -144,10 +162,10 @@ impl ScriptTarget for PoolWorld {
         }
     }
 
-    fn write_state(&self, line: &mut Vec<u8>) -> Result<(), AllocError> {
+    fn write_state(world: &PoolWorld, line: &mut Vec<u8>) -> Result<(), AllocError> {
         line.extend_from_slice(b"held")?;
-        for bucket in 0..self.number_of_buckets() {
-            match self.holder(bucket) {
+        for bucket in 0..world.number_of_buckets() {
+            match world.holder(bucket) {
                 Some(party) => write_words(b"", Numbers::One(party as usize), b"", line)?,
                 None => line.extend_from_slice(b" -")?,
             }

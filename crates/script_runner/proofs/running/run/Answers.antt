@@ -1,7 +1,14 @@
-use Rattle.script_runner.proofs.Sending.{keeps_same, left_all}
+use Rattle.std.proofs.Common.{refl}
+use Rattle.script_engine.proofs.Sending.{keeps_same, left_all}
+use Rattle.script_runner.specs.Kinds.{kinds}
 use Rattle.script_runner.proofs.running.run.Goals as goal
 
+pub answer-requires : goal.answer-requires
+unfolding kinds
+answer-requires g c = refl
+
 pub returns-in-Ok : goal.returns-in-Ok
+unfolding kinds
 returns-in-Ok g c =
     let input = c.read_to_end.new.buf.items in
     let all = left_all (g.R.Read.remaining c.args.reader) c.new-input.result.items input c.new-input.ensures.items

@@ -1,0 +1,4 @@
+mod ScriptLines
+pub mod Sending
+mod Tables
+pub mod Telling

@@ -1,0 +1,122 @@
+-- Scripts of any kind: the rules of a kind, what a run writes, and how it ends.
+use Rattle.std.specs.Io.KnownBytes.{Appends}
+use Rattle.std.specs.List.{flat_map}
+use Rattle.std.specs.Prelude.{List, ◌⊎◌, [], ◌∷◌, ℕ, codes, Bool, true, not, ◌&&◌, IsTrue, ◌≡◌, ◌++◌, All, Option, Some}
+use Rattle.std.specs.Prelude.{map, slice_get, take, None}
+use Rattle.std.specs.Str.{bytes_eq}
+use Rattle.script_words.specs.Words.{Words, words, words_text, MayStand}
+use Rattle.script_words.specs.declared.words.Numbers.{Numbers}
+use Rattle.script_engine.specs.declared.script.Line.TheVariants.{Command, Show}
+use Rattle.script_engine.specs.declared.status.Status.TheVariants.{Done, Unreadable, InputFailed, OutputFailed, OutOfMemory}
+pub use Rattle.script_engine.specs.declared.script.Line.{Line}
+pub use Rattle.script_engine.specs.declared.status.Status.{Status}
+
+-- the rules of the scripts that drive what has states S, is made by headers O, and takes commands C, each with a reply R
+pub record Rules (S O C R : Type 0) : Type 1 where
+  pub name : List ℕ
+  pub is_header : O → Type 0
+  pub header_numbers : O → Numbers
+  pub is_command : C → Type 0
+  pub command_words : C → Words
+  pub can_show : Bool
+  pub starts : O → S → Type 0
+  pub runs : S → List C → List R → S → Type 0
+  pub reply_text : R → List ℕ
+  pub state_text : S → List ℕ
+
+-- the first line: the kind's name, and the numbers of what is to be made
+abbrev pub header_words : {S O C R : Type 0} → Rules S O C R → O → Words
+header_words rules header = words rules.name (rules.header_numbers header)
+
+-- a line after the first: a command, or a show where the kind has it
+abbrev pub IsLine : {S O C R : Type 0} → Rules S O C R → Line C → Type 0
+IsLine rules (Command command) = rules.is_command command × MayStand (rules.command_words command)
+IsLine rules Show = IsTrue rules.can_show
+
+abbrev pub line_text : {S O C R : Type 0} → Rules S O C R → Line C → List ℕ
+line_text rules (Command command) = words_text (rules.command_words command)
+line_text rules Show = codes "show"
+
+-- a kind of script: its rules, over types of its own
+pub record Kind : Type 1 where
+  pub State : Type 0
+  pub Header : Type 0
+  pub Command : Type 0
+  pub Reply : Type 0
+  pub rules : Rules State Header Command Reply
+
+abbrev pub kind : {S O C R : Type 0} → Rules S O C R → Kind
+kind {S} {O} {C} {R} rules = record { State = S; Header = O; Command = C; Reply = R; rules = rules }
+
+abbrev pub SomeOf : List Kind → (Kind → Type 0) → Type 0
+SomeOf [] Holds = ⊥
+SomeOf (one ∷ others) Holds = Holds one ⊎ SomeOf others Holds
+
+-- the name is no kind's of the table
+abbrev pub is_new : List ℕ → List Kind → Bool
+is_new name [] = true
+is_new name (one ∷ others) = not (bytes_eq name one.rules.name) && is_new name others
+
+-- no two kinds have one name: a line is the first line of at most one kind
+abbrev pub are_apart : List Kind → Bool
+are_apart [] = true
+are_apart (one ∷ others) = is_new one.rules.name others && are_apart others
+
+abbrev pub Begins : List ℕ → List ℕ → Type 0
+Begins sent text = (rest : List ℕ) × (text ≡ sent ++ rest)
+
+-- known bytes grow by a beginning of the text
+abbrev pub AppendsPart : Option (List ℕ) → Option (List ℕ) → List ℕ → Type 0
+AppendsPart old new text = (sent : List ℕ) × Begins sent text × Appends old new sent
+
+-- all is sent and the status is returned, or a beginning is and the output failed
+abbrev pub Sends : Option (List ℕ) → Option (List ℕ) → List ℕ → Status → Status → Type 0
+Sends old new text status ends = (ends ≡ status) × Appends old new text ⊎ (ends ≡ OutputFailed) × AppendsPart old new text
+
+-- the line may stand behind the first
+abbrev pub IsLineText : {S O C R : Type 0} → Rules S O C R → List ℕ → Type 0
+IsLineText {S} {O} {C} {R} rules text = (line : Line C) × IsLine rules line × (text ≡ line_text rules line)
+
+-- the line at this index, counted from 0, is the first that is not readable
+abbrev pub IsFirstUnreadable : (List ℕ → Type 0) → List (List ℕ) → ℕ → Type 0
+IsFirstUnreadable IsReadable lines index =
+    All IsReadable (take index lines) × (line : List ℕ) × (slice_get lines index ≡ Some line) × ¬ IsReadable line
+
+-- the lines behind the first write the script, each as it may be
+abbrev pub AreScript : {S O C R : Type 0} → Rules S O C R → List (List ℕ) → List (Line C) → Type 0
+AreScript rules lines script = All (IsLine rules) script × (lines ≡ map (line_text rules) script)
+
+-- A single line: a command waits. A show has all that waits run at once; the replies are written, and then the state.
+abbrev pub IsStep : {S O C R : Type 0} → Rules S O C R → S → List C → Line C → List ℕ → S → List C → Type 0
+IsStep rules old waiting (Command command) text new left = (new ≡ old) × (left ≡ waiting ++ command ∷ []) × (text ≡ [])
+IsStep {S} {O} {C} {R} rules old waiting Show text new left =
+    (replies : List R) × rules.runs old waiting replies new × (left ≡ [])
+    × (text ≡ flat_map rules.reply_text replies ++ rules.state_text new)
+
+-- lines, one after another
+abbrev pub IsTold : {S O C R : Type 0} → Rules S O C R → S → List C → List (Line C) → List ℕ → S → List C → Type 0
+IsTold rules old waiting [] text new left = (new ≡ old) × (left ≡ waiting) × (text ≡ [])
+IsTold {S} {O} {C} {R} rules old waiting (line ∷ lines) text new left =
+    (mid : S) × (later : List C) × (first rest : List ℕ) × IsStep rules old waiting line first mid later
+    × IsTold rules mid later lines rest new left × (text ≡ first ++ rest)
+
+-- the lines of a script, and then the run of what still waits
+abbrev pub IsPlayed : {S O C R : Type 0} → Rules S O C R → S → List (Line C) → List ℕ → S → Type 0
+IsPlayed {S} {O} {C} {R} rules old script text new =
+    (mid : S) × (waiting : List C) × (front : List ℕ) × (replies : List R) × IsTold rules old [] script front mid waiting
+    × rules.runs mid waiting replies new × (text ≡ front ++ flat_map rules.reply_text replies)
+
+abbrev pub code_of : Status → ℕ
+code_of Done = 0
+code_of Unreadable = 2
+code_of InputFailed = 3
+code_of OutputFailed = 3
+code_of OutOfMemory = 4
+
+-- the text on standard error
+abbrev pub message_of : Status → Option (List ℕ)
+message_of Done = None
+message_of Unreadable = None
+message_of InputFailed = Some (codes "input failed")
+message_of OutputFailed = Some (codes "output failed")
+message_of OutOfMemory = Some (codes "out of memory")
