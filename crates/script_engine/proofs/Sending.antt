@@ -3,8 +3,7 @@ use Rattle.std.proofs.Common.{arith, tests, ◌==◌, ◌≡◌, ◌∷◌, IfSo
 use Rattle.std.proofs.Common.{drop, length, Option, Some, None, true, inl, inr, refl, sym, ap, ◌∙◌}
 use Rattle.std.specs.Io.KnownBytes.{Appends, Keeps}
 use Rattle.std.proofs.lemmas.List.{append_assoc, append-nil, take-append-drop, take_rest}
-use Rattle.script_engine.specs.Inputs.{Ends, IsAnswered, IsOutput, IsUnreadable, IsLeft}
-use Rattle.script_engine.specs.Scripts.{Kind, Status, AppendsPart, Sends}
+use Rattle.script_engine.specs.Scripts.{Ends, IsAnswered, IsOutput, IsUnreadable, IsLeft, Kind, Status, AppendsPart, Sends}
 use Rattle.script_engine.specs.declared.status.Status.TheVariants.{Done, Unreadable, OutputFailed, OutOfMemory}
 use Rattle.script_words.specs.Words.{unreadable_text}
 
@@ -75,8 +74,8 @@ ends_failed input old new text (sent, begins, wrote) output = record {
 }
 
 -- a script is answered, or a write fails
-pub ends_done : {table : List Kind} (input : List ℕ) (old new : Option (List ℕ)) (text : List ℕ) (ends : Status) → IsAnswered table input text
-    → Sends old new text Done ends → Ends table input old new ends
+pub ends_done : {table : List Kind} (input : List ℕ) (old new : Option (List ℕ)) (text : List ℕ) (ends : Status)
+    → IsAnswered table input text → Sends old new text Done ends → Ends table input old new ends
 ends_done input old new text ends answered (inl (is, wrote)) = rw is (record {
   done = λ same. (text, answered, wrote);
   unreadable = λ same. absurd (cc);
@@ -87,8 +86,8 @@ ends_done input old new text ends answered (inl (is, wrote)) = rw is (record {
 ends_done input old new text ends answered (inr (is, part)) = rw is (ends_failed input old new text part (inl answered))
 
 -- a line is unreadable, or a write fails
-pub ends_unreadable : {table : List Kind} (input : List ℕ) (old new : Option (List ℕ)) (number : ℕ) (ends : Status) → IsUnreadable table input number
-    → Sends old new (unreadable_text number) Unreadable ends → Ends table input old new ends
+pub ends_unreadable : {table : List Kind} (input : List ℕ) (old new : Option (List ℕ)) (number : ℕ) (ends : Status)
+    → IsUnreadable table input number → Sends old new (unreadable_text number) Unreadable ends → Ends table input old new ends
 ends_unreadable input old new number ends unread (inl (is, wrote)) = rw is (record {
   done = λ same. absurd (cc);
   unreadable = λ same. (number, unread, wrote);

@@ -1,7 +1,6 @@
 //! From the bytes of an input to the bytes that it is answered, by a table of kinds.
 ghost use Rattle.std.specs.Prelude.{◌≡◌, true};
-ghost use Rattle.script_engine.specs.Scripts.{Sends, are_apart};
-ghost use Rattle.script_engine.specs.Inputs.{IsOutcome, Ends};
+ghost use Rattle.script_engine.specs.Scripts.{Sends, are_apart, IsOutcome, Ends};
 ghost use Rattle.script_words.specs.Words.{lines_of};
 
 use crate::driving::Outcome;

@@ -1,9 +1,9 @@
 //! The trait of the kinds of scripts, and from the lines of a script behind its header to the lines of its replies.
 ghost use Rattle.std.specs.Prelude.{◌≡◌, ◌++◌, ◌∷◌, [], List, ℕ, IfOk, OnOk, IfSome, Some};
 ghost use Rattle.std.specs.List.{flat_map};
-ghost use Rattle.script_engine.specs.Inputs.{IsOutcome};
+ghost use Rattle.script_engine.specs.Scripts.{IsOutcome, kind, header_words, IsPlayed, IsStep};
+ghost use Rattle.script_engine.specs.Scripts.{Rules};
 ghost use Rattle.script_words.specs.Words.{MayStand, words_text, lines_of, text_bytes};
-ghost use Rattle.script_engine.specs.Scripts.{kind, header_words, IsPlayed, IsStep, Rules};
 
 use crate::script::{Line, read_script};
 use script_words::words::{Numbers, Text};
@@ -11,7 +11,7 @@ use std::alloc::{AllocError, Global};
 
 /// A kind of script: what it drives is made by a header, takes commands, and gives one reply to each.
 pub trait ScriptKind {
-    /// What a script drives.
+    /// The value that a script drives.
     type State: Drop;
 
     /// The value that a header names.

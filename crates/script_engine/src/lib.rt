@@ -1,11 +1,7 @@
-//! What all kinds of scripts share: from the bytes of an input to the bytes that it is answered. A kind says how its lines are read,
-//! run and shown.
+//! Scripts of any kind: from the bytes of an input to the bytes that it is answered.
 //!
-//! The files, in the order in which to read them:
-//!
-//! - `driving` says what a kind of script has to have, and runs a script of a kind; `script` cuts the input into lines and
-//!   reads them.
-//! - `table`: kinds, of which the first line chooses one. `answering` writes what an input is answered; `status`: how that ends.
+//! `driving` says what a kind has to have, and runs a script of one; `script` cuts an input into lines, and reads them; `table`
+//! chooses a kind by the first line; `answering` writes what an input is answered, and `status` says how that ends.
 #![tactic(auto)]
 
 pub mod answering;

@@ -1,7 +1,6 @@
 //! Tables of kinds: a script is run by the kind that its first line has.
 ghost use Rattle.std.specs.Prelude.{◌≡◌, ◌∷◌, List, true, []};
-ghost use Rattle.script_engine.specs.Inputs.{IsOutcome};
-ghost use Rattle.script_engine.specs.Scripts.{Kind, are_apart, kind};
+ghost use Rattle.script_engine.specs.Scripts.{IsOutcome, Kind, are_apart, kind};
 ghost use Rattle.script_words.specs.Words.{words, words_text, MayStand, lines_of};
 
 use crate::driving::{Outcome, ScriptKind, run_script};

@@ -1,7 +1,7 @@
 //! From the bytes of a script to the bytes that it is answered.
 ghost use Rattle.std.specs.Prelude.{◌≡◌, ℕ, List};
 ghost use Rattle.std.specs.Io.KnownBytes.{Keeps, Appends};
-ghost use Rattle.script_engine.specs.Inputs.{IsAnswered, IsUnreadable, BeginsOutput, IsLeft};
+ghost use Rattle.script_engine.specs.Scripts.{IsAnswered, IsUnreadable, BeginsOutput, IsLeft};
 ghost use Rattle.script_runner.specs.Kinds.{kinds};
 ghost use Rattle.script_words.specs.Words.{unreadable_text};
 
