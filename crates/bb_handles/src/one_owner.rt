@@ -89,14 +89,15 @@ impl Gives<PoolInfo> for Pool {
     }
 
     fn show(&mut self) -> PoolInfo {
+        let pool = &self.pool;
         PoolInfo {
-            start_address: self.pool.start_address(),
-            size: self.pool.size(),
-            bucket_size: self.pool.bucket_size(),
-            max_alignment: self.pool.max_alignment(),
-            number_of_buckets: self.pool.number_of_buckets() as usize,
-            held_buckets: self.pool.held_buckets() as usize,
-            greatest_held: self.pool.greatest_held() as usize,
+            start_address: pool.start_address(),
+            size: pool.size(),
+            bucket_size: pool.bucket_size(),
+            max_alignment: pool.max_alignment(),
+            number_of_buckets: pool.number_of_buckets() as usize,
+            held_buckets: pool.held_buckets() as usize,
+            greatest_held: pool.greatest_held() as usize,
         }
     }
 }

@@ -1,5 +1,5 @@
 //! Detached buckets behind handles, which go from party to party of a shared pool.
-ghost use Rattle.std.specs.Prelude.{◌≡◌, MatchOption, Some};
+ghost use Rattle.std.specs.Prelude.{◌≡◌, IfOk, MatchOption, Some};
 ghost use Rattle.bb_handles.specs.Answers.{no_figure, refused};
 ghost use Rattle.bb_handles.specs.declared.code.TheConstants.{UNINITIALIZED as uninitialized};
 ghost use Rattle.bb_handles.specs.Calls.{Answers, AnswersFree, AnswersMake, AnswersOfBoth, IfBoth};
@@ -59,7 +59,8 @@ impl JoinedPool {
     /// Takes the bucket out of `detached`, where it is of the party's pool and waits for no reader, or returns why it stays.
     fn take_inside(&self, detached: &mut Detached) -> Result<DetachedBucket, u32>
         requires { KnowsInside self.now detached.old }
-        ensures { TakesInside self.now detached.old result detached.new }
+        ensures takes { TakesInside self.now detached.old result detached.new }
+        ensures its { IfOk result (λ token. token.allocator ≡ self.now.party.allocator) }
     {
         if detached.inside.is_none() {
             return Err(code::DETACHED_EMPTY);

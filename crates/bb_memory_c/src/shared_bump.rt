@@ -101,7 +101,9 @@ impl Shares<JoinedBump> for BumpParties {
     ghost knows = { Knows };
 
     fn join_last(&mut self, alloc: Global) -> Result<Box<JoinedBump>, u32> {
-        let party = self.parties.pop().ok_or(code::NO_PARTY)?;
+        let Some(party) = self.parties.pop() else {
+            return Err(code::NO_PARTY);
+        };
         let Ok(bump) = Arc::try_clone(&self.bump) else {
             self.parties.push_reserved(party);
             return Err(code::MALLOC_REFUSED);

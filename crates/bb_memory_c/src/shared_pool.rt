@@ -144,10 +144,7 @@ impl JoinedPool {
             greatest: 0,
             gap: [0; 16],
         };
-        Box::new(alloc, joined).map_err(|refused| {
-            let JoinedPool { party, .. } = refused.value;
-            party.into_inner()
-        })
+        Box::new(alloc, joined).map_err(|refused| refused.value.party.into_inner())
     }
 
     /// Tells whether the bucket of this number is cached.
@@ -345,7 +342,9 @@ impl Shares<JoinedPool> for PoolParties {
     ghost leaves = { Leaves };
 
     fn join_last(&mut self, alloc: Global) -> Result<Box<JoinedPool>, u32> {
-        let party = self.parties.pop().ok_or(code::NO_PARTY)?;
+        let Some(party) = self.parties.pop() else {
+            return Err(code::NO_PARTY);
+        };
         match JoinedPool::new(alloc, &self.pool, party) {
             Ok(joined) => Ok(joined),
             Err(party) => {
