@@ -19,7 +19,6 @@ pub fn refused_and_released() -> Result<(), AllocationError> {
     prove!(matches!(&refused, Err(AllocationError::SizeIsZero)));
     let chunk = bump.allocate(forty_eight())?;
     bump.deallocate(chunk.place(), forty_eight());
-    let free = bump.free_space();
-    prove!(free == 1024);
+    prove!(bump.free_space() == 1024);
     Ok(())
 }

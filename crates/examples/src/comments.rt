@@ -2,8 +2,12 @@
 #![tactic(auto, unfolding(bb_memory_traits::specs::LeastPlace::least_place))]
 
 ghost use Rattle.std.specs.Prelude.{◌≡◌, ◌<◌, []};
+ghost use Rattle.bb_memory.specs.Chunk.{region_at};
+ghost use Rattle.bb_memory.specs.Geometry.{MayBeCut};
 ghost use Rattle.bb_memory.specs.OneChunk.{StandsFor};
+ghost use Rattle.bb_memory.specs.PoolObject.{IsCut, PoolGeometry};
 
+use super::bump::forty_eight;
 use bb_memory::allocator::{
     AllocationError, Allocator, BaseAllocator, Command, run_base, run_full,
 };
@@ -22,128 +26,109 @@ use std::alloc::{AllocError, Global};
 
 pub fn layout() -> Result<(), LayoutError> {
     let layout = Layout::from_size_align(48, 4)?;
-    let (size, align) = (layout.size(), layout.align());
-    prove!(size == 48 && align == 4);
+    prove!(layout.size() == 48 && layout.align() == 4);
     Ok(())
 }
 
 pub fn rounding() -> Result<(), LayoutError> {
     let eight = Layout::from_size_align(16, 8)?;
-    let rounded = round_up(4097, eight.align());
-    prove!(rounded == Some(4104));
+    prove!(round_up(4097, eight.align()) == Some(4104));
     Ok(())
 }
 
 pub fn parts_of_a_chunk() {
-    let Some(chunk) = Chunk::new(4096, 64) else {
-        return;
-    };
+    let chunk = Chunk::new(4096, 64).unwrap();
     let (head, body) = (chunk.first(16), chunk.behind(16));
-    let (len, place) = (head.len(), body.place());
-    prove!(len == 16 && place == 4112);
+    prove!(head.len() == 16 && body.place() == 4112);
 }
 
 pub fn region(alloc: Global) -> Result<(), AllocError> {
+    let chunk = Chunk::new(4100, 4).unwrap();
     let mut region = Region::new(4096, vec![in alloc; 7; 1024]?);
-    let Some(chunk) = Chunk::new(4100, 4) else {
-        return Ok(());
-    };
     region.write(chunk, &[1, 2, 3, 4]);
-    let first = region.chunk(chunk)[0];
-    prove!(first == 1);
+    prove!(region.chunk(chunk)[0] == 1);
     region.zero(chunk);
-    let first = region.chunk(chunk)[0];
-    prove!(first == 0);
+    prove!(region.chunk(chunk)[0] == 0);
     Ok(())
 }
 
 pub fn run_of_a_bump(alloc: Global) -> Result<(), AllocError> {
     let (mut bump, mut live) = (BumpAllocator::new(4096, 1024), Vec::new(alloc));
-    let layout = Layout::from_size_align(48, 4).unwrap();
-    let commands = [Command::Allocate(layout), Command::Release(0)];
+    let commands = [Command::Allocate(forty_eight()), Command::Release(0)];
     let _replies = run_base(&mut bump, &mut live, &commands)?;
-    let total = bump.total_space();
-    prove!(total == 1024);
+    prove!(bump.total_space() == 1024);
     Ok(())
 }
 
 pub fn run_of_one_chunk(alloc: Global) -> Result<(), AllocError> {
     let (mut one, mut live) = (OneChunkAllocator::new(4096, 1024), Vec::new(alloc));
-    let (old, new) = (Layout::empty(), Layout::from_size_align(48, 4).unwrap());
-    let commands = [Command::Allocate(old), Command::Grow(0, old, new)];
+    let old = Layout::empty();
+    let commands = [Command::Allocate(old), Command::Grow(0, old, forty_eight())];
     let _replies = run_full(&mut one, &mut live, &commands)?;
-    let size = one.size();
-    prove!(size == 1024);
+    prove!(one.size() == 1024);
     Ok(())
 }
 
 pub fn bump() -> Result<(), AllocationError> {
     let mut bump = BumpAllocator::new(4096, 1024);
-    let layout = Layout::from_size_align(48, 4).unwrap();
-    let chunk = bump.allocate(layout)?;
-    let (place, len, used) = (chunk.place(), chunk.len(), bump.used_space());
-    prove!(place == 4096 && len == 48 && used == 48);
-    bump.deallocate(place, layout);
-    let free = bump.free_space();
-    prove!(free == 1024);
+    let chunk = bump.allocate(forty_eight())?;
+    prove!(chunk.place() == 4096 && chunk.len() == 48 && bump.used_space() == 48);
+    bump.deallocate(chunk.place(), forty_eight());
+    prove!(bump.free_space() == 1024);
     Ok(())
 }
 
 pub fn one_chunk() -> Result<(), AllocationError> {
     let mut one = OneChunkAllocator::new(4096, 1024);
-    let layout = Layout::from_size_align(48, 4).unwrap();
-    let small = Layout::from_size_align(32, 4).unwrap();
-    let chunk = one.allocate(layout)?;
-    let (place, len) = (chunk.place(), chunk.len());
-    prove!(place == 4096 && len == 1024);
-    let chunk = one.shrink(place, layout, small).unwrap();
-    let (same_place, len) = (chunk.place(), chunk.len());
-    prove!(same_place == 4096 && len == 32);
-    one.deallocate(place, layout);
-    let available = one.has_chunk_available();
-    prove!(available);
+    let chunk = one.allocate(forty_eight())?;
+    prove!(chunk.place() == 4096 && chunk.len() == 1024);
+    one.deallocate(chunk.place(), forty_eight());
+    prove!(one.has_chunk_available());
     Ok(())
 }
 
 pub fn one_chunk_held() -> Result<(), AllocationError> {
     let mut one = OneChunkAllocator::new(4096, 1024);
     let chunk = one.allocate(Layout::empty())?;
-    let (here, behind) = (one.holds(chunk.place()), one.holds(4097));
-    prove!(here && !behind);
+    prove!(one.holds(chunk.place()) && !one.holds(4097));
     Ok(())
 }
 
-pub fn pool(alloc: Global) -> Result<(), AllocationError> {
+/// A bucket of 128 bytes at multiples of 8. The region of 1024 bytes at 4096 has room for eight.
+fn bucket_128() -> Layout
+    ensures cut { MayBeCut (region_at 4096 1024) result }
+    ensures eight { (geometry : PoolGeometry) → IsCut (region_at 4096 1024) result geometry
+        → geometry.buckets ≡ 8 }
+    ensures size { result.size ≡ 128 }
+    ensures align { result.align ≡ 8 }
+{
     pool_count_law();
-    let bucket = Layout::from_size_align(128, 8).unwrap();
-    let Ok(mut pool) = PoolAllocator::new_uninit(bucket, 4096, 1024).init(alloc) else {
+    Layout::from_size_align(128, 8).unwrap()
+}
+
+pub fn pool(alloc: Global) -> Result<(), AllocationError> {
+    let Ok(mut pool) = PoolAllocator::new_uninit(bucket_128(), 4096, 1024).init(alloc) else {
         return Err(AllocationError::OutOfMemory);
     };
-    let chunk = pool.allocate(Layout::from_size_align(48, 4).unwrap())?;
-    let len = chunk.len();
-    prove!(len == 48);
+    let chunk = pool.allocate(forty_eight())?;
+    prove!(chunk.len() == 48);
     pool.deallocate_bucket(chunk.place());
     Ok(())
 }
 
 pub fn pool_held(pool: &mut PoolAllocator<Global>) -> Result<(), AllocationError> {
     let chunk = pool.allocate(Layout::empty())?;
-    let held = pool.holds(chunk.place());
-    prove!(held);
+    prove!(pool.holds(chunk.place()));
     Ok(())
 }
 
 pub fn fixed_pool() -> Result<(), AllocationError> {
-    pool_count_law();
-    let bucket = Layout::from_size_align(128, 8).unwrap();
+    let bucket = bucket_128();
     let mut pool = FixedSizePoolAllocator::<512>::new(bucket, 4096, 1024);
-    let small = Layout::from_size_align(48, 4).unwrap();
-    let large = Layout::from_size_align(64, 4).unwrap();
-    let chunk = pool.allocate(small)?;
-    let grown = pool.grow(chunk.place(), small, large).unwrap();
-    let (place, len) = (grown.place(), grown.len());
-    prove!(place == chunk.place() && len == 64);
-    pool.deallocate(place, small);
+    let chunk = pool.allocate(forty_eight())?;
+    let grown = pool.grow(chunk.place(), forty_eight(), bucket).unwrap();
+    prove!(grown.place() == chunk.place() && grown.len() == 128);
+    pool.deallocate(grown.place(), bucket);
     Ok(())
 }
 
@@ -156,8 +141,7 @@ pub fn heap(alloc: Global) -> Result<(), AllocationError> {
     let Ok(block) = heap.grow(block, four, six) else {
         return Err(AllocationError::OutOfMemory);
     };
-    let (first, last) = (block.as_slice()[0], block.as_slice()[5]);
-    prove!(first == 7 && last == 0);
+    prove!(block.as_slice()[0] == 7 && block.as_slice()[5] == 0);
     Ok(())
 }
 
@@ -166,37 +150,33 @@ pub fn shared_bump(alloc: Global) -> Result<(), AllocationError> {
         return Err(AllocationError::OutOfMemory);
     };
     let mut party = parties.pop().unwrap();
-    let chunk = shared.allocate(&mut party, Layout::from_size_align(40, 1).unwrap())?;
-    let (place, len) = (chunk.place(), chunk.len());
-    prove!(4096 <= place && len == 40);
+    if let Ok(chunk) = shared.allocate(&mut party, forty_eight()) {
+        prove!(4096 <= chunk.place() && chunk.len() == 48);
+    }
     let bump = shared.into_owner(party);
-    let total = bump.total_space();
-    prove!(total == 64);
+    prove!(bump.total_space() == 64);
     Ok(())
 }
 
 pub fn shared_pool(alloc: Global) -> Result<(), AllocationError> {
-    pool_count_law();
-    let bucket = Layout::from_size_align(128, 8).unwrap();
-    let (pool, mut parties) = SharedPoolAllocator::new(alloc, bucket, 4096, 1024, 1)?;
-    let mut party = parties.pop().unwrap();
-    let taken = pool.allocate(&mut party, Layout::from_size_align(48, 4).unwrap())?;
-    let (number, len) = (taken.number(), taken.chunk().len());
-    prove!(number < 8 && len == 48);
-    pool.deallocate_bucket(&mut party, taken);
+    let (pool, mut parties) = SharedPoolAllocator::new(alloc, bucket_128(), 4096, 1024, 1)?;
+    let party = &mut parties[0];
+    let taken = pool.allocate(party, forty_eight())?;
+    prove!(taken.number() < 8 && taken.chunk().len() == 48);
+    pool.deallocate_bucket(party, taken);
     Ok(())
 }
 
 pub fn shared_pool_by_number(
-    pool: SharedPoolAllocator,
-    mut party: PoolParty,
+    pool: &SharedPoolAllocator,
+    party: &mut PoolParty,
 ) -> Result<(), AllocationError>
-    requires { party.allocator ≡ pool }
+    requires { party.old.allocator ≡ pool.now }
 {
-    let taken = pool.allocate(&mut party, Layout::from_size_align(48, 4).unwrap())?;
+    let taken = pool.allocate(party, forty_eight())?;
     let number = taken.number();
-    let again = by_number::bucket(&pool, &party, number, 48);
-    pool.deallocate_bucket(&mut party, again);
+    let again = by_number::bucket(pool, party, number, 48);
+    pool.deallocate_bucket(party, again);
     Ok(())
 }
 
@@ -208,12 +188,11 @@ pub fn shared_pool_detached(
     requires { (1 < pool.now.scene.parties) × (sender.old.allocator ≡ pool.now)
         × (receiver.old.allocator ≡ pool.now) }
 {
-    let taken = pool.allocate(sender, Layout::from_size_align(48, 4).unwrap())?;
+    let taken = pool.allocate(sender, forty_eight())?;
     let message = pool.detach(sender, taken);
     let (number, len) = (message.number(), message.len());
     let received = pool.attach(receiver, message);
-    let (its_number, its_len) = (received.number(), received.chunk().len());
-    prove!(its_number == number && its_len == len && len == 48);
+    prove!(received.number() == number && received.chunk().len() == len && len == 48);
     pool.deallocate_bucket(receiver, received);
     Ok(())
 }
@@ -224,48 +203,51 @@ pub fn shared_pool_holder(
 ) -> Result<(), AllocationError>
     requires { party.old.allocator ≡ pool.now }
 {
-    let taken = pool.allocate(party, Layout::from_size_align(48, 4).unwrap())?;
+    let taken = pool.allocate(party, forty_eight())?;
     let number = taken.number();
-    let held = pool.is_held_by(party, number);
-    prove!(held);
+    prove!(pool.is_held_by(party, number));
     pool.deallocate_bucket(party, taken);
-    let still_held = pool.is_held_by(party, number);
-    prove!(!still_held);
+    prove!(!pool.is_held_by(party, number));
     Ok(())
 }
 
 pub fn shared_pool_caching(
     alloc: Global,
-    pool: SharedPoolAllocator,
+    pool: &SharedPoolAllocator,
     party: PoolParty,
-) -> Result<(), AllocationError>
-    requires { party.allocator ≡ pool }
+) -> Result<PoolParty, PoolParty>
+    requires { party.allocator ≡ pool.now }
 {
-    let Ok(mut caching) = CachingParty::new(alloc, party, 4) else {
-        return Err(AllocationError::OutOfMemory);
-    };
-    let layout = Layout::from_size_align(48, 4).unwrap();
-    let taken = caching.allocate(&pool, layout)?;
+    let mut caching = CachingParty::new(alloc, party, 4)?;
+    let _ = taken_again(pool, &mut caching);
+    Ok(caching.into_party(pool))
+}
+
+/// The bucket that was cached last is taken first.
+fn taken_again(
+    pool: &SharedPoolAllocator,
+    caching: &mut CachingParty,
+) -> Result<(), AllocationError>
+    requires party { caching.old.party.allocator ≡ pool.now }
+    requires room { (caching.old.cached ≡ []) × (0 < caching.old.most) }
+    ensures party { caching.new.party.allocator ≡ pool.now }
+{
+    let taken = caching.allocate(pool, forty_eight())?;
     let number = taken.number();
-    caching.deallocate(&pool, taken);
-    let again = caching.allocate(&pool, layout)?;
-    let its_number = again.number();
-    prove!(its_number == number);
-    caching.deallocate(&pool, again);
-    let party = caching.into_party(&pool);
-    let _ = party.number();
+    caching.deallocate(pool, taken);
+    let again = caching.allocate(pool, forty_eight())?;
+    prove!(again.number() == number);
+    caching.deallocate(pool, again);
     Ok(())
 }
 
 pub fn shared_fixed_pool(alloc: Global) -> Result<(), AllocationError> {
     pool_count_law();
-    let bucket = Layout::from_size_align(128, 8).unwrap();
-    let made = SharedFixedSizePoolAllocator::<4>::new(alloc, bucket, 4096, 1024, 2);
+    let made = SharedFixedSizePoolAllocator::<4>::new(alloc, bucket_128(), 4096, 1024, 2);
     let Ok((pool, _parties)) = made else {
         return Err(AllocationError::OutOfMemory);
     };
-    let count = pool.number_of_buckets();
-    prove!(count == 4);
+    prove!(pool.number_of_buckets() == 4);
     Ok(())
 }
 
@@ -275,8 +257,7 @@ pub fn bump_world(alloc: Global) -> Result<(), AllocError> {
     let seen = world.step(BumpStep::Read { party: 0, layout });
     prove!(seen == BumpOutcome::Sees(0));
     world.step(BumpStep::Exchange { party: 0 });
-    let used = world.used_space();
-    prove!(used == 40);
+    prove!(world.used_space() == 40);
     Ok(())
 }
 
@@ -284,8 +265,7 @@ pub fn pool_world(alloc: Global) -> Result<(), AllocError> {
     let mut world = PoolWorld::new(alloc, 2, 3)?;
     let taken = world.step(PoolStep::Try { party: 2 });
     prove!(taken == PoolOutcome::Takes(0));
-    let holder = world.holder(0);
-    prove!(holder == Some(2));
+    prove!(world.holder(0) == Some(2));
     Ok(())
 }
 

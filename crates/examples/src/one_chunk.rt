@@ -12,8 +12,6 @@ pub fn shrunk() -> Result<(), AllocationError> {
     let chunk = one.allocate(forty_eight())?;
     let place = chunk.place();
     let shrunk = one.shrink(place, forty_eight(), small).unwrap();
-    let (new_place, len) = (shrunk.place(), shrunk.len());
-    prove!(new_place == place);
-    prove!(len == 32);
+    prove!(shrunk.place() == place && shrunk.len() == 32);
     Ok(())
 }

@@ -17,8 +17,7 @@ pub fn tested(bucket: Layout, start: usize, size: usize) -> Option<FixedSizePool
 /// A bucket that is taken whole has the bucket's size.
 pub fn taken_whole(pool: &mut FixedSizePoolAllocator<16>) -> Result<(), AllocationError> {
     let chunk = pool.take()?;
-    let (len, size) = (chunk.len(), pool.bucket_size());
-    prove!(len == size);
+    prove!(chunk.len() == pool.bucket_size());
     pool.deallocate(chunk.place(), Layout::empty());
     Ok(())
 }
@@ -27,8 +26,7 @@ pub fn taken_whole(pool: &mut FixedSizePoolAllocator<16>) -> Result<(), Allocati
 pub fn room_told(pool: &mut FixedSizePoolAllocator<16>) {
     let before = pool.has_room();
     let answer = pool.allocate(Layout::empty());
-    let given = answer.is_ok();
-    prove!(given == before);
+    prove!(answer.is_ok() == before);
     if let Ok(chunk) = answer {
         pool.deallocate(chunk.place(), Layout::empty());
     }
@@ -49,8 +47,7 @@ pub fn greatest_kept(pool: &mut FixedSizePoolAllocator<16>) -> Result<(), Alloca
     let chunk = pool.allocate(Layout::empty())?;
     let greatest = pool.greatest_held();
     pool.deallocate(chunk.place(), Layout::empty());
-    let still = pool.greatest_held();
-    prove!(still == greatest);
+    prove!(pool.greatest_held() == greatest);
     Ok(())
 }
 
@@ -61,11 +58,9 @@ pub fn held_counted(
 ) -> Result<(), AllocationError> {
     let before = pool.held_buckets();
     let chunk = pool.allocate(layout)?;
-    let more = pool.held_buckets() - before;
-    prove!(more == 1);
+    prove!(pool.held_buckets() - before == 1);
     pool.deallocate(chunk.place(), layout);
-    let after = pool.held_buckets();
-    prove!(after == before);
+    prove!(pool.held_buckets() == before);
     Ok(())
 }
 
