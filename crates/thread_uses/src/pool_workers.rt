@@ -1,6 +1,8 @@
 //! Threads that take buckets of one pool, and what is known once all of them are back.
 ghost use Rattle.std.specs.Prelude.{◌≡◌, [], All, IfOk, length};
 ghost use Rattle.bb_memory_shared_pools.specs.SharedPool.{AreFresh, HaveMet, HoldApart, PoolParty};
+ghost use Rattle.bb_memory_traits.specs.Chunk.{region_at};
+ghost use Rattle.bb_memory_traits.specs.PoolObject.{IsCut, PoolGeometry};
 ghost use Rattle.thread_uses.specs.Threads.{AllComeBack, Asks, HasAskedNextFit, KeepsBuckets, MayTakeNextFit};
 
 use bb_memory_owned::pool_allocator::pool_count_law;
@@ -80,10 +82,20 @@ fn pool_of_four(alloc: Global) -> Result<(SharedPoolAllocator, Vec<PoolParty>), 
     ensures none { IfOk result (λ made. All (λ party. party.log ≡ []) made.1.items) }
     ensures buckets { IfOk result (λ made. made.0.scene.geometry.buckets ≡ 8) }
 {
-    pool_count_law();
-    let bucket = Layout::from_size_align(128, 8).unwrap();
-    let Ok(made) = SharedPoolAllocator::new(alloc, bucket, 4096, 1024, 4) else {
+    let Ok(made) = SharedPoolAllocator::new(alloc, bucket_128(), 4096, 1024, 4) else {
         return Err(AllocError);
     };
     Ok(made)
+}
+
+/// A bucket of 128 bytes at multiples of 8. The region of 1024 bytes at 4096 has room for eight.
+#[tactic(auto, unfolding(bb_memory_traits::specs::LeastPlace::least_place))]
+fn bucket_128() -> Layout
+    ensures size { result.size ≡ 128 }
+    ensures align { result.align ≡ 8 }
+    ensures eight { (geometry : PoolGeometry) → IsCut (region_at 4096 1024) result geometry
+        → geometry.buckets ≡ 8 }
+{
+    pool_count_law();
+    Layout::from_size_align(128, 8).unwrap()
 }
