@@ -1,9 +1,9 @@
 //! The examples that the doc comments of the libraries name. Contracts alone decide each `prove!`.
 #![tactic(auto, unfolding(bb_memory_traits::specs::LeastPlace::least_place))]
 
-ghost use Rattle.std.specs.Prelude.{◌≡◌, ◌<◌, []};
+ghost use Rattle.std.specs.Prelude.{◌≡◌, ◌<◌, ◌≤◌, ℕ, []};
 ghost use Rattle.bb_memory.specs.Chunk.{region_at};
-ghost use Rattle.bb_memory.specs.Geometry.{MayBeCut};
+ghost use Rattle.bb_memory.specs.Geometry.{IsCutAtMost, MayBeCut};
 ghost use Rattle.bb_memory.specs.OneChunk.{StandsFor};
 ghost use Rattle.bb_memory.specs.PoolObject.{IsCut, PoolGeometry};
 
@@ -99,6 +99,8 @@ fn bucket_128() -> Layout
     ensures cut { MayBeCut (region_at 4096 1024) result }
     ensures eight { (geometry : PoolGeometry) → IsCut (region_at 4096 1024) result geometry
         → geometry.buckets ≡ 8 }
+    ensures at_most { (most : ℕ) (geometry : PoolGeometry) → most ≤ 8
+        → IsCutAtMost most (region_at 4096 1024) result geometry → geometry.buckets ≡ most }
     ensures size { result.size ≡ 128 }
     ensures align { result.align ≡ 8 }
 {
@@ -133,12 +135,11 @@ pub fn fixed_pool() -> Result<(), AllocationError> {
 }
 
 pub fn heap(alloc: Global) -> Result<(), AllocationError> {
-    let heap = HeapAllocator::new(alloc);
     let four = Layout::from_size_align(4, 1).unwrap();
-    let six = Layout::from_size_align(6, 1).unwrap();
+    let heap = HeapAllocator::new(alloc);
     let mut block = heap.allocate(four)?;
     block.as_mut_slice()[0] = 7;
-    let Ok(block) = heap.grow(block, four, six) else {
+    let Ok(block) = heap.grow(block, four, forty_eight()) else {
         return Err(AllocationError::OutOfMemory);
     };
     prove!(block.as_slice()[0] == 7 && block.as_slice()[5] == 0);
@@ -242,7 +243,6 @@ fn taken_again(
 }
 
 pub fn shared_fixed_pool(alloc: Global) -> Result<(), AllocationError> {
-    pool_count_law();
     let made = SharedFixedSizePoolAllocator::<4>::new(alloc, bucket_128(), 4096, 1024, 2);
     let Ok((pool, _parties)) = made else {
         return Err(AllocationError::OutOfMemory);
