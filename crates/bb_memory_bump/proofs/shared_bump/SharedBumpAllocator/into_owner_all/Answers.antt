@@ -1,3 +1,4 @@
+use Rattle.std.proofs.lemmas.Grind.{elements}
 use Rattle.std.proofs.lemmas.Grind.{common_steps}
 use Rattle.std.proofs.Common.{[], rules, ◌≡◌, ◌∷◌, ◌++◌, ◌≤◌, sym, subst, arith}
 use Rattle.std.specs.Prelude.{All, map}
@@ -36,3 +37,6 @@ returns-clause-floor c =
 pub returns-clause-stands : goal.returns-clause-stands
 returns-clause-stands c = λ live opens all.
     agreed_stands c.args.self.scene c.at_position.result.used all.logs live opens all.agree
+
+pub merge_rest-requires-clause-rest : goal.merge_rest-requires-clause-rest
+merge_rest-requires-clause-rest c = grind (arith, elements)

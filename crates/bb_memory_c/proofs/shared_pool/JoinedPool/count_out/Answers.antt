@@ -1,3 +1,4 @@
+use Rattle.std.proofs.lemmas.Grind.{common_steps}
 use Rattle.std.proofs.Common.{◌≡◌, ◌+◌, ◌∙◌, ℕ, ap, arith, subst, sym}
 use Rattle.bb_memory_shared_pools.specs.SharedPool.{IsParty, SharedPool}
 use Rattle.bb_memory_shared_pools.specs.SharedPoolCaching.{CachingParty, IsOut}
@@ -38,3 +39,6 @@ returns-clause-count c =
     ∙ ap (λ (p : SharedPool). p.scene.geometry.buckets) (sym pool) in
     counts-all joined c.loop-number.count is_party
     (subst (λ (n : ℕ). CountsBelow joined n c.loop-number.count) buckets c.loop-number.invariant.counted)
+
+pub overflow_add-count : goal.overflow_add-count
+overflow_add-count c = grind (arith, common_steps)

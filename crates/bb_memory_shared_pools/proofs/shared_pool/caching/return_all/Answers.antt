@@ -1,3 +1,4 @@
+use Rattle.std.proofs.Common.{arith}
 use Rattle.std.proofs.Common.{ℕ, subst, sym, ◌∙◌, ⊎_elim}
 use Rattle.std.specs.Prelude.{Contains}
 use Rattle.bb_memory_pool_machine.specs.PoolLogs.{IsHeldAfter}
@@ -34,3 +35,6 @@ loop-number-preserved g c =
           (has_either cached rest number other items (before.left other (now.others other held) at));
       among = λ other at. before.among other (has_others cached rest number other items at);
     }
+
+pub deallocate_bucket-requires : goal.deallocate_bucket-requires
+deallocate_bucket-requires g c = grind arith

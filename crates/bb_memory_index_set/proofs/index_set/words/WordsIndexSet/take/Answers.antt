@@ -1,3 +1,4 @@
+use Rattle.std.proofs.lemmas.Grind.{elements}
 use Rattle.std.proofs.Common.{◌<◌, ◌∙◌, ap, sym, arith, max}
 use Rattle.bb_memory_index_set.specs.IndexSets.{NumberSet, member_count, numbers_of}
 use Rattle.bb_memory_index_set.proofs.LastFreed.{given, less_none}
@@ -136,3 +137,9 @@ returns-clause-taken g c =
           rw (← view, c.trailing_ones.ensures, c.put.ensures.words, w.self-inside-is) (less ∙ set)
       | else-left w ↦ rw (← view, c.trailing_ones.ensures, c.put.ensures.words, w.self-inside-is) (less ∙ set)
     ]
+
+pub returns-then-number-clause-lacked : goal.returns-then-number-clause-lacked
+returns-then-number-clause-lacked g c = grind (arith, elements)
+
+pub returns-then-number-clause-counted : goal.returns-then-number-clause-counted
+returns-then-number-clause-counted g c = grind (arith, elements)

@@ -1,3 +1,5 @@
+use Rattle.std.proofs.Common.{arith}
+use Rattle.std.proofs.lemmas.Grind.{elements}
 use Rattle.std.proofs.Common.{rules}
 use Rattle.bb_memory_shared_pools.proofs.SharedPoolMerges.{agrees, all_merged, none_met}
 use Rattle.bb_memory_shared_pools.proofs.SharedPoolWholes.{met_apart, one_served}
@@ -17,3 +19,9 @@ returns-in-Some-clause-one_took g c =
 
 pub returns-in_default-clause-met : goal.returns-in_default-clause-met
 returns-in_default-clause-met g c = none_met c.args.self.now.scene c.args.parties.now.items (search rules) (search rules)
+
+pub meet_rest-requires-clause-seat : goal.meet_rest-requires-clause-seat
+meet_rest-requires-clause-seat g c = grind arith
+
+pub meet_rest-requires-clause-rest : goal.meet_rest-requires-clause-rest
+meet_rest-requires-clause-rest g c = grind (arith, elements)

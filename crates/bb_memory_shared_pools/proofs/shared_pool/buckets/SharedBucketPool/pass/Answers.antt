@@ -1,3 +1,4 @@
+use Rattle.std.proofs.lemmas.Grind.{common_steps}
 use Rattle.std.proofs.Common.{◌≡◌, ℕ, ◌∙◌, arith, subst}
 use Rattle.bb_memory_seats.specs.Seats.{number_of, view_log}
 use Rattle.bb_memory_shared_pools.proofs.SharedPoolPasses.{IsPassing, goes_on, refuses, takes}
@@ -32,3 +33,6 @@ returns-clause-step g c =
           (subst (λ (n : ℕ). IsPassing scene (number_of me.0) (view_log me.0) n c.loop-bucket.seat.me) all
           c.loop-bucket.invariant.passing);
     }
+
+pub try_flag-requires-clause-next : goal.try_flag-requires-clause-next
+try_flag-requires-clause-next g c = grind (arith, common_steps)
