@@ -1,8 +1,7 @@
 //! The trait of the kinds of scripts, and from the lines of a script behind its header to the lines of its replies.
 ghost use Rattle.std.specs.Prelude.{◌≡◌, ◌++◌, ◌∷◌, [], List, ℕ, IfOk, OnOk, IfSome, Some};
 ghost use Rattle.std.specs.List.{flat_map};
-ghost use Rattle.script_engine.specs.Scripts.{IsOutcome, kind, header_words, IsPlayed, IsStep};
-ghost use Rattle.script_engine.specs.Scripts.{Rules};
+ghost use Rattle.script_engine.specs.Scripts.{IsOutcome, kind, header_words, IsPlayed, IsStep, Rules};
 ghost use Rattle.script_words.specs.Words.{MayStand, words_text, lines_of, text_bytes};
 
 use crate::script::{Line, read_script};

@@ -6,7 +6,7 @@
 //! - `running`: from the bytes of a script to the bytes that it is answered. `laws`: what holds of every input and every status.
 //! - `kinds`, the table of the kinds: `allocators` and `pool`, `steps` for both machines, `loan_pool`.
 //!
-//! What all kinds share is crate `script_engine`, and the words of a line crate `script_words`.
+//! Crate `script_engine` has what all kinds share, and crate `script_words` the words of a line.
 #![tactic(auto)]
 
 mod kinds;
