@@ -6,7 +6,7 @@ use Rattle.std.specs.Result.{result_ok}
 use Rattle.bb_memory_traits.specs.declared.layout.Layout.{Layout}
 use Rattle.bb_memory_traits.specs.Chunk.{Region, Chunk}
 use Rattle.bb_memory_traits.proofs.Layouts.{same_layout}
-use Rattle.bb_memory_geometry.specs.Geometry.{MayBeCut}
+use Rattle.bb_memory_traits.specs.Geometry.{MayBeCut}
 use Rattle.bb_memory_traits.specs.declared.allocator.AllocationError.{AllocationError}
 use Rattle.bb_handles.specs.Answers.{answer_of}
 use Rattle.bb_handles.specs.Calls.{FailsOf, HasRoom, IsOf, LacksRoomOf, MayBeShared, TellsRequest}

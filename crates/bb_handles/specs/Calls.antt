@@ -8,7 +8,7 @@ use Rattle.bb_memory_traits.specs.PoolObject.{HasBucket, PoolGeometry, bucket_pl
 use Rattle.bb_memory_traits.specs.declared.layout.Layout.{Layout}
 use Rattle.bb_memory_traits.specs.declared.allocator.AllocationError.{AllocationError}
 use Rattle.bb_memory_traits.specs.declared.allocator.AllocationError.TheVariants.{OutOfMemory}
-use Rattle.bb_memory_geometry.specs.Geometry.{IsPlaceOfBucket, MayBeCut}
+use Rattle.bb_memory_traits.specs.Geometry.{IsPlaceOfBucket, MayBeCut}
 use Rattle.bb_handles.specs.Answers.{answer_of, figure_of, no_figure, refused, already_initialized, invalid_argument, ok}
 use Rattle.bb_handles.specs.Answers.{malloc_refused, invalid_layout, not_a_bucket, not_held, uninitialized, no_bucket, no_party}
 use Rattle.bb_handles.specs.Answers.{other_pool}

@@ -4,7 +4,7 @@ ghost use Rattle.bb_memory_traits.specs.Chunk.{Chunk};
 ghost use Rattle.bb_memory_traits.specs.PoolObject.{PoolGeometry};
 ghost use Rattle.bb_memory_traits.specs.declared.layout.Layout.{Layout as Asked};
 ghost use Rattle.bb_memory_traits.specs.declared.allocator.AllocationError.{AllocationError};
-ghost use Rattle.bb_memory_geometry.specs.Geometry.{TellsNumber, TellsPlace};
+ghost use Rattle.bb_memory_traits.specs.Geometry.{TellsNumber, TellsPlace};
 ghost use Rattle.bb_handles.specs.Calls.{TakesParty};
 
 use bb_memory_traits::allocator::AllocationError;

@@ -2,11 +2,12 @@
 //! some of them may take their crates in the place of this one:
 //!
 //! - `allocator`, `equality`, `layout`, `region`, `steps`: of `bb_memory_base`.
-//! - `heap_allocator`, `one_chunk_allocator`, `pool_allocator`: of `bb_memory_owned`.
+//! - `heap_allocator`: of `bb_memory_heap`. `one_chunk_allocator`, `pool_allocator`: of `bb_memory_owned`.
 //! - `bump_allocator`, `shared_bump`: of `bb_memory_bump`. `shared_pool`: of `bb_memory_shared_pools`.
 #![tactic(auto)]
 
 pub use bb_memory_base::{allocator, equality, layout, region, steps};
 pub use bb_memory_bump::{bump_allocator, shared_bump};
-pub use bb_memory_owned::{heap_allocator, one_chunk_allocator, pool_allocator};
+pub use bb_memory_heap::heap_allocator;
+pub use bb_memory_owned::{one_chunk_allocator, pool_allocator};
 pub use bb_memory_shared_pools::shared_pool;

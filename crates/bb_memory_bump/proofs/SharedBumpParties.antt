@@ -4,9 +4,9 @@ use Rattle.atomic_table.specs.Seated.{TableId}
 use Rattle.atomic_table.specs.Table.{Me}
 use Rattle.bb_memory_bump_machine.specs.BumpMachine.{BumpScene}
 use Rattle.bb_memory_bump_machine.specs.BumpLogs.{BumpLog}
-use Rattle.bb_memory_seats.specs.Seats.{alone, view_log}
+use Rattle.bb_memory_seats.specs.Seats.{alone, number_of, view_log}
 use Rattle.bb_memory_bump.specs.SharedBump.{BumpParty, IsSharedScene, with_entries}
-use Rattle.bb_memory_bump.specs.SharedBumpRule.{IsPartySeat, IsSeatOfIdle, SeatView, met_by, party_in, sight}
+use Rattle.bb_memory_bump.specs.SharedBumpRule.{AfterCall, IsPartySeat, IsSeatOfIdle, SeatView, met_by, party_in, scene_of, sight}
 
 -- SEATS
 
@@ -14,6 +14,11 @@ use Rattle.bb_memory_bump.specs.SharedBumpRule.{IsPartySeat, IsSeatOfIdle, SeatV
 pub party_seat : (scene : BumpScene) (number : ℕ) (log : BumpLog) (me : Me ℕ SeatView) → IsSeatOfIdle scene number log me →
     number < scene.parties → IsSharedScene scene → met_by me.0 ≤ scene.region.size → IsPartySeat number me
 party_seat scene number log me of below shared met = grind arith
+
+-- a party's fields stay those of its seat where a call has ended
+pub party_kept : (scene : BumpScene) (number : ℕ) (added : BumpLog) (old new : Me ℕ SeatView) → IsPartySeat number old →
+    scene_of old.0 ≡ scene → AfterCall scene (number_of old.0) (view_log old.0) (met_by old.0) added new → IsPartySeat number new
+party_kept scene number added old new fields same ended = grind arith
 
 -- the party of a seat whose log has these more entries
 pub entries_added : (table was : TableId) (number own : ℕ) (scene : BumpScene) (added : BumpLog) (old new : Me ℕ SeatView)

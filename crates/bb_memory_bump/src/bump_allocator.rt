@@ -9,10 +9,10 @@ ghost use Rattle.bb_memory_traits.specs.declared.allocator.Reply.{Reply};
 ghost use Rattle.bb_memory_traits.specs.BumpObject.{MayAllocate, IsInOrder, StandsFor, bump_object, used_space};
 ghost use Rattle.bb_memory_bump.specs.SharedBump.{fresh_party, scene_at};
 
-pub use crate::allocator::{AllocationError, BaseAllocator};
-use crate::layout::{Chunk, Layout};
-use crate::region;
 use crate::shared_bump::{BumpParty, SharedBumpAllocator};
+pub use bb_memory_traits::allocator::{AllocationError, BaseAllocator};
+use bb_memory_traits::layout::{Chunk, Layout};
+use bb_memory_traits::region;
 use std::alloc::{AllocError, Global};
 use std::fmt;
 use std::marker::Model;

@@ -1,6 +1,6 @@
 //! Bump allocators over a region that is handed in as numbers, a start and a size in bytes: for one owner, and for threads.
 //!
-//! The modules, in the order in which to read them; `allocator`, `layout` and `region` are passed on from `bb_memory_traits`:
+//! The modules, in the order in which to read them:
 //!
 //! - `bump_allocator`: one chunk after another, all given back at once.
 //! - `shared_bump`: the bump that threads share.
@@ -10,8 +10,6 @@
 //!
 //! Crate `bb_memory` passes all of it on.
 #![tactic(auto)]
-
-pub use bb_memory_traits::{allocator, layout, region};
 
 pub mod bump_allocator;
 pub mod shared_bump;

@@ -19,11 +19,11 @@ mod position;
 mod request;
 mod rule;
 
-pub use crate::allocator::AllocationError;
 use crate::bump_allocator::BumpAllocator;
-use crate::layout::{Chunk, Layout};
 pub use all_parties::shared_bump_meeting_law;
 use atomic_table::Seat;
+pub use bb_memory_traits::allocator::AllocationError;
+use bb_memory_traits::layout::{Chunk, Layout};
 pub use party::BumpParty;
 use position::Position;
 use rule::{Scene, View};

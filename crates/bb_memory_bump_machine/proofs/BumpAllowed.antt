@@ -1,5 +1,4 @@
 -- Lists of steps that are all allowed: they have no clear, and no step of a party that isn't there.
-use Rattle.std.proofs.lemmas.Grind.{common_steps}
 use Rattle.std.proofs.Common.{◌≡◌, ◌≢◌, ℕ, ◌<◌, ◌≤◌, List, [], ◌∷◌, length, refl, sym, ap, ◌∙◌, arith, Bool, true, false, Option}
 use Rattle.std.proofs.Common.{Some, None}
 use Rattle.std.specs.Prelude.{slice_get, if◌then◌else◌}
@@ -21,7 +20,7 @@ none_allowed = All-nil (λ (entry : BumpEntry). IsAllowed entry.outcome)
 -- steps that are all allowed begin with one that is, and go on so
 pub first_allowed : (region : Region) (state : BumpState) (step : BumpStep) (steps : List BumpStep) →
     AllAllowed (bump_history region state (step ∷ steps)) → IsAllowed (bump_step region state step).outcome
-first_allowed region state step steps allowed = grind (arith, common_steps, All-head)
+first_allowed region state step steps allowed = grind (arith, All-head)
 
 pub rest_allowed : (region : Region) (state : BumpState) (step : BumpStep) (steps : List BumpStep) →
     AllAllowed (bump_history region state (step ∷ steps)) →
@@ -108,4 +107,4 @@ none_by region state (step ∷ steps) party past allowed =
 -- a party that was not made has no step that is allowed
 pub nobody_else : (scene : BumpScene) (steps : List BumpStep) (party : ℕ) → scene.parties ≤ party →
     AllAllowed (history_of scene steps) → log_of scene steps party ≡ []
-nobody_else scene steps party past allowed = grind (arith, common_steps, length-replicate, none_by, party)
+nobody_else scene steps party past allowed = grind (arith, length-replicate, none_by, party)

@@ -1,5 +1,4 @@
 -- A party's log says what the party is in, and a step adds to it alone.
-use Rattle.std.proofs.lemmas.Grind.{common_steps}
 use Rattle.std.proofs.Common.{◌≡◌, ℕ, ◌<◌, List, [], ◌∷◌, ◌++◌, refl, sym, ap, ◌∙◌, subst, arith, Bool, true, false, Option}
 use Rattle.std.proofs.Common.{Some, None}
 use Rattle.std.specs.Prelude.{slice_get, ◌==◌, if◌then◌else◌}
@@ -32,7 +31,7 @@ own_call region state step move party now (reads other layout turn idle asks (se
 own_call region state step move party now (reads other layout turn idle asks (refuses_read fit)) by at =
     written state other party None None by idle
 own_call region state step move party now (exchanges other call turn is (loses apart fit)) by at =
-    grind (arith, common_steps, written)
+    grind (arith, written)
 own_call region state step move party now (exchanges other call turn is (wins same)) by at =
     written state other party (Some call) None by is
 own_call region state step move party now (exchanges other call turn is (refuses_loss apart fit)) by at =
@@ -76,7 +75,7 @@ history-push : (region : Region) (state : BumpState) (steps : List BumpStep) (st
     bump_history region state steps ++ entry_at region (bump_after region state steps) step ∷ []
 history-push region state [] step = refl
 history-push region state (first ∷ steps) step =
-    grind (arith, common_steps, history-push region (bump_step region state first).state steps step)
+    grind (arith, history-push region (bump_step region state first).state steps step)
 
 after-push : (region : Region) (state : BumpState) (steps : List BumpStep) (step : BumpStep) →
     bump_after region state (steps ++ step ∷ []) ≡ (bump_step region (bump_after region state steps) step).state

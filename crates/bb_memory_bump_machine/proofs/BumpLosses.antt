@@ -1,5 +1,4 @@
 -- How often a party loses while no clear comes.
-use Rattle.std.proofs.lemmas.Grind.{common_steps}
 use Rattle.std.proofs.Common.{◌≡◌, ◌≢◌, ℕ, ◌+◌, ◌<◌, ◌≤◌, List, [], ◌∷◌, ◌++◌, refl, sym, ap, ◌∙◌, subst, arith, Bool, true}
 use Rattle.std.proofs.Common.{false, Some, None}
 use Rattle.std.specs.Prelude.{if◌then◌else◌, count_by}
@@ -74,7 +73,7 @@ weight own counted = if own then (if counted then 1 else 0) else 0
 exchange_turn : (region : Region) (state : BumpState) (party : ℕ) (call : OngoingCall) (turn : PartyMove) →
     IsInCall state party call → call.seen ≤ state.position → ExchangeView region state.position call turn →
     CallTurn (moved state party turn).state party call (weight true (is_loss turn.outcome))
-exchange_turn region state party call turn is below (wins same) = grind (arith, common_steps, slice_get-set_same, chunk_at-above)
+exchange_turn region state party call turn is below (wins same) = grind (arith, slice_get-set_same, chunk_at-above)
 exchange_turn region state party call turn is below (loses apart fit) =
     goes_on (record { layout = call.layout; seen = state.position })
     (slice_get-set_same state.calls party turn.call (Some call) is) (grind (arith, apart))
@@ -150,7 +149,7 @@ module _ (region : Region) (party : ℕ) where
       counted_from counted state (step ∷ steps) ≡ weight (is_by party step) (counted (bump_step region state step).outcome)
       + counted_from counted (bump_step region state step).state steps
   unfolding counted_from
-  counted_from-cons counted state step steps = grind (arith, common_steps, count_own)
+  counted_from-cons counted state step steps = grind (arith, count_own)
 
   counted_from-nil : (counted : BumpOutcome → Bool) (state : BumpState) → counted_from counted state [] ≡ 0
   unfolding counted_from
@@ -248,4 +247,4 @@ pub losses_raise : (scene : BumpScene) (before stretch : List BumpStep) (party p
     IsIdle (left_by scene before) party → HasNoClear stretch → IsInCall (left_by scene (before ++ stretch)) party call →
     IsLossAt position (outcome_after scene (before ++ stretch) (Exchange party)) → call.seen < position
 losses_raise scene before stretch party position call within idle none is lost =
-    grind (arith, common_steps, stretch_sees, idle_sees, bump_after-append)
+    grind (arith, stretch_sees, idle_sees, bump_after-append)

@@ -1,5 +1,4 @@
 -- Steps of the bump machine, case by case.
-use Rattle.std.proofs.lemmas.Grind.{common_steps}
 use Rattle.std.proofs.Common.{◌≡◌, ◌≢◌, ℕ, ◌<◌, List, refl, sym, ap, ◌∙◌, arith, Bool, true, false, Option, Some, None}
 use Rattle.std.specs.Prelude.{slice_get, slice_set, ◌==◌, if◌then◌else◌, IfSome}
 use Rattle.std.proofs.lemmas.Bool.{eqb-true, eqb-false}
@@ -106,7 +105,7 @@ others_stay region state step move party _ by = refl
 -- what is written to a party's place is then there
 pub written : (state : BumpState) (other party : ℕ) (was now : Option OngoingCall) → (other == party) ≡ true →
     slice_get state.calls other ≡ Some was → slice_get (slice_set state.calls other now) party ≡ Some now
-written state other party was now by is = grind (arith, common_steps, eqb-true, slice_get-set_same)
+written state other party was now by is = grind (arith, eqb-true, slice_get-set_same)
 
 -- a party is in one thing alone
 pub one_there : (state : BumpState) (other party : ℕ) (one now : Option OngoingCall) → (other == party) ≡ true →
@@ -120,8 +119,8 @@ one_there state other party one now by is at =
 pub each_call-set : (P : OngoingCall → Type 0) (calls : List (Option OngoingCall)) (party other : ℕ) (now : Option OngoingCall) →
     ((call : OngoingCall) → slice_get calls other ≡ Some (Some call) → P call) → IfSome now P →
     (call : OngoingCall) → slice_get (slice_set calls party now) other ≡ Some (Some call) → P call
-each_call-set P calls party other None old new call is = grind (arith, common_steps, slice_get-set)
-each_call-set P calls party other (Some written) old new call is = grind (arith, common_steps, slice_get-set, written, same_Some)
+each_call-set P calls party other None old new call is = grind (arith, slice_get-set)
+each_call-set P calls party other (Some written) old new call is = grind (arith, slice_get-set, written, same_Some)
 
 -- each call fits after a step
 pub all_fitting-step : (region : Region) (state : BumpState) (step : BumpStep) (move : BumpMove) →

@@ -14,14 +14,12 @@ use Rattle.bb_memory_shared_pools.specs.SharedPool.{AreFresh, PoolParty, SharedP
 use Rattle.bb_memory_shared_pools.specs.SharedPool.{detach_entry, return_detached_entry, return_entry, taken_bucket, with_entries}
 use Rattle.bb_memory_shared_pools.specs.SharedPoolCaching.{CachingParty, IsOut, ReturnsCaching, ServesCaching}
 use Rattle.bb_memory_shared_pools.specs.SharedPoolCaching as caching
-use Rattle.bb_handles.specs.Answers.{answer_of, refused}
+use Rattle.bb_handles.specs.Answers.{answer_of, refused, figure_of, no_figure, shown_flag}
 use Rattle.bb_handles.specs.declared.code.TheConstants.{DETACHED_EMPTY as detached_empty, DETACHED_FULL as detached_full}
 use Rattle.bb_handles.specs.declared.code.TheConstants.{OK as ok, NOT_HELD as not_held, ONE_PARTY as one_party}
 use Rattle.bb_handles.specs.declared.code.TheConstants.{OTHER_POOL as other_pool}
-use Rattle.bb_handles.specs.Answers.{figure_of, no_figure}
 use Rattle.bb_handles.specs.declared.code.TheConstants.{INVALID_ARGUMENT as invalid_argument, MALLOC_REFUSED as malloc_refused}
 use Rattle.bb_handles.specs.declared.code.TheConstants.{NO_READER as no_reader, READERS_LEFT as readers_left}
-use Rattle.bb_handles.specs.Answers.{shown_flag}
 use Rattle.bb_handles.specs.declared.code.TheConstants.{NOT_A_BUCKET as not_a_bucket, SIZE_TOO_LARGE as size_too_large}
 use Rattle.bb_handles.specs.Calls.{AreKnown, IsOneOf, Parties, with_party}
 use Rattle.bb_handles.specs.declared.answer.Answer.{Answer}

@@ -1,7 +1,7 @@
 //! A pool behind a handle.
 ghost use Rattle.bb_memory_traits.specs.Chunk.{region_at};
 ghost use Rattle.bb_memory_owned.specs.Pool.{FreesBucket, HoldsPlace};
-ghost use Rattle.bb_memory_geometry.specs.Geometry.{MayBeCut};
+ghost use Rattle.bb_memory_traits.specs.Geometry.{MayBeCut};
 ghost use Rattle.bb_handles.specs.Calls.{AnswersFree, AnswersInfo, AnswersNumber, AnswersPlace, AnswersPoolMake};
 ghost use Rattle.bb_handles.specs.Calls.{AnswersRequest, AnswersReturn, AnswersTake, AnswersWhether, HasRoom};
 ghost use Rattle.bb_handles.specs.OneOwner.{MakesPool, PoolAllocates, ShowsPool};

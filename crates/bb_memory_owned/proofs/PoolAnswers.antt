@@ -10,7 +10,7 @@ use Rattle.bb_memory_traits.specs.declared.allocator.AllocationError.{Allocation
 use Rattle.bb_memory_traits.specs.declared.allocator.AllocationError.TheVariants.{SizeTooLarge, AlignmentFailure, OutOfMemory}
 use Rattle.bb_memory_traits.proofs.PoolGeometries.{bucket_place-aligned}
 use Rattle.bb_memory_traits.proofs.PoolLists.{count_at, at_from_count, count_from_at, inside_from_bucket}
-use Rattle.bb_memory_geometry.proofs.Measures.{bucket_place-multiple}
+use Rattle.bb_memory_traits.proofs.Measures.{bucket_place-multiple}
 use Rattle.bb_memory_lists.proofs.Positions.{All-from_positions}
 
 -- REQUESTS

@@ -16,8 +16,8 @@ use Rattle.bb_memory_lists.proofs.SliceGets.{slice_get-set_other, slice_get-set_
 use Rattle.bb_memory_index_set.specs.IndexSets.{Has, Lacks}
 use Rattle.bb_memory_owned.specs.Pool.{Pool, IsPool, StandsFor, filled-at, HoldsPlace, Takes, with_flag, CountedPool, TakesBucket}
 use Rattle.bb_memory_owned.specs.Pool.{FreesBucket, counted, held_count, reads_of, bucket_held_at, held_at_bucket}
-use Rattle.bb_memory_geometry.proofs.Cuts.{number-counted}
-use Rattle.bb_memory_geometry.proofs.Measures.{bucket_place-multiple}
+use Rattle.bb_memory_traits.proofs.Cuts.{number-counted}
+use Rattle.bb_memory_traits.proofs.Measures.{bucket_place-multiple}
 use Rattle.bb_memory_owned.proofs.Pools.{Has-set_true, IsPool-with_flag, bucket-below, held-inside, lacked-free}
 use Rattle.bb_memory_owned.proofs.Pools.{one_bucket, stands-given, stands-freed, stands-resized}
 use Rattle.bb_memory_index_set.proofs.Tallies.{member_count-taken, member_count-released}

@@ -19,7 +19,7 @@ use Rattle.bb_memory_owned.proofs.KeptRuns.{IsKept, run_keeps, base_run_keeps}
 use Rattle.bb_memory_lists.proofs.SliceGets.{slice_get-set_same}
 use Rattle.bb_memory_index_set.specs.IndexSets.{Lacks}
 use Rattle.bb_memory_owned.specs.Pool.{Pool, IsPool, StandsFor, filled-at, pool_of, with_flag}
-use Rattle.bb_memory_geometry.specs.Geometry.{AreAStrideApart}
+use Rattle.bb_memory_traits.specs.Geometry.{AreAStrideApart}
 use Rattle.bb_memory_owned.proofs.Pools.{IsPool-with_flag, bucket-below, lacked-free, stands-given, stands-freed, stands-resized}
 use Rattle.bb_memory_lists.proofs.Positions.{All-from_positions, AllPairs-at, AllPairs-from_positions}
 

@@ -1,4 +1,2 @@
-pub mod Heap
-pub mod HeapLending
 pub mod OneChunk
 pub mod Pool

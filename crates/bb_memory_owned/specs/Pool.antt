@@ -13,7 +13,7 @@ use Rattle.bb_memory_traits.specs.declared.allocator.Command.{Command}
 use Rattle.bb_memory_traits.specs.declared.allocator.AllocationError.{AllocationError}
 use Rattle.bb_memory_traits.specs.declared.allocator.AllocationError.TheVariants.{SizeIsZero, SizeTooLarge, AlignmentFailure}
 use Rattle.bb_memory_traits.specs.declared.allocator.AllocationError.TheVariants.{OutOfMemory}
-use Rattle.bb_memory_geometry.specs.Geometry.{AreAStrideApart, MayBeCut}
+use Rattle.bb_memory_traits.specs.Geometry.{AreAStrideApart, MayBeCut}
 use Rattle.bb_memory_index_set.specs.IndexSets.{Has, Lacks, IsFull, member_count}
 use Rattle.std.specs.Cmp.Derive.{both_true}
 use Rattle.std.proofs.Common.{sym, ◌∙◌, ap, arith}

@@ -1,18 +1,14 @@
 //! Allocators with one owner over a region that is handed in as numbers: a start and a size in bytes.
 //!
-//! The modules, in the order in which to read them; `allocator`, `layout` and `region` are passed on from `bb_memory_traits`:
+//! The modules, in the order in which to read them:
 //!
 //! - `one_chunk_allocator`: one chunk at a time, all of the region from its place on.
-//! - `pool_allocator`: pools, and the makers of the pool on words. `geometry` is passed on from `bb_memory_geometry`.
+//! - `pool_allocator`: pools, and the makers of the pool on words. `geometry` is passed on from `bb_memory_traits`.
 //!   - `bucket_pool`: buckets, with the set of those that are held, which is one of `bb_memory_index_set`.
 //!   - `fixed_size`: the pool with an array of its own. `laws`: what the definitions come to.
-//! - `heap_allocator`: blocks of bytes from the language's allocator.
 //!
 //! The bump stands in crate `bb_memory_bump`, beside the one that threads share. Crate `bb_memory` passes all of it on.
 #![tactic(auto)]
 
-pub use bb_memory_traits::{allocator, layout, region};
-
-pub mod heap_allocator;
 pub mod one_chunk_allocator;
 pub mod pool_allocator;

@@ -9,12 +9,12 @@ ghost use Rattle.bb_memory_traits.specs.declared.allocator.Command.{Command};
 ghost use Rattle.bb_memory_traits.specs.declared.allocator.Reply.{Reply};
 ghost use Rattle.bb_memory_traits.specs.OneChunkObject.{MayAllocate, MayGrow, MayShrink, reserved_at, one_chunk_object};
 
-pub use crate::allocator::{
+pub use bb_memory_traits::allocator::{
     AllocationError, AllocationGrowError, AllocationShrinkError, Allocator, BaseAllocator,
 };
-use crate::layout::Chunk;
-pub use crate::layout::Layout;
-use crate::region;
+use bb_memory_traits::layout::Chunk;
+pub use bb_memory_traits::layout::Layout;
+use bb_memory_traits::region;
 use std::marker::Model;
 
 /// Gives one chunk at a time: all of the region from the first suitable place on. It can be resized in place.

@@ -6,21 +6,21 @@ ghost use Rattle.bb_memory_traits.specs.PoolObject.{PoolGeometry, IsCut};
 ghost use Rattle.bb_memory_traits.specs.declared.allocator.AllocationError.{AllocationError};
 ghost use Rattle.bb_memory_index_set.specs.IndexSets.{index_words, words_with_list, Lacks};
 ghost use Rattle.bb_memory_owned.specs.Pool.{Frees, HoldsPlace, StandsFor, counted, fresh_pool};
-ghost use Rattle.bb_memory_geometry.specs.Geometry.{MayBeCut};
+ghost use Rattle.bb_memory_traits.specs.Geometry.{MayBeCut};
 
 mod bucket_pool;
 mod fixed_size;
 mod laws;
 
-pub use crate::allocator::{
-    AllocationError, AllocationGrowError, AllocationShrinkError, Allocator, BaseAllocator,
-};
-pub use crate::layout::Layout;
-use crate::layout::round_up;
-pub use bb_memory_geometry::geometry;
-use bb_memory_geometry::geometry::{Geometry, stride};
 use bb_memory_index_set::index_set::Counter;
 use bb_memory_index_set::index_set::words::Words;
+pub use bb_memory_traits::allocator::{
+    AllocationError, AllocationGrowError, AllocationShrinkError, Allocator, BaseAllocator,
+};
+pub use bb_memory_traits::geometry;
+use bb_memory_traits::geometry::{Geometry, stride};
+pub use bb_memory_traits::layout::Layout;
+use bb_memory_traits::layout::round_up;
 use bucket_pool::BucketPool;
 pub use fixed_size::FixedSizePoolAllocator;
 pub use laws::{pool_count_law, pool_geometry_law, pool_held_law, pool_object_law};

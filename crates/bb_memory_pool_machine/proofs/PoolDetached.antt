@@ -1,5 +1,4 @@
 -- Which steps of the pool machine leave a detached bucket.
-use Rattle.std.proofs.lemmas.Grind.{common_steps}
 use Rattle.std.proofs.Common.{◌≡◌, ℕ, zero, suc, ◌<◌, ◌≤◌, List, [], ◌∷◌, length, refl, sym, ap, ◌∙◌, arith, Option}
 use Rattle.std.proofs.Common.{None, inl, inr}
 use Rattle.std.specs.Prelude.{◌⊎◌, Any, slice_set}
@@ -36,7 +35,7 @@ detached_set : (state : PoolState) (at bucket : ℕ) (before after : Flag) → I
     ((sender : ℕ) → ¬ (after ≡ DetachedBy sender)) → IsDetachedIn (slice_set state.flags at after) bucket →
     IsDetached state bucket
 detached_set state at bucket before after there another (sender, now) =
-    grind (arith, common_steps, slice_get-set_at, slice_get-set_apart)
+    grind (arith, slice_get-set_at, slice_get-set_apart)
 
 -- the step detaches this bucket, where there are two parties at least
 record DetachesThis (state : PoolState) (move : PoolMove) (bucket : ℕ) : Type 0 where

@@ -1,6 +1,5 @@
 -- A pool's flags, and which of them are taken.
 use Rattle.std.proofs.Common.{arith}
-use Rattle.std.proofs.lemmas.Grind.{common_steps}
 use Rattle.std.proofs.Common.{◌≡◌, ℕ, ◌<◌, length, List, [], ◌∷◌, map, refl, sym, ap, ◌∙◌, subst, Bool, true, Option, Some, None}
 use Rattle.std.proofs.Common.{inl, inr}
 use Rattle.std.specs.Prelude.{◌⊎◌, option_map, slice_get}
@@ -30,11 +29,11 @@ module _ (state : PoolState) (flags : List Bool) (bucket : ℕ) (same : map is_t
 
   -- and the other way round
   pub flag_from_taken : IsTaken state bucket → slice_get flags bucket ≡ Some true
-  flag_from_taken taken = grind (arith, common_steps, shown_at)
+  flag_from_taken taken = grind (arith, shown_at)
 
 -- its bucket is there
 pub taken_within : (state : PoolState) (bucket : ℕ) → IsTaken state bucket → bucket < length state.flags
-taken_within state bucket taken = grind (arith, common_steps, slice_get_within)
+taken_within state bucket taken = grind (arith, slice_get_within)
 
 -- WHOM FLAGS NAME
 
@@ -45,7 +44,7 @@ AllNameMade state = (bucket : ℕ) (flag : Flag) → slice_get state.flags bucke
 named_set : (state : PoolState) (at : ℕ) (before after : Flag) → IsFlag state at before → AllNameMade state →
     NamesMade (length state.calls) after → AllNameMade (with_flag state at after)
 named_set state at before after there named made bucket flag is =
-    grind (arith, common_steps, slice_get-set_at, slice_get-set_apart)
+    grind (arith, slice_get-set_at, slice_get-set_apart)
 
 -- who takes a step is one of them
 there_is : (state : PoolState) (party : ℕ) (pass : Option ℕ) → slice_get state.calls party ≡ Some pass →

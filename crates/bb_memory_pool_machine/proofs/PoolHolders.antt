@@ -117,7 +117,7 @@ same_holder state bucket party other one two =
 -- no two parties hold one bucket
 pub one_holder : (scene : PoolScene) (steps : List PoolStep) (party other bucket : ℕ) →
     IsHeldAfter (log_of scene steps party) bucket → IsHeldAfter (log_of scene steps other) bucket → party ≡ other
-one_holder scene steps party other bucket mine yours = grind (arith, common_steps, holder_in_log, same_holder)
+one_holder scene steps party other bucket mine yours = grind (arith, holder_in_log, same_holder)
 
 not_detached : (sender party : ℕ) → ¬ (DetachedBy sender ≡ HeldBy party)
 not_detached sender party same = absurd (cc)

@@ -1,6 +1,5 @@
 -- A party's log says where its pass is, and a step of the party adds to it alone.
 use Rattle.std.proofs.Common.{arith}
-use Rattle.std.proofs.lemmas.Grind.{common_steps}
 use Rattle.std.proofs.Common.{◌≡◌, ℕ, ◌+◌, ◌<◌, List, [], ◌∷◌, ◌++◌, refl, sym, ap, ◌∙◌, subst, Option, Some, None}
 use Rattle.std.specs.Prelude.{slice_get, slice_set, ◌==◌, if◌then◌else◌, All}
 use Rattle.std.proofs.lemmas.List.Elements.{All-push}
@@ -20,7 +19,7 @@ pass-set : (state : PoolState) (other party bucket : ℕ) (before after : Option
     slice_get state.calls party ≡ Some before →
     slice_get (slice_set state.calls other after) party ≡ Some (if other == party then after else before)
 pass-set state other party bucket before after next there =
-    grind (arith, common_steps, slice_get-set_at, test_same, slice_get-set_apart, test_apart)
+    grind (arith, slice_get-set_at, test_same, slice_get-set_apart, test_apart)
 
 -- where a party's pass is after any step
 abbrev pass_by : ℕ → Option ℕ → PoolStep → PoolOutcome → Option ℕ

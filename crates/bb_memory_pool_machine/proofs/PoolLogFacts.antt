@@ -1,5 +1,4 @@
 -- Consequences of a pool's flags and logs agreeing.
-use Rattle.std.proofs.lemmas.Grind.{common_steps}
 use Rattle.std.proofs.Common.{◌≡◌, ℕ, ◌<◌, ◌≤◌, List, [], ◌∷◌, length, refl, sym, ap, ◌∙◌, subst}
 use Rattle.std.proofs.Common.{arith, Bool, true, false, Option, Some, None, inl, inr}
 use Rattle.std.specs.Prelude.{◌⊎◌, ◌==◌, slice_get, if◌then◌else◌}
@@ -191,7 +190,7 @@ taken_is_held_alone scene flags logs log bucket agree one at flag taken is =
 -- a bucket's flag may be found so
 pub may_be_found : (scene : PoolScene) (flags : List Flag) (logs : List PoolLog) (bucket : ℕ) → LogsAgree scene flags logs →
     (flag : Flag) → slice_get flags bucket ≡ Some flag → MayBeFound scene bucket flag
-may_be_found scene flags logs bucket agree flag is = grind (arith, common_steps, there, machine_flag, names_made)
+may_be_found scene flags logs bucket agree flag is = grind (arith, there, machine_flag, names_made)
 
 pub length-flags : (scene : PoolScene) (flags : List Flag) (logs : List PoolLog) →
     LogsAgree scene flags logs → length flags ≡ scene.geometry.buckets

@@ -1,5 +1,4 @@
 -- The buckets that a refused pass and a miss have met.
-use Rattle.std.proofs.lemmas.Grind.{common_steps}
 use Rattle.std.proofs.Common.{◌≡◌, ℕ, zero, suc, ◌+◌, ◌<◌, ◌≤◌, ◌⊎◌, List, [], ◌∷◌, length, refl, sym, ap, ◌∙◌, subst}
 use Rattle.std.proofs.Common.{arith, Option, Some, None, inl, inr}
 use Rattle.std.specs.Prelude.{slice_get, slice_set, take, unwrap_or}
@@ -49,7 +48,7 @@ at_refusal state step move party last bucket _ by refusal below = absurd (cc)
 -- a pass that is over has lost none
 over : (state : PoolState) (other party bucket next : ℕ) → IsNext state other next →
     bucket < progress_of (slice_get (slice_set state.calls other None) party) → bucket < progress_of (slice_get state.calls party)
-over state other party bucket at next less = grind (arith, common_steps, cases_eq, slice_get-set_at, slice_get-set_apart)
+over state other party bucket at next less = grind (arith, cases_eq, slice_get-set_at, slice_get-set_apart)
 
 -- what a pass has lost after a step was lost before the step, or is lost at it
 at_progress : (state : PoolState) (step : PoolStep) (move : PoolMove) (party bucket : ℕ) →
@@ -62,7 +61,7 @@ at_progress state step move party bucket (is_refused other lost next taken none)
 at_progress state step move party bucket (takes_at other taken idle free) less =
     inl (over state other party bucket 0 (next_of_idle state other idle) less)
 at_progress state step move party bucket (loses other lost next taken more) less =
-    grind (arith, common_steps, slice_get-set_at, progress_next, below_or_at, slice_get-set_apart)
+    grind (arith, slice_get-set_at, progress_next, below_or_at, slice_get-set_apart)
 at_progress state step move party bucket _ less = inl less
 
 -- what is lost is taken

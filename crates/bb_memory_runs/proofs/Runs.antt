@@ -1,5 +1,4 @@
 -- Runs of an allocator with its live list, one command longer.
-use Rattle.std.proofs.lemmas.Grind.{common_steps}
 use Rattle.std.proofs.Common.{◌≡◌, ℕ, zero, suc, List, [], ◌∷◌, ◌++◌, length, ap, arith}
 use Rattle.std.proofs.lemmas.List.Sums.{fold_push}
 use Rattle.std.specs.Prelude.{Result}
@@ -29,7 +28,7 @@ IsRun-listed Steps takes frees old new (c ∷ commands) [] none = absurd none
 pub note-push : {Note : Type 0} (after : Layout → Note → Note) (old : Note) (commands : List Command) (mid new : Note)
     (command : Command) → mid ≡ note_after_run after old commands → new ≡ note_after_command after mid command →
     new ≡ note_after_run after old (commands ++ command ∷ [])
-note-push after old commands mid new command so_far last = grind (arith, common_steps, fold_push)
+note-push after old commands mid new command so_far last = grind (arith, fold_push)
 
 -- what is said of each chunk that was given, of one command more
 pub EachGiven-push : (Suits : Layout → Chunk → Type 0) (commands : List Command) (replies : List Reply)

@@ -1,6 +1,5 @@
 -- The numbers of parties that stand in one list: where no number that was made stands there twice, they are different ones, and
 -- where the parties are as many as were made, each number stands there.
-use Rattle.std.proofs.lemmas.Grind.{common_steps}
 use Rattle.std.proofs.Common.{◌≡◌, ◌≢◌, ℕ, zero, suc, ◌+◌, ◌<◌, ◌≤◌, List, [], ◌∷◌, Some, length}
 use Rattle.std.proofs.Common.{refl, ap, subst, arith, inl, inr}
 use Rattle.std.specs.Prelude.{Contains, map, slice_get}
@@ -75,7 +74,7 @@ counted-few (suc made) missing parties below none once =
 pub all_there : {E : Type 0} (made : ℕ) (logs : List (List E)) (parties : List (Numbered E)) → HaveLogs made logs parties →
     ((number : ℕ) → number < made → times_in number parties ≤ 1) → length parties ≡ made →
     (number : ℕ) → number < made → 1 ≤ times_in number parties
-all_there made logs parties have once long number below = grind (arith, common_steps, cases_eq, counted-few, counted-all)
+all_there made logs parties have once long number below = grind (arith, cases_eq, counted-few, counted-all)
 
 -- NUMBERS
 
@@ -94,8 +93,8 @@ module _ {P E : Type 0} (of : P → Numbered E) where
       i ≢ j → number one ≡ number other → 2 ≤ times_in (number one) (map of items)
   stands_twice [] i j one other at at_other apart same = absurd (cc)
   stands_twice (party ∷ items) zero zero one other at at_other apart same = absurd (apart refl)
-  stands_twice (party ∷ items) zero (suc j) one other at at_other apart same = grind (arith, common_steps, stands_once)
-  stands_twice (party ∷ items) (suc i) zero one other at at_other apart same = grind (arith, common_steps, stands_once)
+  stands_twice (party ∷ items) zero (suc j) one other at at_other apart same = grind (arith, stands_once)
+  stands_twice (party ∷ items) (suc i) zero one other at at_other apart same = grind (arith, stands_once)
   stands_twice (party ∷ items) (suc i) (suc j) one other at at_other apart same =
       let rest = stands_twice items i j one other at at_other (λ is. apart (ap suc is)) same in omega arith
 

@@ -1,5 +1,4 @@
 -- How parties stand in the views of seats: each in one, while seats are split, joined and split, and while one party steps.
-use Rattle.std.proofs.lemmas.Grind.{common_steps}
 use Rattle.std.proofs.Common.{◌≡◌, ◌≢◌, ℕ, zero, suc, ◌+◌, ◌-◌, ◌<◌, ◌≤◌, List, [], ◌∷◌, ◌++◌, length, set}
 use Rattle.std.proofs.Common.{replicate, Some, eqb, ne_eqb, eq-eqb, refl, sym, ap, ◌∙◌, subst, arith, inl, inr}
 use Rattle.std.specs.Prelude.{slice_get, slice_set}
@@ -139,14 +138,14 @@ module _ {S E : Type 0} (made : ℕ) (logs : List (List E)) (views : List (View 
   -- where a view is set whose parties have their logs, those of each have theirs
   set_known : (new : View S E) → AreSeated made logs views → Known new → (other : ℕ) (found : View S E) →
       get_elem? (set views seat new) other ≡ some found → Known found
-  set_known new seated is other found there = grind (arith, common_steps, at_set)
+  set_known new seated is other found there = grind (arith, at_set)
 
   -- a view is split in two where each party goes to one of the two
   pub seated_split : (view left right : View S E) →
       ((number : ℕ) → times_in number left.parties + times_in number right.parties ≡ times_in number view.parties) →
       (Known view → Known left × Known right) → AreSeated made logs views → get_elem? views seat ≡ some view →
       AreSeated made logs (set views seat left ++ right ∷ [])
-  seated_split view left right count parts seated at = grind (arith, common_steps, at_snoc, set_known, total-push, total-set)
+  seated_split view left right count parts seated at = grind (arith, at_snoc, set_known, total-push, total-set)
 
   pub seated_others : (view : View S E) → AreSeated made logs views → get_elem? views seat ≡ some view →
       AreSeated made logs (set views seat (others_of view) ++ first_of view ∷ [])
@@ -161,12 +160,12 @@ module _ {S E : Type 0} (made : ℕ) (logs : List (List E)) (views : List (View 
       get_elem? (set views seat both) other ≡ some guest →
       AreSeated made logs (set (set views seat both) other (standing_for none []))
   seated_joined view other guest scene none items seated at apart there =
-      grind (arith, common_steps, at_set, have-append, set_known, total-set, times_in-append)
+      grind (arith, at_set, have-append, set_known, total-set, times_in-append)
 
   -- a view becomes another with the same parties
   pub seated_again : (view : View S E) (scene : S) → AreSeated made logs views → get_elem? views seat ≡ some view →
       AreSeated made logs (set views seat (standing_for scene view.parties))
-  seated_again view scene seated at = grind (arith, common_steps, set_known, total-set)
+  seated_again view scene seated at = grind (arith, set_known, total-set)
 
   -- no party stands twice in one view
   pub once_in : (view : View S E) → AreSeated made logs views → get_elem? views seat ≡ some view → (number : ℕ) →
@@ -179,7 +178,7 @@ module _ {S E : Type 0} (made : ℕ) (logs : List (List E)) (views : List (View 
 pub seated_entered : {S E : Type 0} (made : ℕ) (logs : List (List E)) (views : List (View S E)) (view : View S E) →
     HaveLogs made logs view.parties → ((number : ℕ) → times_in number view.parties ≡ 0) → AreSeated made logs views →
     AreSeated made logs (views ++ view ∷ [])
-seated_entered {S = S} {E = E} made logs views view have none seated = grind (arith, common_steps, at_snoc, total-push)
+seated_entered {S = S} {E = E} made logs views view have none seated = grind (arith, at_snoc, total-push)
 
 -- THE OPENING
 
@@ -214,7 +213,7 @@ fresh_once E number from (suc count) low high =
 -- all parties stand in the first seat
 pub seated_opening : {S : Type 0} (E : Type 0) (made : ℕ) (scene : S) →
     AreSeated {S = S} {E = E} made (replicate made []) (standing_for scene (fresh_from 0 made) ∷ [])
-seated_opening {S = S} E made scene = grind (arith, common_steps, fresh_once, fresh_have)
+seated_opening {S = S} E made scene = grind (arith, fresh_once, fresh_have)
 
 -- DEALING
 

@@ -8,14 +8,14 @@ use Rattle.bb_memory_traits.specs.PoolObject.{IsWithin}
 use Rattle.bb_memory_pool_machine.specs.PoolLogs.{IsHeldAfter, PoolLog}
 use Rattle.bb_memory_traits.specs.declared.layout.Layout.{Layout}
 use Rattle.bb_memory_traits.specs.declared.allocator.AllocationError.{AllocationError}
-use Rattle.bb_memory_geometry.proofs.Measures.{bucket-inside, bucket_place-multiple}
+use Rattle.bb_memory_traits.proofs.Measures.{bucket-inside, bucket_place-multiple}
 use Rattle.bb_memory_shared_pools.specs.SharedPool.{IsParty, PoolParty, Serves, ServesAlone, SharedPool, TakenBucket}
 use Rattle.bb_memory_shared_pools.specs.SharedPool.{return_entry, taken_bucket, with_entries}
 use Rattle.bb_memory_shared_pools.specs.SharedPoolCaching.{AreCached, CachingParty, IsOut, TakesCaching, returns_of}
 use Rattle.bb_memory_shared_pools.specs.SharedPoolNextFit.{MayTakeFrom, hint_of}
 use Rattle.bb_memory_shared_pools.proofs.SharedPoolLaws.{held_below}
 use Rattle.bb_memory_shared_pools.proofs.SharedPoolRequests.{not_within, refused_unasked, unasked}
-use Rattle.bb_memory_geometry.specs.Geometry.{Admits}
+use Rattle.bb_memory_traits.specs.Geometry.{Admits}
 
 -- a token's number
 pub number_of : (pool : SharedPool) (token : TakenBucket) (bucket len : ℕ) → token ≡ taken_bucket pool bucket len →

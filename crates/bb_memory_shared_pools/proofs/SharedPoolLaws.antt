@@ -20,7 +20,7 @@ use Rattle.bb_memory_pool_machine.proofs.PoolHolders.{holder_in_log, one_holder}
 use Rattle.bb_memory_pool_machine.proofs.PoolPasses.{missed_is_held, refused_found_held}
 use Rattle.bb_memory_pool_machine.proofs.PoolRuns.{taken_is_held}
 use Rattle.bb_memory_pool_machine.proofs.PoolSteps.{length-left_by}
-use Rattle.bb_memory_geometry.specs.Geometry.{AreAStrideApart}
+use Rattle.bb_memory_traits.specs.Geometry.{AreAStrideApart}
 use Rattle.bb_memory_shared_pools.specs.SharedPool.{AreInterleaved, HasFoundAllHeld, IsHistoryRun, IsParty, PoolParty, SharedPool}
 use Rattle.bb_memory_shared_pools.specs.SharedPool.{TakenBucket, chunk_of, losses, refused_pass}
 use Rattle.bb_memory_shared_pools.specs.SharedPoolNextFit.{HasMissedAll, probed, miss_at, misses, refused_search}

@@ -4,7 +4,7 @@ ghost use Rattle.bb_memory_traits.specs.Chunk.{region_at, AreApart, Chunk, IsSou
 ghost use Rattle.bb_memory_traits.specs.PoolObject.{IsCut, IsHeld};
 ghost use Rattle.bb_memory_pool_machine.specs.PoolLogs.{AreAsked, IsPoolRun, PoolLog, IsHeldAfter};
 ghost use Rattle.bb_memory_traits.specs.declared.layout.Layout.{Layout};
-ghost use Rattle.bb_memory_geometry.specs.Geometry.{AreAStrideApart, MayBeCut};
+ghost use Rattle.bb_memory_traits.specs.Geometry.{AreAStrideApart, MayBeCut};
 ghost use Rattle.bb_memory_shared_pools.specs.SharedPool.{AreFresh, AreInterleaved, HasFoundAllHeld, IsHistoryRun};
 ghost use Rattle.bb_memory_shared_pools.specs.SharedPool.{IsParty, PoolParty, TakenBucket, chunk_of, refused_pass};
 ghost use Rattle.bb_memory_shared_pools.specs.SharedPoolNextFit.{HasMissedAll, refused_search};
@@ -24,10 +24,10 @@ mod party;
 mod rule;
 
 pub use all_parties::shared_pool_meeting_law;
-use bb_memory_geometry::geometry::Geometry;
 pub use bb_memory_traits::allocator::{
     AllocationError, AllocationGrowError, AllocationShrinkError,
 };
+use bb_memory_traits::geometry::Geometry;
 use bb_memory_traits::layout::Layout;
 pub use bucket::Bucket;
 use buckets::SharedBucketPool;

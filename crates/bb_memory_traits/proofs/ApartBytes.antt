@@ -1,5 +1,4 @@
 -- The bytes of a chunk: of one that is apart from the one that is written over, and in two parts.
-use Rattle.std.proofs.lemmas.Grind.{common_steps}
 use Rattle.std.proofs.Common.{arith, ◌≡◌, ℕ, ◌+◌, ◌-◌, ◌≤◌, ◌⊎◌, inl, inr, List, ◌++◌, take, drop, sym, ap, ◌∙◌, ⊎_elim}
 use Rattle.std.proofs.Math.Seq.{take-add}
 use Rattle.std.proofs.lemmas.Bool.{cases_lt}
@@ -17,7 +16,7 @@ part-before xs i n m within =
 
 -- a part that begins at or behind m is a part of what is behind m
 part-behind : (xs : List ℕ) (i n m : ℕ) → m ≤ i → take n (drop i xs) ≡ take n (drop (i - m) (drop m xs))
-part-behind xs i n m after = grind (arith, common_steps, drop-drop)
+part-behind xs i n m after = grind (arith, drop-drop)
 
 same-before : (xs ys : List ℕ) (i n m : ℕ) → i + n ≤ m → take m ys ≡ take m xs → take n (drop i ys) ≡ take n (drop i xs)
 same-before xs ys i n m within same =

@@ -1,5 +1,4 @@
 -- Answers of the bump object, and the lists that it goes on to.
-use Rattle.std.proofs.lemmas.Grind.{common_steps}
 use Rattle.std.proofs.Common.{◌≡◌, ℕ, ◌-◌, ◌≤◌, ◌%◌, List, [], ◌∷◌, ◌++◌, Result, Ok, Err, sym, ◌∙◌, ap, subst, refl, inl, inr}
 use Rattle.std.proofs.Common.{arith}
 use Rattle.std.specs.List.{All}
@@ -49,12 +48,12 @@ one_answer region live layout one (Err AlignmentFailure) first second = absurd s
 -- a chunk that is given begins at or after the end of the last one
 pub answer-after : (region : Region) (live : List Chunk) (layout : Layout) (chunk : Chunk) →
     MayAllocate region live layout (Ok chunk) → end_of_last region.start live ≤ chunk.place
-answer-after region live layout chunk told = grind (arith, common_steps, least_place-is)
+answer-after region live layout chunk told = grind (arith, least_place-is)
 
 -- it begins at a multiple of the alignment
 pub answer-aligned : (region : Region) (live : List Chunk) (layout : Layout) (chunk : Chunk) →
     MayAllocate region live layout (Ok chunk) → chunk.place % layout.align ≡ 0
-answer-aligned region live layout chunk told = grind (arith, common_steps, least_place-multiple)
+answer-aligned region live layout chunk told = grind (arith, least_place-multiple)
 
 -- it has the asked size
 pub answer-len : (region : Region) (live : List Chunk) (layout : Layout) (chunk : Chunk) →
@@ -64,7 +63,7 @@ answer-len region live layout chunk told = ap (λ (k : Chunk). k.len) told.2
 -- it is inside the region, where the list is in order
 pub answer-inside : (region : Region) (live : List Chunk) (layout : Layout) (chunk : Chunk) →
     IsInOrder region.start live → MayAllocate region live layout (Ok chunk) → IsInside region chunk
-answer-inside region live layout chunk ordered told = grind (arith, common_steps, answer-after, end_of_last-above)
+answer-inside region live layout chunk ordered told = grind (arith, answer-after, end_of_last-above)
 
 -- it begins at or after the end of each chunk of a list in order
 pub answer-after_all : (region : Region) (live : List Chunk) (layout : Layout) (chunk : Chunk) →

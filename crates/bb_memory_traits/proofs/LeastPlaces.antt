@@ -1,5 +1,4 @@
 -- The least place is what its name says, and a mask computes it.
-use Rattle.std.proofs.lemmas.Grind.{common_steps}
 use Rattle.std.proofs.Common.{◌≡◌, ℕ, ◌+◌, ◌-◌, ◌*◌, ◌/◌, ◌%◌, ◌^◌, ◌<◌, ◌≤◌, bit_and, bit_or, pow_pos}
 use Rattle.std.proofs.Common.{arith, ap, sym, ◌∙◌, inl, inr, mul-le-mul_right, div-add-mod'}
 use Rattle.std.proofs.Math.Nat.{add-mod_right, mod-le}
@@ -41,7 +40,7 @@ least_place-quotient v align positive = omega (arith, least_place-rounds v align
 
 -- a multiple that isn't below a number isn't below the least place
 least_place-below : (v align k : ℕ) → 0 < align → v ≤ k * align → least_place v align ≤ k * align
-least_place-below v align k positive above = grind (arith, common_steps, least_place-quotient, div-add-mod')
+least_place-below v align k positive above = grind (arith, least_place-quotient, div-add-mod')
 
 -- the least place is the least multiple that isn't below the number
 pub least_place-is : (v align : ℕ) → 0 < align → IsLeastPlace v align (least_place v align)
@@ -53,15 +52,15 @@ least_place-is v align positive = record {
 
 -- there is one least multiple alone
 pub least_place-unique : (v align p : ℕ) → 0 < align → IsLeastPlace v align p → p ≡ least_place v align
-least_place-unique v align p positive is = grind (arith, common_steps, least_place-is)
+least_place-unique v align p positive is = grind (arith, least_place-is)
 
 -- the least place has no rest
 pub least_place-multiple : (v align : ℕ) → 0 < align → least_place v align % align ≡ 0
-least_place-multiple v align positive = grind (arith, common_steps, least_place-is, rest_of)
+least_place-multiple v align positive = grind (arith, least_place-is, rest_of)
 
 -- a multiple that is less than an alignment above the number isn't above the least place
 pub least_place-beyond : (v align k : ℕ) → 0 < align → k * align ≤ v + (align - 1) → k * align ≤ least_place v align
-least_place-beyond v align k positive near = grind (arith, common_steps, le-div, least_place-quotient, mul-le-mul_right)
+least_place-beyond v align k positive near = grind (arith, le-div, least_place-quotient, mul-le-mul_right)
 
 -- the address before the least place has the low bits of the mask set, and the others of the address before the number
 pub least_place-behind : (v align : ℕ) → IsPowerOfTwo align → 0 < v → bit_or (v - 1) (align - 1) + 1 ≡ least_place v align

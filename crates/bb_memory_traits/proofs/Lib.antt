@@ -1,9 +1,12 @@
 mod ApartBytes
 pub mod BumpObjects
+pub mod Cuts
+pub mod Geometries
 pub mod Layouts
 pub mod LeastPlaces
 mod LiveBytes
 pub mod LiveLists
+pub mod Measures
 pub mod OneChunkLists
 pub mod PoolGeometries
 pub mod PoolLists

@@ -1,5 +1,4 @@
 -- Where the buckets of a pool are.
-use Rattle.std.proofs.lemmas.Grind.{common_steps}
 use Rattle.std.proofs.Common.{◌≡◌, ◌≢◌, ℕ, ◌+◌, ◌-◌, ◌*◌, ◌/◌, ◌%◌, ◌<◌, ◌≤◌, ap, sym, ◌∙◌, arith, mul-le-mul_right}
 use Rattle.std.proofs.lemmas.Bool.{cases_lt}
 use Rattle.std.proofs.lemmas.Nat.{le-div, div-add-mod', mod-mul-add}
@@ -24,12 +23,12 @@ bucket_place-after geometry i j below = omega (arith, mul-le-mul_right {m = i + 
 -- two buckets have different places
 pub bucket_place-apart : (geometry : PoolGeometry) → IsPoolGeometry geometry → (i j : ℕ) → i ≢ j →
     bucket_place geometry i ≢ bucket_place geometry j
-bucket_place-apart geometry is i j apart same = grind (arith, common_steps, stride-above, cases_lt, bucket_place-after)
+bucket_place-apart geometry is i j apart same = grind (arith, stride-above, cases_lt, bucket_place-after)
 
 -- the buckets that a region has room for are those below a quotient
 pub room-quotient : (region : Region) (bucket : Layout) → 0 < bucket.size →
     FillsRegion (pool_geometry region bucket ((region_end region - first_place region bucket) / stride bucket))
-room-quotient region bucket filled i = grind (arith, common_steps, stride-above, mul-le-mul_right, div-add-mod', le-div)
+room-quotient region bucket filled i = grind (arith, stride-above, mul-le-mul_right, div-add-mod', le-div)
 
 -- each region has a geometry with just the buckets that it has room for
 pub some_geometry : (region : Region) (bucket : Layout) → 0 < bucket.size →

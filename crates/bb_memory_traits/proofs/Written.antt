@@ -16,7 +16,7 @@ module _ (xs : List ℕ) (i : ℕ) (ws : List ℕ) (fits : i + length ws ≤ len
   front = length-take-le i xs (omega arith)
 
   length-over : length (over xs i ws) ≡ length xs
-  length-over = grind (arith, common_steps, length-append, length-drop, front)
+  length-over = grind (arith, length-append, length-drop, front)
 
   -- so nothing is cut off
   uncut : take (length xs) (over xs i ws) ≡ over xs i ws
@@ -26,10 +26,10 @@ module _ (xs : List ℕ) (i : ℕ) (ws : List ℕ) (fits : i + length ws ≤ len
   take-over = ap (λ n. take n (over xs i ws)) (sym front) ∙ take-append_seam (take i xs) (ws ++ drop (i + length ws) xs)
 
   part-over : take (length ws) (drop i (over xs i ws)) ≡ ws
-  part-over = grind (arith, common_steps, front, drop-append_seam, take-append_seam)
+  part-over = grind (arith, front, drop-append_seam, take-append_seam)
 
   drop-over : drop (i + length ws) (over xs i ws) ≡ drop (i + length ws) xs
-  drop-over = grind (arith, common_steps, front, drop-append-add, drop-append_seam)
+  drop-over = grind (arith, front, drop-append-add, drop-append_seam)
 
 -- a chunk inside that is written over whole is all that changes
 pub written-changes : (held : HeldBytes) (chunk : Chunk) (bytes : List ℕ) →

@@ -1,5 +1,6 @@
 pub mod BumpObject
 pub mod Chunk
+pub mod Geometry
 pub mod HeldBytes
 pub mod LeastPlace
 pub mod Lending

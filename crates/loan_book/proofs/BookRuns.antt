@@ -1,5 +1,4 @@
 -- One sample that is out, after a run of calls, and one that a call of the run loans or publishes.
-use Rattle.std.proofs.lemmas.Grind.{common_steps}
 use Rattle.std.proofs.Common.{◌≡◌, ◌≢◌, ℕ, zero, suc, ◌+◌, ◌-◌, ◌<◌, Bool, true, false, cond, List, [], ◌∷◌, drop, slice_get}
 use Rattle.std.proofs.Common.{refl, ap, sym, ◌∙◌, subst, arith, Option, None, Some}
 use Rattle.std.specs.Prelude.{◌↔◌}
@@ -141,7 +140,7 @@ module _ (may : Answers) (new : Book) (id : ℕ) where
       let one : once (is_return_of id made) ≡ 1 = ap once own in
       (λ out. let some = still.0 out in absurd (omega arith), λ nothing. absurd (omega arith))
   run-first old mid made calls told replies is unpublished step rest none further false true other own =
-      grind (arith, common_steps, sum_by-cons)
+      absurd (omega (arith, sum_by-cons (λ x. once (is_publish_of id x)) made calls, ap once own))
   run-first old mid made calls told replies is unpublished step rest none further false false other another =
       let publishes = sum_by-cons (λ x. once (is_publish_of id x)) made calls in
       let returns = sum_by-cons (λ x. once (is_return_of id x)) made calls in
@@ -180,11 +179,9 @@ module _ (may : Answers) (new : Book) (id : ℕ) where
       run-returns mid calls replies readers (step-sound may old mid made told is step)
       (subst (λ book. HasReturns book id (Some readers)) (sym set) (own-set old id position sample readers at)) rest
   run-published old (made ∷ calls) (told ∷ replies) (suc i) readers is (mid, step, rest) called replied =
-      grind (
-        arith,
-        common_steps,
-        run-published mid calls replies i readers (step-sound may old mid made told is step) rest called replied,
-      )
+      let next : suc i + 1 ≡ suc (i + 1) = omega arith in
+      subst (λ k. IsOut new id ↔ (returns_in id (drop k (made ∷ calls)) < readers)) (sym next)
+      (run-published mid calls replies i readers (step-sound may old mid made told is step) rest called replied)
 
   -- a reply that loans is one to a request
   loaned-step : (old mid : Book) (made : LoanCall) (calls : List LoanCall) (replies : List LoanReply) (chunk : Chunk) →
@@ -202,7 +199,9 @@ module _ (may : Answers) (new : Book) (id : ℕ) where
   run-loaned old calls [] i chunk is run replied none = absurd (cc)
   run-loaned old [] (told ∷ replies) i chunk is run replied none = absurd run
   run-loaned old (made ∷ calls) (told ∷ replies) zero chunk is (mid, step, rest) replied none =
-      grind (arith, common_steps, loaned-step, step-sound)
+      let loaned : BookStep may old made (reply.Loaned id chunk) mid =
+      subst (λ (k : LoanReply). BookStep may old made k mid) (cc) step in
+      loaned-step old mid made calls replies chunk (step-sound may old mid made told is step) loaned none rest
   run-loaned old (made ∷ calls) (told ∷ replies) (suc i) chunk is (mid, step, rest) replied none =
       let next : suc i + 1 ≡ suc (i + 1) = omega arith in
       let none_behind = subst (λ k. publishes_in id (drop k (made ∷ calls)) ≡ 0) next none in

@@ -1,5 +1,4 @@
 -- A book after a step, and one sample of it.
-use Rattle.std.proofs.lemmas.Grind.{common_steps}
 use Rattle.std.proofs.Common.{◌≡◌, ◌≢◌, ℕ, ◌<◌, length, refl, ap, sym, ◌∙◌, subst, arith, Some, None, Option}
 use Rattle.std.specs.Prelude.{slice_get}
 use Rattle.std.proofs.lemmas.Option.{slice_get_within, get_or_from_slice_get}
@@ -62,7 +61,7 @@ HasOrIsGone book id (Some returns) = HasReturns book id returns
 -- one more sample
 pub push-keeps : (book : Book) (chunk : Chunk) (id : ℕ) (left : Option (Option ℕ)) → HasOrIsGone book id left →
     HasOrIsGone (with_sample book chunk) id left
-push-keeps book chunk id None (gone, used) = grind (arith, common_steps, slice_get-pushed)
+push-keeps book chunk id None (gone, used) = grind (arith, slice_get-pushed)
 push-keeps book chunk id (Some left) (i, sample, here, waits) =
     let fresh : Sample = record { id = book.loaned; chunk = chunk; returns = None } in
     (i, sample, record { at = slice_get-push book.out i sample fresh here.at; has_id = here.has_id }, waits)
@@ -76,7 +75,7 @@ own-push book id chunk its_id =
 -- a sample that is out after a change of one was out before it
 was_out_before_set : (book : Book) (id other position : ℕ) (sample : Sample) (returns : ℕ) → IsAt book other position sample →
     IsOut (with_returns book position sample returns) id → IsOut book id
-was_out_before_set book id other position sample returns here (i, found, there) = grind (arith, common_steps, slice_get-set)
+was_out_before_set book id other position sample returns here (i, found, there) = grind (arith, slice_get-set)
 
 -- another sample is set
 pub set-keeps : (book : Book) (id other position : ℕ) (sample : Sample) (returns : ℕ) (left : Option (Option ℕ)) →

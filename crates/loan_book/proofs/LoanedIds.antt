@@ -1,5 +1,4 @@
 -- Which ids a run of calls gives, and how many.
-use Rattle.std.proofs.lemmas.Grind.{common_steps}
 use Rattle.std.proofs.Common.{◌≡◌, ℕ, suc, ◌+◌, List, [], ◌∷◌, length, refl, ap, sym, subst, ◌∙◌, arith, add-zero, Option, None}
 use Rattle.std.proofs.Common.{Some}
 use Rattle.std.specs.List.{range_with_len, cons_option}
@@ -45,4 +44,4 @@ count-run may_allocate old new (call ∷ calls) [] none = absurd none
 pub run-ids : (may_allocate : Answers) (old new : Book) (calls : List LoanCall) (replies : List LoanReply) →
     IsRun (BookStep may_allocate) old calls replies new →
     (new.loaned ≡ old.loaned + length (ids_in replies)) × (ids_in replies ≡ range_with_len old.loaned (length (ids_in replies)))
-run-ids may_allocate old new calls replies run = grind (arith, common_steps, count-run, length-range_with_len)
+run-ids may_allocate old new calls replies run = grind (arith, count-run, length-range_with_len)

@@ -1,5 +1,4 @@
 -- Each call has one answer alone, or leads to one book at least.
-use Rattle.std.proofs.lemmas.Grind.{common_steps}
 use Rattle.std.proofs.Common.{◌≡◌, ℕ, ◌<◌, Bool, true, false, refl, ap, sym, ◌∙◌, subst, arith, Result, Ok, Err}
 use Rattle.std.specs.Prelude.{◌↔◌}
 use Rattle.bb_memory_traits.specs.Chunk.{Chunk}
@@ -68,7 +67,7 @@ module _ (book : Book) (is : IsBook book) (id readers : ℕ) where
   give-one (Ok false) (Ok true) new next (i, sample, at, more, same) (j, found, there, last, same_too) =
       let come = to_come i j sample found at there in absurd (omega arith)
   give-one (Ok false) (Ok false) new next (i, sample, at, more, same) (j, found, there, more_too, same_too) =
-      grind (arith, common_steps, to_come, same-set)
+      grind (arith, to_come, same-set)
   give-one one other new next first second = grind (arith, first, second)
 
 -- each refusal comes exactly where its cause holds
@@ -84,4 +83,4 @@ publish-refusal book is id readers answer new step error =
 pub publish-one : (book : Book) (is : IsBook book) (id readers : ℕ) (one other : Result (Unit {0}) LoanError) (new next : Book) →
     Publishes book id readers one new → Publishes book id readers other next → (one ≡ other) × (new ≡ next)
 publish-one book is id readers one other new next first second =
-    grind (arith, common_steps, one-cause, publish-cause, publish-one_book)
+    grind (arith, one-cause, publish-cause, publish-one_book)

@@ -5,10 +5,10 @@ use Rattle.std.specs.Prelude.{slice_get}
 use Rattle.std.proofs.lemmas.List.{take_at, length-map, append_assoc, map-append}
 use Rattle.std.proofs.lemmas.List.Elements.{All-map, All-weaker}
 use Rattle.std.proofs.lemmas.Option.{none-some}
-use Rattle.script_words.proofs.LineWords.{words_same}
-use Rattle.script_words.specs.Words.{Words, AreWords}
+use Rattle.script_engine.proofs.LineWords.{words_same}
+use Rattle.script_engine.specs.Words.{Words, AreWords}
 use Rattle.script_engine.specs.Scripts.{Rules, IsLine, line_text, IsLineText, IsFirstUnreadable, Line}
-use Rattle.script_engine.specs.declared.script.Line.TheVariants.{Command, Show}
+use Rattle.script_engine.specs.declared.driving.Line.TheVariants.{Command, Show}
 
 -- what stands after a list
 slice_get_at : {X : Type 0} (xs : List X) (y : X) (ys : List X) → slice_get (xs ++ y ∷ ys) (length xs) ≡ Some y

@@ -5,7 +5,7 @@ use Rattle.std.specs.Io.KnownBytes.{Appends, Keeps}
 use Rattle.std.proofs.lemmas.List.{append_assoc, append-nil, take-append-drop, take_rest}
 use Rattle.script_engine.specs.Scripts.{Ends, IsAnswered, IsOutput, IsUnreadable, IsLeft, Kind, Status, AppendsPart, Sends}
 use Rattle.script_engine.specs.declared.status.Status.TheVariants.{Done, Unreadable, OutputFailed, OutOfMemory}
-use Rattle.script_words.specs.Words.{unreadable_text}
+use Rattle.script_engine.specs.Words.{unreadable_text}
 
 -- known bytes grow by no byte
 pub appends_nothing : (known : Option (List ℕ)) → Appends known known []

@@ -6,13 +6,13 @@ use Rattle.std.specs.Str.{bytes_eq}
 use Rattle.std.proofs.lemmas.Bool.{and_parts, both_ways, not-true}
 use Rattle.std.proofs.lemmas.Option.{none-some}
 use Rattle.std.proofs.lemmas.Slice.Eq.{bytes_eq-Decides}
-use Rattle.script_words.proofs.LineWords.{words_same}
+use Rattle.script_engine.proofs.LineWords.{words_same}
 use Rattle.script_engine.specs.declared.driving.Outcome.{Outcome}
 use Rattle.script_engine.specs.declared.driving.Outcome.TheVariants.{Answered, Unreadable, OutOfMemory}
 use Rattle.script_engine.specs.Scripts.{Line, Rules, Kind, kind, SomeOf, header_words, is_new, IsLineText, IsFirstUnreadable}
 use Rattle.script_engine.specs.Scripts.{AreScript, IsPlayed, HasHeader, IsScriptOf, IsAnsweredBy, IsOutcome, AreReadable}
 use Rattle.script_engine.specs.Scripts.{IsUnreadableAt}
-use Rattle.script_words.specs.Words.{Words, MayStand, AreWords, words_text}
+use Rattle.script_engine.specs.Words.{Words, MayStand, AreWords, words_text}
 
 -- the first line is of this kind
 abbrev pub HasHeaderOf : List (List ℕ) → Kind → Type 0

@@ -4,12 +4,12 @@ use Rattle.std.specs.List.{flat_map}
 use Rattle.std.specs.Prelude.{List, ◌⊎◌, [], ◌∷◌, ℕ, codes, Bool, true, not, ◌&&◌, IsTrue, ◌≡◌, ◌++◌, All, Option, Some}
 use Rattle.std.specs.Prelude.{map, slice_get, take, None, ◌≢◌, ◌-◌, IfSome}
 use Rattle.std.specs.Str.{bytes_eq}
-use Rattle.script_words.specs.Words.{Words, words, words_text, MayStand, lines_of, unreadable_text}
-use Rattle.script_words.specs.declared.words.Numbers.{Numbers}
+use Rattle.script_engine.specs.Words.{Words, words, words_text, MayStand, lines_of, unreadable_text}
+use Rattle.script_engine.specs.declared.words.Numbers.{Numbers}
 use Rattle.script_engine.specs.declared.driving.Outcome.{Outcome}
-use Rattle.script_engine.specs.declared.script.Line.TheVariants.{Command, Show}
+use Rattle.script_engine.specs.declared.driving.Line.TheVariants.{Command, Show}
 use Rattle.script_engine.specs.declared.status.Status.TheVariants.{Done, Unreadable, InputFailed, OutputFailed, OutOfMemory}
-pub use Rattle.script_engine.specs.declared.script.Line.{Line}
+pub use Rattle.script_engine.specs.declared.driving.Line.{Line}
 pub use Rattle.script_engine.specs.declared.status.Status.{Status}
 use Rattle.script_engine.specs.declared.driving.Outcome.TheVariants as outcome
 

@@ -1,15 +1,43 @@
 //! From the bytes of an input to the bytes that it is answered, by a table of kinds.
-ghost use Rattle.std.specs.Prelude.{◌≡◌, true};
-ghost use Rattle.script_engine.specs.Scripts.{Sends, are_apart, IsOutcome, Ends};
-ghost use Rattle.script_words.specs.Words.{lines_of};
+ghost use Rattle.std.specs.Prelude.{◌≡◌, ◌∷◌, [], List, true};
+ghost use Rattle.script_engine.specs.Scripts.{Sends, are_apart, IsOutcome, Ends, Kind, kind};
+ghost use Rattle.script_engine.specs.Words.{words, words_text, MayStand, lines_of};
 
-use crate::driving::Outcome;
-use crate::script::first_line;
+use crate::driving::{Outcome, ScriptKind, run_script};
 use crate::status::Status;
-use crate::table::Kinds;
-use script_words::words::{Numbers, words, write_words};
+use crate::words::{Numbers, first_line, words, write_words};
 use std::alloc::Global;
 use std::io::{ErrorKind, Write};
+
+/// Kinds of scripts, one after another.
+pub trait Kinds {
+    ghost table: { List Kind };
+
+    /// Checks and runs the script of a first line of these words and the bytes behind it.
+    fn run(alloc: Global, name: &[u8], numbers: Numbers, rest: &[u8]) -> Outcome
+        requires apart { are_apart table ≡ true }
+        requires stand { MayStand (words name.now numbers) }
+        ensures { IsOutcome table (words_text (words name.now numbers) ∷ lines_of rest.now) result };
+}
+
+impl Kinds for () {
+    ghost table = { [] };
+
+    fn run(_: Global, _: &[u8], _: Numbers, _: &[u8]) -> Outcome {
+        Outcome::Unreadable(1)
+    }
+}
+
+impl<K: ScriptKind, Others: Kinds> Kinds for (K, Others) {
+    ghost table = { kind K.rules ∷ Others.table };
+
+    fn run(alloc: Global, name: &[u8], numbers: Numbers, rest: &[u8]) -> Outcome {
+        match K::read_header(name, numbers) {
+            Some(header) => run_script::<K>(alloc, header, rest),
+            None => Others::run(alloc, name, numbers, rest),
+        }
+    }
+}
 
 /// Checks every line of an input, runs it, and then writes its text.
 pub fn answer<T: Kinds, W: Write>(alloc: Global, input: &[u8], writer: &mut W) -> Status

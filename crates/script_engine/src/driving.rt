@@ -1,11 +1,11 @@
 //! The trait of the kinds of scripts, and from the lines of a script behind its header to the lines of its replies.
-ghost use Rattle.std.specs.Prelude.{◌≡◌, ◌++◌, ◌∷◌, [], List, ℕ, IfOk, OnOk, IfSome, Some};
+ghost use Rattle.std.specs.Prelude.{◌≡◌, ◌<◌, ◌++◌, ◌∷◌, [], List, ℕ, IfOk, IfErr, OnOk, IfSome, IfNone, Some, length};
 ghost use Rattle.std.specs.List.{flat_map};
-ghost use Rattle.script_engine.specs.Scripts.{IsOutcome, kind, header_words, IsPlayed, IsStep, Rules};
-ghost use Rattle.script_words.specs.Words.{MayStand, words_text, lines_of, text_bytes};
+ghost use Rattle.script_engine.specs.Scripts.{IsOutcome, kind, header_words, IsPlayed, IsStep, Rules, IsLine, line_text};
+ghost use Rattle.script_engine.specs.Scripts.{AreScript, IsFirstUnreadable, IsLineText};
+ghost use Rattle.script_engine.specs.Words.{MayStand, words_text, lines_of, text_bytes};
 
-use crate::script::{Line, read_script};
-use script_words::words::{Numbers, Text};
+use crate::words::{Numbers, Text, first_line, is_word, words};
 use std::alloc::{AllocError, Global};
 
 /// A kind of script: what it drives is made by a header, takes commands, and gives one reply to each.
@@ -61,6 +61,13 @@ pub trait ScriptKind {
         ensures { OnOk result (line.new.items ≡ line.old.items ++ rules.state_text state.now) };
 }
 
+/// A line behind the header.
+#[derive(Drop)]
+pub enum Line<C> {
+    Command(C),
+    Show,
+}
+
 /// The end of a script that was read.
 #[derive(Drop)]
 pub enum Outcome {
@@ -86,6 +93,44 @@ pub fn run_script<K: ScriptKind>(alloc: Global, header: K::Header, rest: &[u8]) 
         Ok(Err(index)) => Outcome::Unreadable(index + 2),
         Err(_) => Outcome::OutOfMemory,
     }
+}
+
+/// Reads the lines behind the header, or returns the index of the first that is unreadable.
+fn read_script<K: ScriptKind>(
+    alloc: Global,
+    input: &[u8],
+) -> Result<Result<Vec<Line<K::Command>>, usize>, AllocError>
+    ensures read { IfOk result (λ outcome. IfOk outcome (λ script.
+        AreScript K.rules (lines_of input.now) script.items)) }
+    ensures unreadable { IfOk result (λ outcome. IfErr outcome (λ index.
+        IsFirstUnreadable (IsLineText K.rules) (lines_of input.now) index)) }
+    ensures within { IfOk result (λ outcome. IfErr outcome (λ index. index < length input.now)) }
+{
+    let mut script = Vec::new(alloc);
+    let mut index = 0;
+    let mut left = input;
+    while let Some((line, rest)) = first_line(left) {
+        let Some(line) = read_line::<K>(line) else {
+            return Ok(Err(index));
+        };
+        script.push(line)?;
+        index += 1;
+        left = rest;
+    }
+    Ok(Ok(script))
+}
+
+/// Parses a line behind the header.
+fn read_line<K: ScriptKind>(text: &[u8]) -> Option<Line<K::Command>>
+    ensures written { IfSome result (λ line. IsLine K.rules line
+        × (text.now ≡ line_text K.rules line)) }
+    ensures unreadable { IfNone result (¬ IsLineText K.rules text.now) }
+{
+    if K::can_show() && is_word(text, b"show") {
+        return Some(Line::Show);
+    }
+    let (name, numbers) = words(text)?;
+    Some(Line::Command(K::read(name, numbers)?))
 }
 
 /// Makes what the script drives, and runs the script on it. Returns the text to write.

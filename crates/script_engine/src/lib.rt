@@ -1,11 +1,12 @@
 //! Scripts of any kind: from the bytes of an input to the bytes that it is answered.
 //!
-//! `driving` says what a kind has to have, and runs a script of one; `script` cuts an input into lines, and reads them; `table`
-//! chooses a kind by the first line; `answering` writes what an input is answered, and `status` says how that ends.
+//! `words` cuts an input into lines, and a line into words: a name and numbers, and the layouts, regions and parties that these
+//! numbers write. `driving` says what a kind has to have, and reads and runs a script of one. `answering` chooses a kind by the
+//! first line, and writes what an input is answered; `status` says how that ends. `laws` hold of any input and status.
 #![tactic(auto)]
 
 pub mod answering;
 pub mod driving;
-pub mod script;
+pub mod laws;
 pub mod status;
-pub mod table;
+pub mod words;

@@ -7,7 +7,7 @@ use Rattle.bb_memory_traits.specs.declared.allocator.Command.TheVariants.{Alloca
 use Rattle.bb_memory_bump_machine.specs.declared.steps.bump.BumpStep.{BumpStep}
 use Rattle.bb_memory_bump_machine.specs.declared.steps.bump.BumpStep.TheVariants.{Read}
 use Rattle.bb_memory_traits.specs.declared.layout.Layout.{Layout}
-use Rattle.script_words.specs.declared.words.Numbers.TheVariants.{Two, Three, Five}
+use Rattle.script_engine.specs.declared.words.Numbers.TheVariants.{Two, Three, Five}
 use Rattle.script_runner.specs.Allocators.{command_words}
 use Rattle.script_runner.specs.Steps.{bump_step_words}
 

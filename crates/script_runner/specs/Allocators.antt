@@ -14,13 +14,13 @@ use Rattle.bb_memory_bump.specs.Bump.{Bump, bump_text}
 use Rattle.bb_memory_index_set.specs.IndexSets.{index_words}
 use Rattle.bb_memory_owned.specs.OneChunk.{OneChunk, StandsFor as OneChunkStandsFor}
 use Rattle.bb_memory_owned.specs.Pool.{Pool, StandsFor as PoolStandsFor, fresh_pool, CountedPool, counted, reads_after}
-use Rattle.bb_memory_geometry.specs.Geometry.{MayBeCut}
-use Rattle.script_words.specs.Words.{Words, words, words_then, region_of, bounds_numbers, name_line}
-use Rattle.script_words.specs.declared.words.Bounds.{Bounds}
-use Rattle.script_words.specs.declared.words.Numbers.{Numbers}
+use Rattle.bb_memory_traits.specs.Geometry.{MayBeCut}
+use Rattle.script_engine.specs.Words.{Words, words, words_then, region_of, bounds_numbers, name_line}
+use Rattle.script_engine.specs.declared.words.Bounds.{Bounds}
+use Rattle.script_engine.specs.declared.words.Numbers.{Numbers}
 use Rattle.script_engine.specs.Scripts.{Rules}
-use Rattle.script_runner.specs.declared.kinds.pool.PoolPlan.{PoolPlan}
-use Rattle.script_words.specs.declared.words.Numbers.TheVariants.{One, Two, Five, Four}
+use Rattle.script_runner.specs.declared.pool.PoolPlan.{PoolPlan}
+use Rattle.script_engine.specs.declared.words.Numbers.TheVariants.{One, Two, Five, Four}
 use Rattle.bb_memory_traits.specs.declared.allocator.AllocationError.TheVariants as refused
 use Rattle.bb_memory_traits.specs.declared.allocator.AllocationGrowError.TheVariants as grow
 use Rattle.bb_memory_traits.specs.declared.allocator.AllocationShrinkError.TheVariants as shrink

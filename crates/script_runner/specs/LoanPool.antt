@@ -11,11 +11,11 @@ use Rattle.loan_book.specs.declared.run.LoanCall.{LoanCall}
 use Rattle.loan_book.specs.declared.run.LoanCall.TheVariants.{Loan, Publish, GiveBack, IsOut}
 use Rattle.loan_book.specs.declared.run.LoanReply.{LoanReply}
 use Rattle.loan_book.specs.declared.run.LoanReply.TheVariants as reply
-use Rattle.script_words.specs.Words.{Words, words, words_then, name_line}
+use Rattle.script_engine.specs.Words.{Words, words, words_then, name_line}
 use Rattle.script_engine.specs.Scripts.{Rules}
 use Rattle.script_runner.specs.Allocators.{refusal_name, IsPoolPlan, pool_numbers, BeginsPool}
-use Rattle.script_runner.specs.declared.kinds.pool.PoolPlan.{PoolPlan}
-use Rattle.script_words.specs.declared.words.Numbers.TheVariants.{One, Two, Three}
+use Rattle.script_runner.specs.declared.pool.PoolPlan.{PoolPlan}
+use Rattle.script_engine.specs.declared.words.Numbers.TheVariants.{One, Two, Three}
 
 -- a number that counts readers has at most 32 bits
 abbrev pub IsCall : LoanCall → Type 0

@@ -9,10 +9,10 @@ use Rattle.bb_memory_pool_machine.specs.declared.steps.pool.PoolStep.TheVariants
 use Rattle.bb_memory_bump_machine.specs.declared.steps.bump.BumpOutcome.{BumpOutcome}
 use Rattle.bb_memory_bump_machine.specs.declared.steps.bump.BumpStep.{BumpStep}
 use Rattle.bb_memory_bump_machine.specs.declared.steps.bump.BumpStep.TheVariants.{Read, Exchange, Load, Clear}
-use Rattle.script_words.specs.Words.{Words, words, words_then, IsParty, region_of, bounds_numbers, words_text, name_line}
-use Rattle.script_words.specs.declared.words.Bounds.{Bounds}
+use Rattle.script_engine.specs.Words.{Words, words, words_then, IsParty, region_of, bounds_numbers, words_text, name_line}
+use Rattle.script_engine.specs.declared.words.Bounds.{Bounds}
 use Rattle.script_engine.specs.Scripts.{Rules}
-use Rattle.script_words.specs.declared.words.Numbers.TheVariants.{Zero, One, Two, Three}
+use Rattle.script_engine.specs.declared.words.Numbers.TheVariants.{Zero, One, Two, Three}
 use Rattle.bb_memory_bump_machine.specs.BumpWorld as bump_world
 use Rattle.bb_memory_pool_machine.specs.PoolWorld as pool_world
 use Rattle.bb_memory_bump_machine.specs.declared.steps.bump.BumpOutcome.TheVariants as bump

@@ -3,16 +3,18 @@
 //!
 //! The files, in the order in which to read them:
 //!
-//! - `running`: from the bytes of a script to the bytes that it is answered. `laws`: what holds of every input and every status.
-//! - `kinds`, the table of the kinds: `allocators` and `pool`, `steps` for both machines, `loan_pool`.
+//! - `running`: the table of the kinds, and from the bytes of a script to the bytes that it is answered.
+//! - The kinds: `allocators` and `pool`, `steps` for both machines, `loan_pool`.
 //!
-//! Crate `script_engine` has what all kinds share, and crate `script_words` the words of a line.
+//! Crate `script_engine` has what all kinds share.
 #![tactic(auto)]
 
-mod kinds;
-mod laws;
+mod allocators;
+mod loan_pool;
+mod pool;
 mod running;
+mod steps;
 
-pub use laws::{equality_law, lines_law};
 pub use running::run;
+pub use script_engine::laws::{equality_law, lines_law};
 pub use script_engine::status::Status;

@@ -3,13 +3,34 @@ ghost use Rattle.std.specs.Prelude.{◌≡◌, ℕ, List};
 ghost use Rattle.std.specs.Io.KnownBytes.{Keeps, Appends};
 ghost use Rattle.script_engine.specs.Scripts.{IsAnswered, IsUnreadable, BeginsOutput, IsLeft};
 ghost use Rattle.script_runner.specs.Kinds.{kinds};
-ghost use Rattle.script_words.specs.Words.{unreadable_text};
+ghost use Rattle.script_engine.specs.Words.{unreadable_text};
 
-use crate::kinds::AllKinds;
+use crate::allocators::WithLiveList;
+use crate::loan_pool::LoanPool;
+use crate::pool::Fixed;
+use crate::steps::{BumpSteps, PoolSteps};
+use bb_memory_bump::bump_allocator::BumpAllocator;
+use bb_memory_owned::one_chunk_allocator::OneChunkAllocator;
+use bb_memory_owned::pool_allocator::PoolAllocator;
 use script_engine::answering::answer;
 use script_engine::status::Status;
 use std::alloc::Global;
 use std::io::{ErrorKind, Read, Write};
+
+/// The kinds of scripts, in the order in which a header is tried: each, and those behind it.
+type AllKinds = (
+    WithLiveList<BumpAllocator>,
+    (
+        WithLiveList<OneChunkAllocator>,
+        (
+            WithLiveList<PoolAllocator<Global>>,
+            (
+                WithLiveList<Fixed>,
+                (BumpSteps, (PoolSteps, (LoanPool, ()))),
+            ),
+        ),
+    ),
+);
 
 /// Reads a script to its end, checks every line of it, and then runs it: what it drives is made, takes the commands in order,
 /// and a line for each reply goes to the writer, which is then flushed. `docs/script-format.md` says what the lines of a script

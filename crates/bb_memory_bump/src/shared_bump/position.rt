@@ -15,8 +15,8 @@ ghost use Rattle.bb_memory_bump.specs.SharedBump.{SharedBump};
 use super::rule::{
     Agreement, Asked, Exchanges, GiveFirst, Loads, Meets, Merge, Reads, Scene, View,
 };
-use crate::layout::Layout;
 use atomic_table::{Seat, Table};
+use bb_memory_traits::layout::Layout;
 use std::alloc::{AllocError, Global};
 use std::marker::Model;
 

@@ -7,8 +7,8 @@ ghost use Rattle.bb_memory_bump.specs.SharedBumpRule.{met_by, AfterRefusal, Afte
 
 use super::SharedBumpAllocator;
 use super::rule::{Asked, View};
-use crate::layout::{Chunk, Layout};
 use atomic_table::Seat;
+use bb_memory_traits::layout::{Chunk, Layout};
 
 impl SharedBumpAllocator {
     /// Asks until it wins a chunk or is refused. The layout isn't of size 0.

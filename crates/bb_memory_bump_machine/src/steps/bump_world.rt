@@ -12,7 +12,7 @@ use std::alloc::{AllocError, Global};
 use std::marker::Model;
 
 /// A call that a party is in: what it asked for, and the position that it has seen.
-#[derive(Debug, Clone, Copy, PartialEq, Eq)]
+#[derive(Clone, Copy)]
 struct OngoingCall {
     layout: Layout,
     seen: usize,

@@ -3,17 +3,17 @@ ghost use Rattle.std.specs.Prelude.{◌≡◌, ◌≢◌, ◌↔◌, ◌≤◌, 
 ghost use Rattle.std.specs.Prelude.{IfErr, IfSome, IsSome, IsTrue, length, max, remove, slice_get};
 ghost use Rattle.bb_memory_traits.specs.Chunk.{Chunk};
 ghost use Rattle.bb_memory_traits.specs.PoolObject.{bucket_place};
-ghost use Rattle.bb_memory_geometry.specs.Geometry.{TellsNumber, TellsPlace};
+ghost use Rattle.bb_memory_traits.specs.Geometry.{TellsNumber, TellsPlace};
 ghost use Rattle.bb_memory_owned.specs.Pool.{held_count, Allocates, FreesBucket, HoldsPlace, IsPool, StandsFor, TakesBucket};
 ghost use Rattle.bb_memory_index_set.specs.IndexSets.{Has, Lacks, member_count};
 ghost use Rattle.bb_memory_owned.specs.Pool.{Takes, pool_of, reads_of};
 
-use super::geometry::Geometry;
-use crate::allocator::{
+use bb_memory_index_set::index_set::{Counter, IndexSet};
+use bb_memory_traits::allocator::{
     AllocationError, AllocationGrowError, AllocationShrinkError, Allocator, BaseAllocator,
 };
-use crate::layout::{Chunk, Layout};
-use bb_memory_index_set::index_set::{Counter, IndexSet};
+use bb_memory_traits::geometry::Geometry;
+use bb_memory_traits::layout::{Chunk, Layout};
 use std::alloc::AllocError;
 use std::marker::Model;
 

@@ -3,14 +3,14 @@ ghost use Rattle.std.specs.Prelude.{◌≡◌, [], ◌-◌, ◌<◌, ◌^◌, �
 ghost use Rattle.bb_memory_traits.specs.Chunk.{region_at};
 ghost use Rattle.bb_memory_traits.specs.PoolObject.{PoolGeometry, IsCut, at_most};
 ghost use Rattle.bb_memory_owned.specs.Pool.{StandsFor, counted, fresh_pool};
-ghost use Rattle.bb_memory_geometry.specs.Geometry.{MayBeCut};
+ghost use Rattle.bb_memory_traits.specs.Geometry.{MayBeCut};
 
-use crate::layout::Layout;
 use crate::pool_allocator::PoolAllocator;
 use crate::pool_allocator::bucket_pool::BucketPool;
-use crate::pool_allocator::geometry::Geometry;
 use bb_memory_index_set::index_set::Counter;
 use bb_memory_index_set::index_set::flags::Flags;
+use bb_memory_traits::geometry::Geometry;
+use bb_memory_traits::layout::Layout;
 use std::fmt;
 
 /// Gives buckets of one layout, at most `MAX_NUMBER_OF_BUCKETS` of them. Which are held is kept in an array of its own: it

@@ -13,7 +13,7 @@ ghost use Rattle.bb_memory_traits.specs.declared.allocator.Command.{Command};
 ghost use Rattle.bb_memory_traits.specs.declared.allocator.Reply.{Reply};
 ghost use Rattle.bb_memory_index_set.specs.IndexSets.{Has};
 ghost use Rattle.bb_memory_owned.specs.Pool.{HoldsPlace, IsPool, Pool, StandsFor, fresh_pool};
-ghost use Rattle.bb_memory_geometry.specs.Geometry.{AreAStrideApart, MayBeCut};
+ghost use Rattle.bb_memory_traits.specs.Geometry.{AreAStrideApart, MayBeCut};
 
 /// Says what the definition of a pool's geometry says of every region and every layout of a bucket. A region is cut in one way
 /// alone, and into buckets of at least one byte it can always be cut. Each bucket begins at a multiple of its alignment, and

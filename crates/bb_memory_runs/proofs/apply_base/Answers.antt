@@ -8,14 +8,14 @@ deallocate-requires g c = grind (arith, elements)
 pub returns-after-RELEASE_EMPTIES : goal.returns-after-RELEASE_EMPTIES
 returns-after-RELEASE_EMPTIES g c = record {
   step = (
-    grind (arith, elements),
+    grind arith,
     rw c.in-Release.is
         (c.in-Some.chunk, c.empty.result, grind (arith, elements), rw c.place.ensures.value at c.deallocate.ensures.value),
   );
-  fits = grind (arith, elements);
+  fits = grind arith;
   stands = grind (arith, elements);
-  geometry = grind (arith, elements);
-  note = grind (arith, elements);
-  len = grind (arith, elements);
-  capacity = grind (arith, elements);
+  geometry = grind arith;
+  note = grind arith;
+  len = grind arith;
+  capacity = grind arith;
 }

@@ -45,3 +45,7 @@ returns-clause-run g c =
       unchanged = tt;
       kept = tt;
     }
+
+pub returns-clause-note : goal.returns-clause-note
+returns-clause-note g c =
+    rw (take_all c.loop-command.command-index c.args.commands.now (omega arith)) at c.loop-command.invariant.note

@@ -2,7 +2,7 @@
 ghost use Rattle.std.specs.Prelude.{◌≡◌, ℕ, ◌<◌, ◌≤◌, ◌↔◌, ◌%◌, IfSome, IfNone, true};
 ghost use Rattle.bb_memory_traits.specs.PoolObject.{bucket_place};
 ghost use Rattle.bb_memory_pool_machine.specs.PoolLogs.{IsHeldAfter, MayBeFound};
-ghost use Rattle.bb_memory_geometry.specs.Geometry.{IsPlaceOfBucket, TellsPlace};
+ghost use Rattle.bb_memory_traits.specs.Geometry.{IsPlaceOfBucket, TellsPlace};
 ghost use Rattle.bb_memory_shared_pools.specs.SharedPool.{chunk_of, taken_bucket};
 
 use super::bucket::Bucket;

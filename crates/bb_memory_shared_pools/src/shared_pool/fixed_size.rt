@@ -1,13 +1,13 @@
 //! A shared pool of at most a constant of buckets.
 ghost use Rattle.std.specs.Prelude.{◌≡◌, ◌-◌, ◌<◌, ◌≤◌, ◌^◌, IfOk, IfErr};
 ghost use Rattle.bb_memory_traits.specs.Chunk.{region_at};
-ghost use Rattle.bb_memory_geometry.specs.Geometry.{IsCutAtMost, MayBeCut};
+ghost use Rattle.bb_memory_traits.specs.Geometry.{IsCutAtMost, MayBeCut};
 ghost use Rattle.bb_memory_shared_pools.specs.SharedPool.{AreFresh};
 
 use super::buckets::SharedBucketPool;
 use super::party::PoolParty;
-use bb_memory_geometry::geometry::Geometry;
 use bb_memory_traits::allocator::AllocationError;
+use bb_memory_traits::geometry::Geometry;
 use bb_memory_traits::layout::Layout;
 use std::alloc::Global;
 

@@ -23,8 +23,8 @@ use super::rule::{
     Recognizes, Returns, ReturnsDetached, Scene, SeesDetached, TakeIn, Tries, TriesAt, View,
 };
 use atomic_table::{Seat, Table};
-use bb_memory_geometry::geometry::Geometry;
 use bb_memory_pool_machine::steps::Flag;
+use bb_memory_traits::geometry::Geometry;
 use std::alloc::{AllocError, Global};
 use std::marker::Model;
 use std::sync::atomic::AtomicU64;

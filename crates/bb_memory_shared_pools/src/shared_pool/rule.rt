@@ -1,6 +1,6 @@
 //! The rule of a shared pool's words, and the atomic steps on them.
 use atomic_table::{Join, Play, Split, TableRule};
-use bb_memory_geometry::geometry::Geometry;
+use bb_memory_traits::geometry::Geometry;
 use std::marker::Model;
 
 /// The scene of a shared pool's machine: where it begins.

@@ -1,14 +1,13 @@
-use Rattle.std.proofs.lemmas.Grind.{common_steps}
 use Rattle.std.proofs.Common.{◌%◌, bit_and, ap, ◌∙◌, arith}
 use Rattle.bb_memory_traits.proofs.PowersOfTwo.{power_of_two-positive}
 use Rattle.bb_memory_traits.proofs.LeastPlaces.{least_place-is, least_place-multiple, least_place-masked, least_place-too_far}
 use Rattle.bb_memory_traits.proofs.layout.round_up.Goals as goal
 
 pub returns-in_err-checked_add-clause-value : goal.returns-in_err-checked_add-clause-value
-returns-in_err-checked_add-clause-value c = grind (arith, common_steps, least_place-too_far)
+returns-in_err-checked_add-clause-value c = grind (arith, least_place-too_far)
 
 pub returns-clause-value : goal.returns-clause-value
-returns-clause-value c = grind (arith, common_steps, least_place-masked, bit_and)
+returns-clause-value c = grind (arith, least_place-masked, bit_and)
 
 pub returns-clause-above : goal.returns-clause-above
 returns-clause-above c =

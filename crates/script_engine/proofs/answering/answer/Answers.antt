@@ -1,5 +1,5 @@
 use Rattle.std.proofs.Common.{◌++◌, ap, ◌∙◌}
-use Rattle.script_words.specs.Words.{unreadable_text}
+use Rattle.script_engine.specs.Words.{unreadable_text}
 use Rattle.script_engine.proofs.Sending.{ends_done, ends_unreadable, ends_refused}
 use Rattle.script_engine.proofs.answering.answer.Goals as goal
 

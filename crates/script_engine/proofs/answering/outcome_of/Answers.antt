@@ -1,5 +1,5 @@
 use Rattle.script_engine.proofs.Tables.{unreadable_first, unreadable_empty, no_words}
-use Rattle.script_words.specs.Words.{lines_of}
+use Rattle.script_engine.specs.Words.{lines_of}
 use Rattle.script_engine.proofs.answering.outcome_of.Goals as goal
 
 pub returns-in_default : goal.returns-in_default

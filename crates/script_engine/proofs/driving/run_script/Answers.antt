@@ -1,5 +1,5 @@
 use Rattle.script_engine.proofs.Tables.{unreadable_here, answered_here}
-use Rattle.script_words.specs.Words.{lines_of}
+use Rattle.script_engine.specs.Words.{lines_of}
 use Rattle.script_engine.proofs.driving.run_script.Goals as goal
 
 pub returns-in-Ok-Err : goal.returns-in-Ok-Err

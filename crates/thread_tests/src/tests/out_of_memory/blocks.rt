@@ -1,7 +1,7 @@
 //! Heap blocks. Where memory is refused, no block is made, and a growth hands its block back unchanged: then the call is made
 //! again. Alignments decide nothing.
 use crate::tests::checks::{layout, refused, same};
-use bb_memory_owned::heap_allocator::{
+use bb_memory_heap::heap_allocator::{
     AllocationError, AllocationGrowError, AllocationShrinkError, HeapAllocator, HeapBlock,
 };
 use bb_memory_traits::layout::Layout;

@@ -1,6 +1,5 @@
 use Rattle.std.proofs.Common.{[], arith, rules, ◌≡◌, ◌∷◌, ◌++◌, Some, sym, ap, ◌∙◌}
 use Rattle.std.specs.Prelude.{map}
-use Rattle.std.proofs.lemmas.Grind.{common_steps}
 use Rattle.std.proofs.lemmas.List.{map-append}
 use Rattle.std.proofs.lemmas.List.Elements.{All-pop}
 use Rattle.bb_memory_seats.specs.Seats.{alone, view_log}
@@ -35,6 +34,6 @@ returns-clause-rest t c =
       items = c.push_reserved.ensures.items ∙ (λ i. c.meet_rest-found.ensures.rest.items i ++ back i ∷ [])
           ∙ sym (map-append (meeting_at found) c.pop.new.self.items (party ∷ []))
           ∙ ap (map (meeting_at found)) (sym c.in-Some.ensures.items);
-      len = grind (arith, common_steps);
-      capacity = grind (arith, common_steps);
+      len = grind arith;
+      capacity = grind arith;
     }

@@ -1,7 +1,9 @@
-use Rattle.std.proofs.Common.{◌<◌, ℕ, arith, ap}
+use Rattle.std.proofs.Common.{◌<◌, ◌∙◌, ℕ, arith, rules, ap}
 use Rattle.atomic_table.specs.Table.{Me}
 use Rattle.bb_memory_seats.specs.Seats.{number_of}
-use Rattle.bb_memory_bump.specs.SharedBumpRule.{SeatView, party_in}
+use Rattle.bb_memory_bump.specs.SharedBump.{BumpParty}
+use Rattle.bb_memory_bump.specs.SharedBumpRule.{IsPartySeat, SeatView, party_in}
+use Rattle.bb_memory_bump.proofs.SharedBumpParties.{party_kept}
 use Rattle.bb_memory_bump.proofs.SharedBumpAnswers.{Says, nothing_found, nothing_lost, says_refused, says_won}
 use Rattle.bb_memory_bump.proofs.shared_bump.SharedBumpAllocator.allocate.Goals.{in-Some, in-None}
 use Rattle.bb_memory_bump.proofs.shared_bump.SharedBumpAllocator.allocate.Goals as goal
@@ -46,3 +48,16 @@ returns-clause-none_won c = (says c).none_won
 
 pub returns-clause-alone : goal.returns-clause-alone
 returns-clause-alone c = (says c).alone
+
+pub invariant_of-party : goal.invariant_of-party
+invariant_of-party c =
+    let scene = c.args.self.now.scene in
+    let same = ap (λ (p : BumpParty). p.allocator.scene) c.party.view_is ∙ ap (λ b. b.scene) c.requires.party in
+    elim c.match-claim.branch [
+      | in-Some w ↦ party_kept scene c.party.inside.number _ _ _ c.party.invariant same w.in-Some.ensures.call.step.ended
+      | in-None w ↦ party_kept scene c.party.inside.number _ _ _ c.party.invariant same w.in-None.ensures.call.step.ended
+    ]
+
+pub returns-clause-is_party : goal.returns-clause-is_party
+returns-clause-is_party c =
+    let kept : IsPartySeat c.party.inside.number c.claim.new.seat.me = invariant_of-party c in search rules

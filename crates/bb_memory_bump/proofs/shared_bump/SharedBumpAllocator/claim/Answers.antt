@@ -63,3 +63,9 @@ loop-seen-smaller g c =
     (rw c.self.view_is at c.exchange-found.ensures.step) in
     let apart = c.if-found-seen.false in
     omega (arith, up, apart)
+
+pub exchange-found-requires-clause-seat : goal.exchange-found-requires-clause-seat
+exchange-found-requires-clause-seat g c = grind arith
+
+pub exchange-found-requires-clause-behind : goal.exchange-found-requires-clause-behind
+exchange-found-requires-clause-behind g c = grind arith

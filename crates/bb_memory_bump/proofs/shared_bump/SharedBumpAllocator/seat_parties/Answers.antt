@@ -21,9 +21,9 @@ loop-number-preserved c =
     record {
       table = search rules;
       rest = search rules;
-      len = grind (arith, common_steps);
-      long = grind (arith, common_steps);
-      room = grind (arith, common_steps);
+      len = grind arith;
+      long = grind arith;
+      room = grind arith;
       theirs = grind (arith, common_steps, value_is);
       fresh = λ j below. rw c.push_reserved.ensures.items (more j (omega arith));
     }

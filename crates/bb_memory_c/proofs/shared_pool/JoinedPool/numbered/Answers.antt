@@ -1,6 +1,6 @@
 use Rattle.std.proofs.Common.{◌∙◌, Option, None, Some, ap, subst, sym, ℕ}
 use Rattle.std.specs.Prelude.{IfNone}
-use Rattle.bb_memory_geometry.specs.Geometry.{IsPlaceOfBucket}
+use Rattle.bb_memory_traits.specs.Geometry.{IsPlaceOfBucket}
 use Rattle.bb_memory_shared_pools.specs.SharedPool.{IsParty, SharedPool}
 use Rattle.bb_memory_shared_pools.specs.SharedPoolCaching.{CachingParty, IsOut}
 use Rattle.bb_memory_shared_pools.proofs.SharedPoolLaws.{held_below}

@@ -1,7 +1,7 @@
-use Rattle.std.proofs.Common.{◌≡◌, ◌/◌, arith}
+use Rattle.std.proofs.Common.{◌≡◌, ◌/◌, arith, refl}
 use Rattle.std.proofs.lemmas.Bool.{ltb-true, lt-ltb}
 use Rattle.bb_memory_traits.specs.Chunk.{Region, IsRegion, region_at, first_place}
-use Rattle.bb_memory_geometry.proofs.Cuts.{stride-positive, room_for, may-be-cut, may-be-cut-few}
+use Rattle.bb_memory_traits.proofs.Cuts.{stride-positive, room_for, may-be-cut, may-be-cut-few}
 use Rattle.bb_memory_owned.proofs.pool_allocator.PoolAllocator+Global.can_make.Goals as goal
 
 pub nonzero_div-result : goal.nonzero_div-result
@@ -13,9 +13,9 @@ returns c =
     let bucket = c.args.bucket_layout in
     let end = c.in-Some.ensures {u = tt} in
     let first = (c.in-Some-round_up.ensures {u = tt}).value in
-    let begins : c.in-Some-round_up.first ≡ first_place region bucket = cc (first.1, c.align.ensures.value) in
+    let begins : c.in-Some-round_up.first ≡ first_place region bucket = rw (first.1, c.align.ensures.value) refl in
     let room : c.saturating_sub.result / c.stride.result ≡ room_for region bucket =
-    cc (begins, end.1, c.saturating_sub.ensures, c.stride.ensures) in
+    rw (c.saturating_sub.ensures, c.stride.ensures, begins, end.1) refl in
     let is : IsRegion region = record { start = omega arith; end = omega (arith, end.0) } in (
       λ few. may-be-cut region bucket is (omega (arith, begins)) (omega arith) (omega (arith, room, ltb-true _ _ few)),
       λ may. lt-ltb _ _ (omega (arith, room, may-be-cut-few region bucket may)),

@@ -1,6 +1,6 @@
 use Rattle.std.proofs.Common.{◌≡◌, ◌*◌, ◌/◌, arith, ap}
 use Rattle.bb_memory_traits.specs.Chunk.{region_at}
-use Rattle.bb_memory_geometry.proofs.Cuts.{cut-most}
+use Rattle.bb_memory_traits.proofs.Cuts.{cut-most}
 use Rattle.bb_memory_owned.proofs.pool_allocator.PoolAllocator+Global.memory_size.Goals as goal
 
 pub returns-clause-enough : goal.returns-clause-enough

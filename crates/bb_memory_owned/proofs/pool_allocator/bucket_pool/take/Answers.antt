@@ -7,7 +7,7 @@ use Rattle.bb_memory_traits.specs.declared.layout.Layout.{Layout}
 use Rattle.bb_memory_traits.specs.declared.allocator.AllocationError.{AllocationError}
 use Rattle.bb_memory_traits.specs.declared.allocator.AllocationError.TheVariants.{SizeIsZero, SizeTooLarge, AlignmentFailure}
 use Rattle.bb_memory_traits.specs.declared.allocator.AllocationError.TheVariants.{OutOfMemory}
-use Rattle.bb_memory_geometry.specs.Geometry.{Admits}
+use Rattle.bb_memory_traits.specs.Geometry.{Admits}
 use Rattle.std.specs.Prelude.{Err}
 use Rattle.bb_memory_owned.specs.Pool.{Pool, Takes, pool_of, reads_of}
 use Rattle.bb_memory_owned.proofs.pool_allocator.bucket_pool.take.Goals as goal

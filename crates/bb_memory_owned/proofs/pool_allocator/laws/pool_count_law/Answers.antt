@@ -1,4 +1,4 @@
-use Rattle.bb_memory_geometry.proofs.Cuts.{cut-room, may-be-cut}
+use Rattle.bb_memory_traits.proofs.Cuts.{cut-room, may-be-cut}
 use Rattle.bb_memory_owned.proofs.pool_allocator.laws.pool_count_law.Goals as goal
 
 pub returns : goal.returns

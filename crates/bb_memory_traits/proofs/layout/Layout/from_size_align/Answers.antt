@@ -15,7 +15,7 @@ returns-then-not-is_power_of_two-clause-usual c = λ usual.
     let power = (usual-accepted c.args.size c.args.align usual).power_of_two in absurd (cc)
 
 pub returns-then-size-align-clause-accepted : goal.returns-then-size-align-clause-accepted
-returns-then-size-align-clause-accepted c = grind (arith, common_steps, valid-up_to)
+returns-then-size-align-clause-accepted c = grind (arith, valid-up_to)
 
 pub returns-then-size-align-clause-usual : goal.returns-then-size-align-clause-usual
 returns-then-size-align-clause-usual c = grind arith

@@ -1,5 +1,4 @@
 use Rattle.std.proofs.Common.{arith}
-use Rattle.std.proofs.lemmas.Grind.{common_steps}
 use Rattle.std.proofs.Common.{sym}
 use Rattle.std.proofs.lemmas.Bool.{false≢true}
 use Rattle.bb_memory_traits.proofs.PowersOfTwo.{power_of_two-from_test, power_of_two-test}
@@ -7,7 +6,7 @@ use Rattle.bb_memory_traits.proofs.Layouts.{within-valid}
 use Rattle.bb_memory_traits.proofs.layout.Layout.within.Goals as goal
 
 pub returns-then-not-is_power_of_two-clause-some : goal.returns-then-not-is_power_of_two-clause-some
-returns-then-not-is_power_of_two-clause-some c = grind (arith, common_steps, false≢true, power_of_two-test)
+returns-then-not-is_power_of_two-clause-some c = grind (arith, false≢true, power_of_two-test)
 
 pub invariant_of-result : goal.invariant_of-result
 invariant_of-result c = record {
@@ -16,4 +15,4 @@ invariant_of-result c = record {
 }
 
 pub returns-clause-some : goal.returns-clause-some
-returns-clause-some c = grind (arith, common_steps, power_of_two-from_test)
+returns-clause-some c = grind (arith, power_of_two-from_test)

@@ -1,4 +1,3 @@
-use Rattle.std.proofs.lemmas.Grind.{common_steps}
 use Rattle.std.proofs.Common.{◌≡◌, ℕ, ◌<◌, ◌≤◌, ◌^◌, subst, sym, refl, arith, Option, Some, None, Result, Err}
 use Rattle.std.specs.Prelude.{◌↔◌}
 use Rattle.std.specs.Align.{IsLayout}
@@ -19,7 +18,7 @@ least_place-of_one size = least_place-unique size 1 size (omega arith)
 
 -- a size below 2 ^ 63 is one that a layout of alignment 1 has
 too_large : (size : ℕ) → ¬ IsLayout size 1 → 2 ^ 63 ≤ size
-too_large size refused = grind (arith, common_steps, cases_lt, layout-plain, least_place-of_one)
+too_large size refused = grind (arith, cases_lt, layout-plain, least_place-of_one)
 
 small : (size : ℕ) → IsLayout size 1 → size < 2 ^ 63
 small size layout = subst (λ p. p < 2 ^ 63) (sym (least_place-of_one size)) ((layout-plain size 1).0 layout).1
@@ -98,7 +97,10 @@ returns-then-is_err g c =
     }
 
 pub invariant_of-self-in-Ok-allocate : goal.invariant_of-self-in-Ok-allocate
-invariant_of-self-in-Ok-allocate g c = grind (arith, common_steps, IsLoanBook-loaned)
+invariant_of-self-in-Ok-allocate g c =
+    IsLoanBook-loaned _ _ _ _ _ _ _ _ _ c.in-Some.is c.checked_add-self-inside.ensures
+    (rw c.reserve.ensures.items at c.push_back_reserved.ensures.items) c.self.invariant
+    (c.in-Ok-allocate.ensures.appended _ c.self.invariant.stands)
 
 pub returns-in-Ok-allocate : goal.returns-in-Ok-allocate
 returns-in-Ok-allocate g c =

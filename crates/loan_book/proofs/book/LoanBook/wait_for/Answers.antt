@@ -1,5 +1,4 @@
 use Rattle.std.proofs.Common.{arith}
-use Rattle.std.proofs.lemmas.Grind.{common_steps}
 use Rattle.std.proofs.Common.{rules, ◌<◌, refl, length}
 use Rattle.std.proofs.lemmas.Option.{slice_get_read, get_or_from_slice_get}
 use Rattle.loan_book.proofs.Books.{IsLoanBook-set}
@@ -15,7 +14,7 @@ invariant_of-self g c =
     c.args.returns at c.requires.some c.self.invariant
 
 pub returns-clause-book : goal.returns-clause-book
-returns-clause-book g c = grind (arith, common_steps, get_or_from_slice_get)
+returns-clause-book g c = grind (arith, get_or_from_slice_get)
 
 pub returns-clause-stands : goal.returns-clause-stands
 returns-clause-stands g c = record { stands = (invariant_of-self g c).stands; geometry = search rules }

@@ -1,4 +1,4 @@
-use Rattle.std.proofs.lemmas.Grind.{common_steps}
+use Rattle.std.proofs.lemmas.Grind.{common_steps, elements}
 use Rattle.std.proofs.Common.{◌≡◌, ◌/◌, ◌<◌, ◌∙◌, arith, sym, length, get_or, take, get_or-set_same}
 use Rattle.std.proofs.lemmas.List.{get_or_default, get_or-take, length-take-le}
 use Rattle.std.proofs.Math.Seq.{take-set-lt}
@@ -24,3 +24,12 @@ returns-clause-others g c = grind (arith, common_steps)
 
 pub returns-clause-not_full : goal.returns-clause-not_full
 returns-clause-not_full g c = grind (arith, length-take-le, take-set-lt, cleared_is_open, get_or-set_same)
+
+pub returns-clause-was_full : goal.returns-clause-was_full
+returns-clause-was_full g c = grind (arith, elements)
+
+pub returns-clause-was_open : goal.returns-clause-was_open
+returns-clause-was_open g c = grind (arith, elements)
+
+pub returns-clause-listed : goal.returns-clause-listed
+returns-clause-listed g c = grind (arith, elements)

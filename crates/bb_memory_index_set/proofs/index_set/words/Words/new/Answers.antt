@@ -1,4 +1,4 @@
-use Rattle.std.proofs.lemmas.Grind.{common_steps}
+use Rattle.std.proofs.lemmas.Grind.{common_steps, elements}
 use Rattle.std.proofs.Common.{◌≡◌, ◌∙◌, ℕ, List, ap, refl, arith, set, ◌-◌}
 use Rattle.bb_memory_index_set.specs.IndexSets.{index_words, Slots}
 use Rattle.bb_memory_index_set.proofs.LastFreed.{less_none}
@@ -45,3 +45,6 @@ invariant_of-result g c =
 
 pub returns : goal.returns
 returns g c = grind (arith, common_steps, less_none, fresh_part, fresh_whole)
+
+pub put-requires : goal.put-requires
+put-requires g c = grind (arith, elements)

@@ -3,7 +3,7 @@ use Rattle.std.proofs.Common.{◌<◌, ◌∙◌, ap, sym, arith, max}
 use Rattle.bb_memory_index_set.specs.IndexSets.{NumberSet, member_count, numbers_of}
 use Rattle.bb_memory_index_set.proofs.LastFreed.{given, less_none}
 use Rattle.bb_memory_index_set.proofs.NumberWords.{length-numbers_of}
-use Rattle.bb_memory_index_set.proofs.OpenWords.{current_open, current_taken, none_open, set_left, set_filled}
+use Rattle.bb_memory_index_set.proofs.OpenWords.{current_open, current_taken, none_open, set_left, set_filled, of_a_taking}
 use Rattle.bb_memory_index_set.proofs.Tallies.{tally-room, tally-taken}
 use Rattle.bb_memory_index_set.proofs.index_set.words.WordsIndexSet.take.Goals.{then-left+then-self-gt0-2}
 use Rattle.bb_memory_index_set.proofs.index_set.words.WordsIndexSet.take.Goals.{then-left+else-self-gt0-2, else-left}
@@ -143,3 +143,9 @@ returns-then-number-clause-lacked g c = grind (arith, elements)
 
 pub returns-then-number-clause-counted : goal.returns-then-number-clause-counted
 returns-then-number-clause-counted g c = grind (arith, elements)
+
+pub word-requires-clause-index : goal.word-requires-clause-index
+word-requires-clause-index g c = grind (arith, of_a_taking)
+
+pub returns-clause-counted : goal.returns-clause-counted
+returns-clause-counted g c = grind (arith, of_a_taking)

@@ -1,4 +1,5 @@
 use Rattle.std.proofs.Common.{arith, false, refl, subst}
+use Rattle.std.proofs.lemmas.Bool.{false≢true}
 use Rattle.bb_memory_owned.specs.Pool.{HoldsPlace, held_place}
 use Rattle.bb_memory_owned.proofs.PoolCalls.{FreesBucket-is, released-stands}
 use Rattle.bb_memory_owned.proofs.Pools.{IsPool-with_flag}
@@ -9,7 +10,7 @@ pub returns-in_default-clause-released : goal.returns-in_default-clause-released
 returns-in_default-clause-released g c = λ live position chunk stands at there.
     let pool = c.args.self.now.pool in
     let no = c.in_default.ensures.held.1 (subst (HoldsPlace pool) there (held_place pool live position chunk stands at)) in
-    absurd (cc)
+    absurd (false≢true no)
 
 pub invariant_of-self : goal.invariant_of-self
 invariant_of-self g c =

@@ -1,4 +1,5 @@
-use Rattle.std.proofs.Common.{rules, refl, subst}
+use Rattle.std.proofs.Common.{◌∙◌, rules, refl, subst, sym}
+use Rattle.std.proofs.lemmas.Bool.{false≢true}
 use Rattle.bb_memory_index_set.specs.IndexSets.{Has}
 use Rattle.bb_memory_owned.specs.Pool.{bucket_held_at, held_at_bucket}
 use Rattle.bb_memory_owned.proofs.Pools.{held_bucket_below}
@@ -6,19 +7,19 @@ use Rattle.bb_memory_owned.proofs.pool_allocator.bucket_pool.BucketPool.held_num
 
 pub returns-in_err-number-clause-held : goal.returns-in_err-number-clause-held
 returns-in_err-number-clause-held g c = rw c.from_residual.ensures (
-  λ no. absurd (cc),
+  λ no. absurd (false≢true no),
   λ holds. absurd (c.in_err-number.ensures.none
       (held_bucket_below _ c.args.place c.self.invariant.0.flags (rw (← c.self.view_is) at holds))),
 )
 
 pub returns-then-not-has-clause-held : goal.returns-then-not-has-clause-held
 returns-then-not-has-clause-held g c = (
-  λ no. absurd (cc),
+  λ no. absurd (false≢true no),
   λ holds.
       let (i, has, there) = bucket_held_at _ c.args.place (rw (← c.self.view_is) at holds) in
       let same = c.in_ok-number.ensures.one i there in
       let yes = c.has.ensures.1 (subst (Has (g.S.IndexSet.numbers c.self.inside.held)) same has) in
-      absurd (let no = c.if-not-has.true in cc),
+      absurd (false≢true (sym c.if-not-has.true ∙ yes)),
 )
 
 pub returns-clause-held : goal.returns-clause-held

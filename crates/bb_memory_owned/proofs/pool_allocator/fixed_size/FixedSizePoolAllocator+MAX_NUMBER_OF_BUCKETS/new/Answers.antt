@@ -31,3 +31,9 @@ returns-clause-empty g c =
     let value = returns-clause-value g c in
     subst (λ (pool : Pool). StandsFor pool []) (sym (ap (λ (it : CountedPool). it.pool) value.2))
     (fresh-stands (at_most g.row.MAX_NUMBER_OF_BUCKETS value.0))
+
+pub cut_at_most-geometry-requires : goal.cut_at_most-geometry-requires
+cut_at_most-geometry-requires g c = c.requires.cut
+
+pub new-held-requires : goal.new-held-requires
+new-held-requires g c = grind arith

@@ -7,7 +7,7 @@ use Rattle.bb_memory_shared_pools.specs.SharedPool.{IsParty, PoolParty, SharedPo
 use Rattle.bb_memory_shared_pools.proofs.SharedPoolParties.{is_party, seated_then}
 use Rattle.bb_memory_shared_pools.proofs.SharedPoolPasses.{pass_lost, pass_took}
 use Rattle.bb_memory_shared_pools.proofs.SharedPoolRequests.{refused, refused_unasked, served, stays, unasked}
-use Rattle.bb_memory_geometry.specs.Geometry.{Admits}
+use Rattle.bb_memory_traits.specs.Geometry.{Admits}
 use Rattle.bb_memory_shared_pools.proofs.SharedPoolTries.{hint-losses, hint-taking}
 use Rattle.bb_memory_shared_pools.proofs.shared_pool.buckets.SharedBucketPool.allocate.Goals as goal
 

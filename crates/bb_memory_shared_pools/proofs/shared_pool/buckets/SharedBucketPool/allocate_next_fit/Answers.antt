@@ -5,7 +5,7 @@ use Rattle.bb_memory_seats.specs.Seats.{number_of, view_log}
 use Rattle.bb_memory_shared_pools.specs.SharedPool.{IsParty, PoolParty, SharedPool}
 use Rattle.bb_memory_shared_pools.proofs.SharedPoolParties.{is_party, seated_then}
 use Rattle.bb_memory_shared_pools.proofs.SharedPoolRequests.{refused, refused_unasked, served, stays, unasked}
-use Rattle.bb_memory_geometry.specs.Geometry.{Admits}
+use Rattle.bb_memory_traits.specs.Geometry.{Admits}
 use Rattle.std.specs.Prelude.{Err}
 use Rattle.bb_memory_shared_pools.proofs.SharedPoolNextFit.{hint-misses, hint_by_search, search_lost, search_took}
 use Rattle.bb_memory_shared_pools.proofs.shared_pool.buckets.SharedBucketPool.allocate_next_fit.Goals as goal

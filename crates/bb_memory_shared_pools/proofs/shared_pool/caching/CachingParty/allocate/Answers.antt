@@ -2,7 +2,7 @@ use Rattle.std.proofs.Common.{rules, ◌≡◌, [], length, append-nil, arith, r
 use Rattle.std.proofs.lemmas.List.{length_push}
 use Rattle.std.specs.Prelude.{Err}
 use Rattle.bb_memory_traits.specs.PoolObject.{IsWithin, PoolGeometry}
-use Rattle.bb_memory_geometry.specs.Geometry.{Admits}
+use Rattle.bb_memory_traits.specs.Geometry.{Admits}
 use Rattle.bb_memory_shared_pools.specs.SharedPool.{IsParty, PoolParty, ServesAlone, SharedPool, TakenBucket}
 use Rattle.bb_memory_shared_pools.specs.SharedPoolNextFit.{MayTakeFrom, hint_of}
 use Rattle.bb_memory_shared_pools.specs.SharedPoolCaching.{AreCached, CachingParty}

@@ -1,4 +1,3 @@
-use Rattle.std.proofs.lemmas.Grind.{common_steps}
 use Rattle.std.proofs.Common.{◌≡◌, ℕ, ◌+◌, ◌-◌, ◌%◌, ◌<◌, bit_or, ap, arith, ◌∙◌}
 use Rattle.bb_memory_traits.specs.Chunk.{Chunk, Layout}
 use Rattle.bb_memory_traits.specs.LeastPlace.{least_place}
@@ -11,13 +10,13 @@ place-behind : (v : ℕ) (layout : Layout) → 0 < v → bit_or (v - 1) (layout.
 place-behind v layout = least_place-behind v layout.align (power_of_two-from_test layout.align layout.valid.power_of_two)
 
 pub returns-in_err-checked_add-clause-value : goal.returns-in_err-checked_add-clause-value
-returns-in_err-checked_add-clause-value c = grind (arith, common_steps, bit_or, place-behind)
+returns-in_err-checked_add-clause-value c = grind (arith, bit_or, place-behind)
 
 pub returns-then-branch-end-clause-value : goal.returns-then-branch-end-clause-value
-returns-then-branch-end-clause-value c = grind (arith, common_steps, bit_or, place-behind)
+returns-then-branch-end-clause-value c = grind (arith, bit_or, place-behind)
 
 pub returns-clause-value : goal.returns-clause-value
-returns-clause-value c = grind (arith, common_steps, bit_or, place-behind)
+returns-clause-value c = grind (arith, bit_or, place-behind)
 
 pub returns-clause-above : goal.returns-clause-above
 returns-clause-above c =

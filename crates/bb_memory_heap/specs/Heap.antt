@@ -1,0 +1,31 @@
+-- Heap blocks: bytes that the language's allocator gave. What the heap may answer, and when: nothing here foretells that
+-- memory is refused. Alignments decide nothing.
+use Rattle.std.specs.Prelude.{◌≡◌, ℕ, ◌-◌, ◌<◌, ◌≤◌, List, ◌++◌, take, replicate, Result, Ok, Err}
+use Rattle.bb_memory_traits.specs.declared.layout.Layout.{Layout}
+use Rattle.bb_memory_traits.specs.declared.allocator.AllocationError.{AllocationError}
+use Rattle.bb_memory_traits.specs.declared.allocator.AllocationError.TheVariants.{SizeIsZero, OutOfMemory}
+use Rattle.bb_memory_traits.specs.declared.allocator.AllocationGrowError.{AllocationGrowError}
+use Rattle.bb_memory_traits.specs.declared.allocator.AllocationShrinkError.{AllocationShrinkError}
+use Rattle.bb_memory_traits.specs.declared.allocator.AllocationGrowError.TheVariants as grow
+use Rattle.bb_memory_traits.specs.declared.allocator.AllocationShrinkError.TheVariants as shrink
+
+-- a new block has the asked length and is all zero
+abbrev pub MayAllocate : Layout → Result (List ℕ) AllocationError → Type 0
+MayAllocate layout (Ok block) = (0 < layout.size) × (block ≡ replicate layout.size 0)
+MayAllocate layout (Err SizeIsZero) = layout.size ≡ 0
+MayAllocate layout (Err OutOfMemory) = 0 < layout.size
+MayAllocate layout answer = ⊥
+
+-- a grown block has the old bytes in front and zeros behind; a refusal hands the block back as it was
+abbrev pub MayGrow : List ℕ → Layout → Layout → Result (List ℕ) (List ℕ × AllocationGrowError) → Type 0
+MayGrow block old new (Ok grown) = (old.size < new.size) × (grown ≡ block ++ replicate (new.size - old.size) 0)
+MayGrow block old new (Err (back, grow.GrowWouldShrink)) = (new.size ≤ old.size) × (back ≡ block)
+MayGrow block old new (Err (back, grow.OutOfMemory)) = (old.size < new.size) × (back ≡ block)
+MayGrow block old new answer = ⊥
+
+-- a shrunk block has the first bytes; a refusal hands the block back as it was
+abbrev pub MayShrink : List ℕ → Layout → Layout → Result (List ℕ) (List ℕ × AllocationShrinkError) → Type 0
+MayShrink block old new (Ok shrunk) = (0 < new.size) × (new.size < old.size) × (shrunk ≡ take new.size block)
+MayShrink block old new (Err (back, shrink.ShrinkWouldGrow)) = (old.size ≤ new.size) × (back ≡ block)
+MayShrink block old new (Err (back, shrink.SizeIsZero)) = (new.size ≡ 0) × (0 < old.size) × (back ≡ block)
+MayShrink block old new answer = ⊥

@@ -1,0 +1,12 @@
+-- A heap block whose bytes were lent.
+use Rattle.std.specs.Prelude.{ℕ, List, ◌++◌, take, drop, length}
+use Rattle.std.specs.Borrow.{Lends, MutBor, Fml, u8, Array}
+use Rattle.bb_memory_heap.specs.contracts.heap_allocator.HeapBlock.{the_row}
+
+-- the bytes that were written, cut to the block's length, since a borrower writes as many bytes as it was lent
+abbrev pub written : List ℕ → List ℕ → List ℕ
+written block bytes = take (length block) (bytes ++ drop (length bytes) block)
+
+-- the block ends with what the borrower left
+abbrev pub LendsBlock : MutBor (List ℕ) → MutBor (List ℕ) → Fml
+LendsBlock lender lent = Lends the_row (Array u8 0) lender lent (written lender.now)

@@ -1,0 +1,168 @@
+//! Blocks of bytes from the language's allocator. Lengths are in bytes, and alignments decide nothing.
+ghost use Rattle.std.specs.Prelude.{◌≡◌, List, ℕ, length};
+ghost use Rattle.std.specs.Borrow.{sem};
+ghost use Rattle.bb_memory_heap.specs.Heap.{MayAllocate, MayGrow, MayShrink};
+ghost use Rattle.bb_memory_heap.specs.HeapLending.{LendsBlock, written};
+
+pub use bb_memory_traits::allocator::{
+    AllocationError, AllocationGrowError, AllocationShrinkError, Allocator, BaseAllocator,
+};
+use bb_memory_traits::layout::Layout;
+use std::alloc::Global;
+use std::marker::Model;
+
+/// Bytes that a [`HeapAllocator`] gave. Its owner may drop it, as well as give it back.
+#[derive(Drop)]
+pub struct HeapBlock {
+    bytes: Vec<u8>,
+}
+
+impl Model for HeapBlock {
+    ghost use Rattle.std.specs.Prelude.{List, ℕ};
+
+    ghost Value = { List ℕ };
+
+    ghost view = { λ b. b.bytes.items };
+}
+
+impl HeapBlock {
+    /// Returns the size in bytes.
+    #[inline]
+    pub fn len(&self) -> usize
+        ensures length { result ≡ length self.now }
+    {
+        self.bytes.len()
+    }
+
+    /// Returns the bytes.
+    #[inline]
+    pub fn as_slice(&self) -> &[u8]
+        ensures bytes { result.now ≡ self.now }
+    {
+        self.bytes.as_slice()
+    }
+
+    /// Lends the bytes: what is written there is what the block then holds.
+    #[inline]
+    pub fn as_mut_slice(&mut self) -> &mut [u8]
+        ensures* writes_back { sem 𝓛 (LendsBlock self.entry result) }
+        ensures bytes { result.now ≡ self.old }
+    {
+        self.bytes.as_mut_slice()
+    }
+}
+
+/// Gives blocks of bytes from the language's allocator.
+///
+/// Example: `comments::heap` of `crates/examples`.
+#[derive(Drop)]
+pub struct HeapAllocator {
+    alloc: Global,
+}
+
+impl HeapAllocator {
+    /// Makes a heap allocator that takes its memory from `alloc`.
+    #[inline]
+    pub fn new(alloc: Global) -> Self {
+        HeapAllocator { alloc }
+    }
+
+    /// Allocates a block of `layout.size()` zero bytes. It is refused, in this order, with `SizeIsZero` where the size is 0, and
+    /// with `OutOfMemory` where memory was refused.
+    #[inline]
+    pub fn allocate(&self, layout: Layout) -> Result<HeapBlock, AllocationError>
+        ensures answer { MayAllocate layout result }
+    {
+        if layout.size() == 0 {
+            return Err(AllocationError::SizeIsZero);
+        }
+        match Vec::from_elem(self.alloc, 0, layout.size()) {
+            Ok(bytes) => Ok(HeapBlock { bytes }),
+            Err(_) => Err(AllocationError::OutOfMemory),
+        }
+    }
+
+    /// The same as `allocate`, whose blocks are all zero.
+    #[inline]
+    pub fn allocate_zeroed(&self, layout: Layout) -> Result<HeapBlock, AllocationError>
+        ensures answer { MayAllocate layout result }
+    {
+        self.allocate(layout)
+    }
+
+    /// Gives a block back. The layout decides nothing.
+    #[inline]
+    pub fn deallocate(&self, _block: HeapBlock, _layout: Layout) {}
+
+    /// Returns the block with zero bytes behind its own, up to the new size. The old size has to be the block's length. It is
+    /// refused, in this order, with `GrowWouldShrink` where the new size isn't greater than the old one, and with
+    /// `OutOfMemory` where memory was refused. A refusal hands the block back as it was.
+    #[inline]
+    pub fn grow(
+        &self,
+        block: HeapBlock,
+        old: Layout,
+        new: Layout,
+    ) -> Result<HeapBlock, (HeapBlock, AllocationGrowError)>
+        requires { old.size ≡ length block }
+        ensures answer { MayGrow block old new result }
+    {
+        let mut block = block;
+        if old.size() >= new.size() {
+            return Err((block, AllocationGrowError::GrowWouldShrink));
+        }
+        // This asks for as much memory as is wanted. Without it, `resize` would ask for more.
+        if block.bytes.reserve_exact(new.size() - old.size()).is_err() {
+            return Err((block, AllocationGrowError::OutOfMemory));
+        }
+        match block.bytes.resize(new.size(), 0) {
+            Ok(()) => Ok(block),
+            Err(_) => Err((block, AllocationGrowError::OutOfMemory)),
+        }
+    }
+
+    /// The same as `grow`, which makes all bytes that it adds zero.
+    #[inline]
+    pub fn grow_zeroed(
+        &self,
+        block: HeapBlock,
+        old: Layout,
+        new: Layout,
+    ) -> Result<HeapBlock, (HeapBlock, AllocationGrowError)>
+        requires { old.size ≡ length block }
+        ensures answer { MayGrow block old new result }
+    {
+        self.grow(block, old, new)
+    }
+
+    /// Returns the first bytes of the block, up to the new size. The old size has to be the block's length. It is refused, in
+    /// this order, with `ShrinkWouldGrow` where the new size isn't smaller than the old one, and with `SizeIsZero` where the new
+    /// size is 0. A refusal hands the block back as it was. It takes no memory.
+    #[inline]
+    pub fn shrink(
+        &self,
+        block: HeapBlock,
+        old: Layout,
+        new: Layout,
+    ) -> Result<HeapBlock, (HeapBlock, AllocationShrinkError)>
+        requires { old.size ≡ length block }
+        ensures answer { MayShrink block old new result }
+    {
+        let mut block = block;
+        if old.size() <= new.size() {
+            return Err((block, AllocationShrinkError::ShrinkWouldGrow));
+        }
+        if new.size() == 0 {
+            return Err((block, AllocationShrinkError::SizeIsZero));
+        }
+        block.bytes.truncate(new.size());
+        Ok(block)
+    }
+}
+
+/// Says in plain words what [`HeapBlock::as_mut_slice`] promises of the bytes that it lends: once bytes as many as the block's
+/// are written there, they are the block's. It does nothing: its contract is the law.
+pub fn heap_law()
+    ensures written { (block bytes : List ℕ) → length bytes ≡ length block
+        → written block bytes ≡ bytes }
+{}

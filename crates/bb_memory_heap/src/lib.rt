@@ -1,0 +1,4 @@
+//! Blocks of bytes from the language's allocator, behind the traits of `bb_memory_traits`.
+#![tactic(auto)]
+
+pub mod heap_allocator;

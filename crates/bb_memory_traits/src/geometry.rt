@@ -1,0 +1,237 @@
+//! Where the buckets of a region are.
+ghost use Rattle.std.specs.Prelude.{◌≡◌, ◌≢◌, ℕ, ◌<◌, ◌≤◌, ◌/◌, ◌%◌, IfOk, IfSome, IfNone};
+ghost use Rattle.bb_memory_traits.specs.Chunk.{IsRegion, region_at, Chunk, IsInside, first_place};
+ghost use Rattle.bb_memory_traits.specs.PoolObject.{IsCut, IsPoolGeometry, bucket_place, pool_geometry, stride};
+ghost use Rattle.bb_memory_traits.specs.PoolObject.{MayGrow, MayShrink};
+ghost use Rattle.bb_memory_traits.specs.Geometry.{Admits, IsPlaceOfBucket, Shifts, TellsPlace, IsCutAtMost, MayBeCut};
+
+use crate::allocator::{AllocationError, AllocationGrowError, AllocationShrinkError};
+use crate::layout::{Chunk, Layout, round_up};
+use std::marker::Model;
+
+/// Returns the bytes from each bucket's beginning to the next one's.
+pub fn stride(bucket_layout: Layout) -> usize
+    ensures { result ≡ stride bucket_layout }
+{
+    round_up(bucket_layout.size(), bucket_layout.align()).unwrap()
+}
+
+/// Returns how many bits to shift to the right to divide by a power of two, and `None` for any other number.
+fn shift_of(divisor: usize) -> Option<u32>
+    ensures { Shifts divisor result }
+{
+    if !divisor.is_power_of_two() {
+        return None;
+    }
+    Some(divisor.trailing_zeros())
+}
+
+/// A region cut into buckets of one layout: all that it has room for, or the first of them. There is a shift where the stride
+/// is a power of two.
+#[derive(Debug, Drop)]
+pub struct Geometry {
+    region_start: usize,
+    region_size: usize,
+    bucket: Layout,
+    first: usize,
+    stride: usize,
+    shift: Option<u32>,
+    buckets: u32,
+}
+
+impl Model for Geometry {
+    ghost use Rattle.bb_memory_traits.specs.Chunk.{IsRegion, region_at};
+    ghost use Rattle.bb_memory_traits.specs.PoolObject.{PoolGeometry, pool_geometry};
+    ghost use Rattle.bb_memory_traits.specs.Geometry.{IsMeasured};
+
+    ghost Value = { PoolGeometry };
+
+    ghost view = { λ a. pool_geometry (region_at a.region_start a.region_size) a.bucket a.buckets };
+
+    ghost invariant = { λ a. IsMeasured
+        (pool_geometry (region_at a.region_start a.region_size) a.bucket a.buckets)
+        a.first a.stride a.shift };
+}
+
+impl Geometry {
+    /// Returns all the buckets of this layout that the region of `size` bytes at `start` has room for.
+    pub fn new(bucket_layout: Layout, start: usize, size: usize) -> Self
+        requires { MayBeCut (region_at start size) bucket_layout }
+        ensures { IsCut (region_at start size) bucket_layout result }
+    {
+        let first = round_up(start, bucket_layout.align()).unwrap();
+        let stride = stride(bucket_layout);
+        let room = (start + size).saturating_sub(first);
+        Geometry {
+            region_start: start,
+            region_size: size,
+            bucket: bucket_layout,
+            first,
+            stride,
+            shift: shift_of(stride),
+            buckets: (room / stride) as u32,
+        }
+    }
+
+    /// Returns the first of the buckets that the region has room for, at most `most`.
+    pub fn cut_at_most(bucket_layout: Layout, start: usize, size: usize, most: u32) -> Self
+        requires { MayBeCut (region_at start size) bucket_layout }
+        ensures { IsCutAtMost most (region_at start size) bucket_layout result }
+    {
+        let mut geometry = Self::new(bucket_layout, start, size);
+        geometry.buckets = geometry.buckets.min(most);
+        geometry
+    }
+
+    /// Returns the number of buckets.
+    #[inline(always)]
+    pub fn count(&self) -> u32
+        ensures value { result ≡ self.now.buckets }
+        ensures region { IsRegion self.now.region }
+        ensures geometry { IsPoolGeometry self.now }
+    {
+        self.buckets
+    }
+
+    /// Returns the layout of each bucket.
+    #[inline(always)]
+    pub fn bucket(&self) -> Layout
+        ensures { result ≡ self.now.bucket }
+    {
+        self.bucket
+    }
+
+    /// Returns the size of the region in bytes.
+    #[inline]
+    pub fn region_size(&self) -> usize
+        ensures { result ≡ self.now.region.size }
+    {
+        self.region_size
+    }
+
+    /// Returns the place of the first bucket.
+    #[inline(always)]
+    pub fn first(&self) -> usize
+        ensures { result ≡ first_place self.now.region self.now.bucket }
+    {
+        self.first
+    }
+
+    /// Refuses a request by its size or else its alignment, where one of them is greater than the bucket's.
+    #[inline(always)]
+    pub fn admit(&self, layout: Layout) -> Result<(), AllocationError>
+        ensures { Admits self.now.bucket layout result }
+    {
+        if layout.size() > self.bucket.size() {
+            return Err(AllocationError::SizeTooLarge);
+        }
+        if layout.align() > self.bucket.align() {
+            return Err(AllocationError::AlignmentFailure);
+        }
+        Ok(())
+    }
+
+    /// Returns the number of strides in a distance that is a multiple of the stride, and else a number that no bucket has. Where
+    /// the stride is a power of two, a rotation brings the bits of the rest to the top.
+    #[inline(always)]
+    pub fn whole_strides(&self, distance: usize) -> usize
+        ensures whole { distance % stride self.now.bucket ≡ 0
+            → result ≡ distance / stride self.now.bucket }
+        ensures part { distance % stride self.now.bucket ≢ 0 → self.now.buckets ≤ result }
+        ensures some { 0 < stride self.now.bucket }
+    {
+        match self.shift {
+            Some(shift) => distance.rotate_right(shift),
+            None if distance % self.stride == 0 => distance / self.stride,
+            None => usize::MAX,
+        }
+    }
+
+    /// Returns the number of the bucket at this place, or `None` where no bucket begins there.
+    #[inline(always)]
+    pub fn number_at(&self, place: usize) -> Option<u32>
+        ensures below { IfSome result (λ number. number < self.now.buckets) }
+        ensures there { IfSome result (λ number. place ≡ bucket_place self.now number) }
+        ensures one { IfSome result (λ number. (other : ℕ)
+            → place ≡ bucket_place self.now other → other ≡ number) }
+        ensures none { IfNone result (¬ IsPlaceOfBucket self.now place) }
+    {
+        let first = self.first();
+        if place < first {
+            return None;
+        }
+        let number = self.whole_strides(place - first);
+        if number >= self.count() as usize {
+            return None;
+        }
+        Some(number as u32)
+    }
+
+    /// Returns the place of the bucket of this number, or `None` where there is no such bucket.
+    pub fn place_at(&self, number: u32) -> Option<usize>
+        ensures { TellsPlace self.now number result }
+    {
+        if number >= self.count() {
+            return None;
+        }
+        Some(self.chunk(number as usize, 0).place())
+    }
+
+    /// Returns the first `len` bytes of a bucket.
+    #[inline(always)]
+    pub fn chunk(&self, bucket: usize, len: usize) -> Chunk
+        requires below { bucket < self.now.buckets }
+        requires short { len ≤ self.now.bucket.size }
+        ensures value { let chunk : Chunk =
+            record { place = bucket_place self.now bucket; len = len } in
+            result ≡ chunk }
+        ensures place { IsPlaceOfBucket self.now result.place }
+        ensures inside { IsInside self.now.region result }
+    {
+        let place = self.first + bucket * self.stride;
+        Chunk::new_unchecked(place, len)
+    }
+
+    /// Answers a `grow` of the chunk at `place`. The pool doesn't change.
+    #[inline]
+    pub fn grow(&self, place: usize, old: Layout, new: Layout) -> Result<Chunk, AllocationGrowError>
+        requires { IsPlaceOfBucket self.now place }
+        ensures answer { MayGrow self.now.bucket place old new result }
+        ensures aligned { IfOk result (λ grown. grown.place % new.align ≡ 0) }
+        ensures inside { IfOk result (IsInside self.now.region) }
+    {
+        if old.size() >= new.size() {
+            return Err(AllocationGrowError::GrowWouldShrink);
+        }
+        if new.align() > self.bucket.align() {
+            return Err(AllocationGrowError::AlignmentFailure);
+        }
+        if new.size() > self.bucket.size() {
+            return Err(AllocationGrowError::OutOfMemory);
+        }
+        Ok(Chunk::new_unchecked(place, new.size()))
+    }
+
+    /// Answers a `shrink` of the chunk at `place`. The pool doesn't change.
+    #[inline]
+    pub fn shrink(
+        &self,
+        place: usize,
+        old: Layout,
+        new: Layout,
+    ) -> Result<Chunk, AllocationShrinkError>
+        requires place { IsPlaceOfBucket self.now place }
+        requires reserved { old.size ≤ self.now.bucket.size }
+        ensures answer { MayShrink self.now.bucket place old new result }
+        ensures aligned { IfOk result (λ shrunk. shrunk.place % new.align ≡ 0) }
+        ensures inside { IfOk result (IsInside self.now.region) }
+    {
+        if old.size() <= new.size() {
+            return Err(AllocationShrinkError::ShrinkWouldGrow);
+        }
+        if new.align() > self.bucket.align() {
+            return Err(AllocationShrinkError::AlignmentFailure);
+        }
+        Ok(Chunk::new_unchecked(place, new.size()))
+    }
+}

@@ -1,4 +1,0 @@
-mod Layouts
-pub mod LineWords
-mod Numbers
-pub mod WholeLines
