@@ -3,22 +3,78 @@
 //! `read`, `exchange` and `load` make one atomic step each, by the seat of the party whose step it is. That party's log then
 //! ends with the step and what it found. `split_first`, `merge`, `load_for_meeting` and `meet` only load the word, and are in no
 //! log; `open` and `close` are before and after all sharing.
-ghost use Rattle.std.specs.Prelude.{◌≡◌, ◌≤◌, [], IfOk, Some};
+ghost use Rattle.std.specs.Prelude.{◌≡◌, ◌≤◌, [], IfOk, Option, None, Some};
 ghost use Rattle.bb_memory_bump_machine.specs.BumpMachine.{chunk_at, position_behind};
 ghost use Rattle.bb_memory_bump_machine.specs.BumpLogs.{call_in};
-ghost use Rattle.bb_memory_seats.specs.Seats.{IsSplit, MayMerge, Stays, number_of, view_log};
+ghost use Rattle.bb_memory_seats.specs.Seats.{IsSplit, MayMerge, Stays, first_of, number_of, others_of, view_log};
 ghost use Rattle.bb_memory_bump.specs.SharedBumpRule.{IsIdleAt, IsSeatAt, StandsAt, all_parties, merged, meeting_of, met_by};
 ghost use Rattle.bb_memory_bump.specs.SharedBumpRule.{scene_of, MayAsk, AfterExchange, AfterLoad, AfterMeetingLoad, AfterRead};
-ghost use Rattle.bb_memory_bump.specs.SharedBumpRule.{AfterMeeting, HasOneWord};
+ghost use Rattle.bb_memory_bump.specs.SharedBumpRule.{AfterMeeting, HasOneWord, exchanges, loads, meets, nobody, reads};
+ghost use Rattle.bb_memory_bump.specs.Bump.{Layout};
 ghost use Rattle.bb_memory_bump.specs.SharedBump.{SharedBump};
 
-use super::rule::{
-    Agreement, Asked, Exchanges, GiveFirst, Loads, Meets, Merge, Reads, Scene, View,
-};
-use atomic_table::{Seat, Table};
+use super::rule::{Agreement, Scene, View};
+use atomic_table::{Join, Play, Seat, Split, Table};
 use bb_memory_traits::layout::Layout;
 use std::alloc::{AllocError, Global};
-use std::marker::Model;
+use std::marker::{Brand, Model, PhantomData};
+
+/// Carries a request's layout in a type, since a `Play` gets no arguments.
+pub(super) trait Asked {
+    ghost layout: { Option Layout };
+}
+
+impl Asked for Brand {
+    ghost layout = { None };
+}
+
+/// A load that begins a request.
+struct Reads<L> {
+    asked: PhantomData<L>,
+}
+
+impl<L: Asked> Play<u8, View> for Reads<L> {
+    ghost then = { reads L.layout };
+}
+
+/// The exchange of a request that is under way.
+struct Exchanges;
+
+impl Play<u8, View> for Exchanges {
+    ghost then = { exchanges };
+}
+
+/// A load that asks how much is used.
+struct Loads;
+
+impl Play<u8, View> for Loads {
+    ghost then = { loads };
+}
+
+/// A load by a seat that stands for any number of parties.
+struct Meets;
+
+impl Play<u8, View> for Meets {
+    ghost then = { meets };
+}
+
+/// The first party goes to the new seat.
+struct GiveFirst;
+
+impl Split<View> for GiveFirst {
+    ghost left = { others_of };
+
+    ghost right = { first_of };
+}
+
+/// One seat stands for the parties of two.
+struct Merge;
+
+impl Join<View> for Merge {
+    ghost both = { merged };
+
+    ghost spent = { nobody };
+}
 
 /// The word that has the position.
 #[derive(Drop)]

@@ -6,7 +6,8 @@ ghost use Rattle.bb_memory_seats.specs.Seats.{Stays, number_of, view_log};
 ghost use Rattle.bb_memory_bump.specs.SharedBumpRule.{met_by, AfterRefusal, AfterWin, IsFor, MayAsk};
 
 use super::SharedBumpAllocator;
-use super::rule::{Asked, View};
+use super::position::Asked;
+use super::rule::View;
 use atomic_table::Seat;
 use bb_memory_traits::layout::{Chunk, Layout};
 

@@ -18,11 +18,8 @@ ghost use Rattle.bb_memory_shared_pools.specs.SharedPoolRule.{IsSeatAt, AfterDet
 ghost use Rattle.bb_memory_shared_pools.specs.SharedPoolRule.{AfterTryLoss, AfterMeetingLoad, AfterReturn, AfterTryWin, as_word};
 ghost use Rattle.bb_memory_seats.specs.Seats.{IsSplit, MayMerge, Stays, both_of, number_of, view_log};
 
-use super::rule::{
-    Agreement, Attaches, Detaches, Finds, GiveDetached, GiveFirst, LooksAt, Meets, Merge,
-    Recognizes, Returns, ReturnsDetached, Scene, SeesDetached, TakeIn, Tries, TriesAt, View,
-};
-use atomic_table::{Seat, Table};
+use super::rule::{Agreement, Scene, View};
+use atomic_table::{Join, Play, Seat, Split, Table};
 use bb_memory_pool_machine::steps::Flag;
 use bb_memory_traits::geometry::Geometry;
 use std::alloc::{AllocError, Global};
@@ -71,6 +68,151 @@ fn word_of(bucket: u32) -> usize
     ensures { result ≡ word_of bucket }
 {
     FIRST + bucket as usize
+}
+
+/// An exchange from free to the party's number.
+struct Tries;
+
+impl Play<u8, View> for Tries {
+    ghost use Rattle.bb_memory_shared_pools.specs.SharedPoolRule.{AfterTry, at_flag};
+
+    ghost then = { at_flag AfterTry };
+}
+
+/// An exchange from free to the party's number, by a party that is in no pass.
+struct TriesAt;
+
+impl Play<u8, View> for TriesAt {
+    ghost use Rattle.bb_memory_shared_pools.specs.SharedPoolRule.{AfterTryAt, at_flag};
+
+    ghost then = { at_flag AfterTryAt };
+}
+
+/// A load of a flag by a party that is in no pass.
+struct LooksAt;
+
+impl Play<u8, View> for LooksAt {
+    ghost use Rattle.bb_memory_shared_pools.specs.SharedPoolRule.{AfterLook, at_flag};
+
+    ghost then = { at_flag AfterLook };
+}
+
+/// A store of free, by a party after whose log the bucket is held.
+struct Returns;
+
+impl Play<u8, View> for Returns {
+    ghost use Rattle.bb_memory_shared_pools.specs.SharedPoolRule.{returns};
+
+    ghost then = { returns };
+}
+
+/// A load by a seat that stands for any number of parties.
+struct Meets;
+
+impl Play<u8, View> for Meets {
+    ghost use Rattle.bb_memory_shared_pools.specs.SharedPoolRule.{meets};
+
+    ghost then = { meets };
+}
+
+/// A load of a flag by a party, which finds whether the party holds the bucket.
+struct Recognizes;
+
+impl Play<u8, View> for Recognizes {
+    ghost use Rattle.bb_memory_shared_pools.specs.SharedPoolRule.{AfterHolderLoad, at_flag};
+
+    ghost then = { at_flag AfterHolderLoad };
+}
+
+/// A load of a flag by a new seat.
+struct Finds;
+
+impl Play<u8, View> for Finds {
+    ghost use Rattle.bb_memory_shared_pools.specs.SharedPoolRule.{finds};
+
+    ghost then = { finds };
+}
+
+/// A load of a flag by a seat at which the bucket is detached.
+struct SeesDetached;
+
+impl Play<u8, View> for SeesDetached {
+    ghost use Rattle.bb_memory_shared_pools.specs.SharedPoolRule.{sees_detached};
+
+    ghost then = { sees_detached };
+}
+
+/// A store by a party after whose log the bucket is held, which detaches it.
+struct Detaches;
+
+impl Play<u8, View> for Detaches {
+    ghost use Rattle.bb_memory_shared_pools.specs.SharedPoolRule.{detaches};
+
+    ghost then = { detaches };
+}
+
+/// A store by a party at whose seat the bucket is detached, which attaches it.
+struct Attaches;
+
+impl Play<u8, View> for Attaches {
+    ghost use Rattle.bb_memory_shared_pools.specs.SharedPoolRule.{attaches};
+
+    ghost then = { attaches };
+}
+
+/// A store of free by a party at whose seat the bucket is detached.
+struct ReturnsDetached;
+
+impl Play<u8, View> for ReturnsDetached {
+    ghost use Rattle.bb_memory_shared_pools.specs.SharedPoolRule.{returns_detached};
+
+    ghost then = { returns_detached };
+}
+
+/// The first bucket that is detached goes to the new seat.
+struct GiveDetached;
+
+impl Split<View> for GiveDetached {
+    ghost use Rattle.bb_memory_seats.specs.Seats.{first_detached, others_detached};
+
+    ghost left = { others_detached };
+
+    ghost right = { first_detached };
+}
+
+/// Detached buckets of one seat come to another.
+struct TakeIn;
+
+impl Join<View> for TakeIn {
+    ghost use Rattle.bb_memory_seats.specs.Seats.{both_detached};
+    ghost use Rattle.bb_memory_shared_pools.specs.SharedPoolRule.{nobody};
+
+    ghost both = { both_detached };
+
+    ghost spent = { nobody };
+}
+
+/// The first party goes to the new seat.
+struct GiveFirst;
+
+impl Split<View> for GiveFirst {
+    ghost use Rattle.bb_memory_seats.specs.Seats.{first_of, others_of};
+
+    ghost left = { others_of };
+
+    ghost right = { first_of };
+}
+
+/// One seat stands for the parties of two.
+struct Merge;
+
+impl Join<View> for Merge {
+    ghost use Rattle.bb_memory_seats.specs.Seats.{both_of};
+    ghost use Rattle.bb_memory_shared_pools.specs.SharedPoolRule.{nobody};
+
+    ghost both = { both_of };
+
+    ghost spent = { nobody };
 }
 
 /// The words that have the flags, and the buckets that these are of.
