@@ -11,9 +11,17 @@ static int c_pool_make(bb_pool *p, const task *t) {
     return bb_pool_init(p, t->bucket_size, t->align, START, t->buckets * t->bucket_size) == BB_OK;
 }
 
-static size_t c_pool_take(bb_pool *p, size_t size, size_t align) { return bb_pool_allocate(p, size, align).place; }
-static void c_pool_give(bb_pool *p, size_t place) { bb_pool_deallocate(p, place); }
-static void c_pool_drop(bb_pool *p) { bb_pool_destroy(p); }
+static size_t c_pool_take(bb_pool *p, size_t size, size_t align) {
+    return bb_pool_allocate(p, size, align).place;
+}
+
+static void c_pool_give(bb_pool *p, size_t place) {
+    bb_pool_deallocate(p, place);
+}
+
+static void c_pool_drop(bb_pool *p) {
+    bb_pool_destroy(p);
+}
 
 POOL_LOOPS(c_pool, bb_pool)
 

@@ -1,16 +1,33 @@
-// Times the allocators with one owner and their peers, and prints a line for each round, which `report` reads. Its argument is
-// the number of rounds.
+// Times the allocators with one owner and their peers, and prints a line for each round, which
+// `report` reads. Its argument is the number of rounds.
 #include "heaps.h"
 #include "pool_bench.h"
 #include <stdio.h>
 #include <stdlib.h>
 #include <time.h>
 
-enum { CALLS = 40000, WRITTEN_CALLS = 10 * CALLS, MOST_BUCKETS = 65536 };
-enum { MOST_CALLS = 2 * MOST_BUCKETS + WRITTEN_CALLS };
-enum { SIZES = 5, FILLS = 3, GROUP = 64 };
+enum {
+    CALLS = 40000,
+    WRITTEN_CALLS = 10 * CALLS,
+    MOST_BUCKETS = 65536
+};
 
-typedef enum { ONE, RANDOM, REFUSED, PATTERNS } pattern;
+enum {
+    MOST_CALLS = 2 * MOST_BUCKETS + WRITTEN_CALLS
+};
+
+enum {
+    SIZES = 5,
+    FILLS = 3,
+    GROUP = 64
+};
+
+typedef enum {
+    ONE,
+    RANDOM,
+    REFUSED,
+    PATTERNS
+} pattern;
 
 static const char *const pattern_names[PATTERNS] = {"one", "random", "refused"};
 
@@ -22,8 +39,14 @@ typedef struct {
 } loop;
 
 #define LOOP_ENTRY(name, loop) {name, loop, 0},
-static loop pools[] = {POOL_ROWS(LOOP_ENTRY)}, written[] = {WRITTEN_ROWS(LOOP_ENTRY)};
-enum { POOLS = sizeof pools / sizeof *pools, WRITTEN = sizeof written / sizeof *written };
+static loop pools[] = {POOL_ROWS(LOOP_ENTRY)};
+static loop written[] = {WRITTEN_ROWS(LOOP_ENTRY)};
+
+enum {
+    POOLS = sizeof pools / sizeof *pools,
+    WRITTEN = sizeof written / sizeof *written
+};
+
 static const uint32_t sizes[SIZES] = {8, 64, 512, 4096, MOST_BUCKETS};
 static const uint32_t fills[FILLS] = {50, 99, 100};
 
@@ -37,7 +60,9 @@ static uint64_t next_random(void) {
 }
 
 // A number below the bound.
-static uint32_t below(uint32_t bound) { return (uint32_t)((next_random() >> 32) * bound >> 32); }
+static uint32_t below(uint32_t bound) {
+    return (uint32_t)((next_random() >> 32) * bound >> 32);
+}
 
 // A script; how many buckets are held behind it, and how many it took in all.
 static uint32_t script[MOST_CALLS], held, born;
@@ -49,7 +74,9 @@ static void take(void) {
     born++;
 }
 
-static void give(void) { script[calls++] = below(held--); }
+static void give(void) {
+    script[calls++] = below(held--);
+}
 
 // Fills a pool, and gives back buckets at random until so many are held.
 static void fill(uint32_t buckets, uint32_t left) {
@@ -62,18 +89,14 @@ static void fill(uint32_t buckets, uint32_t left) {
 
 static void some_calls(pattern p, uint32_t buckets) {
     switch (p) {
-    case REFUSED:
-        script[calls++] = TAKE;
-        return;
+    case REFUSED: script[calls++] = TAKE; return;
     case RANDOM:
         if (held == buckets || (held && next_random() >> 63))
             give();
         else
             take();
         return;
-    default:
-        give();
-        take();
+    default: give(); take();
     }
 }
 
@@ -95,22 +118,29 @@ static double timed(follow *run, const task *t, size_t of, uint32_t expected) {
     return end - start;
 }
 
-static task task_of(uint32_t buckets, uint32_t bucket_size) { return (task){buckets, bucket_size, 8, 48}; }
+static task task_of(uint32_t buckets, uint32_t bucket_size) {
+    return (task){buckets, bucket_size, 8, 48};
+}
 
 // So many per cent of the buckets, rounded down.
-static uint32_t part(uint32_t buckets, uint32_t percent) { return (uint32_t)((uint64_t)buckets * percent / 100); }
+static uint32_t part(uint32_t buckets, uint32_t percent) {
+    return (uint32_t)((uint64_t)buckets * percent / 100);
+}
 
-// The nanoseconds for a call of the script behind the first ones, which make and fill the pool, and take so many buckets.
+// The nanoseconds for a call of the script behind the first ones, which make and fill the pool, and
+// take so many buckets.
 static double call_time(follow *run, const task *t, size_t before, uint32_t first) {
-    // The first run finds what the loop before left in the caches and in the heap, and isn't counted.
+    // The first run finds what the loop before left in the caches and in the heap, and isn't
+    // counted.
     timed(run, t, before, first);
     double made = timed(run, t, before, first);
     return (timed(run, t, calls, born) - made) * 1e9 / (double)(calls - before);
 }
 
-// One round of some loops over pools like this one, of which so many per cent are held, each in turn. The time that making and
-// filling the pool takes is subtracted.
-static void time_each(const char *name, const loop *loops, int many, pattern p, task t, uint32_t percent, size_t of) {
+// One round of some loops over pools like this one, of which so many per cent are held, each in
+// turn. The time that making and filling the pool takes is subtracted.
+static void time_each(const char *name, const loop *loops, int many, pattern p, task t,
+                      uint32_t percent, size_t of) {
     fill(t.buckets, part(t.buckets, percent));
     size_t before = calls;
     uint32_t first = born;
@@ -118,37 +148,46 @@ static void time_each(const char *name, const loop *loops, int many, pattern p, 
         some_calls(p, t.buckets);
     for (int i = 0; i < many; i++)
         if (loops[i].is_there)
-            printf("%s,1,%u,%u,%s,%.2f\n", name, t.buckets, percent, loops[i].name, call_time(loops[i].run, &t, before, first));
+            printf("%s,1,%u,%u,%s,%.2f\n", name, t.buckets, percent, loops[i].name,
+                   call_time(loops[i].run, &t, before, first));
 }
 
-// A full pool alone refuses. Where filling it takes far longer than the refusals, nothing can be said of them.
+// A full pool alone refuses. Where filling it takes far longer than the refusals, nothing can be
+// said of them.
 static void time_pools(void) {
     for (int p = 0; p < PATTERNS; p++)
         for (int size = 0; size < SIZES; size++)
             for (int fill = 0; fill < FILLS; fill++)
                 if (p != REFUSED || (fills[fill] == 100 && sizes[size] < MOST_BUCKETS))
-                    time_each(pattern_names[p], pools, POOLS, p, task_of(sizes[size], 128), fills[fill], CALLS);
+                    time_each(pattern_names[p], pools, POOLS, p, task_of(sizes[size], 128),
+                              fills[fill], CALLS);
 }
 
-// What is taken is written, and read before it goes back, in buckets of a cache line: in 256 KiB, and in 4 MiB.
+// What is taken is written, and read before it goes back, in buckets of a cache line: in 256 KiB,
+// and in 4 MiB.
 static void time_written(void) {
     time_each("random written", written, WRITTEN, RANDOM, task_of(4096, 64), 50, WRITTEN_CALLS);
-    time_each("random written", written, WRITTEN, RANDOM, task_of(MOST_BUCKETS, 64), 50, WRITTEN_CALLS);
+    time_each("random written", written, WRITTEN, RANDOM, task_of(MOST_BUCKETS, 64), 50,
+              WRITTEN_CALLS);
 }
 
-// The other allocators: for each request of 48 bytes its nanoseconds, together with those of giving back what it took.
+// The other allocators: for each request of 48 bytes its nanoseconds, together with those of giving
+// back what it took.
 static void time_others(void) {
     static const struct {
         const char *name, *by;
         rounds_of *run;
     } others[] = {OTHER_ROWS};
-    uint32_t requests[GROUP], rounds = CALLS / GROUP;
+
+    uint32_t requests[GROUP];
+    uint32_t rounds = CALLS / GROUP;
     for (size_t i = 0; i < GROUP; i++)
         requests[i] = 48;
     for (size_t i = 0; i < sizeof others / sizeof *others; i++) {
         double start = seconds();
         others[i].run(requests, GROUP, 8, rounds);
-        printf("%s,1,,,%s,%.2f\n", others[i].name, others[i].by, (seconds() - start) * 1e9 / (rounds * GROUP));
+        printf("%s,1,,,%s,%.2f\n", others[i].name, others[i].by,
+               (seconds() - start) * 1e9 / (rounds * GROUP));
     }
 }
 

@@ -1,5 +1,5 @@
-// The same loops over other allocators, and over none. Each pool tests a request as the pools in Rattle do, and finds the bucket
-// of a place by a division of 32 bits.
+// The same loops over other allocators, and over none. Each pool tests a request as the pools in
+// Rattle do, and finds the bucket of a place by a division of 32 bits.
 #include "heaps.h"
 #include "loop.h"
 
@@ -41,7 +41,9 @@ static void plain_list_give(plain *p, size_t place) {
     p->head = i;
 }
 
-static void plain_list_drop(plain *p) { free(p->next); }
+static void plain_list_drop(plain *p) {
+    free(p->next);
+}
 
 POOL_LOOPS(plain_list, plain)
 
@@ -50,23 +52,25 @@ typedef struct {
     uint32_t left;
 } heap;
 
-#define HEAP(NAME, CALLS)                                              \
-    static int NAME##_make(heap *p, const task *t) {                   \
-        p->left = t->buckets;                                          \
-        return CALLS.take != NULL;                                     \
-    }                                                                  \
-    static size_t NAME##_take(heap *p, size_t size, size_t align) {    \
-        (void)align;                                                   \
-        if (!p->left)                                                  \
-            return 0;                                                  \
-        p->left--;                                                     \
-        return (size_t)CALLS.take(size);                               \
-    }                                                                  \
-    static void NAME##_give(heap *p, size_t place) {                   \
-        p->left++;                                                     \
-        CALLS.give((void *)place);                                     \
-    }                                                                  \
-    static void NAME##_drop(heap *p) { (void)p; }                      \
+#define HEAP(NAME, CALLS)                                           \
+    static int NAME##_make(heap *p, const task *t) {                \
+        p->left = t->buckets;                                       \
+        return CALLS.take != NULL;                                  \
+    }                                                               \
+    static size_t NAME##_take(heap *p, size_t size, size_t align) { \
+        (void)align;                                                \
+        if (!p->left)                                               \
+            return 0;                                               \
+        p->left--;                                                  \
+        return (size_t)CALLS.take(size);                            \
+    }                                                               \
+    static void NAME##_give(heap *p, size_t place) {                \
+        p->left++;                                                  \
+        CALLS.give((void *)place);                                  \
+    }                                                               \
+    static void NAME##_drop(heap *p) {                              \
+        (void)p;                                                    \
+    }                                                               \
     HEAP_LOOPS(NAME, heap)
 
 // The C library's own, by a pointer as the others.
@@ -121,7 +125,9 @@ static void no_pool_give(nothing *p, size_t place) {
     p->given = place;
 }
 
-static void no_pool_drop(nothing *p) { (void)p; }
+static void no_pool_drop(nothing *p) {
+    (void)p;
+}
 
 LOOP(no_pool, nothing)
 
@@ -131,7 +137,8 @@ uint64_t plain_bump(const uint32_t *sizes, size_t count, size_t align, uint32_t 
     uint64_t sum = 0;
     for (uint32_t round = 0; round < rounds; round++) {
         for (size_t i = 0; i < count; i++) {
-            size_t place = (START + used + align - 1) & ~(align - 1), end;
+            size_t place = (START + used + align - 1) & ~(align - 1);
+            size_t end;
             if (!sizes[i] || __builtin_add_overflow(place, sizes[i], &end) || end > START + SIZE)
                 continue;
             used = end - START;

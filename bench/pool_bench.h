@@ -10,8 +10,8 @@ typedef struct {
     size_t request_size;
 } task;
 
-// The call of a script that asks for a bucket. Any other number gives back the bucket whose place stands at that index of those
-// that are kept: the last place moves there.
+// The call of a script that asks for a bucket. Any other number gives back the bucket whose place
+// stands at that index of those that are kept: the last place moves there.
 #define TAKE UINT32_MAX
 
 // The answer where there is no such pool.
@@ -20,24 +20,25 @@ typedef struct {
 // Makes a pool, and the calls of a script. The answer is how many buckets were taken.
 typedef uint64_t follow(const task *, const uint32_t *script, size_t calls);
 
-// The pools that are timed: by what, and the loop. A new one is a row here, and its loop in pool_bench/src, border.c or peers.c.
-#define POOL_ROWS(ROW) \
-    ROW("Rattle", bench_words) \
-    ROW("Rattle fixed", bench_fixed) \
-    ROW("C", c_pool) \
-    ROW("C take", c_whole) \
-    ROW("plain C", plain_list) \
+// The pools that are timed: by what, and the loop. A new one is a row here, and its loop in
+// pool_bench/src, border.c or peers.c.
+#define POOL_ROWS(ROW)                  \
+    ROW("Rattle", bench_words)          \
+    ROW("Rattle fixed", bench_fixed)    \
+    ROW("C", c_pool)                    \
+    ROW("C take", c_whole)              \
+    ROW("plain C", plain_list)          \
     ROW("malloc and free", malloc_free) \
-    ROW("mimalloc", mimalloc) \
-    ROW("DPDK", dpdk) \
+    ROW("mimalloc", mimalloc)           \
+    ROW("DPDK", dpdk)                   \
     ROW("loop alone", no_pool)
 
 // The pools of loops that write what they take.
-#define WRITTEN_ROWS(ROW) \
-    ROW("C", c_pool_written) \
-    ROW("plain C", plain_list_written) \
+#define WRITTEN_ROWS(ROW)                       \
+    ROW("C", c_pool_written)                    \
+    ROW("plain C", plain_list_written)          \
     ROW("malloc and free", malloc_free_written) \
-    ROW("mimalloc", mimalloc_written) \
+    ROW("mimalloc", mimalloc_written)           \
     ROW("DPDK", dpdk_written)
 
 #define DECLARE_POOL(name, loop) extern follow loop;
@@ -50,6 +51,8 @@ typedef uint64_t rounds_of(const uint32_t *sizes, size_t count, size_t align, ui
 extern rounds_of bench_bump, bench_one_chunk, plain_bump, c_bump, c_one_chunk;
 
 // The other allocators that are timed, likewise.
-#define OTHER_ROWS \
+#define OTHER_ROWS                                                                          \
     {"bump", "Rattle", bench_bump}, {"bump", "C", c_bump}, {"bump", "plain C", plain_bump}, \
-    {"one chunk", "Rattle", bench_one_chunk}, {"one chunk", "C", c_one_chunk}
+        {"one chunk", "Rattle", bench_one_chunk}, {                                         \
+        "one chunk", "C", c_one_chunk                                                       \
+    }

@@ -1,7 +1,9 @@
-// Times a bump and a list of free buckets in C, allocators of other packages, and parties of a shared pool of the C library, by
-// several threads at once: pairs, bursts, the slowest takings, and a queue between two threads whose receiver gives each
-// message's memory back. Its arguments are the number of rounds and the number of calls of each thread in a round. It prints a
-// line for each round, as shared_bench does for the shared forms in Rattle.
+// Times a bump and a list of free buckets in C, allocators of other packages, and parties of a
+// shared pool of the C library, by several threads at once: pairs, bursts, the slowest takings, and
+// a queue between two threads whose receiver gives each message's memory back. Its arguments are
+// the number of rounds, the number of calls of each thread in a round, and the first letters of the
+// kinds to be timed, if not all are meant. It prints a line for each round, as shared_bench does
+// for the shared forms in Rattle.
 #define BB_PLACES_ARE_NUMBERS
 #include "heaps.h"
 #include <bb_memory.h>
@@ -13,7 +15,15 @@
 #include <time.h>
 #include <x86intrin.h>
 
-enum { MOST_THREADS = 4, BUCKETS = 64, START = 4096, ROOM = 32, BURST = 8, MOST_CYCLES = 1 << 18 };
+enum {
+    MOST_THREADS = 4,
+    BUCKETS = 64,
+    START = 4096,
+    ROOM = 32,
+    BURST = 8,
+    MOST_CYCLES = 1 << 18
+};
+
 #define NONE UINT32_MAX
 #define SIZE ((size_t)1 << 50)
 
@@ -27,7 +37,8 @@ static _Alignas(128) unsigned calls;
 
 // A request for 48 bytes at 8: the place is rounded up, and the position exchanged.
 static size_t bump_pair(void) {
-    size_t seen = atomic_load(&used), place;
+    size_t seen = atomic_load(&used);
+    size_t place;
     do {
         place = (START + seen + 7) & ~(size_t)7;
         if (place + 48 > START + SIZE)
@@ -36,10 +47,12 @@ static size_t bump_pair(void) {
     return place;
 }
 
-static uint64_t headed(uint64_t old, uint32_t i) { return ((old >> 32) + 1) << 32 | i; }
+static uint64_t headed(uint64_t old, uint32_t i) {
+    return ((old >> 32) + 1) << 32 | i;
+}
 
-// A bucket is taken from a lock-free list, whose head is exchanged together with a count: its number and 1, or 0 where none is
-// free.
+// A bucket is taken from a lock-free list, whose head is exchanged together with a count: its
+// number and 1, or 0 where none is free.
 static inline size_t list_take(void) {
     uint64_t old = atomic_load(&head);
     while ((uint32_t)old != NONE) {
@@ -62,26 +75,43 @@ static inline void list_give(size_t taken) {
 
 static heap_calls c_calls = {malloc, free};
 
-#define HEAP(NAME, CALLS)                                                       \
-    static inline size_t NAME##_take(void) { return (size_t)CALLS.take(48); }   \
-    static inline void NAME##_give(size_t taken) { CALLS.give((void *)taken); }
+#define HEAP(NAME, CALLS)                          \
+    static inline size_t NAME##_take(void) {       \
+        return (size_t)CALLS.take(48);             \
+    }                                              \
+    static inline void NAME##_give(size_t taken) { \
+        CALLS.give((void *)taken);                 \
+    }
 
 HEAP(heap, c_calls)
 HEAP(mimalloc, mimalloc_calls)
 HEAP(jemalloc, jemalloc_calls)
 
-static inline size_t dpdk_take(void) { return dpdk_pool_take(); }
-static inline void dpdk_give(size_t taken) { dpdk_pool_give(taken); }
+static inline size_t dpdk_take(void) {
+    return dpdk_pool_take();
+}
+
+static inline void dpdk_give(size_t taken) {
+    dpdk_pool_give(taken);
+}
 
 // The parties of a shared pool, which join one after the other, their handles side by side.
 static bb_pool_party parties[MOST_THREADS];
 static _Thread_local bb_pool_party *party;
 
-static inline size_t party_take(void) { return bb_pool_party_allocate(party, 48, 8).place; }
-static inline void party_give(size_t taken) { (void)bb_pool_party_deallocate(party, taken); }
+static inline size_t party_take(void) {
+    return bb_pool_party_allocate(party, 48, 8).place;
+}
+
+static inline void party_give(size_t taken) {
+    (void)bb_pool_party_deallocate(party, taken);
+}
 
 // The same by whole buckets, which are asked for with no layout.
-static inline size_t whole_take(void) { return bb_pool_party_take(party).place; }
+static inline size_t whole_take(void) {
+    return bb_pool_party_take(party).place;
+}
+
 #define whole_give party_give
 
 static void join_all(unsigned cached) {
@@ -89,13 +119,14 @@ static void join_all(unsigned cached) {
     if (bb_shared_pool_init(&pool, 128, 8, START, BUCKETS * 128, threads) != BB_OK)
         abort();
     for (unsigned i = 0; i < threads; i++)
-        if (bb_shared_pool_join(&pool, &parties[i]) != BB_OK || bb_pool_party_cache(&parties[i], cached) != BB_OK)
+        if (bb_shared_pool_join(&pool, &parties[i]) != BB_OK ||
+            bb_pool_party_cache(&parties[i], cached) != BB_OK)
             abort();
     bb_shared_pool_destroy(&pool);
 }
 
-// The message of a party is a bucket that it detached into the next of these. There are twice as many as the ring has room for,
-// so each is empty again when its turn comes.
+// The message of a party is a bucket that it detached into the next of these. There are twice as
+// many as the ring has room for, so each is empty again when its turn comes.
 static bb_detached detached[2 * ROOM];
 static _Thread_local unsigned messages;
 
@@ -108,7 +139,9 @@ static inline size_t message_take(void) {
     return (size_t)message;
 }
 
-static inline void message_give(size_t taken) { (void)bb_pool_party_return_detached(party, (bb_detached *)taken); }
+static inline void message_give(size_t taken) {
+    (void)bb_pool_party_return_detached(party, (bb_detached *)taken);
+}
 
 // The same by a party that attaches each message's bucket, and gives back eight at a time.
 #define attached_take message_take
@@ -119,10 +152,16 @@ static inline void attached_give(size_t taken) {
         (void)bb_pool_party_flush(party);
 }
 
-static inline size_t none_take(void) { return 1; }
-static inline void none_give(size_t taken) { (void)taken; }
+static inline size_t none_take(void) {
+    return 1;
+}
 
-// How many takings of a thread took so many cycles of the processor's clock; the last counts all longer ones.
+static inline void none_give(size_t taken) {
+    (void)taken;
+}
+
+// How many takings of a thread took so many cycles of the processor's clock; the last counts all
+// longer ones.
 static _Thread_local uint32_t *counts;
 
 static inline uint64_t cycles(void) {
@@ -136,34 +175,35 @@ static inline void count_since(uint64_t start) {
 }
 
 // Eight takings, and then their returns. The answer is 0 where a taking was refused.
-#define BURST_OF(BURST_NAME, TAKE, GIVE)   \
-    static size_t BURST_NAME(void) {       \
-        size_t taken[BURST], all = 1;      \
-        for (int i = 0; i < BURST; i++)    \
-            taken[i] = TAKE();             \
-        for (int i = 0; i < BURST; i++)    \
-            if (taken[i])                  \
-                GIVE(taken[i]);            \
-            else                           \
-                all = 0;                   \
-        return all;                        \
+#define BURST_OF(BURST_NAME, TAKE, GIVE) \
+    static size_t BURST_NAME(void) {     \
+        size_t taken[BURST];             \
+        size_t all = 1;                  \
+        for (int i = 0; i < BURST; i++)  \
+            taken[i] = TAKE();           \
+        for (int i = 0; i < BURST; i++)  \
+            if (taken[i])                \
+                GIVE(taken[i]);          \
+            else                         \
+                all = 0;                 \
+        return all;                      \
     }
 
 // A taking and its return; a burst; and one with each taking timed by itself.
-#define CALLS_OF(NAME)                                \
-    static size_t NAME##_pair(void) {                 \
-        size_t taken = NAME##_take();                 \
-        if (taken)                                    \
-            NAME##_give(taken);                       \
-        return taken;                                 \
-    }                                                 \
-    static inline size_t NAME##_timed(void) {         \
-        uint64_t start = cycles();                    \
-        size_t taken = NAME##_take();                 \
-        count_since(start);                           \
-        return taken;                                 \
-    }                                                 \
-    BURST_OF(NAME##_burst, NAME##_take, NAME##_give)  \
+#define CALLS_OF(NAME)                               \
+    static size_t NAME##_pair(void) {                \
+        size_t taken = NAME##_take();                \
+        if (taken)                                   \
+            NAME##_give(taken);                      \
+        return taken;                                \
+    }                                                \
+    static inline size_t NAME##_timed(void) {        \
+        uint64_t start = cycles();                   \
+        size_t taken = NAME##_take();                \
+        count_since(start);                          \
+        return taken;                                \
+    }                                                \
+    BURST_OF(NAME##_burst, NAME##_take, NAME##_give) \
     BURST_OF(NAME##_tail, NAME##_timed, NAME##_give)
 
 CALLS_OF(list)
@@ -180,17 +220,19 @@ static size_t many_burst(void) {
            bb_pool_party_deallocate_many(party, taken, BURST).number == BURST;
 }
 
-// The ring of rtrb, which shared_bench has: each end owns a position, which it stores in one sequentially consistent step, and
-// keeps a copy of the other's, which it loads anew where the copy says that the ring is full or empty. The positions are 128
-// bytes apart.
+// The ring of rtrb, which shared_bench has: each end owns a position, which it stores in one
+// sequentially consistent step, and keeps a copy of the other's, which it loads anew where the copy
+// says that the ring is full or empty. The positions are 128 bytes apart.
 static _Alignas(128) _Atomic uint64_t ring_head;
 static _Alignas(128) _Atomic uint64_t ring_tail;
 static _Alignas(128) size_t ring[ROOM];
 
-// The two ends of a queue: the sender takes memory for each message, and the receiver gives it back.
+// The two ends of a queue: the sender takes memory for each message, and the receiver gives it
+// back.
 #define QUEUE(NAME)                                                         \
     static size_t NAME##_send(void) {                                       \
-        uint64_t tail = 0, seen = 0;                                        \
+        uint64_t tail = 0;                                                  \
+        uint64_t seen = 0;                                                  \
         while (tail < calls) {                                              \
             if (tail - seen == ROOM)                                        \
                 seen = atomic_load(&ring_head);                             \
@@ -205,7 +247,8 @@ static _Alignas(128) size_t ring[ROOM];
         return calls;                                                       \
     }                                                                       \
     static size_t NAME##_receive(void) {                                    \
-        uint64_t head = 0, seen = 0;                                        \
+        uint64_t head = 0;                                                  \
+        uint64_t seen = 0;                                                  \
         while (head < calls) {                                              \
             if (head == seen && head == (seen = atomic_load(&ring_tail))) { \
                 _mm_pause();                                                \
@@ -227,8 +270,13 @@ QUEUE(message)
 QUEUE(attached)
 QUEUE(none)
 
-static int mimalloc_is_there(void) { return mimalloc_calls.take != NULL; }
-static int jemalloc_is_there(void) { return jemalloc_calls.take != NULL; }
+static int mimalloc_is_there(void) {
+    return mimalloc_calls.take != NULL;
+}
+
+static int jemalloc_is_there(void) {
+    return jemalloc_calls.take != NULL;
+}
 
 static int dpdk_is_there(void) {
     if (!dpdk_pool_open(BUCKETS, 128, BURST))
@@ -237,9 +285,18 @@ static int dpdk_is_there(void) {
     return 1;
 }
 
-// What is timed of a kind, by its calls: a taking and its return, eight takings and then their returns, the slowest takings of
-// these, and a message. Whether this machine has the kind, which it has where nothing tells, and how many buckets a party caches.
-typedef enum { PAIR, EIGHT, TAIL, SEND, RECEIVE, CALL_KINDS } what;
+// What is timed of a kind, by its calls: a taking and its return, eight takings and then their
+// returns, the slowest takings of these, and a message. Whether this machine has the kind, which it
+// has where nothing tells, and how many buckets a party caches.
+typedef enum {
+    PAIR,
+    EIGHT,
+    TAIL,
+    SEND,
+    RECEIVE,
+    CALL_KINDS
+} what;
+
 typedef struct {
     const char *name;
     size_t (*call[CALL_KINDS])(void);
@@ -263,6 +320,7 @@ static const kind kinds[] = {
     {"C caching many", {NULL, many_burst, NULL, NULL, NULL}, NULL, BURST},
     {"ring alone", {NULL, NULL, NULL, ENDS(none)}, NULL, 0},
 };
+
 static const struct {
     const char *name;
     what what;
@@ -271,9 +329,15 @@ static const struct {
     {"pair", PAIR, 1},   {"pair", PAIR, 2},   {"pair", PAIR, 4},       {"burst", EIGHT, 1},
     {"burst", EIGHT, 2}, {"burst", EIGHT, 4}, {"burst tail", TAIL, 4}, {"message", SEND, 2},
 };
-enum { KINDS = sizeof kinds / sizeof *kinds, FIGURES = sizeof figures / sizeof *figures, BUMP = 0 };
 
-// A thread's calls and its party, and what it found: its nanoseconds, its refused calls, and how long its takings were.
+enum {
+    KINDS = sizeof kinds / sizeof *kinds,
+    FIGURES = sizeof figures / sizeof *figures,
+    BUMP = 0
+};
+
+// A thread's calls and its party, and what it found: its nanoseconds, its refused calls, and how
+// long its takings were.
 typedef struct {
     size_t (*call)(void);
     unsigned times;
@@ -297,8 +361,10 @@ static double nanos(struct timespec start, struct timespec end) {
 static void *work(void *arg) {
     job *own = arg;
     size_t (*call)(void) = own->call;
-    unsigned times = own->times, refused = 0;
-    struct timespec start, end;
+    unsigned times = own->times;
+    unsigned refused = 0;
+    struct timespec start;
+    struct timespec end;
     party = own->party;
     counts = own->counts;
     if (own->is_dpdk)
@@ -330,7 +396,8 @@ static void open_all(const kind *of, int is_dpdk) {
 
 // The cycles that 99.9% of the counted takings take at most.
 static unsigned most_cycles(const uint32_t *found) {
-    uint64_t all = 0, below = 0;
+    uint64_t all = 0;
+    uint64_t below = 0;
     for (unsigned i = 0; i < MOST_CYCLES; i++)
         all += found[i];
     for (unsigned i = 0; i < MOST_CYCLES; i++)
@@ -342,7 +409,8 @@ static unsigned most_cycles(const uint32_t *found) {
 static double cycles_in_a_nanosecond;
 
 static void time_the_clock(void) {
-    struct timespec start, end;
+    struct timespec start;
+    struct timespec end;
     clock_gettime(CLOCK_MONOTONIC, &start);
     uint64_t first = cycles();
     do
@@ -351,19 +419,23 @@ static void time_the_clock(void) {
     cycles_in_a_nanosecond = (double)(cycles() - first) / nanos(start, end);
 }
 
-// Runs the threads, and returns the nanoseconds of a thread's taking and its return, those that 99.9% of the takings take at
-// most, or those of a message: from the gate to the last one, of which the receiver has given the memory back.
+// Runs the threads, and returns the nanoseconds of a thread's taking and its return, those
+// that 99.9% of the takings take at most, or those of a message: from the gate to the last one, of
+// which the receiver has given the memory back.
 static double timed(const kind *of, what it) {
     static uint32_t found[MOST_THREADS][MOST_CYCLES];
     pthread_t all[MOST_THREADS];
     job jobs[MOST_THREADS];
     int is_dpdk = of->is_there == dpdk_is_there;
-    unsigned in_a_call = it == SEND ? calls : it == PAIR ? 1 : BURST, times = calls / in_a_call, refused = 0;
+    unsigned in_a_call = it == SEND ? calls : it == PAIR ? 1 : BURST;
+    unsigned times = calls / in_a_call;
+    unsigned refused = 0;
     double sum = 0;
     open_all(of, is_dpdk);
     memset(found, 0, sizeof found);
     for (unsigned i = 0; i < threads; i++) {
-        jobs[i] = (job){.times = times, .party = &parties[i], .is_dpdk = is_dpdk, .counts = found[i]};
+        jobs[i] =
+            (job){.times = times, .party = &parties[i], .is_dpdk = is_dpdk, .counts = found[i]};
         jobs[i].call = of->call[it == SEND && i ? RECEIVE : it];
         if (pthread_create(&all[i], NULL, work, &jobs[i]))
             abort();
@@ -377,7 +449,8 @@ static double timed(const kind *of, what it) {
     if (is_dpdk)
         dpdk_pool_close();
     if (refused)
-        fprintf(stderr, "%s, %u threads: %u of %u calls were refused\n", of->name, threads, refused, threads * times);
+        fprintf(stderr, "%s, %u threads: %u of %u calls were refused\n", of->name, threads, refused,
+                threads * times);
     if (it != TAIL)
         return sum / ((double)threads * times * in_a_call);
     for (unsigned i = 1; i < threads; i++)
@@ -389,17 +462,21 @@ static double timed(const kind *of, what it) {
 int main(int argc, char **argv) {
     unsigned rounds = argc > 1 ? (unsigned)atoi(argv[1]) : 3;
     calls = argc > 2 ? (unsigned)atoi(argv[2]) : 10000;
+    const char *first_letters = argc > 3 ? argv[3] : "";
     int there[KINDS];
     open_heaps();
     time_the_clock();
-    for (int i = 0; i < KINDS; i++)
-        there[i] = !kinds[i].is_there || kinds[i].is_there();
+    for (int i = 0; i < KINDS; i++) {
+        there[i] = strncmp(kinds[i].name, first_letters, strlen(first_letters)) == 0;
+        there[i] = there[i] && (!kinds[i].is_there || kinds[i].is_there());
+    }
     for (int i = 0; i < 2 * ROOM; i++)
         if (bb_detached_init(&detached[i]) != BB_OK)
             return 1;
     for (unsigned round = 0; round < rounds; round++)
         for (int at = 0; at < KINDS * FIGURES; at++) {
-            int i = at / FIGURES, figure = at % FIGURES;
+            int i = at / FIGURES;
+            int figure = at % FIGURES;
             if (!there[i] || !kinds[i].call[figures[figure].what])
                 continue;
             threads = figures[figure].threads;

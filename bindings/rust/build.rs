@@ -1,7 +1,8 @@
-//! Finds the C library: in the folder that `BB_MEMORY_LIB_DIR` names, else by the first `bb_memory.pc` of the folders of
-//! `PKG_CONFIG_PATH`, of the release in the repository's `dist`, and of those where systems keep such files. The archive is
-//! linked where it is there, with `BB_MEMORY_LINK=dylib` the shared library. Where no library is found, a warning says so:
-//! `cargo check` and `cargo doc` need none, and a program isn't linked.
+//! Finds the C library: in the folder that `BB_MEMORY_LIB_DIR` names, else by the first
+//! `bb_memory.pc` of the folders of `PKG_CONFIG_PATH`, of the release in the repository's `dist`,
+//! and of those where systems keep such files. The archive is linked where it is there, with
+//! `BB_MEMORY_LINK=dylib` the shared library. Where no library is found, a warning says so: `cargo
+//! check` and `cargo doc` need none, and a program isn't linked.
 use std::env;
 use std::fs;
 use std::iter;
@@ -30,8 +31,9 @@ fn main() {
     let named = env::var_os("BB_MEMORY_LIB_DIR").map(PathBuf::from);
     let Some(folder) = named.or_else(folder_by_pkg_config) else {
         println!(
-            "cargo::warning=the C library bb_memory isn't found, so programs aren't linked: unpack or install it below DIR, and \
-             set PKG_CONFIG_PATH=DIR/lib/pkgconfig or BB_MEMORY_LIB_DIR=DIR/lib"
+            "cargo::warning=the C library bb_memory isn't found, so programs aren't linked: \
+             unpack or install it below DIR, and set PKG_CONFIG_PATH=DIR/lib/pkgconfig \
+             or BB_MEMORY_LIB_DIR=DIR/lib"
         );
         return;
     };
@@ -60,7 +62,8 @@ fn folder_by_pkg_config() -> Option<PathBuf> {
     })
 }
 
-/// Unpacks the release of this version into the build's own folder, where the repository round this crate has it.
+/// Unpacks the release of this version into the build's own folder, where the repository round this
+/// crate has it.
 fn unpacked_release() -> Option<PathBuf> {
     let release = concat!("bb_memory-", env!("CARGO_PKG_VERSION"), "-x86_64-linux");
     let archive = format!("{}/../../dist/{release}.tar.gz", env!("CARGO_MANIFEST_DIR"));
@@ -76,7 +79,8 @@ fn unpacked_release() -> Option<PathBuf> {
     Some(built.join(release).join("lib/pkgconfig"))
 }
 
-/// The folder that this text of `bb_memory.pc` names. The library has to be of this crate's ABI, and no older than the crate.
+/// The folder that this text of `bb_memory.pc` names. The library has to be of this crate's ABI,
+/// and no older than the crate.
 fn folder_of(file: &Path, text: &str) -> PathBuf {
     let value = |name: &str| {
         let found = text.lines().find_map(|line| line.strip_prefix(name));
@@ -87,7 +91,8 @@ fn folder_of(file: &Path, text: &str) -> PathBuf {
     let (abi, version, own) = (value("abi="), value("Version: "), env!("CARGO_PKG_VERSION"));
     assert!(
         abi == ABI && numbers(version) >= numbers(own),
-        "{}: version {version} of ABI {abi}, but this crate needs {own} or a later one of ABI {ABI}",
+        "{}: version {version} of ABI {abi}, but this crate needs {own} or a later one \
+         of ABI {ABI}",
         file.display()
     );
     let here = file.parent().unwrap_or(Path::new(".")).display().to_string();

@@ -1,5 +1,6 @@
-// An arena for each thread: a bump over a chunk of the bump that threads share. A request in it makes no step that other threads
-// see, and a thread whose arena is full takes a further chunk for the next one.
+// An arena for each thread: a bump over a chunk of the bump that threads share. A request in it
+// makes no step that other threads see, and a thread whose arena is full takes a further chunk for
+// the next one.
 #define _POSIX_C_SOURCE 200809L
 #include <pthread.h>
 #include <stdint.h>
@@ -9,7 +10,13 @@
 
 #include "bb_memory.h"
 
-enum { THREADS = 4, ARENA = 4096, ARENAS = 16, RECORDS = 1000, MOST = 64 };
+enum {
+    THREADS = 4,
+    ARENA = 4096,
+    ARENAS = 16,
+    RECORDS = 1000,
+    MOST = 64
+};
 
 static uint64_t region[(size_t)THREADS * ARENAS * ARENA / 8];
 
@@ -26,14 +33,18 @@ typedef struct {
     unsigned char *records[RECORDS];
 } worker;
 
-static size_t length_of(size_t number) { return 1 + number * 31 % MOST; }
+static size_t length_of(size_t number) {
+    return 1 + number * 31 % MOST;
+}
 
-// Takes a chunk of the shared bump, over which the thread's arena begins anew. What the last one gave stays.
+// Takes a chunk of the shared bump, over which the thread's arena starts again. What the last one
+// gave stays.
 static void begin_arena(worker *self) {
     bb_answer chunk = bb_bump_party_allocate(&self->party, ARENA, 64);
     expect(chunk.code == BB_OK, "the shared bump has room for each arena");
     bb_bump_destroy(&self->arena);
-    expect(bb_bump_init(&self->arena, chunk.place, ARENA) == BB_OK, "an arena is made over a chunk");
+    expect(bb_bump_init(&self->arena, chunk.place, ARENA) == BB_OK,
+           "an arena is made over a chunk");
 }
 
 static void *allocate(worker *self, size_t size) {
@@ -63,10 +74,12 @@ int main(void) {
     static worker workers[THREADS];
     pthread_t threads[THREADS];
     bb_shared_bump shared = BB_EMPTY;
-    expect(bb_shared_bump_init(&shared, region, sizeof region, THREADS) == BB_OK, "a bump is shared");
+    expect(bb_shared_bump_init(&shared, region, sizeof region, THREADS) == BB_OK,
+           "a bump is shared");
     for (size_t number = 0; number < THREADS; number++) {
         expect(bb_shared_bump_join(&shared, &workers[number].party) == BB_OK, "a party joins");
-        expect(pthread_create(&threads[number], NULL, work, &workers[number]) == 0, "a thread starts");
+        expect(pthread_create(&threads[number], NULL, work, &workers[number]) == 0,
+               "a thread starts");
     }
     for (size_t number = 0; number < THREADS; number++) {
         pthread_join(threads[number], NULL);

@@ -1,5 +1,6 @@
-// Size classes: three pools over one region, which a bump cuts. A request goes to the smallest class whose buckets are large
-// enough, and to the next where that is full; a return finds its pool by the place. Each class has figures.
+// Size classes: three pools over one region, which a bump cuts. A request goes to the smallest
+// class whose buckets are large enough, and to the next if that is full; a return finds its pool by
+// the place. Each class has figures.
 #include <stdint.h>
 #include <stdio.h>
 #include <stdlib.h>
@@ -7,12 +8,29 @@
 
 #include "bb_memory.h"
 
-enum { CLASSES = 3, LIVE = 400, CALLS = 100000 };
+enum {
+    CLASSES = 3,
+    LIVE = 400,
+    CALLS = 100000
+};
 
-typedef struct { size_t size, align; uint32_t buckets; } wish;
+typedef struct {
+    size_t size;
+    size_t align;
+    uint32_t buckets;
+} wish;
 
-// `spilled` counts the requests that a smaller class refused.
-typedef struct { bb_pool pool; size_t start, end, size, held, most_held, spilled, refused; } size_class;
+typedef struct {
+    bb_pool pool;
+    size_t start;
+    size_t end;
+    size_t size;
+    size_t held;
+    size_t most_held;
+    // Requests that a smaller class refused.
+    size_t spilled;
+    size_t refused;
+} size_class;
 
 static const wish wishes[CLASSES] = {{64, 8, 160}, {256, 16, 64}, {4096, 64, 8}};
 
@@ -44,7 +62,8 @@ static void make(size_class classes[CLASSES], void *region, size_t size) {
         const size_t len = bb_bytes_for(of->size, of->align, of->buckets);
         bb_answer part = bb_bump_allocate(&cuts, len, of->align);
         expect(part.code == BB_OK, "the region has room");
-        uint32_t code = bb_pool_init_at_least(&made.pool, of->size, of->align, part.place, len, of->buckets);
+        uint32_t code =
+            bb_pool_init_at_least(&made.pool, of->size, of->align, part.place, len, of->buckets);
         expect(code == BB_OK, bb_text(code));
         made.start = (size_t)part.place;
         made.end = made.start + len;
@@ -58,12 +77,15 @@ static bb_answer allocate(size_class classes[CLASSES], size_t size, size_t align
     bool spills = false;
     for (size_t at = 0; at < CLASSES; at++) {
         size_class *of = &classes[at];
-        if (size > of->size || align > wishes[at].align) continue;
+        if (size > of->size || align > wishes[at].align)
+            continue;
         given = bb_pool_allocate(&of->pool, size, align);
         if (given.code == BB_OK) {
             of->held++;
-            if (of->held > of->most_held) of->most_held = of->held;
-            of->spilled += spills;
+            if (of->held > of->most_held)
+                of->most_held = of->held;
+            if (spills)
+                of->spilled++;
             return given;
         }
         of->refused++;
@@ -75,9 +97,11 @@ static bb_answer allocate(size_class classes[CLASSES], size_t size, size_t align
 static uint32_t deallocate(size_class classes[CLASSES], void *place) {
     for (size_t at = 0; at < CLASSES; at++) {
         size_class *of = &classes[at];
-        if ((size_t)place < of->start || (size_t)place >= of->end) continue;
+        if ((size_t)place < of->start || (size_t)place >= of->end)
+            continue;
         uint32_t code = bb_pool_deallocate(&of->pool, place);
-        of->held -= code == BB_OK;
+        if (code == BB_OK)
+            of->held--;
         return code;
     }
     return BB_NOT_HELD;
@@ -90,32 +114,52 @@ static uint64_t next_random(uint64_t *state) {
     return *state;
 }
 
-// Requests of mostly small sizes, and returns of what is out, in no order. Each chunk keeps what was written into it.
+static size_t random_length(uint64_t random) {
+    size_t most = 4096;
+    if ((random >> 20) % 16 != 0)
+        most = 64;
+    else if ((random >> 24) % 8 != 0)
+        most = 256;
+    return 1 + (random >> 32) % most;
+}
+
+// Requests of mostly small sizes, and returns in no order. Each chunk keeps what was written into
+// it.
 static void churn(size_class classes[CLASSES]) {
-    static struct { unsigned char *place; size_t len; unsigned char filled; } live[LIVE];
+    static struct {
+        unsigned char *place;
+        size_t len;
+        unsigned char filled;
+    } live[LIVE];
+
     uint64_t state = 88172645463325252u;
     for (int call = 0; call < CALLS; call++) {
         uint64_t random = next_random(&state);
-        size_t at = random % LIVE, most = (random >> 20) % 16 != 0 ? 64 : (random >> 24) % 8 != 0 ? 256 : 4096;
+        size_t at = random % LIVE;
         if (live[at].place == NULL) {
-            const size_t len = 1 + (random >> 32) % most;
+            const size_t len = random_length(random);
             bb_answer given = allocate(classes, len, 8);
-            expect(given.code == BB_OK || given.code == BB_OUT_OF_MEMORY, "a chunk is given, or all that fit are full");
-            if (given.code != BB_OK) continue;
+            expect(given.code == BB_OK || given.code == BB_OUT_OF_MEMORY,
+                   "a chunk is given, or all that fit are full");
+            if (given.code != BB_OK)
+                continue;
             live[at].place = (unsigned char *)given.place;
             live[at].len = len;
             live[at].filled = (unsigned char)random;
             memset(live[at].place, live[at].filled, live[at].len);
         } else {
-            expect(live[at].place[0] == live[at].filled, "a chunk's first byte is as it was written");
+            expect(live[at].place[0] == live[at].filled,
+                   "a chunk's first byte is as it was written");
             expect(live[at].place[live[at].len - 1] == live[at].filled, "and so is its last one");
             expect(deallocate(classes, live[at].place) == BB_OK, "a chunk is given back");
             expect(deallocate(classes, live[at].place) == BB_NOT_HELD, "and only once");
             live[at].place = NULL;
         }
     }
-    for (size_t at = 0; at < LIVE; at++)
-        expect(live[at].place == NULL || deallocate(classes, live[at].place) == BB_OK, "all are given back");
+    for (size_t at = 0; at < LIVE; at++) {
+        if (live[at].place != NULL)
+            expect(deallocate(classes, live[at].place) == BB_OK, "all are given back");
+    }
 }
 
 int main(void) {
@@ -125,13 +169,15 @@ int main(void) {
     expect(region != NULL, "a region is there");
     make(classes, region, size);
     expect(allocate(classes, 4097, 8).code == BB_SIZE_TOO_LARGE, "no class has as much");
-    expect(deallocate(classes, classes) == BB_NOT_HELD, "a wild return is refused");
+    expect(deallocate(classes, classes) == BB_NOT_HELD, "an address that is no chunk is refused");
     churn(classes);
     for (size_t at = 0; at < CLASSES; at++) {
         size_class *of = &classes[at];
         struct bb_pool_info info;
-        expect(bb_pool_info(&of->pool, &info) == BB_OK && info.held_buckets == 0 && of->held == 0, "every bucket is back");
-        printf("classes: %zu buckets of %zu bytes: at most %zu held, %zu for a smaller class, %zu refused\n",
+        expect(bb_pool_info(&of->pool, &info) == BB_OK, "a pool has figures");
+        expect(info.held_buckets == 0 && of->held == 0, "every bucket is back");
+        printf("classes: %zu buckets of %zu bytes: at most %zu held, %zu for a smaller class, %zu "
+               "refused\n",
                info.number_of_buckets, of->size, of->most_held, of->spilled, of->refused);
         expect(bb_pool_destroy(&of->pool) == BB_OK, "a pool is destroyed");
     }

@@ -1,5 +1,6 @@
-// Containers of the standard library that live in a bump, in a pool and in a pool that threads share, by std::pmr; values that
-// give their buckets back when they end; and parties that leave when their threads end.
+// Containers of the standard library that live in a bump, in a pool and in a pool that threads
+// share, by std::pmr; values that give their buckets back when they end; and parties that leave
+// when their threads end.
 #include <atomic>
 #include <cstdio>
 #include <cstdlib>
@@ -14,7 +15,8 @@
 
 namespace {
 
-constexpr std::size_t bucket = 64, buckets = 128;
+constexpr std::size_t bucket = 64;
+constexpr std::size_t buckets = 128;
 alignas(bucket) unsigned char region[BB_BYTES_FOR(bucket, bucket, buckets)];
 
 void expect(bool holds, const char *what) {
@@ -24,9 +26,11 @@ void expect(bool holds, const char *what) {
     }
 }
 
-void expect_ok(bb::error code) { expect(code == bb::error::ok, bb::text(code)); }
+void expect_ok(bb::error code) {
+    expect(code == bb::error::ok, bb::text(code));
+}
 
-template <class Call>
+template<class Call>
 bool throws_bad_alloc(Call call) {
     try {
         call();
@@ -36,7 +40,7 @@ bool throws_bad_alloc(Call call) {
     return false;
 }
 
-// Strings of any length lie one behind another in a bump.
+// Strings of any length lie one after another in a bump.
 void strings_in_a_bump() {
     bb::bump bump;
     expect(bump.init(nullptr, 64) == bb::error::invalid_argument, "a region doesn't start at 0");
@@ -44,9 +48,12 @@ void strings_in_a_bump() {
     bb::bump_resource lines_of(bump.get());
     std::pmr::vector<std::pmr::string> lines(&lines_of);
     for (int number = 0; number < 20; number++)
-        lines.emplace_back("a line that a string keeps in memory of its own, number " + std::to_string(number));
-    expect(lines[7].back() == '7' && lines[7].get_allocator().resource() == &lines_of, "each line is there");
-    expect(throws_bad_alloc([&] { std::pmr::vector<char> all(sizeof region, &lines_of); }), "a full bump throws");
+        lines.emplace_back("a line that a string keeps in memory of its own, number " +
+                           std::to_string(number));
+    expect(lines[7].back() == '7' && lines[7].get_allocator().resource() == &lines_of,
+           "each line is there");
+    expect(throws_bad_alloc([&] { std::pmr::vector<char> all(sizeof region, &lines_of); }),
+           "a full bump throws");
     lines_of.deallocate(lines_of.allocate(0, 1), 0, 1);
     expect(bump.info()->used_space > 20 * 56, "the bump has them");
 }
@@ -54,7 +61,8 @@ void strings_in_a_bump() {
 // Nodes of one size are buckets of a pool. What it can't serve comes from upstream.
 void nodes_in_a_pool() {
     bb::pool pool;
-    expect(bb_pool_init_at_least(pool.get(), bucket, bucket, region + 1, sizeof region - 1, buckets) == BB_NO_BUCKET,
+    expect(bb_pool_init_at_least(pool.get(), bucket, bucket, region + 1, sizeof region - 1,
+                                 buckets) == BB_NO_BUCKET,
            "a start that isn't aligned costs a bucket");
     expect_ok(pool.init(bucket, bucket, region, sizeof region));
     bb::pool_resource nodes(pool.get());
@@ -65,7 +73,8 @@ void nodes_in_a_pool() {
     expect(throws_bad_alloc([&] {
                for (int number = 100; number < 200; number++)
                    squares[number] = 0;
-           }), "a full pool throws");
+           }),
+           "a full pool throws");
     squares.clear();
     expect(pool.info()->held_buckets == 0, "each bucket is back");
 
@@ -73,7 +82,8 @@ void nodes_in_a_pool() {
     std::pmr::vector<int> grows(&with_heap);
     for (int number = 0; number < 1000; number++)
         grows.push_back(number);
-    expect(grows[999] == 999 && pool.info()->held_buckets == 0, "a vector that outgrew its bucket gave it back");
+    expect(grows[999] == 999 && pool.info()->held_buckets == 0,
+           "a vector that outgrew its bucket gave it back");
     bb::pool moved(std::move(pool));
     expect(!pool.info() && moved.info()->held_buckets == 0, "an owner moves");
 }
@@ -81,13 +91,18 @@ void nodes_in_a_pool() {
 struct message {
     static int alive;
     int number;
+
     explicit message(int of) : number(of) {
-        if (of < 0) throw std::invalid_argument("a number of a message");
+        if (of < 0)
+            throw std::invalid_argument("a number of a message");
         alive++;
     }
+
     message(const message &) = delete;
+
     ~message() { alive--; }
 };
+
 int message::alive = 0;
 
 void values_in_a_pool() {
@@ -96,10 +111,12 @@ void values_in_a_pool() {
     {
         auto first = bb::make<message>(pool.get(), 7);
         auto second = bb::make<message>(pool.get(), 8);
-        expect(first && first->number == 7 && !second && message::alive == 1, "the pool has one bucket");
+        expect(first && first->number == 7 && !second && message::alive == 1,
+               "the pool has one bucket");
     }
     expect(message::alive == 0 && pool.info()->held_buckets == 0, "a value gives its bucket back");
-    if (auto whole = bb::take(pool.get())) expect(!bb::take(pool.get()), "a bucket that is taken whole is held");
+    if (auto whole = bb::take(pool.get()))
+        expect(!bb::take(pool.get()), "a bucket that is taken whole is held");
     expect(pool.info()->held_buckets == 0, "and goes back with its owner");
     auto read = bb::make<const message>(pool.get(), 7);
     expect(read->number == 7 && pool.info()->held_buckets == 1, "a value may be constant");
@@ -113,7 +130,8 @@ void values_in_a_pool() {
     expect(thrown && pool.info()->held_buckets == 0, "a constructor that throws loses no bucket");
 }
 
-// Threads come and go: each has a party, which leaves when the thread ends, also with buckets that it didn't give back.
+// Threads come and go: each has a party, which leaves when the thread ends, also with buckets that
+// it didn't give back.
 void lists_in_threads() {
     bb::shared_pool pool;
     expect_ok(pool.init(bucket, bucket, region, sizeof region, 2));
@@ -134,17 +152,21 @@ void lists_in_threads() {
         for (auto &thread : threads)
             thread.join();
     }
-    bb::pool_party last, moved;
+    bb::pool_party last;
+    bb::pool_party moved;
     expect_ok(pool.join(last));
     moved = std::move(last);
     bb::pool_resource nodes(moved.get());
     std::pmr::list<int> list(buckets, 1, &nodes);
     expect(moved.info()->held_buckets == buckets && !last.info(), "every bucket came back");
-    expect(pool.info()->pool.held_buckets == buckets && pool.info()->refused == 0, "any thread sees it");
+    expect(pool.info()->pool.held_buckets == buckets && pool.info()->refused == 0,
+           "any thread sees it");
 }
 
-// Two threads in turn make a value in the one bucket, and give it back, by calls of one or of many; at last one leaves with it.
-// The turns order no memory, so the checker of threads would see a race, were it told of no taking or no return.
+// Two threads take turns: they make a value in the one bucket and give it back, by calls of one or
+// of many. Once one of them gives all back instead, and at last it leaves with the bucket. The
+// turns order no memory, so the checker of threads would see a race if it didn't learn of a taking
+// or a return.
 void values_in_threads() {
     constexpr int turns = 1000;
     bb::shared_pool pool;
@@ -164,6 +186,10 @@ void values_in_threads() {
             } else {
                 auto value = bb::make<int>(party.get(), at);
                 expect(value && *value == at, "the bucket is there");
+                if (at == 2) {
+                    expect(value.release() != nullptr, "a value isn't given back");
+                    expect_ok(party.give_all_back());
+                }
                 if (at == turns - 2) {
                     expect(value.release() != nullptr, "a value isn't given back");
                     party.leave();
@@ -172,7 +198,8 @@ void values_in_threads() {
             turn.store(at + 1, std::memory_order_relaxed);
         }
     };
-    std::thread one(run, 0), other(run, 1);
+    std::thread one(run, 0);
+    std::thread other(run, 1);
     one.join();
     other.join();
     expect(pool.info()->pool.held_buckets == 0, "each bucket is back");
@@ -181,26 +208,35 @@ void values_in_threads() {
 // The heap, which counts what comes back.
 struct counting : std::pmr::memory_resource {
     int returned = 0;
+
     void *do_allocate(std::size_t size, std::size_t align) override {
         return std::pmr::new_delete_resource()->allocate(size, align);
     }
+
     void do_deallocate(void *place, std::size_t size, std::size_t align) override {
         returned++;
         std::pmr::new_delete_resource()->deallocate(place, size, align);
     }
-    bool do_is_equal(const std::pmr::memory_resource &other) const noexcept override { return this == &other; }
+
+    bool do_is_equal(const std::pmr::memory_resource &other) const noexcept override {
+        return this == &other;
+    }
 };
 
-// What the pool gave never goes upstream: not where another party holds it, and not where the party has left.
+// What the pool gave never goes upstream: not if another party holds it, and not if the party has
+// left.
 void places_of_the_pool() {
     bb::shared_pool pool;
     expect_ok(pool.init(bucket, bucket, region, sizeof region, 2));
-    bb::pool_party party, other;
+    bb::pool_party party;
+    bb::pool_party other;
     expect_ok(pool.join(party));
     expect_ok(pool.join(other));
     counting heap;
     bb::pool_resource nodes(party.get(), &heap);
-    void *first = nodes.allocate(1, 1), *last = nodes.allocate(1, 1), *large = nodes.allocate(2 * bucket, 1);
+    void *first = nodes.allocate(1, 1);
+    void *last = nodes.allocate(1, 1);
+    void *large = nodes.allocate(2 * bucket, 1);
     auto value = bb::make<int>(other.get(), 7);
     nodes.deallocate(value.get(), 1, 1);
     nodes.deallocate(first, 1, 1);
@@ -216,7 +252,8 @@ void places_of_the_pool() {
 void detached_buckets_come_back() {
     bb::shared_pool pool;
     expect_ok(pool.init(bucket, bucket, region, bucket, 2));
-    bb::pool_party writer, reader;
+    bb::pool_party writer;
+    bb::pool_party reader;
     expect_ok(pool.join(writer));
     expect(!reader.number() && reader.recover(0) == bb::error::uninitialized, "it hasn't joined");
     expect_ok(pool.join(reader));
@@ -225,27 +262,98 @@ void detached_buckets_come_back() {
     std::atomic<int> sent{0};
     std::thread reading([&] {
         for (int round = 1; round <= 100; round++) {
-            while (sent.load() != round) std::this_thread::yield();
-            expect(*reinterpret_cast<const int *>(region) == round, "the bucket has what was written");
+            while (sent.load() != round)
+                std::this_thread::yield();
+            expect(*reinterpret_cast<const int *>(region) == round,
+                   "the bucket has what was written");
             expect_ok(reader.return_detached(detached));
         }
     });
     for (int round = 1; round <= 100; round++) {
         bb_answer given = bb::allocate(writer.get(), sizeof(int), alignof(int));
-        for (; given.code != BB_OK; given = bb::allocate(writer.get(), sizeof(int), alignof(int))) std::this_thread::yield();
+        for (; given.code != BB_OK; given = bb::allocate(writer.get(), sizeof(int), alignof(int)))
+            std::this_thread::yield();
         ::new (given.place) int(round);
         auto holder = pool.holder(0);
-        expect(holder && holder->state == BB_HELD && holder->party == writer.number() && !pool.holder(1), "the writer holds it");
-        expect(bb_pool_party_detach(writer.get(), given.place, sizeof(int), detached.get()) == BB_OK, "it is on its way");
+        expect(holder && holder->state == BB_HELD && holder->party == writer.number() &&
+                   !pool.holder(1),
+               "the writer holds it");
+        expect(bb_pool_party_detach(writer.get(), given.place, sizeof(int), detached.get()) ==
+                   BB_OK,
+               "it is on its way");
         sent = round;
     }
     reading.join();
     auto last = bb::make<int>(writer.get(), 7);
-    expect(bb_pool_party_detach(writer.get(), last.release(), sizeof(int), detached.get()) == BB_OK, "a bucket is on its way");
+    expect(bb_pool_party_detach(writer.get(), last.release(), sizeof(int), detached.get()) == BB_OK,
+           "a bucket is on its way");
     detached = bb::detached();
-    expect(pool.holder(0)->state == BB_DETACHED && reader.recover(1) == bb::error::not_a_bucket, "it is lost with its token");
+    expect(pool.holder(0)->state == BB_DETACHED && reader.recover(1) == bb::error::not_a_bucket,
+           "it is lost with its token");
     expect_ok(reader.recover(0));
-    expect(pool.holder(0)->state == BB_FREE && reader.recover(0) == bb::error::not_held, "it is free");
+    expect(pool.holder(0)->state == BB_FREE && reader.recover(0) == bb::error::not_held,
+           "it is free");
+}
+
+// A writer sends buckets by their numbers. Of two readers that try, exactly one gets each bucket.
+// As in `values_in_threads`, what the threads count orders no memory.
+void buckets_go_by_number() {
+    constexpr int rounds = 1000;
+    bb::shared_pool pool;
+    expect_ok(pool.init(bucket, bucket, region, bucket, 3));
+    bb::pool_party writer;
+    expect_ok(pool.join_number(2, writer));
+    expect(writer.number() == 2u, "the party has the number that was asked for");
+    std::atomic<int> sent{0};
+    std::atomic<int> read{0};
+    std::atomic<int> done{0};
+    std::vector<std::thread> threads;
+    for (std::uint32_t own = 0; own < 2; own++)
+        threads.emplace_back([&, own] {
+            bb::pool_party reader;
+            expect_ok(pool.join_number(own, reader));
+            for (int round = 1; round <= rounds; round++) {
+                while (sent.load(std::memory_order_relaxed) < round)
+                    std::this_thread::yield();
+                if (auto got = bb::attach_number(reader.get(), 0, 2)) {
+                    expect(*static_cast<int *>(got.get()) == round, "it is what the writer wrote");
+                    read++;
+                }
+                done.fetch_add(1, std::memory_order_relaxed);
+            }
+        });
+    for (int round = 1; round <= rounds; round++) {
+        auto value = bb::make<int>(writer.get(), round);
+        expect(value && bb::detach_number(writer.get(), value.release()) == 0u, "it is on its way");
+        sent.store(round, std::memory_order_relaxed);
+        while (done.load(std::memory_order_relaxed) != 2 * round)
+            std::this_thread::yield();
+    }
+    for (auto &thread : threads)
+        thread.join();
+    expect(read == rounds, "each bucket went to one reader");
+    expect(!bb::detach_number(writer.get(), region), "a bucket that isn't held stays");
+    expect(!bb::attach_number(writer.get(), 0, 2), "a bucket that isn't detached stays");
+}
+
+// A party that is forgotten leaves its buckets to the next party of its number.
+void parties_are_forgotten() {
+    bb::shared_pool pool;
+    expect_ok(pool.init(bucket, bucket, region, 2 * bucket, 2));
+    bb::pool_party first;
+    bb::pool_party next;
+    expect_ok(pool.join_number(1, first));
+    expect(pool.join_number(1, next) == bb::error::no_party, "one party has a number");
+    auto value = bb::make<int>(first.get(), 7);
+    const int *kept = value.release();
+    expect(kept != nullptr, "a bucket is held");
+    first.forget();
+    expect(!first.number() && pool.info()->pool.held_buckets == 1, "it stays held");
+    expect_ok(pool.join_number(1, next));
+    expect(bb_pool_party_holds(next.get(), kept).number == 1 && *kept == 7, "by the next party");
+    expect_ok(next.give_all_back());
+    expect(next.number() == 1u && pool.info()->pool.held_buckets == 0, "which gives it back");
+    expect(first.give_all_back() == bb::error::uninitialized, "and the first has nothing");
 }
 
 void words_in_a_shared_bump() {
@@ -272,6 +380,8 @@ int main() {
     values_in_threads();
     places_of_the_pool();
     detached_buckets_come_back();
+    buckets_go_by_number();
+    parties_are_forgotten();
     words_in_a_shared_bump();
     std::puts("containers: every bucket came back");
     return 0;

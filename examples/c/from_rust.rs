@@ -12,7 +12,13 @@ pub struct Answer {
 }
 
 unsafe extern "C" {
-    fn bb_pool_init(pool: *mut Pool, bucket_size: usize, bucket_align: usize, start: usize, size: usize) -> u32;
+    fn bb_pool_init(
+        pool: *mut Pool,
+        bucket_size: usize,
+        bucket_align: usize,
+        start: usize,
+        size: usize,
+    ) -> u32;
     fn bb_pool_allocate(pool: *mut Pool, size: usize, align: usize) -> Answer;
     fn bb_pool_deallocate(pool: *mut Pool, place: usize) -> u32;
     fn bb_pool_destroy(pool: *mut Pool) -> u32;
@@ -24,7 +30,10 @@ const BB_NOT_HELD: u32 = 9;
 fn main() {
     let mut buffer = vec![0u64; 128];
     let start = buffer.as_mut_ptr() as usize;
-    let mut pool = Pool { at: core::ptr::null_mut(), made: false };
+    let mut pool = Pool {
+        at: core::ptr::null_mut(),
+        made: false,
+    };
     // The handle is this function's own and passed by its address; the buffer outlives the pool.
     unsafe {
         assert_eq!(bb_pool_init(&mut pool, 128, 8, start, 1024), BB_OK);

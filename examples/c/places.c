@@ -1,5 +1,6 @@
-// A thread that finds buckets by their numbers beside one that allocates, with the same handles and no lock: `place_at` and
-// `number_at` read what `init` or `join` fixed, which no call but `destroy` and `leave` writes.
+// A thread that finds buckets by their numbers beside one that allocates, with the same handles and
+// no lock: `place_at` and `number_at` read what `init` or `join` fixed, which no call but `destroy`
+// and `leave` writes.
 #define _POSIX_C_SOURCE 200809L
 #include <pthread.h>
 #include <stdint.h>
@@ -8,7 +9,12 @@
 
 #include "bb_memory.h"
 
-enum { ROUNDS = 20000, BUCKETS = 32, BUCKET_SIZE = 48, ALIGN = 16 };
+enum {
+    ROUNDS = 20000,
+    BUCKETS = 32,
+    BUCKET_SIZE = 48,
+    ALIGN = 16
+};
 
 static uint64_t pool_words[BB_BYTES_FOR(BUCKET_SIZE, ALIGN, BUCKETS + 1) / 8];
 static uint64_t shared_words[BB_BYTES_FOR(BUCKET_SIZE, ALIGN, BUCKETS + 1) / 8];
@@ -33,33 +39,39 @@ static void *allocate(void *argument) {
         bb_answer of_party = bb_pool_party_allocate(&party, BUCKET_SIZE, 8);
         expect(of_pool.code == BB_OK && of_party.code == BB_OK, "a bucket is given");
         expect(bb_pool_deallocate(&pool, of_pool.place) == BB_OK, "a bucket is given back");
-        expect(bb_pool_party_deallocate(&party, of_party.place) == BB_OK, "a party's bucket is given back");
+        expect(bb_pool_party_deallocate(&party, of_party.place) == BB_OK,
+               "a party's bucket is given back");
     }
     return argument;
 }
 
-static void expect_figure(bb_figure told, size_t number) {
-    expect(told.code == BB_OK && told.number == number, "a number has its place");
+static void expect_figure(bb_figure figure, size_t number) {
+    expect(figure.code == BB_OK && figure.number == number, "a number has its place");
 }
 
 static void find_places(size_t pool_at, size_t shared_at) {
     for (int round = 0; round < ROUNDS; round++) {
         uint32_t number = (uint32_t)round % BUCKETS;
-        size_t behind = (size_t)number * BB_STRIDE(BUCKET_SIZE, ALIGN);
-        expect_figure(bb_pool_place_at(&pool, number), pool_at + behind);
-        expect_figure(bb_pool_party_place_at(&party, number), shared_at + behind);
-        expect_figure(bb_pool_number_at(&pool, (void *)(pool_at + behind)), number);
-        expect_figure(bb_pool_party_number_at(&party, (void *)(shared_at + behind)), number);
+        size_t offset = (size_t)number * BB_STRIDE(BUCKET_SIZE, ALIGN);
+        expect_figure(bb_pool_place_at(&pool, number), pool_at + offset);
+        expect_figure(bb_pool_party_place_at(&party, number), shared_at + offset);
+        expect_figure(bb_pool_number_at(&pool, (void *)(pool_at + offset)), number);
+        expect_figure(bb_pool_party_number_at(&party, (void *)(shared_at + offset)), number);
     }
 }
 
 int main(void) {
     pthread_t thread;
-    expect(bb_pool_init(&pool, BUCKET_SIZE, ALIGN, pool_words, sizeof pool_words) == BB_OK, "a pool is there");
-    expect(bb_shared_pool_init(&shared, BUCKET_SIZE, ALIGN, shared_words, sizeof shared_words, 1) == BB_OK, "one is shared");
+    uint32_t made = bb_pool_init(&pool, BUCKET_SIZE, ALIGN, pool_words, sizeof pool_words);
+    expect(made == BB_OK, "a pool is there");
+    uint32_t code =
+        bb_shared_pool_init(&shared, BUCKET_SIZE, ALIGN, shared_words, sizeof shared_words, 1);
+    expect(code == BB_OK, "one is shared");
     expect(bb_shared_pool_join(&shared, &party) == BB_OK, "a party joins");
-    struct bb_pool_info of_pool, of_party;
-    expect(bb_pool_info(&pool, &of_pool) == BB_OK && bb_pool_party_info(&party, &of_party) == BB_OK, "both have figures");
+    struct bb_pool_info of_pool;
+    struct bb_pool_info of_party;
+    expect(bb_pool_info(&pool, &of_pool) == BB_OK, "the pool has figures");
+    expect(bb_pool_party_info(&party, &of_party) == BB_OK, "the party has figures");
     expect(pthread_barrier_init(&start, NULL, 2) == 0, "two can wait for one another");
     expect(pthread_create(&thread, NULL, allocate, NULL) == 0, "a thread starts");
     pthread_barrier_wait(&start);
@@ -67,7 +79,8 @@ int main(void) {
     expect(pthread_join(thread, NULL) == 0, "it ends");
     pthread_barrier_destroy(&start);
     expect(bb_shared_pool_leave(&shared, &party) == BB_OK, "the party leaves");
-    expect(bb_shared_pool_destroy(&shared) == BB_OK && bb_pool_destroy(&pool) == BB_OK, "pools are destroyed");
+    expect(bb_shared_pool_destroy(&shared) == BB_OK, "a pool is destroyed");
+    expect(bb_pool_destroy(&pool) == BB_OK, "and the other one");
     printf("places: %d rounds of numbers beside %d of requests\n", ROUNDS, ROUNDS);
     return 0;
 }

@@ -1,6 +1,7 @@
-// Publish and subscribe over one pool, without a copy: each message goes to each of several readers, who read its bucket where it
-// lies, and the last of them gives the bucket back by a party of its own. A publisher that finds no bucket waits for a return. A
-// thread of statistics reads the pool's figures meanwhile. One lock orders what the host counts; the pool's calls need none.
+// Publish and subscribe over one pool, without a copy: each message goes to each of several
+// readers, who read its bucket where it lies, and the last of them gives the bucket back by a party
+// of its own. A publisher that finds no bucket waits for a return. A thread of statistics reads the
+// pool's figures meanwhile. One lock orders what the host counts; the pool's calls need none.
 #define _POSIX_C_SOURCE 200809L
 #include <pthread.h>
 #include <stdint.h>
@@ -11,9 +12,20 @@
 
 #include "bb_memory.h"
 
-enum { PUBLISHERS = 2, SUBSCRIBERS = 3, BUCKETS = 12, MESSAGES = 5000, TEXT = 48 };
+enum {
+    PUBLISHERS = 2,
+    SUBSCRIBERS = 3,
+    BUCKETS = 12,
+    MESSAGES = 5000,
+    TEXT = 48
+};
 
-typedef struct { uint32_t publisher, number; unsigned char text[TEXT]; } message;
+typedef struct {
+    uint32_t publisher;
+    uint32_t number;
+    unsigned char text[TEXT];
+} message;
+
 // A message on its way: a bucket that waits for its readers.
 typedef struct slot {
     bb_detached detached;
@@ -21,13 +33,25 @@ typedef struct slot {
     struct slot *next;
 } slot;
 
-typedef struct { slot *at[BUCKETS]; size_t first, count; } queue;
-typedef struct { size_t held, published, delivered; } figures;
+typedef struct {
+    slot *at[BUCKETS];
+    size_t first;
+    size_t count;
+} queue;
+
+typedef struct {
+    size_t held;
+    size_t published;
+    size_t delivered;
+} figures;
 
 static uint64_t region[BB_BYTES_FOR(sizeof(message), 8, BUCKETS) / 8];
 static bb_shared_pool pool = BB_EMPTY;
-static slot slots[BUCKETS];  // as many as buckets, so who has a bucket finds one, and no queue is ever full
-static bb_pool_party publishing[PUBLISHERS], subscribing[SUBSCRIBERS];
+// There are as many slots as buckets, so a thread that has a bucket finds a slot, and no queue is
+// ever full.
+static slot slots[BUCKETS];
+static bb_pool_party publishing[PUBLISHERS];
+static bb_pool_party subscribing[SUBSCRIBERS];
 
 static struct {
     pthread_mutex_t lock;
@@ -36,7 +60,8 @@ static struct {
     queue to[SUBSCRIBERS];
     figures count;
     bool closed;
-} hub = {PTHREAD_MUTEX_INITIALIZER, PTHREAD_COND_INITIALIZER, NULL, {{{NULL}, 0, 0}}, {0, 0, 0}, false};
+} hub = {
+    PTHREAD_MUTEX_INITIALIZER, PTHREAD_COND_INITIALIZER, NULL, {{{NULL}, 0, 0}}, {0, 0, 0}, false};
 
 static void expect(int holds, const char *what) {
     if (!holds) {
@@ -45,10 +70,16 @@ static void expect(int holds, const char *what) {
     }
 }
 
-static void lock(void) { pthread_mutex_lock(&hub.lock); }
-static void unlock(void) { pthread_mutex_unlock(&hub.lock); }
+static void lock(void) {
+    pthread_mutex_lock(&hub.lock);
+}
 
-static void join_and_start(bb_pool_party *party, pthread_t *thread, void *(*call)(void *), size_t number) {
+static void unlock(void) {
+    pthread_mutex_unlock(&hub.lock);
+}
+
+static void join_and_start(bb_pool_party *party, pthread_t *thread, void *(*call)(void *),
+                           size_t number) {
     expect(bb_shared_pool_join(&pool, party) == BB_OK, "a party joins");
     expect(pthread_create(thread, NULL, call, (void *)(uintptr_t)number) == 0, "its thread starts");
 }
@@ -58,19 +89,25 @@ static void end_and_leave(bb_pool_party *party, pthread_t thread) {
     expect(bb_shared_pool_leave(&pool, party) == BB_OK, "its party leaves");
 }
 
-static unsigned char byte_of(uint32_t publisher, uint32_t number) { return (unsigned char)(publisher * 61 + number * 7 + 1); }
-// A bucket for a message, which is counted under the lock. A return that comes behind the refusal ends the wait.
+static unsigned char byte_of(uint32_t publisher, uint32_t number) {
+    return (unsigned char)(publisher * 61 + number * 7 + 1);
+}
+
+// Takes a bucket for a message, and counts it under the lock. A return that comes after the refusal
+// ends the wait.
 static message *take(bb_pool_party *party) {
     while (true) {
         bb_answer given = bb_pool_party_allocate(party, BB_OF(message));
-        expect(given.code == BB_OK || given.code == BB_OUT_OF_MEMORY, "a bucket is given, or none is free");
+        expect(given.code == BB_OK || given.code == BB_OUT_OF_MEMORY,
+               "a bucket is given, or none is free");
         lock();
         if (given.code == BB_OK) {
             hub.count.held++;
             unlock();
             return (message *)given.place;
         }
-        if (hub.count.held == BUCKETS) pthread_cond_wait(&hub.changed, &hub.lock);
+        if (hub.count.held == BUCKETS)
+            pthread_cond_wait(&hub.changed, &hub.lock);
         unlock();
     }
 }
@@ -81,11 +118,14 @@ static void publish(bb_pool_party *party, message *written) {
     slot *on_its_way = hub.idle;
     hub.idle = on_its_way->next;
     on_its_way->read = written;
-    expect(bb_pool_party_detach(party, written, sizeof *written, &on_its_way->detached) == BB_OK, "a bucket is detached");
-    expect(bb_detached_share(&on_its_way->detached, SUBSCRIBERS) == BB_OK, "it waits for each subscriber");
+    uint32_t code = bb_pool_party_detach(party, written, sizeof *written, &on_its_way->detached);
+    expect(code == BB_OK, "a bucket is detached");
+    code = bb_detached_share(&on_its_way->detached, SUBSCRIBERS);
+    expect(code == BB_OK, "it waits for each subscriber");
     for (size_t at = 0; at < SUBSCRIBERS; at++) {
         queue *to = &hub.to[at];
-        to->at[(to->first + to->count++) % BUCKETS] = on_its_way;
+        to->at[(to->first + to->count) % BUCKETS] = on_its_way;
+        to->count++;
     }
     hub.count.published++;
     pthread_cond_broadcast(&hub.changed);
@@ -112,7 +152,8 @@ static void release(bb_pool_party *party, slot *been_read) {
     expect(left.code == BB_OK && left.number < SUBSCRIBERS, "a reader releases a bucket once");
     if (left.number == 0) {
         bb_answer mine = bb_pool_party_attach(party, &been_read->detached);
-        expect(mine.code == BB_OK && mine.place == (const void *)been_read->read, "the last reader has the bucket");
+        expect(mine.code == BB_OK, "the last reader attaches the bucket");
+        expect(mine.place == (const void *)been_read->read, "it is the one that was read");
         expect(bb_pool_party_deallocate(party, mine.place) == BB_OK, "a bucket is given back");
         been_read->next = hub.idle;
         hub.idle = been_read;
@@ -122,7 +163,7 @@ static void release(bb_pool_party *party, slot *been_read) {
     unlock();
 }
 
-// The next message to this subscriber, or NULL behind the last one.
+// Returns the next message to this subscriber, or NULL after the last one.
 static slot *next_to(size_t self) {
     queue *from = &hub.to[self];
     slot *next = NULL;
@@ -141,18 +182,24 @@ static slot *next_to(size_t self) {
 static void *subscriber(void *argument) {
     size_t self = (size_t)(uintptr_t)argument;
     uint32_t expected[PUBLISHERS] = {0};
-    for (slot *next; (next = next_to(self)) != NULL; release(&subscribing[self], next)) {
+    slot *next = next_to(self);
+    while (next != NULL) {
         const message *read = next->read;
-        expect(read->publisher < PUBLISHERS && read->number == expected[read->publisher]++, "messages come once and in order");
+        expect(read->publisher < PUBLISHERS, "a message has a publisher");
+        expect(read->number == expected[read->publisher], "messages come once and in order");
+        expected[read->publisher]++;
+        const unsigned char byte = byte_of(read->publisher, read->number);
         for (size_t at = 0; at < TEXT; at++)
-            expect(read->text[at] == byte_of(read->publisher, read->number), "a message is what its publisher wrote");
+            expect(read->text[at] == byte, "a message is what its publisher wrote");
+        release(&subscribing[self], next);
+        next = next_to(self);
     }
     return NULL;
 }
 
 static struct bb_shared_pool_info figures_of_pool(void) {
     struct bb_shared_pool_info now;
-    expect(bb_shared_pool_info(&pool, &now) == BB_OK, "figures are told while parties call");
+    expect(bb_shared_pool_info(&pool, &now) == BB_OK, "the pool has figures while parties call");
     return now;
 }
 
@@ -160,7 +207,8 @@ static void *statistics(void *argument) {
     struct timespec pause = {0, 1000000};
     for (bool ends = false; !ends; nanosleep(&pause, NULL)) {
         struct bb_shared_pool_info pools = figures_of_pool();
-        expect(pools.pool.held_buckets <= BUCKETS && pools.pool.number_of_buckets == BUCKETS, "no more is held than there is");
+        expect(pools.pool.number_of_buckets == BUCKETS, "the pool has its buckets");
+        expect(pools.pool.held_buckets <= BUCKETS, "no more is held than there is");
         lock();
         figures now = hub.count;
         ends = hub.closed && now.held == 0;
@@ -171,8 +219,12 @@ static void *statistics(void *argument) {
 }
 
 int main(void) {
-    pthread_t publishers[PUBLISHERS], subscribers[SUBSCRIBERS], of_statistics;
-    expect(bb_shared_pool_init(&pool, BB_OF(message), region, sizeof region, PUBLISHERS + SUBSCRIBERS) == BB_OK, "it is there");
+    pthread_t publishers[PUBLISHERS];
+    pthread_t subscribers[SUBSCRIBERS];
+    pthread_t of_statistics;
+    const uint32_t parties = PUBLISHERS + SUBSCRIBERS;
+    uint32_t code = bb_shared_pool_init(&pool, BB_OF(message), region, sizeof region, parties);
+    expect(code == BB_OK, "the pool is there");
     for (size_t at = 0; at < BUCKETS; at++) {
         expect(bb_detached_init(&slots[at].detached) == BB_OK, "a slot has a bb_detached");
         slots[at].next = hub.idle;
@@ -192,7 +244,8 @@ int main(void) {
     for (size_t at = 0; at < SUBSCRIBERS; at++)
         end_and_leave(&subscribing[at], subscribers[at]);
     expect(pthread_join(of_statistics, NULL) == 0, "statistics end when nothing is held");
-    expect(hub.count.delivered == (size_t)PUBLISHERS * MESSAGES * SUBSCRIBERS, "each message came to each");
+    expect(hub.count.delivered == (size_t)PUBLISHERS * MESSAGES * SUBSCRIBERS,
+           "each message came to each");
     expect(figures_of_pool().pool.held_buckets == 0, "each bucket is back");
 
     bb_pool_party last = BB_EMPTY;
@@ -201,7 +254,9 @@ int main(void) {
         expect(bb_pool_party_allocate(&last, BB_OF(message)).code == BB_OK, "every bucket is back");
         expect(bb_detached_destroy(&slots[at].detached) == BB_OK, "a bb_detached is destroyed");
     }
-    expect(bb_shared_pool_leave(&pool, &last) == BB_OK && bb_shared_pool_destroy(&pool) == BB_OK, "the pool is destroyed");
-    printf("pubsub: %d messages to %d readers each, without a copy\n", PUBLISHERS * MESSAGES, SUBSCRIBERS);
+    expect(bb_shared_pool_leave(&pool, &last) == BB_OK, "the party leaves");
+    expect(bb_shared_pool_destroy(&pool) == BB_OK, "the pool is destroyed");
+    printf("pubsub: %d messages to %d readers each, without a copy\n", PUBLISHERS * MESSAGES,
+           SUBSCRIBERS);
     return 0;
 }

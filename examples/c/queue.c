@@ -1,6 +1,6 @@
-// A queue of messages over one buffer, which a pool cuts into buckets: four threads send and one receives. Each message is
-// filled by its sender and checked by the receiver, and then its bucket is given back. A bump over the buffer's last 1024 bytes
-// gives the queue's slots.
+// A queue of messages over one buffer, which a pool cuts into buckets: four threads send and one
+// receives. Each message is filled by its sender and checked by the receiver, and then its bucket
+// is given back. A bump over the buffer's last 1024 bytes gives the queue's slots.
 #include <pthread.h>
 #include <stdint.h>
 #include <stdio.h>
@@ -9,21 +9,34 @@
 
 #include "bb_memory.h"
 
-enum { SENDERS = 4, MESSAGES = 500, BUCKETS = 16, BUCKET_SIZE = 64 };
+enum {
+    SENDERS = 4,
+    MESSAGES = 500,
+    BUCKETS = 16,
+    BUCKET_SIZE = 64
+};
 
-enum { POOL_SIZE = BB_BYTES_FOR(BUCKET_SIZE, 8, BUCKETS), SLOTS_SIZE = 1024 };
+enum {
+    POOL_SIZE = BB_BYTES_FOR(BUCKET_SIZE, 8, BUCKETS),
+    SLOTS_SIZE = 1024
+};
 
 static uint64_t buffer[(POOL_SIZE + SLOTS_SIZE) / 8];
 
-// What waits: where each message begins, and how long it is, in a ring of as many slots as there are buckets.
-typedef struct { unsigned char *message; size_t len; } slot;
+// A message that waits: where it begins, and how long it is. They are in a ring of as many slots as
+// there are buckets.
+typedef struct {
+    unsigned char *message;
+    size_t len;
+} slot;
 
 typedef struct {
     pthread_mutex_t lock;
     pthread_cond_t changed;
     bb_pool pool;
     slot *slots;
-    size_t first, count;
+    size_t first;
+    size_t count;
 } queue;
 
 static queue shared = {PTHREAD_MUTEX_INITIALIZER, PTHREAD_COND_INITIALIZER, BB_EMPTY, NULL, 0, 0};
@@ -35,7 +48,9 @@ static void expect(int holds, const char *what) {
     }
 }
 
-static unsigned char byte_of(size_t sender, size_t number) { return (unsigned char)(sender * 61 + number * 7 + 1); }
+static unsigned char byte_of(size_t sender, size_t number) {
+    return (unsigned char)(sender * 61 + number * 7 + 1);
+}
 
 // Takes a bucket for a message, fills it while no lock is held, and puts it into the queue.
 static void *send_all(void *argument) {
@@ -43,9 +58,11 @@ static void *send_all(void *argument) {
     for (size_t number = 0; number < MESSAGES; number++) {
         size_t len = 2 + (number * 13 + sender) % (BUCKET_SIZE - 2);
         pthread_mutex_lock(&shared.lock);
-        bb_answer given;
-        while ((given = bb_pool_allocate(&shared.pool, len, 8)).code == BB_OUT_OF_MEMORY)
+        bb_answer given = bb_pool_allocate(&shared.pool, len, 8);
+        while (given.code == BB_OUT_OF_MEMORY) {
             pthread_cond_wait(&shared.changed, &shared.lock);
+            given = bb_pool_allocate(&shared.pool, len, 8);
+        }
         expect(given.code == BB_OK, "a bucket is given");
         pthread_mutex_unlock(&shared.lock);
 
@@ -75,7 +92,8 @@ static void receive_all(void) {
             expect(next.message[at] == next.message[0], "a message is what one sender wrote");
 
         pthread_mutex_lock(&shared.lock);
-        expect(bb_pool_deallocate(&shared.pool, next.message + 1) == BB_NOT_HELD, "a wild return is refused");
+        uint32_t code = bb_pool_deallocate(&shared.pool, next.message + 1);
+        expect(code == BB_NOT_HELD, "an address inside a bucket is refused");
         expect(bb_pool_deallocate(&shared.pool, next.message) == BB_OK, "a bucket is given back");
         pthread_cond_broadcast(&shared.changed);
         pthread_mutex_unlock(&shared.lock);
@@ -83,25 +101,32 @@ static void receive_all(void) {
 }
 
 static void run_queue(void) {
-    expect(bb_pool_init(&shared.pool, BUCKET_SIZE, 8, buffer, POOL_SIZE) == BB_OK, "a pool is made");
-    expect(bb_pool_init(&shared.pool, BUCKET_SIZE, 8, buffer, 64) == BB_ALREADY_INITIALIZED, "a handle holds one");
+    uint32_t code = bb_pool_init(&shared.pool, BUCKET_SIZE, 8, buffer, POOL_SIZE);
+    expect(code == BB_OK, "a pool is made");
+    code = bb_pool_init(&shared.pool, BUCKET_SIZE, 8, buffer, 64);
+    expect(code == BB_ALREADY_INITIALIZED, "a handle holds one");
     struct bb_pool_info info;
-    expect(bb_pool_info(&shared.pool, &info) == BB_OK && info.number_of_buckets == BUCKETS, "the buffer has room for all");
+    expect(bb_pool_info(&shared.pool, &info) == BB_OK, "a pool has figures");
+    expect(info.number_of_buckets == BUCKETS, "the buffer has room for all");
 
     bb_bump bump = BB_EMPTY;
-    expect(bb_bump_init(&bump, (unsigned char *)buffer + POOL_SIZE, SLOTS_SIZE) == BB_OK, "a bump is made");
+    code = bb_bump_init(&bump, (unsigned char *)buffer + POOL_SIZE, SLOTS_SIZE);
+    expect(code == BB_OK, "a bump is made");
     bb_answer slots = bb_bump_allocate(&bump, BUCKETS * sizeof(slot), sizeof(size_t));
     expect(slots.code == BB_OK, "the slots have room");
     shared.slots = (slot *)slots.place;
 
     pthread_t threads[SENDERS];
-    for (size_t sender = 0; sender < SENDERS; sender++)
-        expect(pthread_create(&threads[sender], NULL, send_all, (void *)(uintptr_t)sender) == 0, "a thread starts");
+    for (size_t sender = 0; sender < SENDERS; sender++) {
+        int failed = pthread_create(&threads[sender], NULL, send_all, (void *)(uintptr_t)sender);
+        expect(failed == 0, "a thread starts");
+    }
     receive_all();
     for (size_t sender = 0; sender < SENDERS; sender++)
         pthread_join(threads[sender], NULL);
 
-    expect(bb_pool_destroy(&shared.pool) == BB_OK && bb_pool_destroy(&shared.pool) == BB_UNINITIALIZED, "a pool is freed once");
+    expect(bb_pool_destroy(&shared.pool) == BB_OK, "a pool is freed");
+    expect(bb_pool_destroy(&shared.pool) == BB_UNINITIALIZED, "and only once");
     expect(bb_bump_destroy(&bump) == BB_OK, "a bump is freed");
 }
 
@@ -114,8 +139,10 @@ static void run_refusals(void) {
 
     bb_pool pool = BB_EMPTY;
     expect(bb_pool_allocate(&pool, 1, 1).code == BB_UNINITIALIZED, "nothing is made");
-    expect(bb_pool_init(&pool, 128, 3, region.place, 1024) == BB_INVALID_LAYOUT, "3 is no power of two");
-    expect(bb_pool_init(&pool, 128, 8, NULL, 1024) == BB_INVALID_ARGUMENT, "a region doesn't start at 0");
+    expect(bb_pool_init(&pool, 128, 3, region.place, 1024) == BB_INVALID_LAYOUT,
+           "3 is no power of two");
+    expect(bb_pool_init(&pool, 128, 8, NULL, 1024) == BB_INVALID_ARGUMENT,
+           "a region doesn't start at 0");
     expect(bb_pool_init(&pool, 128, 8, region.place, 1024) == BB_OK, "eight buckets");
     struct bb_pool_info info;
     expect(bb_pool_info(&pool, &info) == BB_OK && info.number_of_buckets == 8, "eight buckets");

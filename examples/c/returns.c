@@ -1,9 +1,11 @@
-// A queue whose receivers return what they received: two threads send, two receive, and all share one pool, each by a party of
-// its own. A sender takes a bucket, fills it, and detaches it into a `bb_detached`. The receiver that gets the `bb_detached`
-// attaches the bucket, reads the message, and gives the bucket back by its own party, with no word to the sender.
+// A queue whose receivers return what they received: two threads send, two receive, and all share
+// one pool, each by a party of its own. A sender takes a bucket, fills it, and detaches it into a
+// `bb_detached`. The receiver that gets the `bb_detached` attaches the bucket, reads the message,
+// and gives the bucket back by its own party, with no word to the sender.
 //
-// Each slot of the queue has a `bb_detached`, which is made with the queue. A sender puts its full one into a slot, and takes the
-// slot's empty one in its place. So no message takes memory, and no call of a party is made under the lock.
+// Each slot of the queue has a `bb_detached`, which is made with the queue. A sender puts its full
+// one into a slot, and takes the slot's empty one in its place. So no message takes memory, and no
+// call of a party is made under the lock.
 #define _POSIX_C_SOURCE 200809L
 #include <pthread.h>
 #include <sched.h>
@@ -15,19 +17,31 @@
 #include "bb_memory.h"
 #include "thread_sanitizer.h"
 
-enum { SENDERS = 2, RECEIVERS = 2, MESSAGES = 5000, BUCKETS = 12, BUCKET_SIZE = 64, SLOTS = 8 };
+enum {
+    SENDERS = 2,
+    RECEIVERS = 2,
+    MESSAGES = 5000,
+    BUCKETS = 12,
+    BUCKET_SIZE = 64,
+    SLOTS = 8
+};
 
 static uint64_t pool_words[BB_BYTES_FOR(BUCKET_SIZE, 8, BUCKETS) / 8];
 
-// What a message begins with. Behind it all bytes are one that its number makes.
-typedef struct { uint64_t sender, number; } head;
+// What a message begins with. All bytes after it are one that its number makes.
+typedef struct {
+    uint64_t sender;
+    uint64_t number;
+} head;
 
 typedef struct {
     pthread_mutex_t lock;
     pthread_cond_t changed;
     bb_detached slots[SLOTS];
-    size_t first, count;
-    size_t taken;  // how many messages receivers took out
+    size_t first;
+    size_t count;
+    // How many messages receivers took out.
+    size_t taken;
 } queue;
 
 static queue shared = {PTHREAD_MUTEX_INITIALIZER, PTHREAD_COND_INITIALIZER, {BB_EMPTY}, 0, 0, 0};
@@ -37,10 +51,12 @@ typedef struct {
     size_t number;
     bb_pool_party party;
     bb_detached detached;
-    unsigned char seen[SENDERS][MESSAGES];  // of a receiver: how often it received each message
+    // For a receiver: how often it received each message.
+    unsigned char seen[SENDERS][MESSAGES];
 } worker;
 
-static worker senders[SENDERS], receivers[RECEIVERS];
+static worker senders[SENDERS];
+static worker receivers[RECEIVERS];
 
 static void expect(int holds, const char *what) {
     if (!holds) {
@@ -59,9 +75,11 @@ static size_t length_of(size_t sender, size_t number) {
     return sizeof(head) + (number * 13 + sender) % (BUCKET_SIZE - sizeof(head));
 }
 
-static int byte_of(size_t sender, size_t number) { return (int)((sender * 61 + number * 7 + 1) % 256); }
+static int byte_of(size_t sender, size_t number) {
+    return (int)((sender * 61 + number * 7 + 1) % 256);
+}
 
-// A full `bb_detached` goes into a slot, and the slot's empty one comes out.
+// Puts a full `bb_detached` into a slot, and takes the slot's empty one.
 static void put(bb_detached *full) {
     pthread_mutex_lock(&shared.lock);
     while (shared.count == SLOTS)
@@ -72,7 +90,8 @@ static void put(bb_detached *full) {
     pthread_mutex_unlock(&shared.lock);
 }
 
-// The reverse of the oldest full one, or 0 where each message was taken out.
+// Puts an empty `bb_detached` into the oldest full slot, and takes the full one. Returns 0 if each
+// message was taken out.
 static int get(bb_detached *empty) {
     pthread_mutex_lock(&shared.lock);
     while (shared.count == 0 && shared.taken < SENDERS * MESSAGES)
@@ -93,16 +112,21 @@ static void *send_all(void *argument) {
     worker *self = (worker *)argument;
     for (size_t number = 0; number < MESSAGES; number++) {
         size_t len = length_of(self->number, number);
-        bb_answer given;
-        while ((given = bb_pool_party_allocate(&self->party, len, 8)).code == BB_OUT_OF_MEMORY)
+        bb_answer given = bb_pool_party_allocate(&self->party, len, 8);
+        while (given.code == BB_OUT_OF_MEMORY) {
             sched_yield();
+            given = bb_pool_party_allocate(&self->party, len, 8);
+        }
         expect(given.code == BB_OK, "a bucket is given");
         tell_taking(given.place);
         head begins = {self->number, number};
         memcpy(given.place, &begins, sizeof begins);
-        memset((unsigned char *)given.place + sizeof begins, byte_of(self->number, number), len - sizeof begins);
-        expect(bb_pool_party_detach(&self->party, given.place, len, &self->detached) == BB_OK, "a bucket is detached");
-        expect(bb_pool_party_deallocate(&self->party, given.place) == BB_NOT_HELD, "its sender doesn't hold it any more");
+        unsigned char *text = (unsigned char *)given.place + sizeof begins;
+        memset(text, byte_of(self->number, number), len - sizeof begins);
+        uint32_t code = bb_pool_party_detach(&self->party, given.place, len, &self->detached);
+        expect(code == BB_OK, "a bucket is detached");
+        code = bb_pool_party_deallocate(&self->party, given.place);
+        expect(code == BB_NOT_HELD, "its sender doesn't hold it any more");
         put(&self->detached);
     }
     return NULL;
@@ -117,14 +141,18 @@ static void *receive_all(void *argument) {
         expect(taken.code == BB_OK, "a bucket is attached");
         head begins;
         memcpy(&begins, taken.place, sizeof begins);
-        expect(begins.sender < SENDERS && begins.number < MESSAGES, "a message begins as its sender wrote it");
-        expect(len.number == length_of(begins.sender, begins.number), "it is as long as its sender said");
+        expect(begins.sender < SENDERS, "a message has a sender");
+        expect(begins.number < MESSAGES, "it has a number");
+        const size_t wanted = length_of(begins.sender, begins.number);
+        expect(len.number == wanted, "it is as long as its sender said");
         const unsigned char *bytes = (const unsigned char *)taken.place;
         for (size_t at = sizeof begins; at < len.number; at++)
-            expect(bytes[at] == byte_of(begins.sender, begins.number), "it has what its sender wrote");
+            expect(bytes[at] == byte_of(begins.sender, begins.number),
+                   "it has what its sender wrote");
         self->seen[begins.sender][begins.number]++;
         tell_return(taken.place);
-        expect(bb_pool_party_deallocate(&self->party, taken.place) == BB_OK, "its receiver gives it back");
+        uint32_t code = bb_pool_party_deallocate(&self->party, taken.place);
+        expect(code == BB_OK, "its receiver gives it back");
     }
     return NULL;
 }
@@ -139,11 +167,14 @@ static void make(worker *workers, size_t count, bb_shared_pool *pool) {
 
 static void take_back(worker *workers, size_t count, bb_shared_pool *pool) {
     for (size_t number = 0; number < count; number++) {
+        worker *of = &workers[number];
         struct bb_pool_info info;
-        expect(bb_pool_party_info(&workers[number].party, &info) == BB_OK && info.held_buckets == 0, "no party holds a bucket");
-        expect(bb_shared_pool_leave(pool, &workers[number].party) == BB_OK, "a party leaves");
-        expect(bb_detached_len(&workers[number].detached).code == BB_DETACHED_EMPTY, "no bucket is detached");
-        expect(bb_detached_destroy(&workers[number].detached) == BB_OK, "a thread's bb_detached is freed");
+        expect(bb_pool_party_info(&of->party, &info) == BB_OK, "a party has figures");
+        expect(info.held_buckets == 0, "no party holds a bucket");
+        expect(bb_shared_pool_leave(pool, &of->party) == BB_OK, "a party leaves");
+        bb_figure len = bb_detached_len(&of->detached);
+        expect(len.code == BB_DETACHED_EMPTY, "no bucket is detached");
+        expect(bb_detached_destroy(&of->detached) == BB_OK, "a thread's bb_detached is freed");
     }
 }
 
@@ -159,24 +190,32 @@ static void expect_all(bb_shared_pool *pool) {
     bb_pool_party party = BB_EMPTY;
     expect(bb_shared_pool_join(pool, &party) == BB_OK, "a party joins again");
     for (size_t bucket = 0; bucket < BUCKETS; bucket++)
-        expect(bb_pool_party_allocate(&party, BUCKET_SIZE, 8).code == BB_OK, "each bucket is free again");
+        expect(bb_pool_party_allocate(&party, BUCKET_SIZE, 8).code == BB_OK,
+               "each bucket is free again");
     expect(bb_shared_pool_leave(pool, &party) == BB_OK, "the party leaves");
+}
+
+static void start(pthread_t *thread, void *(*call)(void *), worker *self) {
+    expect(pthread_create(thread, NULL, call, self) == 0, "a thread starts");
 }
 
 int main(void) {
     bb_shared_pool pool = BB_EMPTY;
-    expect(bb_shared_pool_init(&pool, BUCKET_SIZE, 8, pool_words, sizeof pool_words, SENDERS + RECEIVERS) == BB_OK,
-           "a pool is made");
+    const uint32_t parties = SENDERS + RECEIVERS;
+    uint32_t code =
+        bb_shared_pool_init(&pool, BUCKET_SIZE, 8, pool_words, sizeof pool_words, parties);
+    expect(code == BB_OK, "a pool is made");
     make(senders, SENDERS, &pool);
     make(receivers, RECEIVERS, &pool);
     for (size_t slot = 0; slot < SLOTS; slot++)
         expect(bb_detached_init(&shared.slots[slot]) == BB_OK, "a slot has a bb_detached");
 
-    pthread_t sending[SENDERS], receiving[RECEIVERS];
+    pthread_t sending[SENDERS];
+    pthread_t receiving[RECEIVERS];
     for (size_t number = 0; number < RECEIVERS; number++)
-        expect(pthread_create(&receiving[number], NULL, receive_all, &receivers[number]) == 0, "a thread starts");
+        start(&receiving[number], receive_all, &receivers[number]);
     for (size_t number = 0; number < SENDERS; number++)
-        expect(pthread_create(&sending[number], NULL, send_all, &senders[number]) == 0, "a thread starts");
+        start(&sending[number], send_all, &senders[number]);
     for (size_t number = 0; number < SENDERS; number++)
         pthread_join(sending[number], NULL);
     for (size_t number = 0; number < RECEIVERS; number++)

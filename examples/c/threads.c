@@ -1,5 +1,6 @@
-// Four threads over one shared pool and one shared bump. Each thread has a party of both, fills each chunk with a pattern of its
-// own, checks that nobody else wrote there, and gives the bucket back. What one thread holds, another can't return.
+// Four threads over one shared pool and one shared bump. Each thread has a party of both, fills
+// each chunk with a pattern of its own, checks that nobody else wrote there, and gives the bucket
+// back. What one thread holds, another can't return.
 #define _POSIX_C_SOURCE 200809L
 #include <pthread.h>
 #include <sched.h>
@@ -10,7 +11,16 @@
 #include "bb_memory.h"
 #include "thread_sanitizer.h"
 
-enum { THREADS = 4, ROUNDS = 20000, HELD = 2, BUCKETS = 8, BUCKET_SIZE = 64, SHARE = 40, CHUNKS = 20000, CHUNK = 8 };
+enum {
+    THREADS = 4,
+    ROUNDS = 20000,
+    HELD = 2,
+    BUCKETS = 8,
+    BUCKET_SIZE = 64,
+    SHARE = 40,
+    CHUNKS = 20000,
+    CHUNK = 8
+};
 
 static uint64_t pool_words[BUCKETS * BUCKET_SIZE / 8];
 static uint64_t bump_words[THREADS * CHUNKS * CHUNK / 8];
@@ -33,9 +43,12 @@ static void expect(int holds, const char *what) {
 }
 
 // No two chunks of all threads have the same pattern.
-static uint64_t pattern_of(const worker *self, size_t chunk) { return chunk * THREADS + self->number + 1; }
+static uint64_t pattern_of(const worker *self, size_t chunk) {
+    return chunk * THREADS + self->number + 1;
+}
 
-// A chunk's length is a multiple of a word's. The checker of threads keeps few accesses of each word, so it is written whole.
+// A chunk's length is a multiple of a word's. The checker of threads keeps few accesses of each
+// word, so it is written whole.
 static void fill(void *place, size_t len, uint64_t pattern) {
     uint64_t *words = (uint64_t *)place;
     for (size_t at = 0; at < len / sizeof *words; at++)
@@ -48,17 +61,20 @@ static void expect_filled(const void *place, size_t len, uint64_t pattern) {
         expect(words[at] == pattern, "a chunk has what its own thread wrote");
 }
 
-// Takes so many buckets, and holds up to two at a time. Where it finds none free, it lets others run and looks again.
+// Takes ROUNDS buckets, and holds up to two at a time. If none is free, it lets others run and
+// looks again.
 static void use_pool(worker *self) {
     void *places[HELD];
     size_t held = 0;
     uint64_t patterns[HELD];
     while (self->taken < ROUNDS) {
         bb_answer given = bb_pool_party_allocate(&self->pool, SHARE, 8);
-        expect(given.code == BB_OK || given.code == BB_OUT_OF_MEMORY, "a bucket is given, or none is free");
+        expect(given.code == BB_OK || given.code == BB_OUT_OF_MEMORY,
+               "a bucket is given, or none is free");
         if (given.code == BB_OK) {
             expect((size_t)given.place % 8 == 0, "a chunk is as it was asked for");
-            expect(bb_pool_party_holds(&self->pool, given.place).number == 1, "a party holds what it took");
+            expect(bb_pool_party_holds(&self->pool, given.place).number == 1,
+                   "a party holds what it took");
             tell_taking(given.place);
             places[held] = given.place;
             patterns[held] = pattern_of(self, self->taken);
@@ -71,17 +87,21 @@ static void use_pool(worker *self) {
         if (held == HELD || (given.code == BB_OUT_OF_MEMORY && held > 0)) {
             held--;
             expect_filled(places[held], SHARE, patterns[held]);
-            expect(bb_pool_party_deallocate(&self->pool, (char *)places[held] + 1) == BB_NOT_HELD, "a wild return is refused");
+            expect(bb_pool_party_deallocate(&self->pool, (char *)places[held] + 1) == BB_NOT_HELD,
+                   "an address inside a bucket is refused");
             tell_return(places[held]);
-            expect(bb_pool_party_deallocate(&self->pool, places[held]) == BB_OK, "a bucket is given back");
-            expect(bb_pool_party_deallocate(&self->pool, places[held]) == BB_NOT_HELD, "a second return is refused");
+            expect(bb_pool_party_deallocate(&self->pool, places[held]) == BB_OK,
+                   "a bucket is given back");
+            expect(bb_pool_party_deallocate(&self->pool, places[held]) == BB_NOT_HELD,
+                   "a second return is refused");
         }
     }
     while (held > 0) {
         held--;
         expect_filled(places[held], SHARE, patterns[held]);
         tell_return(places[held]);
-        expect(bb_pool_party_deallocate(&self->pool, places[held]) == BB_OK, "a bucket is given back");
+        expect(bb_pool_party_deallocate(&self->pool, places[held]) == BB_OK,
+               "a bucket is given back");
     }
 }
 
@@ -93,7 +113,8 @@ static void use_bump(worker *self) {
         self->places[chunk] = given.place;
         fill(given.place, CHUNK, pattern_of(self, chunk));
         struct bb_bump_info info;
-        expect(bb_bump_party_info(&self->bump, &info) == BB_OK && info.used_space >= seen + CHUNK, "what is used grows");
+        expect(bb_bump_party_info(&self->bump, &info) == BB_OK && info.used_space >= seen + CHUNK,
+               "what is used grows");
         expect(info.used_space + info.free_space == sizeof bump_words, "what isn't used is free");
         seen = info.used_space;
     }
@@ -112,37 +133,54 @@ static void *work(void *argument) {
 }
 
 static void make(bb_shared_pool *pool, bb_shared_bump *bump) {
-    expect(bb_shared_pool_init(pool, BUCKET_SIZE, 8, pool_words, 64, 0) == BB_INVALID_ARGUMENT, "a party is there");
-    expect(bb_shared_pool_init(pool, BUCKET_SIZE, 3, pool_words, 64, 1) == BB_INVALID_LAYOUT, "3 is no power of two");
-    expect(bb_shared_pool_init(pool, 0, 8, pool_words, 64, 1) == BB_INVALID_ARGUMENT, "a bucket has a byte");
-    expect(bb_shared_pool_init(pool, BUCKET_SIZE, 8, pool_words, sizeof pool_words, THREADS) == BB_OK, "a pool is made");
-    expect(bb_shared_pool_init(pool, BUCKET_SIZE, 8, pool_words, 64, 1) == BB_ALREADY_INITIALIZED, "a handle holds one");
-    expect(bb_shared_bump_init(bump, NULL, 64, 1) == BB_INVALID_ARGUMENT, "a region doesn't start at 0");
-    expect(bb_shared_bump_init(bump, bump_words, sizeof bump_words, THREADS) == BB_OK, "a bump is made");
+    expect(bb_shared_pool_init(pool, BUCKET_SIZE, 8, pool_words, 64, 0) == BB_INVALID_ARGUMENT,
+           "a party is there");
+    expect(bb_shared_pool_init(pool, BUCKET_SIZE, 3, pool_words, 64, 1) == BB_INVALID_LAYOUT,
+           "3 is no power of two");
+    expect(bb_shared_pool_init(pool, 0, 8, pool_words, 64, 1) == BB_INVALID_ARGUMENT,
+           "a bucket has a byte");
+    expect(bb_shared_pool_init(pool, BUCKET_SIZE, 8, pool_words, sizeof pool_words, THREADS) ==
+               BB_OK,
+           "a pool is made");
+    expect(bb_shared_pool_init(pool, BUCKET_SIZE, 8, pool_words, 64, 1) == BB_ALREADY_INITIALIZED,
+           "a handle holds one");
+    expect(bb_shared_bump_init(bump, NULL, 64, 1) == BB_INVALID_ARGUMENT,
+           "a region doesn't start at 0");
+    expect(bb_shared_bump_init(bump, bump_words, sizeof bump_words, THREADS) == BB_OK,
+           "a bump is made");
 
     for (size_t number = 0; number < THREADS; number++) {
         workers[number].number = number;
         expect(bb_shared_pool_join(pool, &workers[number].pool) == BB_OK, "a party joins");
-        expect(bb_shared_pool_join(pool, &workers[number].pool) == BB_ALREADY_INITIALIZED, "a handle holds one party");
+        expect(bb_shared_pool_join(pool, &workers[number].pool) == BB_ALREADY_INITIALIZED,
+               "a handle holds one party");
         expect(bb_shared_bump_join(bump, &workers[number].bump) == BB_OK, "a party joins");
     }
     bb_pool_party none = BB_EMPTY;
     expect(bb_shared_pool_join(pool, &none) == BB_NO_PARTY, "no party is left");
     bb_shared_pool no_pool = BB_EMPTY;
-    expect(bb_shared_pool_join(&no_pool, &none) == BB_UNINITIALIZED, "an empty handle has no parties");
-    expect(bb_pool_party_allocate(&none, 8, 8).code == BB_UNINITIALIZED, "an empty handle has no party");
+    expect(bb_shared_pool_join(&no_pool, &none) == BB_UNINITIALIZED,
+           "an empty handle has no parties");
+    expect(bb_pool_party_allocate(&none, 8, 8).code == BB_UNINITIALIZED,
+           "an empty handle has no party");
     bb_bump_party no_party = BB_EMPTY;
-    expect(bb_bump_party_allocate(&no_party, 8, 8).code == BB_UNINITIALIZED, "an empty handle has no party");
+    expect(bb_bump_party_allocate(&no_party, 8, 8).code == BB_UNINITIALIZED,
+           "an empty handle has no party");
 }
 
 // What one party holds is not another's.
 static void one_by_one(void) {
-    bb_pool_party *mine = &workers[0].pool, *other = &workers[1].pool;
+    bb_pool_party *mine = &workers[0].pool;
+    bb_pool_party *other = &workers[1].pool;
     struct bb_pool_info info;
-    expect(bb_pool_party_info(mine, &info) == BB_OK && info.number_of_buckets == BUCKETS, "eight buckets");
-    expect(info.bucket_size == BUCKET_SIZE && info.max_alignment == 8, "of 64 bytes at multiples of 8");
-    expect(info.size == sizeof pool_words && info.start_address == (size_t)(uintptr_t)pool_words, "over the region");
-    expect(bb_pool_party_allocate(mine, BUCKET_SIZE + 1, 16).code == BB_SIZE_TOO_LARGE, "65 bytes are too many");
+    expect(bb_pool_party_info(mine, &info) == BB_OK && info.number_of_buckets == BUCKETS,
+           "eight buckets");
+    expect(info.bucket_size == BUCKET_SIZE && info.max_alignment == 8,
+           "of 64 bytes at multiples of 8");
+    expect(info.size == sizeof pool_words && info.start_address == (size_t)(uintptr_t)pool_words,
+           "over the region");
+    expect(bb_pool_party_allocate(mine, BUCKET_SIZE + 1, 16).code == BB_SIZE_TOO_LARGE,
+           "65 bytes are too many");
     expect(bb_pool_party_allocate(mine, 1, 16).code == BB_ALIGNMENT_FAILURE, "16 is too wide");
     expect(bb_pool_party_allocate(mine, 1, 3).code == BB_INVALID_LAYOUT, "3 is no power of two");
     void *places[BUCKETS];
@@ -154,7 +192,8 @@ static void one_by_one(void) {
             expect(places[before] != given.place, "each bucket is given once");
     }
     expect(bb_pool_party_allocate(other, 1, 1).code == BB_OUT_OF_MEMORY, "no bucket is free");
-    expect(bb_pool_party_deallocate(other, places[0]) == BB_NOT_HELD, "another party's bucket isn't given back");
+    expect(bb_pool_party_deallocate(other, places[0]) == BB_NOT_HELD,
+           "another party's bucket isn't given back");
     expect(bb_pool_party_holds(other, places[0]).number == 0, "another party's bucket isn't held");
     for (size_t bucket = 0; bucket < BUCKETS; bucket++)
         expect(bb_pool_party_deallocate(mine, places[bucket]) == BB_OK, "a bucket is given back");
@@ -162,9 +201,11 @@ static void one_by_one(void) {
     expect(bb_bump_party_allocate(bump, 0, 1).code == BB_SIZE_IS_ZERO, "no chunk has no byte");
     struct bb_bump_info bytes;
     expect(bb_bump_party_info(bump, &bytes) == BB_OK && bytes.used_space == 0, "nothing is used");
-    expect(bytes.free_space == sizeof bump_words && bytes.total_space == sizeof bump_words, "all of the region is free");
+    expect(bytes.free_space == sizeof bump_words && bytes.total_space == sizeof bump_words,
+           "all of the region is free");
     expect(bytes.start_address == (size_t)(uintptr_t)bump_words, "from its start");
-    expect(bb_bump_party_allocate(bump, sizeof bump_words + 1, 1).code == BB_OUT_OF_MEMORY, "it has no room for more");
+    expect(bb_bump_party_allocate(bump, sizeof bump_words + 1, 1).code == BB_OUT_OF_MEMORY,
+           "it has no room for more");
 }
 
 int main(void) {
@@ -175,23 +216,28 @@ int main(void) {
     pthread_t threads[THREADS];
     expect(pthread_barrier_init(&start, NULL, THREADS) == 0, "threads can wait for one another");
     for (size_t number = 0; number < THREADS; number++)
-        expect(pthread_create(&threads[number], NULL, work, &workers[number]) == 0, "a thread starts");
+        expect(pthread_create(&threads[number], NULL, work, &workers[number]) == 0,
+               "a thread starts");
     for (size_t number = 0; number < THREADS; number++)
         pthread_join(threads[number], NULL);
 
     for (size_t number = 0; number < THREADS; number++) {
         expect(workers[number].taken == ROUNDS, "each thread had its buckets");
         for (size_t chunk = 0; chunk < CHUNKS; chunk++)
-            expect_filled(workers[number].places[chunk], CHUNK, pattern_of(&workers[number], chunk));
+            expect_filled(workers[number].places[chunk], CHUNK,
+                          pattern_of(&workers[number], chunk));
     }
     struct bb_bump_info bytes;
-    expect(bb_bump_party_info(&workers[0].bump, &bytes) == BB_OK && bytes.free_space == 0, "all of the bump is used");
-    expect(bb_bump_party_allocate(&workers[0].bump, 1, 1).code == BB_OUT_OF_MEMORY, "the bump is full");
+    expect(bb_bump_party_info(&workers[0].bump, &bytes) == BB_OK && bytes.free_space == 0,
+           "all of the bump is used");
+    expect(bb_bump_party_allocate(&workers[0].bump, 1, 1).code == BB_OUT_OF_MEMORY,
+           "the bump is full");
     for (size_t number = 0; number < THREADS; number++) {
         expect(bb_shared_pool_leave(&pool, &workers[number].pool) == BB_OK, "a party leaves");
         expect(bb_shared_bump_leave(&bump, &workers[number].bump) == BB_OK, "a party leaves");
     }
-    expect(bb_shared_pool_destroy(&pool) == BB_OK && bb_shared_bump_destroy(&bump) == BB_OK, "both are destroyed");
+    expect(bb_shared_pool_destroy(&pool) == BB_OK && bb_shared_bump_destroy(&bump) == BB_OK,
+           "both are destroyed");
     puts("threads: every chunk kept what its thread wrote");
     return 0;
 }

@@ -1,6 +1,7 @@
-//! Publish and subscribe over one pool, without a copy: each message goes to each of several readers, who read its bucket where
-//! it lies. An `Arc` counts them, and with the last reader's share the `DetachedBucket` ends, which gives the bucket back. A
-//! publisher that finds no bucket waits for a return. A thread of statistics reads the pool's figures.
+//! Publish and subscribe over one pool, without a copy: each message goes to each of several
+//! readers, who read its bucket where it lies. An `Arc` counts them, and with the last reader's
+//! share the `DetachedBucket` ends, which gives the bucket back. A publisher that finds no bucket
+//! waits for a return. A thread of statistics reads the pool's figures.
 use bb_memory::{
     AllocationError, BaseAllocator, DetachedBucket, Pool, PoolParty, SharedPoolAllocator,
 };
@@ -38,7 +39,8 @@ struct Host {
     returned: Condvar,
 }
 
-/// A message that several read. Its bucket is detached, and goes back when the last share of it ends.
+/// A message that several read. Its bucket is detached, and goes back when the last share of it
+/// ends.
 struct Sample {
     at: NonNull<Message>,
     host: Arc<Host>,
@@ -54,7 +56,8 @@ impl Deref for Sample {
     type Target = Message;
 
     fn deref(&self) -> &Message {
-        // SAFETY: the message was written before it was published, and its bucket goes back behind the last share.
+        // SAFETY: the message was written before it was published, and its bucket goes back behind
+        // the last share.
         unsafe { self.at.as_ref() }
     }
 }
@@ -68,7 +71,8 @@ impl Drop for Sample {
     }
 }
 
-/// Returns a bucket for a message, which is counted under the lock. A return behind the refusal ends the wait.
+/// Returns a bucket for a message, which is counted under the lock. A return behind the refusal
+/// ends the wait.
 fn take(party: &PoolParty<'_>, host: &Host) -> NonNull<Message> {
     loop {
         let given = party.allocate(Layout::new::<Message>());

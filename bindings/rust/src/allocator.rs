@@ -8,20 +8,21 @@ use core::ptr::NonNull;
 
 /// Gives chunks of its region, and takes them back.
 pub trait BaseAllocator {
-    /// Returns a chunk of at least `layout.size()` bytes at a multiple of `layout.align()`, which overlaps none that is out. Its
-    /// bytes are as they were in the region.
+    /// Returns a chunk of at least `layout.size()` bytes at a multiple of `layout.align()`, which
+    /// overlaps none that is out. Its bytes are as they were in the region.
     fn allocate(&self, layout: Layout) -> Result<NonNull<[u8]>, AllocationError>;
 
     /// Returns a chunk as [`allocate`](BaseAllocator::allocate) does, with each byte zero.
     fn allocate_zeroed(&self, layout: Layout) -> Result<NonNull<[u8]>, AllocationError> {
         let chunk = self.allocate(layout)?;
-        // SAFETY: the chunk lies in the region, whose bytes may be written, and was given to nobody else.
+        // SAFETY: the chunk lies in the region, whose bytes may be written, and was given to nobody
+        // else.
         unsafe { chunk.cast::<u8>().write_bytes(0, chunk.len()) };
         Ok(chunk)
     }
 
-    /// Gives back the chunk that begins here; a bump takes all of its chunks back. Where none that is out begins here, nothing
-    /// is done. The layout decides nothing.
+    /// Gives back the chunk that begins here; a bump takes all of its chunks back. Where none that
+    /// is out begins here, nothing is done. The layout decides nothing.
     ///
     /// # Safety
     ///
@@ -31,7 +32,8 @@ pub trait BaseAllocator {
 
 /// Resizes chunks, where they are.
 pub trait Allocator: BaseAllocator {
-    /// Gives the chunk that begins here the new size, or more, where as much is reserved for it. Its bytes stay.
+    /// Gives the chunk that begins here the new size, or more, where as much is reserved for it.
+    /// Its bytes stay.
     ///
     /// # Safety
     ///
@@ -57,7 +59,8 @@ pub trait Allocator: BaseAllocator {
         // SAFETY: the caller keeps what `grow` asks.
         let chunk = unsafe { self.grow(ptr, old_layout, new_layout)? };
         let (old, added) = (old_layout.size(), chunk.len() - old_layout.size());
-        // SAFETY: the chunk is the caller's, and is longer than it was: a growing to no more is refused.
+        // SAFETY: the chunk is the caller's, and is longer than it was: a growing to no more is
+        // refused.
         unsafe { chunk.cast::<u8>().add(old).write_bytes(0, added) };
         Ok(chunk)
     }
@@ -66,7 +69,8 @@ pub trait Allocator: BaseAllocator {
     ///
     /// # Safety
     ///
-    /// The chunk at `ptr` is the caller's, and nothing reads or writes its bytes behind the new size from now on.
+    /// The chunk at `ptr` is the caller's, and nothing reads or writes its bytes behind the new
+    /// size from now on.
     unsafe fn shrink(
         &self,
         ptr: NonNull<u8>,
@@ -87,27 +91,30 @@ macro_rules! getters {
     };
 }
 
-/// Gives buckets of one layout: a [`PoolAllocator`](crate::PoolAllocator), or a [`PoolParty`](crate::PoolParty) of a pool that
-/// threads share. A function over `&impl Pool` takes either.
+/// Gives buckets of one layout: a [`PoolAllocator`](crate::PoolAllocator), or a
+/// [`PoolParty`](crate::PoolParty) of a pool that threads share. A function over `&impl Pool` takes
+/// either.
 pub trait Pool: BaseAllocator {
     /// Returns all figures. Of a party each bucket is looked at.
     fn info(&self) -> PoolInfo;
 
-    /// Takes a whole bucket: what [`allocate`](BaseAllocator::allocate) answers to the layout of a bucket. It is refused with
-    /// `OutOfMemory`.
+    /// Takes a whole bucket: what [`allocate`](BaseAllocator::allocate) answers to the layout of a
+    /// bucket. It is refused with `OutOfMemory`.
     fn take(&self) -> Result<NonNull<[u8]>, AllocationError>;
 
     /// Returns whether a held bucket begins here; of a party, one that it holds.
     fn holds(&self, ptr: NonNull<u8>) -> bool;
 
-    /// Gives back the held bucket that begins here, and refuses where none does; of a party, none that it holds.
+    /// Gives back the held bucket that begins here, and refuses where none does; of a party, none
+    /// that it holds.
     ///
     /// # Safety
     ///
     /// Nothing reads or writes its bytes from now on.
     unsafe fn try_deallocate(&self, ptr: NonNull<u8>) -> Result<(), DeallocationError>;
 
-    /// Returns where the bucket of this number begins, from 0 on, held or not; `None` where there is no such bucket.
+    /// Returns where the bucket of this number begins, from 0 on, held or not; `None` where there
+    /// is no such bucket.
     fn place_at(&self, number: u32) -> Option<NonNull<u8>>;
 
     /// Returns the number of the bucket that begins here, held or not; `None` where none does.
@@ -116,17 +123,22 @@ pub trait Pool: BaseAllocator {
     /// Returns the layout of a bucket.
     fn bucket(&self) -> Layout;
 
-    getters! { start_address, size, bucket_size, max_alignment, number_of_buckets, held_buckets, greatest_held }
+    getters! {
+        start_address, size, bucket_size, max_alignment, number_of_buckets, held_buckets,
+        greatest_held
+    }
 }
 
-/// Writes how an allocator is made over a region. In brackets stand the parameters in front of the region and behind it.
+/// Writes how an allocator is made over a region. In brackets stand the parameters in front of the
+/// region and behind it.
 macro_rules! over_region {
     (
         $name:ident [$($front:ident: $front_type:ty)?] [$($last:ident: $last_type:ty = $told:expr)?]
         by $init:ident[$($layout:expr),*], $destroy:ident: $owned:ident => $made:expr
     ) => {
         impl<'region> $name<'region> {
-            /// Makes it over this region, which is its own and its parties' as long as one of them lives.
+            /// Makes it over this region, which is its own and its parties' as long as one of them
+            /// lives.
             pub fn over(
                 $($front: $front_type,)?
                 region: &'region mut [MaybeUninit<u8>],
@@ -141,8 +153,8 @@ macro_rules! over_region {
             ///
             /// # Safety
             ///
-            /// The bytes may be written through `ptr` for all of `'region`, and meanwhile nothing else uses them but through
-            /// chunks that this allocator or its parties gave.
+            /// The bytes may be written through `ptr` for all of `'region`, and meanwhile nothing
+            /// else uses them but through chunks that this allocator or its parties gave.
             pub unsafe fn new(
                 $($front: $front_type,)?
                 ptr: NonNull<u8>,
@@ -196,7 +208,8 @@ macro_rules! figures {
     };
 }
 
-/// Writes the calls of what knows a chunk by its place, and has `try_deallocate`. `$whole` makes the chunk of its place.
+/// Writes the calls of what knows a chunk by its place, and has `try_deallocate`. `$whole` makes
+/// the chunk of its place.
 macro_rules! base {
     ($name:ident: $allocate:ident $($whole:ident)?) => {
         impl BaseAllocator for $name<'_> {
@@ -218,14 +231,16 @@ macro_rules! base {
 /// Writes the calls of what is cut into buckets.
 macro_rules! buckets {
     (
-        $name:ident: $allocate:ident $take:ident $deallocate:ident $holds:ident $info:ident $place_at:ident $number_at:ident
+        $name:ident: $allocate:ident $take:ident $deallocate:ident $holds:ident $info:ident
+        $place_at:ident $number_at:ident
     ) => {
         base! { $name: $allocate }
 
         impl Pool for $name<'_> {
             fn info(&self) -> ffi::PoolInfo {
                 let mut info = ffi::PoolInfo::default();
-                // SAFETY: the function is of this kind, and no other call has the handle, here and below.
+                // SAFETY: the function is of this kind, and no other call has the handle, here and
+                // below.
                 expect_ok(unsafe { ffi::$info(self.owned.handle(), &mut info) });
                 info
             }

@@ -1,4 +1,5 @@
-//! `core::alloc::Allocator`, so that `Box`, `Vec` and others lie in a region. A collection's return to a bump does nothing.
+//! `core::alloc::Allocator`, so that `Box`, `Vec` and others lie in a region. A collection's return
+//! to a bump does nothing.
 use crate::{BaseAllocator, BumpAllocator, BumpParty, PoolAllocator, PoolParty, ffi};
 use core::alloc::{AllocError, Allocator, Layout};
 use core::ptr::{self, NonNull};
@@ -8,7 +9,8 @@ type Chunk = Result<NonNull<[u8]>, AllocError>;
 /// Implements the trait for what gives buckets. A chunk is resized in its bucket, and in no other.
 macro_rules! in_buckets {
     ($name:ident) => {
-        // SAFETY: a bucket is the caller's until it is given back, and its bytes stay as long as the allocator lives.
+        // SAFETY: a bucket is the caller's until it is given back, and its bytes stay as long as
+        // the allocator lives.
         unsafe impl Allocator for $name<'_> {
             fn allocate(&self, layout: Layout) -> Chunk {
                 BaseAllocator::allocate(self, layout).map_err(|_| AllocError)
@@ -40,10 +42,12 @@ macro_rules! in_buckets {
     };
 }
 
-/// Implements the trait for what gives one chunk behind another. A grown chunk is a new one, a shrunk one stays where it is.
+/// Implements the trait for what gives one chunk behind another. A grown chunk is a new one, a
+/// shrunk one stays where it is.
 macro_rules! in_bump {
     ($name:ident: $allocate:ident) => {
-        // SAFETY: a chunk is the caller's until `BumpAllocator::deallocate` or `reset`, which are unsafe while it is used.
+        // SAFETY: a chunk is the caller's until `BumpAllocator::deallocate` or `reset`, which are
+        // unsafe while it is used.
         unsafe impl Allocator for $name<'_> {
             fn allocate(&self, layout: Layout) -> Chunk {
                 if layout.size() == 0 {

@@ -5,7 +5,10 @@ use core::fmt;
 
 /// An error of the codes that a call answers, with the text of each.
 macro_rules! error {
-    ($(#[$about:meta])* $name:ident { $($(#[$when:meta])* $variant:ident = $code:ident: $text:literal,)* }) => {
+    (
+        $(#[$about:meta])*
+        $name:ident { $($(#[$when:meta])* $variant:ident = $code:ident: $text:literal,)* }
+    ) => {
         $(#[$about])*
         #[derive(Clone, Copy, Debug, PartialEq, Eq)]
         pub enum $name {
@@ -63,8 +66,8 @@ error! {
     AllocationGrowError {
         /// The new size isn't greater than the old one.
         GrowWouldShrink = GROW_WOULD_SHRINK: "the new size is not greater than the old one",
-        /// The new alignment is greater than can be had.
-        AlignmentFailure = ALIGNMENT_FAILURE: "the alignment is greater than can be had",
+        /// The new alignment is greater than the old one.
+        AlignmentFailure = ALIGNMENT_FAILURE: "the alignment is greater than the old one",
         /// The new size is greater than what is reserved.
         OutOfMemory = MORE_THAN_RESERVED: "the new size is greater than what is reserved",
         /// No chunk that is out begins at the place.
@@ -79,11 +82,12 @@ error! {
     AllocationShrinkError {
         /// The new size isn't smaller than the old one.
         ShrinkWouldGrow = SHRINK_WOULD_GROW: "the new size is not smaller than the old one",
-        /// The new alignment is greater than can be had.
-        AlignmentFailure = ALIGNMENT_FAILURE: "the alignment is greater than can be had",
+        /// The new alignment is greater than the old one.
+        AlignmentFailure = ALIGNMENT_FAILURE: "the alignment is greater than the old one",
         /// No chunk that is out begins at the place.
         NotHeld = NOT_HELD: "nothing is held at the place",
-        /// The place isn't a multiple of the old alignment, or the old size is greater than what is reserved.
+        /// The place isn't a multiple of the old alignment, or the old size is greater than what is
+        /// reserved.
         LayoutMismatch = LAYOUT_MISMATCH: "the chunk cannot have the old layout",
     }
 }
@@ -99,22 +103,24 @@ error! {
 error! {
     /// Why nothing was made.
     InitError {
-        /// The region ends behind the last address, a bucket has no byte, there are `u32::MAX` buckets or more, or no party.
-        InvalidArgument = INVALID_ARGUMENT: "the region, the buckets or the parties cannot be",
+        /// The region ends behind the last address, a bucket has no byte, there are `u32::MAX`
+        /// buckets or more, or no party.
+        InvalidArgument = INVALID_ARGUMENT: "the region, the buckets or the parties are invalid",
         /// The region has no room for one bucket.
         NoBucket = NO_BUCKET: "the region has no room for one bucket",
-        /// `malloc` refused.
-        MallocRefused = MALLOC_REFUSED: "malloc refused",
+        /// `malloc` failed.
+        MallocRefused = MALLOC_REFUSED: "malloc failed",
     }
 }
 
 error! {
     /// Why no party joined.
     JoinError {
-        /// Each party has joined, and none was dropped since.
+        /// Each party has joined, and none was dropped since. For a number: its party has joined,
+        /// or there is none.
         NoParty = NO_PARTY: "no party is left to join",
-        /// `malloc` refused.
-        MallocRefused = MALLOC_REFUSED: "malloc refused",
+        /// `malloc` failed.
+        MallocRefused = MALLOC_REFUSED: "malloc failed",
     }
 }
 
@@ -126,15 +132,26 @@ error! {
         /// The length is greater than the bucket's size.
         SizeTooLarge = SIZE_TOO_LARGE: "the size is greater than a bucket's",
         /// A detached bucket is there already.
-        DetachedFull = DETACHED_FULL: "a bucket is in it already",
+        DetachedFull = DETACHED_FULL: "a bucket is in the DetachedBucket already",
+    }
+}
+
+error! {
+    /// Why a bucket wasn't attached by its number. Nothing changed.
+    AttachError {
+        /// The party of that number hasn't detached the bucket by its number, or another party has
+        /// attached it since.
+        NotHeld = NOT_HELD: "the bucket is not detached by its number and by that party",
+        /// No bucket has the number.
+        NotABucket = NOT_A_BUCKET: "no bucket has the number",
     }
 }
 
 error! {
     /// Why a bucket wasn't recovered.
     RecoverError {
-        /// The bucket isn't detached.
-        NotHeld = NOT_HELD: "the bucket is not detached",
+        /// The bucket isn't detached, or was detached by its number.
+        NotHeld = NOT_HELD: "the bucket is not detached with a token",
         /// No bucket has the number.
         NotABucket = NOT_A_BUCKET: "no bucket has the number",
     }
@@ -145,7 +162,7 @@ error! {
     ResetError {
         /// Not each party was dropped.
         PartiesJoined = PARTIES_JOINED: "not each party has left",
-        /// `malloc` refused.
-        MallocRefused = MALLOC_REFUSED: "malloc refused",
+        /// `malloc` failed.
+        MallocRefused = MALLOC_REFUSED: "malloc failed",
     }
 }

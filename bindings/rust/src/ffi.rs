@@ -1,4 +1,5 @@
-//! The functions of `bb_memory.h` that this crate calls. [`crate::owned`] keeps what the header asks of a caller.
+//! The functions of `bb_memory.h` that this crate calls. [`crate::owned`] keeps what the header
+//! asks of a caller.
 use core::ffi::c_void;
 use core::ptr;
 
@@ -186,6 +187,8 @@ functions! {
     bb_shared_pool_holder(u32, *mut Holder) -> u32;
     bb_shared_pool_join(*mut Handle) -> u32;
     bb_shared_pool_leave(*mut Handle) -> u32;
+    bb_shared_pool_join_number(u32, *mut Handle) -> u32;
+    bb_shared_pool_forget(*mut Handle) -> u32;
     bb_pool_party_destroy() -> u32;
     bb_pool_party_allocate(usize, usize) -> Answer;
     bb_pool_party_take() -> Answer;
@@ -199,10 +202,13 @@ functions! {
     bb_pool_party_number() -> Figure;
     bb_pool_party_cache(u32) -> u32;
     bb_pool_party_flush() -> u32;
+    bb_pool_party_give_all_back() -> u32;
     bb_detached_init() -> u32;
     bb_detached_destroy() -> u32;
     bb_pool_party_detach(*const c_void, usize, *mut Handle) -> u32;
     bb_pool_party_attach(*mut Handle) -> Answer;
     bb_pool_party_return_detached(*mut Handle) -> u32;
     bb_pool_party_recover(u32, *mut Handle) -> u32;
+    bb_pool_party_detach_number(*const c_void) -> Figure;
+    bb_pool_party_attach_number(u32, u32) -> Answer;
 }

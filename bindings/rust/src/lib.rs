@@ -13,8 +13,8 @@ mod shared;
 
 pub use allocator::{Allocator, BaseAllocator, Pool};
 pub use error::{
-    AllocationError, AllocationGrowError, AllocationShrinkError, DeallocationError, DetachError,
-    InitError, JoinError, RecoverError, ResetError,
+    AllocationError, AllocationGrowError, AllocationShrinkError, AttachError, DeallocationError,
+    DetachError, InitError, JoinError, RecoverError, ResetError,
 };
 pub use ffi::{BumpInfo, OneChunkInfo, PoolInfo, SharedPoolInfo};
 pub use owned::use_memory;

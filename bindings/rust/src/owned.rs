@@ -1,4 +1,5 @@
-//! What the library made, behind a handle that this crate owns: what `bb_memory.h` asks of a caller is kept here.
+//! What the library made, behind a handle that this crate owns: what `bb_memory.h` asks of a caller
+//! is kept here.
 use crate::error::{AllocationError, InitError, JoinError, no_such_answer};
 use crate::ffi::{self, Handle};
 use core::alloc::Layout;
@@ -15,7 +16,8 @@ use std::sync::{Arc, Mutex, MutexGuard, PoisonError};
 ///
 /// # Safety
 ///
-/// Nothing of this crate was made before in this process. The functions do what `malloc`, `realloc` and `free` do, in any thread.
+/// Nothing of this crate was made before in this process. The functions do what `malloc`, `realloc`
+/// and `free` do, in any thread.
 pub unsafe fn use_memory(
     take: ffi::TakeMemory,
     resize: ffi::ResizeMemory,
@@ -25,8 +27,9 @@ pub unsafe fn use_memory(
     unsafe { ffi::bb_use_memory(take, resize, release) };
 }
 
-/// A handle that isn't empty, where its region starts, and how it is destroyed. A call writes what is behind the handle, so no
-/// two threads may call at once: the cell makes it `!Sync`. What is behind it belongs to no thread.
+/// A handle that isn't empty, where its region starts, and how it is destroyed. A call writes what
+/// is behind the handle, so no two threads may call at once: the cell makes it `!Sync`. What is
+/// behind it belongs to no thread.
 pub struct Owned<'region> {
     handle: UnsafeCell<Handle>,
     start: NonNull<u8>,
@@ -35,13 +38,15 @@ pub struct Owned<'region> {
     region: PhantomData<&'region mut [MaybeUninit<u8>]>,
 }
 
-// SAFETY: no function of the library asks which thread calls it; those that threads share are made for it.
+// SAFETY: no function of the library asks which thread calls it; those that threads share are made
+// for it.
 unsafe impl Send for Owned<'_> {}
 
 impl<'region> Owned<'region> {
     /// Returns what `init` makes behind an empty handle, over a region that starts here.
     /// # Safety
-    /// `init` calls the `init` of a kind with the handle that it is handed, and `destroy` is of that kind.
+    /// `init` calls the `init` of a kind with the handle that it is handed, and `destroy` is of
+    /// that kind.
     pub unsafe fn init(
         start: NonNull<u8>,
         destroy: ffi::Destroy,
@@ -57,14 +62,18 @@ impl<'region> Owned<'region> {
         Owned { handle, start, destroy, memory: None, region: PhantomData }
     }
 
-    /// Returns a party of what threads share.
+    /// Returns a party of what threads share, which `join` makes behind an empty handle.
     /// # Safety
-    /// The functions are of this kind and its parties'.
-    pub unsafe fn join(&self, by: &Joining) -> Result<Self, JoinError> {
+    /// `join` calls a function of this kind with the two handles that it is passed, and `destroy`
+    /// is of its parties' kind.
+    pub unsafe fn join(
+        &self,
+        destroy: ffi::Destroy,
+        join: impl FnOnce(*mut Handle, *mut Handle) -> u32,
+    ) -> Result<Self, JoinError> {
         let mut handle = Handle::EMPTY;
-        // SAFETY: the function is of this kind, no other call has one of the handles, and they are two.
-        JoinError::unless_ok(unsafe { (by.join)(self.handle(), &mut handle) })?;
-        Ok(Owned::of(handle, self.start, by.destroy))
+        JoinError::unless_ok(join(self.handle(), &mut handle))?;
+        Ok(Owned::of(handle, self.start, destroy))
     }
 
     /// Takes the region's memory along, which is freed behind what is over it.
@@ -83,7 +92,8 @@ impl<'region> Owned<'region> {
         NonNull::new(place).unwrap_or_else(|| no_such_answer(ffi::OK))
     }
 
-    /// Returns where the chunk is that was given, by the pointer with which the region was handed in.
+    /// Returns where the chunk is that was given, by the pointer with which the region was handed
+    /// in.
     pub fn place(&self, answer: ffi::Answer) -> Result<NonNull<u8>, u32> {
         if answer.code == ffi::OK { Ok(self.at(answer.place.addr())) } else { Err(answer.code) }
     }
@@ -119,7 +129,8 @@ impl<'region> Owned<'region> {
 
 impl Drop for Owned<'_> {
     fn drop(&mut self) {
-        // SAFETY: the function is of this kind, and the handle isn't used again. Of a party that left it is empty.
+        // SAFETY: the function is of this kind, and the handle isn't used again. Of a party that
+        // left it is empty.
         unsafe { (self.destroy)(self.handle.get_mut()) };
     }
 }
@@ -134,7 +145,8 @@ pub struct Memory {
 unsafe impl Send for Memory {}
 
 impl Memory {
-    /// Returns memory for just so many buckets, with `InvalidArgument` where there is no such region.
+    /// Returns memory for just so many buckets, with `InvalidArgument` where there is no such
+    /// region.
     pub fn of_buckets(bucket: Layout, buckets: u32) -> Result<Memory, InitError> {
         let bytes = bucket.pad_to_align().size().checked_mul(buckets as usize);
         Memory::of_bytes(bytes.unwrap_or(0), bucket.align())
@@ -167,7 +179,8 @@ pub struct Joining {
     pub destroy: ffi::Destroy,
 }
 
-/// A bump or a pool that threads share. A pool has a party of its own, which gives back buckets that nobody attaches.
+/// A bump or a pool that threads share. A pool has a party of its own, which gives back buckets
+/// that nobody attaches.
 pub struct Common<'region> {
     pub keeper: Option<Owned<'region>>,
     pub owned: Owned<'region>,
@@ -176,26 +189,48 @@ pub struct Common<'region> {
 /// Shares what threads share. Parties join and leave under the lock.
 pub type Shared<'region> = Arc<Mutex<Common<'region>>>;
 
-/// Returns what is shared, for calls that one thread at a time makes. None of them panics behind a half of its work.
+/// Returns what is shared, for calls that one thread at a time makes. None of them panics behind a
+/// half of its work.
 pub fn lock<'lock, 'region>(shared: &'lock Shared<'region>) -> MutexGuard<'lock, Common<'region>> {
     shared.lock().unwrap_or_else(PoisonError::into_inner)
 }
 
-/// A party, which leaves what it joined when it is dropped.
+/// A party, which is ended when it is dropped: it leaves what it joined.
 pub struct Member<'region> {
     owned: Owned<'region>,
     pub of: Shared<'region>,
-    by: &'static Joining,
+    end: ffi::Parties,
 }
 
 impl<'region> Member<'region> {
     /// Joins.
     /// # Safety
     /// The functions are of the kind that is shared.
-    pub unsafe fn join(of: &Shared<'region>, by: &'static Joining) -> Result<Self, JoinError> {
+    pub unsafe fn join(of: &Shared<'region>, by: &Joining) -> Result<Self, JoinError> {
+        // SAFETY: the function is of this kind, no other call has one of the handles, and they are
+        // two.
+        unsafe { Member::join_with(of, by, |all, party| (by.join)(all, party)) }
+    }
+
+    /// Joins by another function than the one of `by`.
+    /// # Safety
+    /// The functions are of the kind that is shared, and `join` calls one with the two handles that
+    /// it is passed.
+    pub unsafe fn join_with(
+        of: &Shared<'region>,
+        by: &Joining,
+        join: impl FnOnce(*mut Handle, *mut Handle) -> u32,
+    ) -> Result<Self, JoinError> {
         // SAFETY: as the caller says.
-        let owned = unsafe { lock(of).owned.join(by)? };
-        Ok(Member { owned, of: Arc::clone(of), by })
+        let owned = unsafe { lock(of).owned.join(by.destroy, join)? };
+        Ok(Member { owned, of: Arc::clone(of), end: by.leave })
+    }
+
+    /// Ends the party by this function, and not by leaving.
+    /// # Safety
+    /// The function is of the kind that is shared, and empties the party's handle.
+    pub unsafe fn end_by(mut self, end: ffi::Parties) {
+        self.end = end;
     }
 }
 
@@ -210,8 +245,9 @@ impl<'region> Deref for Member<'region> {
 impl Drop for Member<'_> {
     fn drop(&mut self) {
         let common = lock(&self.of);
-        // SAFETY: the function is of this kind, the party is of what it leaves, and no other call has one of the two handles.
-        expect_ok(unsafe { (self.by.leave)(common.owned.handle(), self.owned.handle()) });
+        // SAFETY: the function is of this kind, the party is of what it leaves, and no other call
+        // has one of the two handles.
+        expect_ok(unsafe { (self.end)(common.owned.handle(), self.owned.handle()) });
     }
 }
 

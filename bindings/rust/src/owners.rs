@@ -54,7 +54,8 @@ over_region! {
 }
 
 figures! {
-    BumpAllocator: BumpInfo by bb_bump_info: start_address: usize, used_space: usize, free_space: usize, total_space: usize
+    BumpAllocator: BumpInfo by bb_bump_info:
+    start_address: usize, used_space: usize, free_space: usize, total_space: usize
 }
 
 impl BaseAllocator for BumpAllocator<'_> {
@@ -69,7 +70,8 @@ impl BaseAllocator for BumpAllocator<'_> {
     }
 }
 
-/// Gives all of its region, from the first multiple of the asked alignment on, to one request at a time.
+/// Gives all of its region, from the first multiple of the asked alignment on, to one request at a
+/// time.
 ///
 /// ```
 /// use bb_memory::{Allocator, BaseAllocator, OneChunkAllocator};
@@ -90,11 +92,13 @@ pub struct OneChunkAllocator<'region> {
 }
 
 over_region! {
-    OneChunkAllocator [] [] by bb_one_chunk_init[], bb_one_chunk_destroy: owned => Ok(OneChunkAllocator { owned })
+    OneChunkAllocator [] [] by bb_one_chunk_init[], bb_one_chunk_destroy:
+    owned => Ok(OneChunkAllocator { owned })
 }
 
 figures! {
-    OneChunkAllocator: OneChunkInfo by bb_one_chunk_info: start_address: usize, size: usize, has_chunk_available: bool
+    OneChunkAllocator: OneChunkInfo by bb_one_chunk_info:
+    start_address: usize, size: usize, has_chunk_available: bool
 }
 
 base! { OneChunkAllocator: bb_one_chunk_allocate whole }
@@ -188,8 +192,8 @@ pub struct PoolAllocator<'region> {
 }
 
 impl PoolAllocator<'static> {
-    /// Makes a pool of just so many buckets in memory of its own, which is freed with it: no chunk is used behind its end.
-    /// `InvalidArgument` where there are none, or no such memory can be.
+    /// Makes a pool of just so many buckets in memory of its own, which is freed with it: no chunk
+    /// is used behind its end. `InvalidArgument` where there are none, or no such memory can be.
     pub fn with_buckets(bucket: Layout, buckets: u32) -> Result<Self, InitError> {
         let memory = Memory::of_buckets(bucket, buckets)?;
         let (start, size) = (memory.start, memory.layout.size());
@@ -201,7 +205,8 @@ impl PoolAllocator<'static> {
 }
 
 over_region! {
-    PoolAllocator [bucket: Layout] [] by bb_pool_init[bucket.size(), bucket.align()], bb_pool_destroy:
+    PoolAllocator [bucket: Layout] []
+    by bb_pool_init[bucket.size(), bucket.align()], bb_pool_destroy:
     owned => Ok(PoolAllocator { owned, bucket })
 }
 

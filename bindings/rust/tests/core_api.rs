@@ -1,4 +1,5 @@
-//! Collections of the standard library in a region, by `core::alloc::Allocator` of the nightly compiler.
+//! Collections of the standard library in a region, by `core::alloc::Allocator` of the nightly
+//! compiler.
 #![cfg(feature = "allocator_api")]
 #![feature(allocator_api)]
 use bb_memory::{BumpAllocator, Pool, PoolAllocator, SharedBumpAllocator, SharedPoolAllocator};

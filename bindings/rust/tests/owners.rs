@@ -130,7 +130,8 @@ fn a_pool_gives_buckets() {
     refuses(pool.allocate(layout(0, 1)), AllocationError::OutOfMemory);
     refuses(pool.allocate(layout(129, 8)), AllocationError::SizeTooLarge);
     refuses(pool.allocate(layout(1, 16)), AllocationError::AlignmentFailure);
-    // SAFETY: the bucket is ours, and is not used once it is given back. A second return does nothing.
+    // SAFETY: the bucket is ours, and is not used once it is given back. A second return does
+    // nothing.
     unsafe {
         pool.deallocate(held[3], layout(0, 1));
         pool.deallocate(held[3], layout(0, 1));
@@ -183,7 +184,7 @@ fn what_cannot_be_is_refused() {
     let start = NonNull::from(&mut region.0).cast();
     // SAFETY: nothing is made, since such a region would end behind the last address.
     refuses(unsafe { BumpAllocator::new(start, usize::MAX) }, InitError::InvalidArgument);
-    assert_eq!(InitError::MallocRefused.to_string(), "malloc refused");
+    assert_eq!(InitError::MallocRefused.to_string(), "malloc failed");
     refuses(PoolAllocator::with_buckets(layout(8, 8), 0), InitError::InvalidArgument);
     refuses(PoolAllocator::with_buckets(layout(0, 8), 4), InitError::InvalidArgument);
     let most = layout(isize::MAX as usize / 2, 1);

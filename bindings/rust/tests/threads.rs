@@ -1,13 +1,13 @@
 //! What threads share: each thread is a party, which it takes along.
 use bb_memory::{
-    AllocationError, BaseAllocator, BumpParty, DeallocationError, DetachError, DetachedBucket,
-    Holder, InitError, JoinError, Pool, PoolParty, RecoverError, ResetError, SharedBumpAllocator,
-    SharedPoolAllocator,
+    AllocationError, AttachError, BaseAllocator, BumpParty, DeallocationError, DetachError,
+    DetachedBucket, Holder, InitError, JoinError, Pool, PoolParty, RecoverError, ResetError,
+    SharedBumpAllocator, SharedPoolAllocator,
 };
 use std::alloc::Layout;
 use std::mem::MaybeUninit;
 use std::ptr::NonNull;
-use std::sync::mpsc;
+use std::sync::{Barrier, mpsc};
 use std::thread;
 
 const THREADS: u32 = 4;
@@ -60,7 +60,8 @@ fn no_bucket_has_two_holders() {
     });
 }
 
-/// Takes as many chunks of 8 bytes as there are, and returns how many. Each has what this party wrote at the end.
+/// Takes as many chunks of 8 bytes as there are, and returns how many. Each has what this party
+/// wrote at the end.
 fn use_bump(party: &BumpParty<'_>, number: u64) -> usize {
     let mut chunks: Vec<NonNull<u64>> = Vec::new();
     while let Ok(chunk) = party.allocate(Layout::new::<u64>()) {
@@ -321,7 +322,8 @@ fn a_party_takes_and_returns_many_as_one_by_one() {
     let mut more = [MaybeUninit::uninit(); 2];
     assert_eq!(other.take_many(&mut more).len(), 1);
     assert_eq!(other.take_many(&mut more).len(), 0);
-    // SAFETY: the chunks aren't used any more. The bucket of the third place is back, so no more are returned.
+    // SAFETY: the chunks aren't used any more. The bucket of the third place is back, so no more
+    // are returned.
     unsafe {
         assert_eq!(other.try_deallocate_many(places), 0);
         let again = [places[1], places[0], places[1], places[2]];
@@ -358,4 +360,109 @@ fn a_party_takes_what_it_cached_and_gives_it_back_when_it_ends() {
     unsafe { one.try_deallocate(chunks[0]).unwrap() };
     drop(one);
     assert_eq!(other.allocate(bucket()).unwrap().cast(), chunks[0]);
+}
+
+#[test]
+fn a_bucket_goes_by_its_number_to_one_party() {
+    let pool = SharedPoolAllocator::with_buckets(bucket(), 2, 3).unwrap();
+    let (sender, receiver) = (pool.join_number(2).unwrap(), pool.join_number(0).unwrap());
+    let chunk = sender.take().unwrap().cast();
+    // SAFETY: no chunk is used.
+    unsafe {
+        refuses(receiver.detach_number(chunk), DetachError::NotHeld);
+        let number = sender.detach_number(chunk).unwrap();
+        assert_eq!(sender.number_at(chunk), Some(number));
+        assert_eq!(pool.holder(number), Some(Holder::DetachedBy(2)));
+        refuses(sender.detach_number(chunk), DetachError::NotHeld);
+        for from in [0, 1, 3, u32::MAX] {
+            refuses(receiver.attach_number(number, from), AttachError::NotHeld);
+        }
+        refuses(receiver.attach_number(1 - number, 2), AttachError::NotHeld);
+        refuses(receiver.attach_number(2, 2), AttachError::NotABucket);
+        refuses(receiver.recover(number), RecoverError::NotHeld);
+        let received = receiver.attach_number(number, 2).unwrap();
+        assert_eq!((received.cast(), received.len()), (chunk, 64));
+        refuses(sender.attach_number(number, 2), AttachError::NotHeld);
+        // A bucket with a token has no number by which it is attached.
+        let mut detached = DetachedBucket::new().unwrap();
+        receiver.detach(chunk, 64, &mut detached).unwrap();
+        refuses(sender.attach_number(number, 0), AttachError::NotHeld);
+        assert_eq!(sender.attach(&mut detached).unwrap().cast(), chunk);
+        assert_eq!(sender.try_deallocate(chunk), Ok(()));
+    }
+    assert_eq!(pool.info().pool.held_buckets, 0);
+}
+
+#[test]
+fn of_two_threads_one_attaches_a_bucket() {
+    let pool = SharedPoolAllocator::with_buckets(bucket(), 1, 3).unwrap();
+    let sender = pool.join_number(2).unwrap();
+    let start = Barrier::new(3);
+    // Nothing panics between two waits, so that no thread waits for one that has ended.
+    let count_won = |party: PoolParty<'static>| {
+        let mut won = 0;
+        for _ in 0..ROUNDS {
+            start.wait();
+            if let Ok(chunk) = party.attach_number(0, 2) {
+                // SAFETY: the chunk isn't used.
+                won += u64::from(unsafe { party.try_deallocate(chunk.cast()) }.is_ok());
+            }
+            start.wait();
+        }
+        won
+    };
+    let (sent, won): (u64, u64) = thread::scope(|scope| {
+        let parties = [pool.join().unwrap(), pool.join().unwrap()];
+        let count_won = &count_won;
+        let threads = parties.map(|party| scope.spawn(move || count_won(party)));
+        let mut sent = 0;
+        for _ in 0..ROUNDS {
+            if let Ok(chunk) = sender.take() {
+                // SAFETY: the chunk isn't used.
+                sent += u64::from(unsafe { sender.detach_number(chunk.cast()) } == Ok(0));
+            }
+            start.wait();
+            start.wait();
+        }
+        (sent, threads.into_iter().map(|it| it.join().unwrap()).sum())
+    });
+    assert_eq!((sent, won), (ROUNDS, ROUNDS));
+}
+
+#[test]
+fn a_party_of_a_forgotten_number_holds_what_was_held() {
+    let pool = SharedPoolAllocator::with_buckets(bucket(), 3, 2).unwrap();
+    let party = pool.join_number(1).unwrap();
+    refuses(pool.join_number(1), JoinError::NoParty);
+    refuses(pool.join_number(2), JoinError::NoParty);
+    refuses(pool.join_number(u32::MAX), JoinError::NoParty);
+    party.cache(1).unwrap();
+    let chunks = [0; 2].map(|_| party.take().unwrap().cast());
+    // SAFETY: the chunk isn't used any more.
+    unsafe { party.try_deallocate(chunks[0]).unwrap() };
+    party.forget();
+    assert_eq!(pool.info().pool.held_buckets, 2);
+    let next = pool.join_number(1).unwrap();
+    assert!(chunks.iter().all(|chunk| next.holds(*chunk)));
+    // SAFETY: no chunk is used any more.
+    unsafe { next.give_all_back() };
+    assert_eq!((next.held_buckets(), pool.info().pool.held_buckets), (0, 0));
+    assert!((0..3).all(|_| next.take().is_ok()));
+    drop(next);
+    assert_eq!(pool.info().pool.held_buckets, 0);
+}
+
+#[test]
+fn a_party_that_gives_all_back_caches_nothing() {
+    let pool = SharedPoolAllocator::with_buckets(bucket(), 2, 2).unwrap();
+    let (one, other) = (pool.join().unwrap(), pool.join().unwrap());
+    one.cache(1).unwrap();
+    let chunks = [0; 2].map(|_| one.take().unwrap().cast());
+    // SAFETY: no chunk is used any more.
+    unsafe {
+        one.try_deallocate(chunks[0]).unwrap();
+        one.give_all_back();
+    }
+    assert!(other.take().is_ok() && other.take().is_ok());
+    refuses(one.take(), AllocationError::OutOfMemory);
 }

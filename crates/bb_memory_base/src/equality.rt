@@ -1,17 +1,17 @@
 //! The law of `==` of the types of this crate.
-ghost use Rattle.std.specs.Prelude.{◌≡◌, ◌↔◌, IsTrue};
+ghost use Rattle.bb_memory_bump_machine.specs.declared.steps.bump.BumpOutcome.{BumpOutcome};
+ghost use Rattle.bb_memory_bump_machine.specs.declared.steps.bump.BumpStep.{BumpStep};
+ghost use Rattle.bb_memory_pool_machine.specs.declared.steps.pool.PoolOutcome.{PoolOutcome};
+ghost use Rattle.bb_memory_pool_machine.specs.declared.steps.pool.PoolStep.{PoolStep};
 ghost use Rattle.bb_memory_traits.specs.Chunk.{Chunk};
-ghost use Rattle.bb_memory_traits.specs.declared.layout.Layout.{Layout};
 ghost use Rattle.bb_memory_traits.specs.declared.allocator.AllocationError.{AllocationError};
-ghost use Rattle.bb_memory_traits.specs.declared.layout.LayoutError.{LayoutError};
 ghost use Rattle.bb_memory_traits.specs.declared.allocator.AllocationGrowError.{AllocationGrowError};
 ghost use Rattle.bb_memory_traits.specs.declared.allocator.AllocationShrinkError.{AllocationShrinkError};
 ghost use Rattle.bb_memory_traits.specs.declared.allocator.Command.{Command};
 ghost use Rattle.bb_memory_traits.specs.declared.allocator.Reply.{Reply};
-ghost use Rattle.bb_memory_bump_machine.specs.declared.steps.bump.BumpStep.{BumpStep};
-ghost use Rattle.bb_memory_bump_machine.specs.declared.steps.bump.BumpOutcome.{BumpOutcome};
-ghost use Rattle.bb_memory_pool_machine.specs.declared.steps.pool.PoolStep.{PoolStep};
-ghost use Rattle.bb_memory_pool_machine.specs.declared.steps.pool.PoolOutcome.{PoolOutcome};
+ghost use Rattle.bb_memory_traits.specs.declared.layout.Layout.{Layout};
+ghost use Rattle.bb_memory_traits.specs.declared.layout.LayoutError.{LayoutError};
+ghost use Rattle.std.specs.Prelude.{IsTrue, ◌↔◌, ◌≡◌};
 
 use crate::allocator::{
     AllocationError, AllocationGrowError, AllocationShrinkError, Command, Reply,

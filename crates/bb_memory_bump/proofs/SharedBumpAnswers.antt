@@ -1,22 +1,20 @@
 -- The answer and the party of a request that has ended.
-use Rattle.std.proofs.Common.{◌≡◌, ℕ, ◌+◌, ◌<◌, ◌≤◌, List, [], ◌∷◌, ◌++◌, length, sym, ap, ◌∙◌, subst, append-nil, arith, Result}
-use Rattle.std.proofs.Common.{Ok, Err}
-use Rattle.std.specs.Prelude.{IfOk, OnErr, drop, max}
-use Rattle.std.proofs.lemmas.Bool.{leb-false}
-use Rattle.std.proofs.Math.Seq.{drop-append_seam}
 use Rattle.atomic_table.specs.Seated.{TableId}
 use Rattle.atomic_table.specs.Table.{Me}
-use Rattle.bb_memory_traits.specs.Chunk.{region_end, Chunk, chunk_end}
-use Rattle.bb_memory_bump.specs.Bump.{Layout, AllocationError, OutOfMemory}
-use Rattle.bb_memory_traits.specs.BumpObject.{chunk_at_or_after, next_chunk}
-use Rattle.bb_memory_bump_machine.specs.BumpMachine.{BumpScene, chunk_at}
-use Rattle.bb_memory_bump_machine.specs.BumpLogs.{BumpLog, chunks_won, losses_in, seen_in}
+use Rattle.bb_memory_bump.specs.Bump.{AllocationError, Layout, OutOfMemory}
+use Rattle.bb_memory_bump.specs.SharedBump.{BumpParty, IsAnsweredAt, IsFoundBy, IsRefused, IsWon, MayTake, floor_of, seen_by, with_entries}
+use Rattle.bb_memory_bump.specs.SharedBumpRule.{AfterCall, AfterRefusal, AfterWin, IsCounted, SeatView, met_by, party_in}
 use Rattle.bb_memory_bump_machine.proofs.BumpBounds.{won_grows}
-use Rattle.bb_memory_traits.proofs.LiveLists.{StandsFor-end}
+use Rattle.bb_memory_bump_machine.specs.BumpLogs.{BumpLog, chunks_won, losses_in, seen_in}
+use Rattle.bb_memory_bump_machine.specs.BumpMachine.{BumpScene, chunk_at}
 use Rattle.bb_memory_seats.specs.Seats.{number_of, view_log}
-use Rattle.bb_memory_bump.specs.SharedBump.{BumpParty, IsAnsweredAt, IsFoundBy, IsRefused, IsWon, MayTake, floor_of, seen_by}
-use Rattle.bb_memory_bump.specs.SharedBump.{with_entries}
-use Rattle.bb_memory_bump.specs.SharedBumpRule.{SeatView, met_by, party_in, AfterCall, AfterRefusal, AfterWin, IsCounted}
+use Rattle.bb_memory_traits.proofs.LiveLists.{StandsFor-end}
+use Rattle.bb_memory_traits.specs.BumpObject.{chunk_at_or_after, next_chunk}
+use Rattle.bb_memory_traits.specs.Chunk.{Chunk, chunk_end, region_end}
+use Rattle.std.proofs.Common.{Err, List, Ok, Result, [], ap, append-nil, arith, length, subst, sym, ℕ, ◌++◌, ◌+◌, ◌<◌, ◌∙◌, ◌∷◌, ◌≡◌, ◌≤◌}
+use Rattle.std.proofs.Math.Seq.{drop-append_seam}
+use Rattle.std.proofs.lemmas.Bool.{leb-false}
+use Rattle.std.specs.Prelude.{IfOk, OnErr, drop, max}
 
 -- ENTRIES
 

@@ -1,18 +1,17 @@
 -- The last state, by the view of a seat.
-use Rattle.std.proofs.Common.{◌≡◌, ◌≤◌, ℕ, List, [], ◌∷◌, sym, ap, ◌∙◌, subst, arith}
-use mathlib.Core.Option.{some, some-injective}
-use lib.ListN.{get_elem?}
 use Rattle.atomic_table.specs.Seated.{TableId}
 use Rattle.atomic_table.specs.Table.{Final, Me, Seen}
-use Rattle.bb_memory_bump_machine.specs.BumpMachine.{BumpScene}
-use Rattle.bb_memory_bump_machine.specs.BumpLogs.{BumpLog, HasLog, Interleaving, seen_in}
+use Rattle.bb_memory_bump.proofs.SharedBumpMeetings.{told_by}
+use Rattle.bb_memory_bump.specs.SharedBump.{BumpParty, HasChunksWithin}
+use Rattle.bb_memory_bump.specs.SharedBumpRule.{AfterMeetingLoad, IsPartySeat, NumberedLog, SeatView, WordsAndLogsAgree, met_by, party_in}
 use Rattle.bb_memory_bump_machine.proofs.BumpPositions.{interleaved, seen_below}
 use Rattle.bb_memory_bump_machine.proofs.BumpWholes.{alone_exact, ends_by}
+use Rattle.bb_memory_bump_machine.specs.BumpLogs.{BumpLog, HasLog, Interleaving, seen_in}
+use Rattle.bb_memory_bump_machine.specs.BumpMachine.{BumpScene}
 use Rattle.bb_memory_seats.specs.Seats.{numbered, view_log}
-use Rattle.bb_memory_bump.specs.SharedBump.{BumpParty, HasChunksWithin}
-use Rattle.bb_memory_bump.specs.SharedBumpRule.{IsPartySeat, NumberedLog, SeatView, WordsAndLogsAgree, met_by, party_in}
-use Rattle.bb_memory_bump.specs.SharedBumpRule.{AfterMeetingLoad}
-use Rattle.bb_memory_bump.proofs.SharedBumpMeetings.{told_by}
+use Rattle.std.proofs.Common.{List, [], ap, arith, subst, sym, ℕ, ◌∙◌, ◌∷◌, ◌≡◌, ◌≤◌}
+use lib.ListN.{get_elem?}
+use mathlib.Core.Option.{some, some-injective}
 
 pub closes : (scene : BumpScene) (seat : ℕ) (view : SeatView) (words homes : List ℕ) (position : ℕ) →
     Final (Seen (WordsAndLogsAgree scene) seat view) words homes →

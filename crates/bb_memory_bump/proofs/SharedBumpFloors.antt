@@ -1,9 +1,9 @@
 -- The positions that meetings found stay at most the position, as views change.
-use Rattle.std.proofs.Common.{◌≡◌, ℕ, ◌≤◌, List, [], ◌∷◌, ◌++◌, set, arith}
-use mathlib.Core.Option.{some}
-use lib.ListN.{get_elem?}
 use Rattle.atomic_table.proofs.Lists.{at_set, at_snoc}
 use Rattle.bb_memory_bump.specs.SharedBumpRule.{SeatView, met_by}
+use Rattle.std.proofs.Common.{List, [], arith, set, ℕ, ◌++◌, ◌∷◌, ◌≡◌, ◌≤◌}
+use lib.ListN.{get_elem?}
+use mathlib.Core.Option.{some}
 
 -- no view's last meeting found more than this
 abbrev pub HaveMetBelow : List SeatView → ℕ → Type 0

@@ -1,12 +1,12 @@
 -- The chunks of a party in each list of steps that has its log.
-use Rattle.std.proofs.Common.{List, ℕ, sym, subst}
-use Rattle.std.specs.List.{All, Contains}
-use Rattle.std.proofs.lemmas.List.Elements.{All-contains_itself, Contains-append_right}
-use Rattle.bb_memory_traits.specs.Chunk.{Chunk}
-use Rattle.bb_memory_bump_machine.specs.BumpMachine.{BumpScene}
-use Rattle.bb_memory_bump_machine.specs.BumpLogs.{BumpLog, chunks_won, history_of, live_after, Interleaving}
 use Rattle.bb_memory_bump_machine.proofs.BumpMeetings.{all_in_log}
 use Rattle.bb_memory_bump_machine.proofs.OwnChunks.{interleaved_since}
+use Rattle.bb_memory_bump_machine.specs.BumpLogs.{BumpLog, Interleaving, chunks_won, history_of, live_after}
+use Rattle.bb_memory_bump_machine.specs.BumpMachine.{BumpScene}
+use Rattle.bb_memory_traits.specs.Chunk.{Chunk}
+use Rattle.std.proofs.Common.{List, subst, sym, ℕ}
+use Rattle.std.proofs.lemmas.List.Elements.{All-contains_itself, Contains-append_right}
+use Rattle.std.specs.List.{All, Contains}
 
 -- a chunk that a party has won was won in each history that has its log
 won_in_history : (scene : BumpScene) (position party : ℕ) (log : BumpLog) (history : Interleaving scene party log position) →

@@ -1,30 +1,26 @@
 -- Each atomic step keeps word and logs in agreement.
-use Rattle.std.proofs.Common.{◌≡◌, ◌≢◌, ℕ, ◌<◌, ◌≤◌, List, [], ◌∷◌, ◌++◌, Bool, true, false, set, get_or, eqb, refl, sym, ap, ◌∙◌}
-use Rattle.std.proofs.Common.{subst, arith, eq-eqb, ne_eqb, Option, Some, None}
-use Rattle.std.specs.Prelude.{◌==◌, if◌then◌else◌}
-use mathlib.Core.Option.{none, some}
-use prog.Atomic.{either}
-use lib.ListN.{get_elem?}
-use Rattle.atomic_table.specs.Table.{State, Me, keeps, Allows, step, carried_after}
 use Rattle.atomic_table.proofs.Lists.{exchanged}
-use Rattle.std.proofs.lemmas.Option.{same_Some}
-use Rattle.bb_memory_bump_machine.specs.BumpMachine.{BumpScene, OngoingCall, chunk_at, ending, exchange_move, fits}
-use Rattle.bb_memory_bump_machine.specs.BumpMachine.{position_behind, read_move, seeing}
-use Rattle.bb_memory_bump.specs.SharedBump.{BumpStep, Read, Exchange, Load, BumpOutcome, Sees, RefusedAtRead, Wins, Loses}
-use Rattle.bb_memory_bump.specs.SharedBump.{RefusedAtLoss, Loaded}
-use Rattle.bb_memory_bump_machine.specs.BumpLogs.{BumpLog, entry_of, HasLog, Interleaving, LogsAgree, call_in, greater_of}
-use Rattle.bb_memory_bump_machine.specs.BumpLogs.{position_in, seen_in, with_entry}
+use Rattle.atomic_table.specs.Table.{Allows, Me, State, carried_after, keeps, step}
+use Rattle.bb_memory_bump.proofs.SharedBumpFloors.{met_set}
+use Rattle.bb_memory_bump.proofs.SharedLogs.{seen_next}
 use Rattle.bb_memory_bump.specs.Bump.{Layout}
-use Rattle.bb_memory_lists.proofs.SliceGets.{length-set_at, slice_get-set_same}
-use Rattle.bb_memory_bump_machine.proofs.BumpLogs.{read_agrees, exchange_agrees, load_agrees}
+use Rattle.bb_memory_bump.specs.SharedBump.{BumpOutcome, BumpStep, Exchange, Load, Loaded, Loses, Read, RefusedAtLoss, RefusedAtRead, Sees, Wins}
+use Rattle.bb_memory_bump.specs.SharedBumpRule.{AfterStep, SeatView, WordsAndLogsAgree, exchanges, loads, reads, sight}
+use Rattle.bb_memory_bump_machine.proofs.BumpLogs.{exchange_agrees, load_agrees, read_agrees}
 use Rattle.bb_memory_bump_machine.proofs.BumpPositions.{interleaved, position_within, seen_below}
 use Rattle.bb_memory_bump_machine.proofs.BumpRuns.{chunk_at-above}
 use Rattle.bb_memory_bump_machine.proofs.BumpWholes.{alone_exact, greater_of-above}
-use Rattle.bb_memory_seats.specs.Seats.{alone}
-use Rattle.bb_memory_bump.specs.SharedBumpRule.{SeatView, WordsAndLogsAgree, sight, AfterStep, exchanges, loads, reads}
+use Rattle.bb_memory_bump_machine.specs.BumpLogs.{BumpLog, HasLog, Interleaving, LogsAgree, call_in, entry_of, greater_of, position_in, seen_in, with_entry}
+use Rattle.bb_memory_bump_machine.specs.BumpMachine.{BumpScene, OngoingCall, chunk_at, ending, exchange_move, fits, position_behind, read_move, seeing}
+use Rattle.bb_memory_lists.proofs.SliceGets.{length-set_at, slice_get-set_same}
 use Rattle.bb_memory_seats.proofs.Seatings.{seated_step}
-use Rattle.bb_memory_bump.proofs.SharedBumpFloors.{met_set}
-use Rattle.bb_memory_bump.proofs.SharedLogs.{seen_next}
+use Rattle.bb_memory_seats.specs.Seats.{alone}
+use Rattle.std.proofs.Common.{Bool, List, None, Option, Some, [], ap, arith, eq-eqb, eqb, false, get_or, ne_eqb, refl, set, subst, sym, true, ℕ, ◌++◌, ◌<◌, ◌∙◌, ◌∷◌, ◌≡◌, ◌≢◌, ◌≤◌}
+use Rattle.std.proofs.lemmas.Option.{same_Some}
+use Rattle.std.specs.Prelude.{if◌then◌else◌, ◌==◌}
+use lib.ListN.{get_elem?}
+use mathlib.Core.Option.{none, some}
+use prog.Atomic.{either}
 
 -- ONE STEP
 

@@ -1,18 +1,17 @@
 -- A load by a seat of several parties: how they agree with the position, and what two of them have of one another.
-use Rattle.std.proofs.Common.{◌≡◌, ℕ, List, [], ◌∷◌, set, get_or, refl, sym, ap, subst, arith}
-use mathlib.Core.Option.{none, some}
-use lib.ListN.{get_elem?}
-use Rattle.atomic_table.specs.Table.{State, Me, keeps, Allows, step}
-use Rattle.bb_memory_bump_machine.specs.BumpMachine.{BumpScene}
-use Rattle.bb_memory_bump_machine.specs.BumpLogs.{BumpLog}
+use Rattle.atomic_table.specs.Table.{Allows, Me, State, keeps, step}
+use Rattle.bb_memory_bump.proofs.SharedBumpFloors.{met_set}
+use Rattle.bb_memory_bump.specs.SharedBumpRule.{AfterMeeting, AfterMeetingLoad, NumberedLog, SeatView, WordsAndLogsAgree, meeting_of, meets, met_by, sight}
 use Rattle.bb_memory_bump_machine.proofs.BumpMeetings.{chunks_apart}
 use Rattle.bb_memory_bump_machine.proofs.BumpPositions.{both_interleaved, position_within, seen_below}
 use Rattle.bb_memory_bump_machine.proofs.BumpWholes.{ends_by}
-use Rattle.bb_memory_seats.specs.Seats.{numbered, standing_for}
-use Rattle.bb_memory_bump.specs.SharedBumpRule.{NumberedLog, SeatView, WordsAndLogsAgree, meeting_of, met_by, sight}
-use Rattle.bb_memory_bump.specs.SharedBumpRule.{AfterMeetingLoad, AfterMeeting, meets}
+use Rattle.bb_memory_bump_machine.specs.BumpLogs.{BumpLog}
+use Rattle.bb_memory_bump_machine.specs.BumpMachine.{BumpScene}
 use Rattle.bb_memory_seats.proofs.Seatings.{once_in, seated_again, two_parties}
-use Rattle.bb_memory_bump.proofs.SharedBumpFloors.{met_set}
+use Rattle.bb_memory_seats.specs.Seats.{numbered, standing_for}
+use Rattle.std.proofs.Common.{List, [], ap, arith, get_or, refl, set, subst, sym, ℕ, ◌∷◌, ◌≡◌}
+use lib.ListN.{get_elem?}
+use mathlib.Core.Option.{none, some}
 
 -- the rule, by the view of a seat
 pub told_by : (scene : BumpScene) (state : State ℕ SeatView) (rule : WordsAndLogsAgree scene state) (seat : ℕ)

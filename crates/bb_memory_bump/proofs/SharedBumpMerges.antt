@@ -1,26 +1,22 @@
 -- Parties that come to one seat, and what their meeting says of their logs.
-use Rattle.std.proofs.lemmas.Grind.{common_steps}
-use Rattle.std.proofs.Common.{◌≡◌, ℕ, zero, suc, replicate, ◌<◌, ◌≤◌, List, [], ◌∷◌, ◌++◌, length, refl, sym, ap, ◌∙◌, subst}
-use Rattle.std.proofs.Common.{arith}
-use Rattle.std.proofs.lemmas.List.{length-map, length-replicate}
-use Rattle.std.specs.Prelude.{map, Contains}
-use Rattle.std.specs.List.{All, AllByRecursion}
-use Rattle.std.proofs.lemmas.List.Elements.{All-contains, All-contains_itself, All-from_recursion, All-nil, All-replicate}
-use Rattle.std.proofs.lemmas.List.Elements.{All-weaker, recursion_from_All}
 use Rattle.atomic_table.specs.Seated.{TableId}
 use Rattle.atomic_table.specs.Table.{Me}
-use Rattle.bb_memory_bump_machine.specs.BumpMachine.{BumpScene}
-use Rattle.bb_memory_bump_machine.specs.BumpLogs.{BumpLog, HasLog, seen_in}
+use Rattle.bb_memory_bump.specs.SharedBump.{AgreeAt, BumpParty, HaveMet, IsSharedScene, SharedBump, floor_of, greatest_seen, meeting_at, seen_by}
+use Rattle.bb_memory_bump.specs.SharedBumpRule.{AfterMeetingLoad, IsPartySeat, NumberedLog, SeatView, numbered_of, party_in, scene_of, sight}
 use Rattle.bb_memory_bump_machine.proofs.BumpLogs.{opening_agrees}
 use Rattle.bb_memory_bump_machine.proofs.BumpPositions.{seen_below}
 use Rattle.bb_memory_bump_machine.proofs.BumpWholes.{opened_below, whole_bounds}
-use Rattle.bb_memory_seats.specs.Seats.{HaveLogs, alone, view_log}
-use Rattle.bb_memory_bump.specs.SharedBump.{AgreeAt, BumpParty, HaveMet, IsSharedScene, SharedBump, floor_of, greatest_seen}
-use Rattle.bb_memory_bump.specs.SharedBump.{meeting_at, seen_by}
-use Rattle.bb_memory_bump.specs.SharedBumpRule.{IsPartySeat, NumberedLog, SeatView, numbered_of}
-use Rattle.bb_memory_bump.specs.SharedBumpRule.{party_in, scene_of, sight, AfterMeetingLoad}
-use Rattle.bb_memory_seats.proofs.PartyNumbers.{all_there, has_number, logs_had, numbers_differ, owner}
+use Rattle.bb_memory_bump_machine.specs.BumpLogs.{BumpLog, HasLog, seen_in}
+use Rattle.bb_memory_bump_machine.specs.BumpMachine.{BumpScene}
 use Rattle.bb_memory_lists.proofs.ListEntries.{contains-none}
+use Rattle.bb_memory_seats.proofs.PartyNumbers.{all_there, has_number, logs_had, numbers_differ, owner}
+use Rattle.bb_memory_seats.specs.Seats.{HaveLogs, alone, view_log}
+use Rattle.std.proofs.Common.{List, [], ap, arith, length, refl, replicate, subst, suc, sym, zero, ℕ, ◌++◌, ◌<◌, ◌∙◌, ◌∷◌, ◌≡◌, ◌≤◌}
+use Rattle.std.proofs.lemmas.Grind.{common_steps}
+use Rattle.std.proofs.lemmas.List.{length-map, length-replicate}
+use Rattle.std.proofs.lemmas.List.Elements.{All-contains, All-contains_itself, All-from_recursion, All-nil, All-replicate, All-weaker, recursion_from_All}
+use Rattle.std.specs.List.{All, AllByRecursion}
+use Rattle.std.specs.Prelude.{Contains, map}
 
 -- GATHERING
 

@@ -1,12 +1,12 @@
 -- From the effect of a step to the party after it.
-use Rattle.std.proofs.Common.{arith, ◌≡◌, ℕ, ◌<◌, ◌≤◌, [], ◌++◌}
 use Rattle.atomic_table.specs.Seated.{TableId}
 use Rattle.atomic_table.specs.Table.{Me}
-use Rattle.bb_memory_bump_machine.specs.BumpMachine.{BumpScene}
-use Rattle.bb_memory_bump_machine.specs.BumpLogs.{BumpLog}
-use Rattle.bb_memory_seats.specs.Seats.{alone, number_of, view_log}
 use Rattle.bb_memory_bump.specs.SharedBump.{BumpParty, IsSharedScene, with_entries}
 use Rattle.bb_memory_bump.specs.SharedBumpRule.{AfterCall, IsPartySeat, IsSeatOfIdle, SeatView, met_by, party_in, scene_of, sight}
+use Rattle.bb_memory_bump_machine.specs.BumpLogs.{BumpLog}
+use Rattle.bb_memory_bump_machine.specs.BumpMachine.{BumpScene}
+use Rattle.bb_memory_seats.specs.Seats.{alone, number_of, view_log}
+use Rattle.std.proofs.Common.{[], arith, ℕ, ◌++◌, ◌<◌, ◌≡◌, ◌≤◌}
 
 -- SEATS
 

@@ -1,23 +1,18 @@
 -- How a request goes on: from its read to the step that decides it.
-use Rattle.std.proofs.Common.{◌≡◌, ◌≢◌, ℕ, ◌+◌, ◌<◌, ◌≤◌, [], ◌∷◌, ◌++◌, Bool, true, false, refl, sym, ap, ◌∙◌, subst, arith}
-use Rattle.std.proofs.Common.{append_assoc, Some, eq-eqb, ne_eqb}
-use Rattle.std.specs.Prelude.{if◌then◌else◌, max}
-use Rattle.std.proofs.lemmas.List.Elements.{All-from_recursion}
 use Rattle.atomic_table.specs.Table.{Me}
-use Rattle.bb_memory_traits.specs.Chunk.{Region, region_end, Chunk, chunk_end}
-use Rattle.bb_memory_bump.specs.Bump.{Layout}
-use Rattle.bb_memory_bump_machine.specs.BumpMachine.{BumpScene, OngoingCall, chunk_at, ending, exchange_move, fits, loss_move}
-use Rattle.bb_memory_bump_machine.specs.BumpMachine.{position_behind, read_move, seeing}
-use Rattle.bb_memory_bump.specs.SharedBump.{Read, Exchange, BumpOutcome, Sees, RefusedAtRead, Wins, Loses, RefusedAtLoss, Tries}
-use Rattle.bb_memory_bump.specs.SharedBump.{at_loss, at_read, by_loss, by_read}
-use Rattle.bb_memory_bump_machine.specs.BumpLogs.{BumpLog, chunks_won, entry_of, is_loss, losses_in, HasPositionFrom}
-use Rattle.bb_memory_bump_machine.specs.BumpLogs.{HasPositionUpTo, call_after, call_in, seen_in}
-use Rattle.bb_memory_bump_machine.proofs.BumpRuns.{chunk_at-above}
-use Rattle.bb_memory_seats.specs.Seats.{number_of, view_log}
-use Rattle.bb_memory_bump.specs.SharedBumpRule.{IsSeatOf, SeatView, met_by}
-use Rattle.bb_memory_bump.specs.SharedBumpRule.{AfterRefusal, AfterWin, IsCounted, AfterStep, AfterExchange, AfterRead}
 use Rattle.bb_memory_bump.proofs.SharedBumpTries.{counted_more, losses_more, won_then}
 use Rattle.bb_memory_bump.proofs.SharedLogs.{call_next, losses_in-cons, seen_next}
+use Rattle.bb_memory_bump.specs.Bump.{Layout}
+use Rattle.bb_memory_bump.specs.SharedBump.{BumpOutcome, Exchange, Loses, Read, RefusedAtLoss, RefusedAtRead, Sees, Tries, Wins, at_loss, at_read, by_loss, by_read}
+use Rattle.bb_memory_bump.specs.SharedBumpRule.{AfterExchange, AfterRead, AfterRefusal, AfterStep, AfterWin, IsCounted, IsSeatOf, SeatView, met_by}
+use Rattle.bb_memory_bump_machine.proofs.BumpRuns.{chunk_at-above}
+use Rattle.bb_memory_bump_machine.specs.BumpLogs.{BumpLog, HasPositionFrom, HasPositionUpTo, call_after, call_in, chunks_won, entry_of, is_loss, losses_in, seen_in}
+use Rattle.bb_memory_bump_machine.specs.BumpMachine.{BumpScene, OngoingCall, chunk_at, ending, exchange_move, fits, loss_move, position_behind, read_move, seeing}
+use Rattle.bb_memory_seats.specs.Seats.{number_of, view_log}
+use Rattle.bb_memory_traits.specs.Chunk.{Chunk, Region, chunk_end, region_end}
+use Rattle.std.proofs.Common.{Bool, Some, [], ap, append_assoc, arith, eq-eqb, false, ne_eqb, refl, subst, sym, true, ℕ, ◌++◌, ◌+◌, ◌<◌, ◌∙◌, ◌∷◌, ◌≡◌, ◌≢◌, ◌≤◌}
+use Rattle.std.proofs.lemmas.List.Elements.{All-from_recursion}
+use Rattle.std.specs.Prelude.{if◌then◌else◌, max}
 
 -- A request under way: the party has tried so, and has seen `last`, which is no more than what its log says. Each loss has
 -- raised that by one at least, and none of these steps has won a chunk.

@@ -1,18 +1,18 @@
 -- How parties go to seats of their own, and two of them to one seat.
-use Rattle.std.proofs.Common.{◌≡◌, ℕ, zero, suc, ◌≤◌, [], ◌∷◌, replicate, refl, set, sym, subst, arith}
-use mathlib.Core.Option.{some-injective, some-ne-none}
 use Rattle.atomic_table.proofs.Lists.{at_set}
-use Rattle.std.specs.List.{AllByRecursion}
+use Rattle.atomic_table.specs.Table.{Joins, Splits, opening}
+use Rattle.bb_memory_bump.proofs.SharedBumpFloors.{HaveMetBelow, met_push, met_set}
+use Rattle.bb_memory_bump.specs.SharedBumpRule.{SeatView, WordsAndLogsAgree, all_parties, merged, met_by, nobody, sight}
+use Rattle.bb_memory_bump_machine.proofs.BumpLogs.{opening_agrees}
+use Rattle.bb_memory_bump_machine.specs.BumpLogs.{BumpEntry, BumpLog}
+use Rattle.bb_memory_bump_machine.specs.BumpMachine.{BumpScene}
+use Rattle.bb_memory_seats.proofs.Seatings.{seated_joined, seated_opening, seated_others}
+use Rattle.bb_memory_seats.specs.Seats.{first_of, others_of}
+use Rattle.std.proofs.Common.{[], arith, refl, replicate, set, subst, suc, sym, zero, ℕ, ◌∷◌, ◌≡◌, ◌≤◌}
 use Rattle.std.proofs.lemmas.List.{length-replicate}
 use Rattle.std.proofs.lemmas.List.Elements.{All-from_recursion}
-use Rattle.atomic_table.specs.Table.{Splits, Joins, opening}
-use Rattle.bb_memory_bump_machine.specs.BumpMachine.{BumpScene}
-use Rattle.bb_memory_bump_machine.specs.BumpLogs.{BumpEntry, BumpLog}
-use Rattle.bb_memory_bump_machine.proofs.BumpLogs.{opening_agrees}
-use Rattle.bb_memory_seats.specs.Seats.{first_of, others_of}
-use Rattle.bb_memory_bump.specs.SharedBumpRule.{SeatView, WordsAndLogsAgree, all_parties, merged, met_by, nobody, sight}
-use Rattle.bb_memory_seats.proofs.Seatings.{seated_joined, seated_opening, seated_others}
-use Rattle.bb_memory_bump.proofs.SharedBumpFloors.{HaveMetBelow, met_push, met_set}
+use Rattle.std.specs.List.{AllByRecursion}
+use mathlib.Core.Option.{some-injective, some-ne-none}
 
 pub gives_first : (scene : BumpScene) (seat : ℕ) (view : SeatView) →
     Splits (WordsAndLogsAgree scene) seat view (others_of view) (first_of view)

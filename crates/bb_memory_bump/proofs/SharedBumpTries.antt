@@ -1,13 +1,12 @@
 -- One more entry of a request: what it finds, loses and wins.
-use Rattle.std.proofs.lemmas.Grind.{common_steps}
-use Rattle.std.proofs.Common.{◌≡◌, ℕ, ◌+◌, ◌≤◌, List, [], ◌∷◌, ◌++◌, ap, ◌∙◌, arith}
-use Rattle.std.specs.Prelude.{if◌then◌else◌, max}
-use Rattle.bb_memory_traits.specs.Chunk.{Chunk}
-use Rattle.bb_memory_bump_machine.specs.BumpMachine.{BumpScene}
-use Rattle.bb_memory_bump_machine.specs.BumpLogs.{BumpEntry, BumpLog, chunks_won, is_loss, losses_in, HasPositionFrom}
-use Rattle.bb_memory_bump_machine.specs.BumpLogs.{HasPositionUpTo, seen_in}
-use Rattle.bb_memory_bump_machine.proofs.BumpBounds.{won_grows}
 use Rattle.bb_memory_bump.specs.SharedBumpRule.{IsCounted}
+use Rattle.bb_memory_bump_machine.proofs.BumpBounds.{won_grows}
+use Rattle.bb_memory_bump_machine.specs.BumpLogs.{BumpEntry, BumpLog, HasPositionFrom, HasPositionUpTo, chunks_won, is_loss, losses_in, seen_in}
+use Rattle.bb_memory_bump_machine.specs.BumpMachine.{BumpScene}
+use Rattle.bb_memory_traits.specs.Chunk.{Chunk}
+use Rattle.std.proofs.Common.{List, [], ap, arith, ℕ, ◌++◌, ◌+◌, ◌∙◌, ◌∷◌, ◌≡◌, ◌≤◌}
+use Rattle.std.proofs.lemmas.Grind.{common_steps}
+use Rattle.std.specs.Prelude.{if◌then◌else◌, max}
 
 pub losses_more : (tried : BumpLog) (entry : BumpEntry) →
     losses_in (tried ++ entry ∷ []) ≡ losses_in tried + (if is_loss entry.outcome then 1 else 0)

@@ -1,21 +1,20 @@
 -- All parties of a bump, when they have met.
-use Rattle.std.proofs.Common.{◌≡◌, ◌≢◌, Some, ℕ, List, [], ◌∷◌, length, refl, true}
-use Rattle.std.specs.Prelude.{Any, Contains, slice_get}
-use Rattle.std.specs.List.{All, AllByRecursion}
-use Rattle.std.proofs.lemmas.List.Elements.{All-contains, All-contains_itself, All-from_recursion, All-weaker}
-use Rattle.bb_memory_traits.specs.Chunk.{Region, Chunk}
-use Rattle.bb_memory_traits.specs.BumpObject.{StandsFor}
-use Rattle.bb_memory_bump_machine.specs.BumpMachine.{BumpScene, BumpState, bump_step, opening_state}
-use Rattle.bb_memory_bump.specs.SharedBump.{BumpStep, AgreeAt, BumpParty, HaveChunksApart, IsSharedScene}
-use Rattle.bb_memory_bump_machine.specs.BumpLogs.{BumpEntry, BumpLog, bump_history, chunks_won, history_of, is_by, log_of}
-use Rattle.bb_memory_bump_machine.specs.BumpLogs.{OpensWith, live_after, AllAllowed, HasLog, Interleaving}
-use Rattle.bb_memory_bump_machine.proofs.BumpMeetings.{chunks_apart}
+use Rattle.bb_memory_bump.proofs.SharedBumpHistories.{held_in_list}
+use Rattle.bb_memory_bump.specs.SharedBump.{AgreeAt, BumpParty, BumpStep, HaveChunksApart, IsSharedScene}
 use Rattle.bb_memory_bump_machine.proofs.BumpAllowed.{first_allowed, nobody_else, rest_allowed}
+use Rattle.bb_memory_bump_machine.proofs.BumpMeetings.{chunks_apart}
 use Rattle.bb_memory_bump_machine.proofs.BumpPositions.{interleaving_stands}
 use Rattle.bb_memory_bump_machine.proofs.BumpSteps.{step_view}
 use Rattle.bb_memory_bump_machine.proofs.BumpWholes.{owner_of}
+use Rattle.bb_memory_bump_machine.specs.BumpLogs.{AllAllowed, BumpEntry, BumpLog, HasLog, Interleaving, OpensWith, bump_history, chunks_won, history_of, is_by, live_after, log_of}
+use Rattle.bb_memory_bump_machine.specs.BumpMachine.{BumpScene, BumpState, bump_step, opening_state}
 use Rattle.bb_memory_lists.proofs.ListEntries.{contains_at, stands_in_log}
-use Rattle.bb_memory_bump.proofs.SharedBumpHistories.{held_in_list}
+use Rattle.bb_memory_traits.specs.BumpObject.{StandsFor}
+use Rattle.bb_memory_traits.specs.Chunk.{Chunk, Region}
+use Rattle.std.proofs.Common.{List, Some, [], length, refl, true, ℕ, ◌∷◌, ◌≡◌, ◌≢◌}
+use Rattle.std.proofs.lemmas.List.Elements.{All-contains, All-contains_itself, All-from_recursion, All-weaker}
+use Rattle.std.specs.List.{All, AllByRecursion}
+use Rattle.std.specs.Prelude.{Any, Contains, slice_get}
 
 -- the entry is that of a step of some party
 abbrev IsSomeones : BumpEntry → Type 0

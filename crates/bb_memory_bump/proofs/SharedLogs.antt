@@ -1,12 +1,11 @@
 -- A party's log once entries are added to it.
-use Rattle.std.proofs.Common.{◌≡◌, ◌+◌, [], ◌∷◌, ◌++◌, None}
-use Rattle.std.specs.Prelude.{if◌then◌else◌}
-use Rattle.std.proofs.lemmas.List.Sums.{sum_by-cons}
-use Rattle.bb_memory_bump_machine.specs.BumpMachine.{BumpScene}
-use Rattle.bb_memory_bump.specs.SharedBump.{BumpStep, BumpOutcome}
-use Rattle.bb_memory_bump_machine.specs.BumpLogs.{BumpEntry, BumpLog, entry_of, losses_in, is_loss, call_after, call_in}
-use Rattle.bb_memory_bump_machine.specs.BumpLogs.{greater_of, position_in, seen_in}
+use Rattle.bb_memory_bump.specs.SharedBump.{BumpOutcome, BumpStep}
 use Rattle.bb_memory_bump_machine.proofs.BumpBounds.{call_grows, seen_grows}
+use Rattle.bb_memory_bump_machine.specs.BumpLogs.{BumpEntry, BumpLog, call_after, call_in, entry_of, greater_of, is_loss, losses_in, position_in, seen_in}
+use Rattle.bb_memory_bump_machine.specs.BumpMachine.{BumpScene}
+use Rattle.std.proofs.Common.{None, [], ◌++◌, ◌+◌, ◌∷◌, ◌≡◌}
+use Rattle.std.proofs.lemmas.List.Sums.{sum_by-cons}
+use Rattle.std.specs.Prelude.{if◌then◌else◌}
 
 -- the call of a party whose log has one more entry
 pub call_next : (log : BumpLog) (step : BumpStep) (outcome : BumpOutcome) →

@@ -1,27 +1,28 @@
 -- A bump allocator, as its contracts see it.
-use Rattle.std.specs.Prelude.{◌≡◌, ℕ, ◌+◌, ◌<◌, ◌≤◌, ◌↔◌, ◌++◌, [], List, Result, Err, IsOk, IfOk, OnErr, codes}
-use Rattle.std.specs.Fmt.{decimal}
-use Rattle.bb_memory_traits.specs.Chunk.{Region, IsRegion, region_at, region_end, Chunk, chunk_end}
-pub use Rattle.bb_memory_traits.specs.declared.layout.Layout.{Layout}
+use Rattle.bb_memory_traits.specs.BumpObject.{StandsFor, chunk_at_or_after}
+use Rattle.bb_memory_traits.specs.Chunk.{Chunk, IsRegion, Region, chunk_end, region_at, region_end}
+use Rattle.bb_memory_traits.specs.LeastPlace.{least_place}
 pub use Rattle.bb_memory_traits.specs.declared.allocator.AllocationError.{AllocationError}
 pub use Rattle.bb_memory_traits.specs.declared.allocator.AllocationError.TheVariants.{OutOfMemory, SizeIsZero}
-use Rattle.bb_memory_traits.specs.LeastPlace.{least_place}
-use Rattle.bb_memory_traits.specs.BumpObject.{StandsFor, chunk_at_or_after}
+pub use Rattle.bb_memory_traits.specs.declared.layout.Layout.{Layout}
+use Rattle.std.specs.Fmt.{decimal}
+use Rattle.std.specs.Prelude.{Err, IfOk, IsOk, List, OnErr, Result, [], codes, ℕ, ◌++◌, ◌+◌, ◌<◌, ◌↔◌, ◌≡◌, ◌≤◌}
 
--- the bump's region, and how much of it is used
+-- a bump: its region, and how many bytes of it are used
 pub record Bump : Type 0 where
   pub region : Region
   pub used : ℕ
 
+-- the bump over the region of `size` bytes at `start`, with `used` bytes used
 abbrev pub bump_of : ℕ → ℕ → ℕ → Bump
 bump_of start size used = record { region = region_at start size; used = used }
 
--- no more is used than there is
+-- The invariant of a bump: the region is valid, and no more of it is used than there is.
 pub record IsBump (bump : Bump) : Type 0 where
   pub region : IsRegion bump.region
   pub used : bump.used ≤ bump.region.size
 
--- A request by the value alone: its answer, and the bump after it.
+-- A request, by the bump's value: its answer, and the bump after it.
 pub record Takes (old : Bump) (layout : Layout) (answer : Result Chunk AllocationError) (new : Bump) : Type 0 where
   -- each outcome, both ways
   pub accepted : IsOk answer ↔ ((0 < layout.size) × (chunk_end (chunk_at_or_after (old.region.start + old.used) layout)
@@ -33,16 +34,17 @@ pub record Takes (old : Bump) (layout : Layout) (answer : Result Chunk Allocatio
   pub begins : IfOk answer (λ chunk. chunk.place ≡ least_place (old.region.start + old.used) layout.align)
   pub exact_size : IfOk answer (λ chunk. chunk.len ≡ layout.size)
   pub behind : IfOk answer (λ chunk. old.region.start + old.used ≤ chunk.place)
-  -- the used part then ends with the chunk, and a refusal leaves everything
+  -- the used part then ends where the chunk does; a refusal changes nothing
   pub used : IfOk answer (λ chunk. new.region.start + new.used ≡ chunk_end chunk)
   pub unchanged : OnErr answer (new ≡ old)
 
--- The bump after a release, whichever place it names, and so on each list that it stood for, the empty one too.
+-- A release, whichever place it names: nothing is used after it, and the empty list replaces each
+-- live list that the bump stood for.
 pub record Frees (old new : Bump) : Type 0 where
   pub value : new ≡ bump_of old.region.start old.region.size 0
   pub released : (live : List Chunk) → StandsFor old.region old.used live → StandsFor new.region new.used []
 
--- the text that Display writes
+-- the text that `Display` writes
 abbrev pub bump_text : Bump → List ℕ
 bump_text bump =
     codes "BumpAllocator { start: " ++ (decimal bump.region.start ++ (codes ", size: " ++ (decimal bump.region.size

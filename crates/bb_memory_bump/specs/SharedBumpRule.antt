@@ -1,48 +1,50 @@
--- The rule of a shared bump's word, what its seats and fields stand for, and what each step on the word leaves of the seat that
+-- The rule of a shared bump's word, what its seats and fields stand for, and what each step on the word leaves to the seat that
 -- makes it.
-use Rattle.std.specs.Prelude.{◌≡◌, ℕ, ◌<◌, ◌≤◌, List, [], ◌∷◌, ◌++◌, All, None, length, max, ◌≢◌, ◌+◌, ◌%◌, true, false, Option}
-use Rattle.std.specs.Prelude.{Some}
-use mathlib.Core.Option.{some}
-use lib.ListN.{get_elem?}
 use Rattle.atomic_table.specs.Seated.{TableId}
-use Rattle.atomic_table.specs.Table.{State, Me, Step}
-use Rattle.bb_memory_traits.specs.Chunk.{IsRegion, region_at, Region, region_end, Chunk, IsInside, chunk_end}
+use Rattle.atomic_table.specs.Table.{Me, State, Step}
 use Rattle.bb_memory_bump.specs.Bump.{Layout}
-use Rattle.bb_memory_bump_machine.specs.BumpMachine.{BumpScene, OngoingCall, chunk_at, fits, read_move, exchange_move}
-use Rattle.bb_memory_bump.specs.SharedBump.{BumpStep, Read, Exchange, Load, BumpOutcome, Loaded, BumpParty, IsSharedScene}
-use Rattle.bb_memory_bump.specs.SharedBump.{SharedBump, scene_at, HasChunksWithin, HaveChunksApart, IsRefused, IsWon}
-use Rattle.bb_memory_bump_machine.specs.BumpLogs.{BumpEntry, BumpLog, Interleaving, LogsAgree, call_in, seen_in, chunks_won}
-use Rattle.bb_memory_bump_machine.specs.BumpLogs.{entry_of, losses_in, HasPositionFrom, CommonInterleaving, HasPositionUpTo}
-use Rattle.bb_memory_seats.specs.Seats.{AreSeated, IsAt, Numbered, View, alone, fresh_from, number_of, numbered}
-use Rattle.bb_memory_seats.specs.Seats.{standing_for, view_log, HaveLogs, times_in}
+use Rattle.bb_memory_bump.specs.SharedBump.{BumpOutcome, BumpParty, BumpStep, Exchange, HasChunksWithin, HaveChunksApart, IsRefused, IsSharedScene, IsWon, Load, Loaded, Read, SharedBump, scene_at}
+use Rattle.bb_memory_bump_machine.specs.BumpLogs.{BumpEntry, BumpLog, CommonInterleaving, HasPositionFrom, HasPositionUpTo, Interleaving, LogsAgree, call_in, chunks_won, entry_of, losses_in, seen_in}
+use Rattle.bb_memory_bump_machine.specs.BumpMachine.{BumpScene, OngoingCall, chunk_at, exchange_move, fits, read_move}
+use Rattle.bb_memory_seats.specs.Seats.{AreSeated, HaveLogs, IsAt, Numbered, View, alone, fresh_from, number_of, numbered, standing_for, times_in, view_log}
+use Rattle.bb_memory_traits.specs.Chunk.{Chunk, IsInside, IsRegion, Region, chunk_end, region_at, region_end}
+use Rattle.std.specs.Prelude.{All, List, None, Option, Some, [], false, length, max, true, ℕ, ◌%◌, ◌++◌, ◌+◌, ◌<◌, ◌∷◌, ◌≡◌, ◌≢◌, ◌≤◌}
+use lib.ListN.{get_elem?}
+use mathlib.Core.Option.{some}
 
 -- SEATS
 
--- a party's number with its log, and what a seat of a shared bump knows
+-- the number of a party, and its log
 abbrev pub NumberedLog : Type 0
 NumberedLog = Numbered BumpEntry
 
+-- the number of this party, and its log
 abbrev pub numbered_of : BumpParty → NumberedLog
 numbered_of party = numbered party.number party.log
 
--- the scene, and the position that the last meeting there found, or 0
+-- the knowledge of a seat of a shared bump: the scene, and the position that the last meeting there
+-- found, or 0
 pub record Sight : Type 0 where
   pub scene : BumpScene
   pub met : ℕ
 
+-- the knowledge of a seat with this scene and this last meeting
 abbrev pub sight : BumpScene → ℕ → Sight
 sight scene met = record { scene = scene; met = met }
 
+-- the view of a seat of a shared bump
 abbrev pub SeatView : Type 0
 SeatView = View Sight BumpEntry
 
+-- the scene that a seat knows
 abbrev pub scene_of : SeatView → BumpScene
 scene_of view = view.scene.scene
 
+-- the position that the last meeting at a seat found, or 0
 abbrev pub met_by : SeatView → ℕ
 met_by view = view.scene.met
 
--- the party of a seat in the table
+-- the party at a seat of this table, by its number and the seat's view
 abbrev pub party_in : TableId → ℕ → SeatView → BumpParty
 party_in table number view = record {
   allocator = record { table = table; scene = scene_of view };
@@ -51,37 +53,43 @@ party_in table number view = record {
   met = met_by view;
 }
 
--- The seat stands for this party alone. Some interleaving has its log and leaves what the party has seen, and some one leaves its
--- floor.
+-- The seat stands only for this party. Some interleaving of the party's log leaves what it has
+-- seen, and some interleaving of the log leaves its floor.
 pub record IsSeatOf (scene : BumpScene) (number : ℕ) (log : BumpLog) (me : Me ℕ SeatView) : Type 0 where
   pub is : me ≡ (alone (sight scene (met_by me.0)) number log, [])
   pub interleaved : Interleaving scene number log (seen_in scene log)
   pub reached : Interleaving scene number log (max (seen_in scene log) (met_by me.0))
 
+-- the seat of this party, which is in no call
 pub record IsSeatOfIdle (scene : BumpScene) (number : ℕ) (log : BumpLog) (me : Me ℕ SeatView) : Type 0 where
   pub seat : IsSeatOf scene number log me
   pub idle : call_in log ≡ None
 
+-- the seat of a party of a shared bump that is in no call: its number is below the number of
+-- parties, and no meeting found more than the region's size
 pub record IsPartySeat (number : ℕ) (me : Me ℕ SeatView) : Type 0 where
   pub seat : IsSeatOfIdle (scene_of me.0) number (view_log me.0) me
   pub below : number < (scene_of me.0).parties
   pub shared : IsSharedScene (scene_of me.0)
   pub met : met_by me.0 ≤ (scene_of me.0).region.size
 
--- at a bump's table: the seat of one party, of an idle one, and of any number of parties
+-- a seat at this bump's table that stands for one party
 abbrev pub IsSeatAt : SharedBump → TableId → Me ℕ SeatView → Type 0
 IsSeatAt bump here me = IsAt bump.table here (IsSeatOf bump.scene (number_of me.0) (view_log me.0) me)
 
+-- a seat at this bump's table that stands for one party, which is in no call
 abbrev pub IsIdleAt : SharedBump → TableId → Me ℕ SeatView → Type 0
 IsIdleAt bump here me = IsAt bump.table here (IsSeatOfIdle bump.scene (number_of me.0) (view_log me.0) me)
 
+-- a seat at this bump's table that stands for any number of parties
 abbrev pub StandsAt : SharedBump → TableId → Me ℕ SeatView → Type 0
 StandsAt bump here me = IsAt bump.table here (me ≡ (standing_for (sight bump.scene (met_by me.0)) me.0.parties, []))
 
 -- THE RULE
 
--- Words and logs agree: there is a log for each party, with which the machine's position agrees that the word has. Each party
--- stands in exactly one view, with its log; a dropped party's view stays. No meeting has found more than the position.
+-- The rule of the word: words and logs agree. There is a log for each party, and these logs agree
+-- with the position that the word has. Each party is in exactly one view, with its log; the view of
+-- a party that was dropped stays. No meeting has found more than the position.
 pub record WordsAndLogsAgree (scene : BumpScene) (state : State ℕ SeatView) : Type 0 where
   pub position : ℕ
   pub logs : List BumpLog
@@ -92,11 +100,12 @@ pub record WordsAndLogsAgree (scene : BumpScene) (state : State ℕ SeatView) : 
   pub seated : AreSeated scene.parties logs state.views
   pub met : (seat : ℕ) (view : SeatView) → get_elem? state.views seat ≡ some view → met_by view ≤ position
 
+-- the table has one word, and no slot
 pub record HasOneWord (table : TableId) : Type 0 where
   pub words : table.words ≡ 1
   pub slots : table.slots ≡ 0
 
--- the scene is over the region, and its opening is in it
+-- the scene is over this region, its opening is in the region, and it has a party
 pub record IsSharedBump (scene : BumpScene) (start size : ℕ) : Type 0 where
   pub region : scene.region ≡ region_at start size
   pub is_region : IsRegion (region_at start size)
@@ -104,14 +113,16 @@ pub record IsSharedBump (scene : BumpScene) (start size : ℕ) : Type 0 where
 
 -- DEALING AND MEETING
 
--- the view of the first seat, which stands for all parties
+-- the view of the first seat, which stands for all parties before they are dealt out
 abbrev pub all_parties : BumpScene → SeatView
 all_parties scene = standing_for (sight scene 0) (fresh_from 0 scene.parties)
 
+-- a view of no party, over an empty region
 abbrev pub nobody : SeatView
 nobody = standing_for (sight (scene_at (region_at 0 0) 0 0) 0) []
 
--- the view of the parties of a guest and of a view, which knows what the last meeting of either found
+-- the view of a seat that took over a guest's parties, and of its last meetings knows the greater
+-- position
 abbrev pub merged : SeatView → SeatView → SeatView
 merged view guest = standing_for (sight (scene_of view) (max (met_by view) (met_by guest))) (guest.parties ++ view.parties)
 
@@ -121,8 +132,9 @@ meeting_of position view = standing_for (sight (scene_of view) position) view.pa
 
 -- STEPS
 
--- A step of a party found this position: at least what the party had seen and what its last meeting had found, and at most the
--- size; and exactly what it had seen where it is the only party. Its log then has the step, with this outcome.
+-- A party's step found this position: at least what the party had seen, at least what its last
+-- meeting had found, and at most the region's size. If the bump has no other party, it is exactly
+-- what the party had seen. The party's log then ends with the step and this outcome.
 pub record AfterStep (scene : BumpScene) (number : ℕ) (log : BumpLog) (met : ℕ) (step : BumpStep)
     (outcome : BumpOutcome) (found : ℕ) (new : Me ℕ SeatView) : Type 0 where
   pub seat : IsSeatOf scene number (log ++ entry_of step outcome ∷ []) new
@@ -132,20 +144,23 @@ pub record AfterStep (scene : BumpScene) (number : ℕ) (log : BumpLog) (met : �
   pub within : found ≤ scene.region.size
   pub exact : scene.parties ≡ 1 → found ≡ seen_in scene log
 
+-- a party's read for this layout, which found this position
 abbrev pub AfterRead : BumpScene → ℕ → BumpLog → ℕ → Layout → ℕ → Me ℕ SeatView → Type 0
 AfterRead scene number log met layout found new =
     AfterStep scene number log met (Read number layout) (read_move scene.region found layout).outcome found new
 
--- the exchange of the call that the party is in
+-- a party's exchange for the call that it is in, which found this position
 abbrev pub AfterExchange : BumpScene → ℕ → BumpLog → ℕ → ℕ → Me ℕ SeatView → Type 0
 AfterExchange scene number log met found new = (call : OngoingCall) → call_in log ≡ Some call → AfterStep scene number log met
     (Exchange number) (exchange_move scene.region found call).outcome found new
 
+-- a party's load, which found this position
 abbrev pub AfterLoad : BumpScene → ℕ → BumpLog → ℕ → ℕ → Me ℕ SeatView → Type 0
 AfterLoad scene number log met found new = AfterStep scene number log met (Load number) (Loaded found) found new
 
--- A load by a seat that stands for these parties found this position: at least what the last meetings had found, and at most the
--- size. There is a log for each of the bump's parties, with which it agrees, and theirs are among them; no two are one.
+-- A load by a seat that stands for these parties found this position: at least what the last
+-- meetings had found, and at most the region's size. Some logs, one for each of the bump's parties,
+-- agree with it, and the logs of these parties are among them. No party is there twice.
 pub record AfterMeetingLoad (scene : BumpScene) (parties : List NumberedLog) (met found : ℕ) : Type 0 where
   pub above : met ≤ found
   pub within : found ≤ scene.region.size
@@ -156,8 +171,8 @@ pub record AfterMeetingLoad (scene : BumpScene) (parties : List NumberedLog) (me
   pub theirs : HaveLogs scene.parties logs parties
   pub once : (number : ℕ) → number < scene.parties → times_in number parties ≤ 1
 
--- after a meeting of two: they are different ones, no chunk of the one overlaps one of the other, and one interleaving has
--- both logs, which leaves the position
+-- Two parties met, and found this position. They are different ones, no chunk of one overlaps a
+-- chunk of the other, and some interleaving of both logs leaves the position.
 pub record AfterMeeting (scene : BumpScene) (number : ℕ) (log : BumpLog) (other : ℕ) (other_log : BumpLog) (found : ℕ) : Type 0
   where
     pub differ : number ≢ other
@@ -167,33 +182,36 @@ pub record AfterMeeting (scene : BumpScene) (number : ℕ) (log : BumpLog) (othe
     pub within : found ≤ scene.region.size
     pub chunks : HasChunksWithin scene.region log found × HasChunksWithin scene.region other_log found
 
--- the steps as the table knows them
+-- a read of this layout, as the table knows the step
 abbrev pub reads : Option Layout → Step ℕ → Me ℕ SeatView → ℕ → Me ℕ SeatView → Type 0
 reads (Some layout) step old found new =
     AfterRead (scene_of old.0) (number_of old.0) (view_log old.0) (met_by old.0) layout found new
 reads None step old found new = Unit {0}
 
+-- an exchange, as the table knows the step
 abbrev pub exchanges : Step ℕ → Me ℕ SeatView → ℕ → Me ℕ SeatView → Type 0
 exchanges step old found new = AfterExchange (scene_of old.0) (number_of old.0) (view_log old.0) (met_by old.0) found new
 
+-- a load, as the table knows the step
 abbrev pub loads : Step ℕ → Me ℕ SeatView → ℕ → Me ℕ SeatView → Type 0
 loads step old found new = AfterLoad (scene_of old.0) (number_of old.0) (view_log old.0) (met_by old.0) found new
 
--- a load by a seat that stands for any number of parties
+-- a load by a seat that stands for any number of parties, as the table knows the step
 abbrev pub meets : Step ℕ → Me ℕ SeatView → ℕ → Me ℕ SeatView → Type 0
 meets step old found new =
     (new ≡ (meeting_of found old.0, old.1)) × AfterMeetingLoad (scene_of old.0) old.0.parties (met_by old.0) found
 
 -- REQUESTS
 
--- the party of a seat may ask for this layout: it is idle, and the size isn't 0. The step has the layout in its type
+-- The party of this seat may begin a request for this layout: it is in no call, and the size isn't
+-- 0. The step has the layout in its type.
 pub record MayAsk (bump : SharedBump) (here : TableId) (me : Me ℕ SeatView) (asked : Option Layout) (layout : Layout)
     : Type 0 where
   pub seat : IsIdleAt bump here me
   pub asks : 0 < layout.size
   pub told : asked ≡ Some layout
 
--- the chunk of this layout at a position, where it fits
+-- the chunk that this layout gets at this position, at which it fits
 pub record IsFor (region : Region) (position : ℕ) (layout : Layout) (chunk : Chunk) : Type 0 where
   pub fitting : fits region position layout ≡ true
   pub placed : chunk ≡ chunk_at region position layout
@@ -201,20 +219,22 @@ pub record IsFor (region : Region) (position : ℕ) (layout : Layout) (chunk : C
   pub inside : IsInside region chunk
   pub above : region.start + position ≤ chunk.place
 
--- the positions and losses of entries that were added to a log
+-- The entries that were added to a log: each of their positions is at least the party's floor and
+-- at most the region's size, and at most as many exchanges were lost as the region has bytes.
 pub record IsCounted (scene : BumpScene) (log : BumpLog) (met : ℕ) (added : BumpLog) : Type 0 where
   pub seen : All (HasPositionFrom (max (seen_in scene log) met) scene.region) added
   pub within : All (HasPositionUpTo scene.region.size scene.region) added
   pub losses : losses_in added ≤ scene.region.size
 
+-- a call that added these entries to the party's log has ended, and the party is in no call
 pub record AfterCall (scene : BumpScene) (number : ℕ) (log : BumpLog) (met : ℕ) (added : BumpLog)
     (new : Me ℕ SeatView) : Type 0 where
   pub seat : IsSeatOfIdle scene number (log ++ added) new
   pub unchanged : met_by new.0 ≡ met
   pub counted : IsCounted scene log met added
 
--- a request that won this chunk, which lies behind the party's floor; where the party is the only one, it is the one at what it
--- had seen
+-- A request won this chunk, which begins at the party's floor or after it. If the bump has no other
+-- party, the chunk is the one that the layout gets at what the party had seen.
 pub record AfterWin (scene : BumpScene) (number : ℕ) (log : BumpLog) (met : ℕ) (layout : Layout)
     (new : Me ℕ SeatView) (chunk : Chunk) : Type 0 where
   pub added : BumpLog
@@ -225,7 +245,8 @@ pub record AfterWin (scene : BumpScene) (number : ℕ) (log : BumpLog) (met : �
   pub below : chunk_end chunk ≤ region_end scene.region
   pub alone : scene.parties ≡ 1 → chunk ≡ chunk_at scene.region (seen_in scene log) layout
 
--- a refused request; where the party is the only one, the layout doesn't fit at what it had seen
+-- A request was refused. If the bump has no other party, the layout doesn't fit at what the party
+-- had seen.
 pub record AfterRefusal (scene : BumpScene) (number : ℕ) (log : BumpLog) (met : ℕ)
     (layout : Layout) (new : Me ℕ SeatView) : Type 0 where
   pub added : BumpLog

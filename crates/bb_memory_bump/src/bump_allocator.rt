@@ -1,13 +1,12 @@
 //! An allocator that gives one chunk after another, and takes all of them back at once.
-ghost use Rattle.std.specs.Prelude.{◌≡◌, [], List, All, ◌+◌, ◌<◌, ◌≤◌, ◌%◌, ◌↔◌, ℕ, IfOk, IfErr, IsTrue, Ok, Some, length};
-ghost use Rattle.std.specs.Prelude.{slice_get, ◌-◌, true};
-ghost use Rattle.bb_memory_traits.specs.Chunk.{Region, IsRegion, region_at, Chunk, IsInside, chunk_end};
-ghost use Rattle.bb_memory_bump.specs.Bump.{Layout, AllocationError, OutOfMemory, Bump, Frees, Takes, bump_of, IsBump, bump_text};
+ghost use Rattle.bb_memory_bump.specs.Bump.{AllocationError, Bump, Frees, IsBump, Layout, OutOfMemory, Takes, bump_of, bump_text};
+ghost use Rattle.bb_memory_bump.specs.SharedBump.{fresh_party, scene_at};
+ghost use Rattle.bb_memory_traits.specs.BumpObject.{IsInOrder, MayAllocate, StandsFor, bump_object, used_space};
+ghost use Rattle.bb_memory_traits.specs.Chunk.{Chunk, IsInside, IsRegion, Region, chunk_end, region_at};
 ghost use Rattle.bb_memory_traits.specs.Object.{AnswersAll, AnswersOnce, GivesOnly, IsRun, Step};
 ghost use Rattle.bb_memory_traits.specs.declared.allocator.Command.{Command};
 ghost use Rattle.bb_memory_traits.specs.declared.allocator.Reply.{Reply};
-ghost use Rattle.bb_memory_traits.specs.BumpObject.{MayAllocate, IsInOrder, StandsFor, bump_object, used_space};
-ghost use Rattle.bb_memory_bump.specs.SharedBump.{fresh_party, scene_at};
+ghost use Rattle.std.specs.Prelude.{All, IfErr, IfOk, IsTrue, List, Ok, Some, [], length, slice_get, true, ℕ, ◌%◌, ◌+◌, ◌-◌, ◌<◌, ◌↔◌, ◌≡◌, ◌≤◌};
 
 use crate::shared_bump::{BumpParty, SharedBumpAllocator};
 pub use bb_memory_traits::allocator::{AllocationError, BaseAllocator};

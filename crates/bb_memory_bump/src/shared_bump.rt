@@ -1,16 +1,11 @@
 //! The bump that threads share: its word is the position, and each thread steps with a party of its own.
-ghost use Rattle.std.specs.Prelude.{◌≡◌, ◌≢◌, ◌+◌, ◌-◌, ◌≤◌, ◌%◌, ◌∷◌, ◌++◌, [], List, All, IfOk};
-ghost use Rattle.std.specs.Prelude.{ℕ, OnErr, Some, length, slice_get, Contains};
-ghost use Rattle.bb_memory_traits.specs.Chunk.{IsRegion, region_at, AreApart, Chunk, IsInside, IsSound};
-ghost use Rattle.bb_memory_traits.specs.BumpObject.{StandsFor};
-ghost use Rattle.bb_memory_bump_machine.specs.BumpLogs.{BumpLog, chunks_won, history_of, losses_in, Interleaving};
-ghost use Rattle.bb_memory_bump_machine.specs.BumpLogs.{IsCallRun, OpensWith, calls_of, live_after};
-ghost use Rattle.bb_memory_bump.specs.SharedBump.{AgreeAt, AreBothOf, AreFresh, AreInterleaved, BumpParty, HasChunksWithin};
-ghost use Rattle.bb_memory_bump.specs.SharedBump.{HaveChunksApart, HasLoaded, HaveMet, IsAnsweredAt, IsFoundBy, IsInterleaved};
-ghost use Rattle.bb_memory_bump.specs.SharedBump.{IsParty, IsSameParty, IsSharedScene, MayTake, MeetAt, floor_of, greatest_seen};
-ghost use Rattle.bb_memory_bump.specs.SharedBump.{meeting_at, scene_at, seen_by, with_entries, SharedBump};
-ghost use Rattle.bb_memory_bump.specs.SharedBumpRule.{all_parties, IsSharedBump};
+ghost use Rattle.bb_memory_bump.specs.SharedBump.{AgreeAt, AreBothOf, AreFresh, AreInterleaved, BumpParty, HasChunksWithin, HasLoaded, HaveChunksApart, HaveMet, IsAnsweredAt, IsFoundBy, IsInterleaved, IsParty, IsSameParty, IsSharedScene, MayTake, MeetAt, SharedBump, floor_of, greatest_seen, meeting_at, scene_at, seen_by, with_entries};
+ghost use Rattle.bb_memory_bump.specs.SharedBumpRule.{IsSharedBump, all_parties};
+ghost use Rattle.bb_memory_bump_machine.specs.BumpLogs.{BumpLog, Interleaving, IsCallRun, OpensWith, calls_of, chunks_won, history_of, live_after, losses_in};
 ghost use Rattle.bb_memory_seats.specs.Seats.{HasRoomFor};
+ghost use Rattle.bb_memory_traits.specs.BumpObject.{StandsFor};
+ghost use Rattle.bb_memory_traits.specs.Chunk.{AreApart, Chunk, IsInside, IsRegion, IsSound, region_at};
+ghost use Rattle.std.specs.Prelude.{All, Contains, IfOk, List, OnErr, Some, [], length, slice_get, ℕ, ◌%◌, ◌++◌, ◌+◌, ◌-◌, ◌∷◌, ◌≡◌, ◌≢◌, ◌≤◌};
 
 mod all_parties;
 mod meeting;
@@ -140,7 +135,7 @@ impl SharedBumpAllocator {
         }
     }
 
-    /// Two parties meet: no chunk of the one overlaps one of the other. It loads a word four times, which is in no log. What it
+    /// Two parties meet: no chunk of the one overlaps one of the other. It loads a word, which is in no log. What it
     /// finds raises the floor of both, and nothing else changes. The parties have to be this bump's.
     pub fn meet(&self, a: &mut BumpParty, b: &mut BumpParty)
         requires parties { AreBothOf self.now a.old b.old }
@@ -162,7 +157,7 @@ impl SharedBumpAllocator {
     /// All these parties meet: no chunk of one overlaps a chunk of another. One interleaving has all their logs, and leaves the
     /// position that the meeting finds. Where these are all the bump's parties, it has no other steps, and the position is the
     /// greatest that one of them has seen. The position found raises the floor of each, and nothing else changes. The meeting
-    /// loads a word once, and two times more for each party but one, which is in no log. The parties have to be this bump's.
+    /// loads a word, which is in no log. The parties have to be this bump's.
     pub fn meet_all(&self, parties: &mut Vec<BumpParty>)
         requires parties { All (λ party. party.allocator ≡ self.now) parties.old.items }
         ensures met { HaveMet self.now.scene parties.old.items parties.new.items }

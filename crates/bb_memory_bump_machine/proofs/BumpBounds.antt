@@ -1,14 +1,13 @@
 -- Positions under clears, and longer logs.
-use Rattle.std.proofs.Common.{◌≡◌, ℕ, ◌≤◌, List, [], ◌∷◌, ◌++◌, refl, sym, ap, ◌∙◌, arith, Option}
+use Rattle.bb_memory_bump_machine.proofs.BumpRuns.{chunk_at-above}
+use Rattle.bb_memory_bump_machine.proofs.BumpStretches.{healthy_after}
+use Rattle.bb_memory_bump_machine.specs.BumpLogs.{BumpLog, call_after, call_through, chunks_won, greater_of, greatest_in, position_in, won_at}
+use Rattle.bb_memory_bump_machine.specs.BumpMachine.{BumpScene, BumpStep, IsInCall, OngoingCall, chunk_at, left_by}
+use Rattle.bb_memory_traits.specs.Chunk.{Chunk, Region, chunk_end, region_end}
+use Rattle.std.proofs.Common.{List, Option, [], ap, arith, refl, sym, ℕ, ◌++◌, ◌∙◌, ◌∷◌, ◌≡◌, ◌≤◌}
 use Rattle.std.proofs.lemmas.Bool.{leb-true}
 use Rattle.std.proofs.lemmas.List.{append_assoc}
 use Rattle.std.proofs.lemmas.List.Sums.{fold-append}
-use Rattle.bb_memory_traits.specs.Chunk.{Region, region_end, Chunk, chunk_end}
-use Rattle.bb_memory_bump_machine.specs.BumpMachine.{BumpStep, BumpScene, OngoingCall, IsInCall, chunk_at, left_by}
-use Rattle.bb_memory_bump_machine.specs.BumpLogs.{BumpLog, won_at, chunks_won, call_after, call_through, greatest_in, greater_of}
-use Rattle.bb_memory_bump_machine.specs.BumpLogs.{position_in}
-use Rattle.bb_memory_bump_machine.proofs.BumpRuns.{chunk_at-above}
-use Rattle.bb_memory_bump_machine.proofs.BumpStretches.{healthy_after}
 
 pub seen_in_size : (scene : BumpScene) (steps : List BumpStep) (party : ℕ) (call : OngoingCall) →
     scene.opening ≤ scene.region.size → IsInCall (left_by scene steps) party call → call.seen ≤ scene.region.size

@@ -1,24 +1,17 @@
 -- A party's log says what the party is in, and a step adds to it alone.
-use Rattle.std.proofs.Common.{◌≡◌, ℕ, ◌<◌, List, [], ◌∷◌, ◌++◌, refl, sym, ap, ◌∙◌, subst, arith, Bool, true, false, Option}
-use Rattle.std.proofs.Common.{Some, None}
-use Rattle.std.specs.Prelude.{slice_get, ◌==◌, if◌then◌else◌}
-use Rattle.std.specs.List.{All}
+use Rattle.bb_memory_bump_machine.proofs.BumpAllowed.{none_allowed}
+use Rattle.bb_memory_bump_machine.proofs.BumpSteps.{ExchangeView, ReadView, StepView, exchange_move_view, exchanges, loses, others_stay, read_move_view, reads, refuses_loss, refuses_read, sees, step_view, wins, written}
+use Rattle.bb_memory_bump_machine.specs.BumpLogs.{AllAllowed, BumpEntry, BumpLog, HasLog, IsAllowed, LogsAgree, bump_history, call_after, call_in, call_through, entries_by, entry_at, entry_of, history_of, is_by, log_of, with_entry}
+use Rattle.bb_memory_bump_machine.specs.BumpMachine.{BumpMove, BumpScene, BumpState, BumpStep, Exchange, Layout, Load, Loaded, OngoingCall, PartyMove, Read, bump_after, bump_step, exchange, exchange_move, left_by, load, moved, opening_state, passed, read, read_move}
+use Rattle.bb_memory_lists.proofs.Logs.{logs-push}
+use Rattle.bb_memory_lists.proofs.SliceGets.{slice_get-replicate}
+use Rattle.bb_memory_traits.specs.Chunk.{Region}
+use Rattle.std.proofs.Common.{Bool, List, None, Option, Some, [], ap, arith, false, refl, subst, sym, true, ℕ, ◌++◌, ◌<◌, ◌∙◌, ◌∷◌, ◌≡◌}
 use Rattle.std.proofs.lemmas.Bool.{eq-eqb, ne_eqb}
 use Rattle.std.proofs.lemmas.List.Elements.{All-push}
-use Rattle.std.proofs.lemmas.Option.{slice_get_within, get_or_from_slice_get}
-use Rattle.bb_memory_traits.specs.Chunk.{Region}
-use Rattle.bb_memory_bump_machine.specs.BumpMachine.{Layout, OngoingCall, BumpState, BumpMove, PartyMove, BumpScene}
-use Rattle.bb_memory_bump_machine.specs.BumpMachine.{opening_state, read_move, exchange_move, passed, moved, read, exchange, load}
-use Rattle.bb_memory_bump_machine.specs.BumpMachine.{bump_step, bump_after, left_by, BumpStep, Read, Exchange, Load, Loaded}
-use Rattle.bb_memory_bump_machine.specs.BumpLogs.{BumpEntry, BumpLog, entry_of, entry_at, bump_history, history_of, is_by}
-use Rattle.bb_memory_bump_machine.specs.BumpLogs.{entries_by, log_of, call_after, call_through, call_in, IsAllowed}
-use Rattle.bb_memory_bump_machine.specs.BumpLogs.{AllAllowed, HasLog, LogsAgree, with_entry}
-use Rattle.bb_memory_lists.proofs.SliceGets.{slice_get-replicate}
-use Rattle.bb_memory_lists.proofs.Logs.{logs-push}
-use Rattle.bb_memory_bump_machine.proofs.BumpAllowed.{none_allowed}
-use Rattle.bb_memory_bump_machine.proofs.BumpSteps.{StepView, ReadView, ExchangeView, step_view, read_move_view}
-use Rattle.bb_memory_bump_machine.proofs.BumpSteps.{exchange_move_view, reads, sees, refuses_read, exchanges, wins, loses}
-use Rattle.bb_memory_bump_machine.proofs.BumpSteps.{refuses_loss, others_stay, written}
+use Rattle.std.proofs.lemmas.Option.{get_or_from_slice_get, slice_get_within}
+use Rattle.std.specs.List.{All}
+use Rattle.std.specs.Prelude.{if◌then◌else◌, slice_get, ◌==◌}
 
 -- THE CALL OF A PARTY
 

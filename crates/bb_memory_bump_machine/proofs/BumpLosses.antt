@@ -1,22 +1,16 @@
 -- How often a party loses while no clear comes.
-use Rattle.std.proofs.Common.{◌≡◌, ◌≢◌, ℕ, ◌+◌, ◌<◌, ◌≤◌, List, [], ◌∷◌, ◌++◌, refl, sym, ap, ◌∙◌, subst, arith, Bool, true}
-use Rattle.std.proofs.Common.{false, Some, None}
-use Rattle.std.specs.Prelude.{if◌then◌else◌, count_by}
-use Rattle.std.proofs.lemmas.Bool.{eqb-true, eq-eqb}
+use Rattle.bb_memory_bump_machine.proofs.BumpRuns.{bump_after-append, chunk_at-above}
+use Rattle.bb_memory_bump_machine.proofs.BumpSteps.{ExchangeView, StepView, clears, each_call-set, exchanges, loads, loses, one_there, others_stay, passes, reads, refuses_loss, refuses_read, sees, step_view, wins, written}
+use Rattle.bb_memory_bump_machine.proofs.BumpStretches.{IsClear, not_clear, position_in_size, stretch_rises}
+use Rattle.bb_memory_bump_machine.specs.BumpLogs.{BumpEntry, BumpLog, HasNoClear, IsLossAt, bump_history, calls_begun_in, entries_by, is_beginning, is_by, is_loss, losses_in, outcome_after, stretch_after}
+use Rattle.bb_memory_bump_machine.specs.BumpMachine.{BumpMove, BumpOutcome, BumpScene, BumpState, BumpStep, Exchange, IsIdle, IsInCall, OngoingCall, PartyMove, bump_after, bump_step, left_by, moved, opening_state}
+use Rattle.bb_memory_lists.proofs.SliceGets.{slice_get-set_same}
+use Rattle.bb_memory_traits.specs.Chunk.{Region}
+use Rattle.std.proofs.Common.{Bool, List, None, Some, [], ap, arith, false, refl, subst, sym, true, ℕ, ◌++◌, ◌+◌, ◌<◌, ◌∙◌, ◌∷◌, ◌≡◌, ◌≢◌, ◌≤◌}
+use Rattle.std.proofs.lemmas.Bool.{eq-eqb, eqb-true}
 use Rattle.std.proofs.lemmas.List.Sums.{sum_by-cons}
 use Rattle.std.proofs.lemmas.Option.{same_Some}
-use Rattle.bb_memory_traits.specs.Chunk.{Region}
-use Rattle.bb_memory_bump_machine.specs.BumpMachine.{OngoingCall, BumpState, BumpMove, PartyMove, BumpScene, IsIdle, IsInCall}
-use Rattle.bb_memory_bump_machine.specs.BumpMachine.{opening_state, bump_step, bump_after, left_by, moved, BumpStep, BumpOutcome}
-use Rattle.bb_memory_bump_machine.specs.BumpMachine.{Exchange}
-use Rattle.bb_memory_bump_machine.specs.BumpLogs.{BumpEntry, BumpLog, bump_history, stretch_after, outcome_after, entries_by}
-use Rattle.bb_memory_bump_machine.specs.BumpLogs.{is_by, HasNoClear, is_loss, is_beginning, IsLossAt, losses_in, calls_begun_in}
-use Rattle.bb_memory_lists.proofs.SliceGets.{slice_get-set_same}
-use Rattle.bb_memory_bump_machine.proofs.BumpSteps.{StepView, ExchangeView, step_view, reads, sees, refuses_read, exchanges, wins}
-use Rattle.bb_memory_bump_machine.proofs.BumpSteps.{loses, refuses_loss, loads, clears, passes, others_stay, written}
-use Rattle.bb_memory_bump_machine.proofs.BumpSteps.{each_call-set, one_there}
-use Rattle.bb_memory_bump_machine.proofs.BumpRuns.{bump_after-append, chunk_at-above}
-use Rattle.bb_memory_bump_machine.proofs.BumpStretches.{IsClear, not_clear, position_in_size, stretch_rises}
+use Rattle.std.specs.Prelude.{count_by, if◌then◌else◌}
 
 -- WHAT A CALL HAS SEEN
 

@@ -1,18 +1,17 @@
 -- Two parties, by their logs: their chunks are apart.
-use Rattle.std.proofs.Common.{◌≡◌, ◌≢◌, ℕ, ◌≤◌, List, [], ◌∷◌, ◌++◌, refl, sym, ◌∙◌, subst, arith, Bool, true, false, true≢false}
-use Rattle.std.specs.Prelude.{if◌then◌else◌}
-use Rattle.std.specs.List.{All}
-use Rattle.std.proofs.lemmas.List.Elements.{All-append, All-cons, All-from_recursion, All-head, All-nil, All-tail}
-use Rattle.bb_memory_traits.specs.Chunk.{Chunk, chunk_end, AreApart}
-use Rattle.bb_memory_traits.specs.BumpObject.{end_of_last, IsInOrder, StandsFor}
-use Rattle.bb_memory_bump_machine.specs.BumpMachine.{BumpScene, BumpStep, left_by, opening_state}
-use Rattle.bb_memory_bump_machine.specs.BumpLogs.{BumpEntry, BumpLog, history_of, is_by, entries_by, won_at, chunks_won, HasLog}
-use Rattle.bb_memory_bump_machine.specs.BumpLogs.{LogsAgree, CommonInterleaving, AllAllowed, OpensWith}
-use Rattle.bb_memory_traits.proofs.LiveLists.{all_above, all_end_by, in_order-front, in_order-rest, stands_for_some}
-use Rattle.bb_memory_bump_machine.proofs.BumpRuns.{fitting_at_opening}
-use Rattle.bb_memory_bump_machine.proofs.BumpStretches.{stretch_stands}
 use Rattle.bb_memory_bump_machine.proofs.BumpAllowed.{no_clear_when_allowed, not_by}
 use Rattle.bb_memory_bump_machine.proofs.BumpPositions.{both_interleaved}
+use Rattle.bb_memory_bump_machine.proofs.BumpRuns.{fitting_at_opening}
+use Rattle.bb_memory_bump_machine.proofs.BumpStretches.{stretch_stands}
+use Rattle.bb_memory_bump_machine.specs.BumpLogs.{AllAllowed, BumpEntry, BumpLog, CommonInterleaving, HasLog, LogsAgree, OpensWith, chunks_won, entries_by, history_of, is_by, won_at}
+use Rattle.bb_memory_bump_machine.specs.BumpMachine.{BumpScene, BumpStep, left_by, opening_state}
+use Rattle.bb_memory_traits.proofs.LiveLists.{all_above, all_end_by, in_order-front, in_order-rest, stands_for_some}
+use Rattle.bb_memory_traits.specs.BumpObject.{IsInOrder, StandsFor, end_of_last}
+use Rattle.bb_memory_traits.specs.Chunk.{AreApart, Chunk, chunk_end}
+use Rattle.std.proofs.Common.{Bool, List, [], arith, false, refl, subst, sym, true, true≢false, ℕ, ◌++◌, ◌∙◌, ◌∷◌, ◌≡◌, ◌≢◌, ◌≤◌}
+use Rattle.std.proofs.lemmas.List.Elements.{All-append, All-cons, All-from_recursion, All-head, All-nil, All-tail}
+use Rattle.std.specs.List.{All}
+use Rattle.std.specs.Prelude.{if◌then◌else◌}
 
 -- FACTS OF EACH CHUNK
 

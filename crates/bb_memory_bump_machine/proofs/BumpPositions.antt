@@ -1,19 +1,16 @@
 -- The position, by a log.
-use Rattle.std.proofs.Common.{◌≡◌, ℕ, ◌≤◌, List, [], ◌∷◌, subst, arith, Option, Some, None}
-use Rattle.std.specs.Prelude.{IfSome}
-use Rattle.std.specs.List.{All, AllByRecursion}
-use Rattle.std.proofs.lemmas.List.Elements.{All-filter, All-from_recursion, recursion_from_All}
-use Rattle.bb_memory_traits.specs.Chunk.{Region, Chunk}
-use Rattle.bb_memory_traits.specs.BumpObject.{StandsFor}
-use Rattle.bb_memory_bump_machine.specs.BumpMachine.{BumpState, BumpMove, BumpScene, opening_state}
-use Rattle.bb_memory_bump_machine.specs.BumpMachine.{bump_step, bump_after, left_by, BumpStep}
-use Rattle.bb_memory_bump_machine.specs.BumpLogs.{BumpEntry, BumpLog, bump_history, history_of, is_by, OpensWith, live_after}
-use Rattle.bb_memory_bump_machine.specs.BumpLogs.{IsAllowed, AllAllowed, HasLog, LogsAgree, Interleaving, CommonInterleaving}
-use Rattle.bb_memory_bump_machine.specs.BumpLogs.{HasPositionUpTo, position_in, greater_of, greatest_in, seen_in}
-use Rattle.bb_memory_bump_machine.proofs.BumpSteps.{StepView, step_view, reads, sees, exchanges, wins, clears, passes}
-use Rattle.bb_memory_bump_machine.proofs.BumpRuns.{chunk_at-above, calls_stand}
+use Rattle.bb_memory_bump_machine.proofs.BumpAllowed.{first_allowed, no_clear_when_allowed, rest_allowed}
+use Rattle.bb_memory_bump_machine.proofs.BumpRuns.{calls_stand, chunk_at-above}
+use Rattle.bb_memory_bump_machine.proofs.BumpSteps.{StepView, clears, exchanges, passes, reads, sees, step_view, wins}
 use Rattle.bb_memory_bump_machine.proofs.BumpStretches.{position_in_size, stretch_rises}
-use Rattle.bb_memory_bump_machine.proofs.BumpAllowed.{first_allowed, rest_allowed, no_clear_when_allowed}
+use Rattle.bb_memory_bump_machine.specs.BumpLogs.{AllAllowed, BumpEntry, BumpLog, CommonInterleaving, HasLog, HasPositionUpTo, Interleaving, IsAllowed, LogsAgree, OpensWith, bump_history, greater_of, greatest_in, history_of, is_by, live_after, position_in, seen_in}
+use Rattle.bb_memory_bump_machine.specs.BumpMachine.{BumpMove, BumpScene, BumpState, BumpStep, bump_after, bump_step, left_by, opening_state}
+use Rattle.bb_memory_traits.specs.BumpObject.{StandsFor}
+use Rattle.bb_memory_traits.specs.Chunk.{Chunk, Region}
+use Rattle.std.proofs.Common.{List, None, Option, Some, [], arith, subst, ℕ, ◌∷◌, ◌≡◌, ◌≤◌}
+use Rattle.std.proofs.lemmas.List.Elements.{All-filter, All-from_recursion, recursion_from_All}
+use Rattle.std.specs.List.{All, AllByRecursion}
+use Rattle.std.specs.Prelude.{IfSome}
 
 -- POSITIONS IN A LOG
 

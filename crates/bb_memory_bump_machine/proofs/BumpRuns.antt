@@ -1,21 +1,16 @@
 -- The calls that a list of steps decides are a run of the bump object.
-use Rattle.std.proofs.Common.{◌≡◌, ℕ, ◌+◌, ◌<◌, ◌≤◌, List, [], ◌∷◌, ◌++◌, append_assoc, refl, sym, ap, ◌∙◌, subst, arith, true}
-use Rattle.std.proofs.Common.{false, Option, Some, None, Ok, Err}
-use Rattle.std.proofs.lemmas.Bool.{leb-true, leb-false}
-use Rattle.bb_memory_traits.specs.Chunk.{Region, region_end, Chunk, chunk_end}
-use Rattle.bb_memory_bump_machine.specs.BumpMachine.{Layout, BumpState, BumpMove, BumpScene, AllFitting, chunk_at, fits}
-use Rattle.bb_memory_bump_machine.specs.BumpMachine.{position_behind, opening_state, bump_step, bump_after, left_by, BumpStep}
-use Rattle.bb_memory_bump_machine.specs.BumpMachine.{Wins, RefusedAtLoss}
-use Rattle.bb_memory_traits.specs.declared.allocator.AllocationError.TheVariants.{OutOfMemory}
-use Rattle.bb_memory_traits.specs.Object.{appended}
-use Rattle.bb_memory_traits.specs.BumpObject.{StandsFor, chunk_at_or_after, next_chunk, used_space}
-use Rattle.bb_memory_bump_machine.specs.BumpLogs.{BumpCall, Allocate, ClearAll, IsCallRun, left_by_calls, layout_in, asked_by}
-use Rattle.bb_memory_bump_machine.specs.BumpLogs.{decided, bump_calls, calls_of, calls_after, OpensWith, live_after}
-use Rattle.bb_memory_traits.proofs.LeastPlaces.{least_place-is}
-use Rattle.bb_memory_traits.proofs.LiveLists.{StandsFor-end, StandsFor-push, StandsFor-empty}
+use Rattle.bb_memory_bump_machine.proofs.BumpSteps.{StepView, all_fitting-step, clears, exchanges, reads, refuses_loss, refuses_read, step_view, wins}
+use Rattle.bb_memory_bump_machine.specs.BumpLogs.{Allocate, BumpCall, ClearAll, IsCallRun, OpensWith, asked_by, bump_calls, calls_after, calls_of, decided, layout_in, left_by_calls, live_after}
+use Rattle.bb_memory_bump_machine.specs.BumpMachine.{AllFitting, BumpMove, BumpScene, BumpState, BumpStep, Layout, RefusedAtLoss, Wins, bump_after, bump_step, chunk_at, fits, left_by, opening_state, position_behind}
 use Rattle.bb_memory_lists.proofs.SliceGets.{slice_get-replicated}
-use Rattle.bb_memory_bump_machine.proofs.BumpSteps.{StepView, step_view, reads, refuses_read, exchanges, wins, refuses_loss}
-use Rattle.bb_memory_bump_machine.proofs.BumpSteps.{clears, all_fitting-step}
+use Rattle.bb_memory_traits.proofs.LeastPlaces.{least_place-is}
+use Rattle.bb_memory_traits.proofs.LiveLists.{StandsFor-empty, StandsFor-end, StandsFor-push}
+use Rattle.bb_memory_traits.specs.BumpObject.{StandsFor, chunk_at_or_after, next_chunk, used_space}
+use Rattle.bb_memory_traits.specs.Chunk.{Chunk, Region, chunk_end, region_end}
+use Rattle.bb_memory_traits.specs.Object.{appended}
+use Rattle.bb_memory_traits.specs.declared.allocator.AllocationError.TheVariants.{OutOfMemory}
+use Rattle.std.proofs.Common.{Err, List, None, Ok, Option, Some, [], ap, append_assoc, arith, false, refl, subst, sym, true, ℕ, ◌++◌, ◌+◌, ◌<◌, ◌∙◌, ◌∷◌, ◌≡◌, ◌≤◌}
+use Rattle.std.proofs.lemmas.Bool.{leb-false, leb-true}
 
 -- CALLS ONE AFTER ANOTHER
 

@@ -1,16 +1,12 @@
 -- Steps of the bump machine, case by case.
-use Rattle.std.proofs.Common.{◌≡◌, ◌≢◌, ℕ, ◌<◌, List, refl, sym, ap, ◌∙◌, arith, Bool, true, false, Option, Some, None}
-use Rattle.std.specs.Prelude.{slice_get, slice_set, ◌==◌, if◌then◌else◌, IfSome}
-use Rattle.std.proofs.lemmas.Bool.{eqb-true, eqb-false}
-use Rattle.std.proofs.lemmas.Option.{same_Some}
-use Rattle.bb_memory_traits.specs.Chunk.{Region}
-use Rattle.bb_memory_bump_machine.specs.BumpMachine.{Layout, OngoingCall, BumpState, BumpMove, PartyMove, IsIdle, IsInCall}
-use Rattle.bb_memory_bump_machine.specs.BumpMachine.{IsFitting, AllFitting, chunk_at, fits, position_behind, ending, seeing}
-use Rattle.bb_memory_bump_machine.specs.BumpMachine.{read_move, exchange_move, passed, moved, read, exchange, load, bump_step}
-use Rattle.bb_memory_bump_machine.specs.BumpMachine.{BumpStep, Read, Exchange, Load, Clear, Sees, RefusedAtRead, Wins, Loses}
-use Rattle.bb_memory_bump_machine.specs.BumpMachine.{RefusedAtLoss, Loaded, Cleared}
 use Rattle.bb_memory_bump_machine.specs.BumpLogs.{is_by}
+use Rattle.bb_memory_bump_machine.specs.BumpMachine.{AllFitting, BumpMove, BumpState, BumpStep, Clear, Cleared, Exchange, IsFitting, IsIdle, IsInCall, Layout, Load, Loaded, Loses, OngoingCall, PartyMove, Read, RefusedAtLoss, RefusedAtRead, Sees, Wins, bump_step, chunk_at, ending, exchange, exchange_move, fits, load, moved, passed, position_behind, read, read_move, seeing}
 use Rattle.bb_memory_lists.proofs.SliceGets.{slice_get-set, slice_get-set_other, slice_get-set_same}
+use Rattle.bb_memory_traits.specs.Chunk.{Region}
+use Rattle.std.proofs.Common.{Bool, List, None, Option, Some, ap, arith, false, refl, sym, true, ℕ, ◌<◌, ◌∙◌, ◌≡◌, ◌≢◌}
+use Rattle.std.proofs.lemmas.Bool.{eqb-false, eqb-true}
+use Rattle.std.proofs.lemmas.Option.{same_Some}
+use Rattle.std.specs.Prelude.{IfSome, if◌then◌else◌, slice_get, slice_set, ◌==◌}
 
 -- CASES
 

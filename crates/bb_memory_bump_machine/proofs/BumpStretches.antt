@@ -1,17 +1,12 @@
 -- Stretches of steps with no clear: the position rises, and the chunks won are a sound list.
-use Rattle.std.proofs.Common.{◌≡◌, ◌≤◌, List, [], ◌∷◌, ◌++◌, append_assoc, append-nil, sym, ap, ◌∙◌, subst, arith}
-use Rattle.bb_memory_traits.specs.Chunk.{Region, Chunk, IsSound}
-use Rattle.bb_memory_traits.specs.BumpObject.{end_of_last, StandsFor}
-use Rattle.bb_memory_bump_machine.specs.BumpMachine.{BumpState, BumpMove, BumpScene, AllFitting, chunk_at, opening_state}
-use Rattle.bb_memory_bump_machine.specs.BumpMachine.{bump_step, bump_after, left_by, BumpStep, Read, Exchange, Load, Clear, Wins}
-use Rattle.bb_memory_bump_machine.specs.BumpMachine.{RefusedAtLoss}
-use Rattle.bb_memory_bump_machine.specs.BumpLogs.{bump_history, HasNoClear, won_at, chunks_won, asked_by, bump_calls, decided}
-use Rattle.bb_memory_bump_machine.specs.BumpLogs.{layout_in, left_by_calls}
-use Rattle.bb_memory_traits.proofs.LiveLists.{end_of_last-above, end_of_last-append, in_order-rest, sound_from_order}
-use Rattle.bb_memory_traits.proofs.LiveLists.{stands_for_some, StandsFor-end, StandsFor-within}
-use Rattle.bb_memory_bump_machine.proofs.BumpSteps.{StepView, step_view, reads, sees, exchanges, wins, refuses_loss, clears}
-use Rattle.bb_memory_bump_machine.proofs.BumpRuns.{chunk_at-above, calls_stand, steps_make, fitting_after, fitting_at_opening}
-use Rattle.bb_memory_bump_machine.proofs.BumpRuns.{left_by_calls-append}
+use Rattle.bb_memory_bump_machine.proofs.BumpRuns.{calls_stand, chunk_at-above, fitting_after, fitting_at_opening, left_by_calls-append, steps_make}
+use Rattle.bb_memory_bump_machine.proofs.BumpSteps.{StepView, clears, exchanges, reads, refuses_loss, sees, step_view, wins}
+use Rattle.bb_memory_bump_machine.specs.BumpLogs.{HasNoClear, asked_by, bump_calls, bump_history, chunks_won, decided, layout_in, left_by_calls, won_at}
+use Rattle.bb_memory_bump_machine.specs.BumpMachine.{AllFitting, BumpMove, BumpScene, BumpState, BumpStep, Clear, Exchange, Load, Read, RefusedAtLoss, Wins, bump_after, bump_step, chunk_at, left_by, opening_state}
+use Rattle.bb_memory_traits.proofs.LiveLists.{StandsFor-end, StandsFor-within, end_of_last-above, end_of_last-append, in_order-rest, sound_from_order, stands_for_some}
+use Rattle.bb_memory_traits.specs.BumpObject.{StandsFor, end_of_last}
+use Rattle.bb_memory_traits.specs.Chunk.{Chunk, IsSound, Region}
+use Rattle.std.proofs.Common.{List, [], ap, append-nil, append_assoc, arith, subst, sym, ◌++◌, ◌∙◌, ◌∷◌, ◌≡◌, ◌≤◌}
 
 abbrev pub IsClear : BumpStep → Type 0
 IsClear Clear = Unit {0}

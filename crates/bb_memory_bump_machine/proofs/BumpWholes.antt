@@ -1,20 +1,16 @@
 -- The position by the logs of all parties, and the ends of a log's own chunks.
-use Rattle.std.proofs.Common.{◌≡◌, ℕ, ◌+◌, ◌<◌, ◌≤◌, List, [], ◌∷◌, ◌++◌, length, sym, subst, arith, Bool, true, false, Option}
-use Rattle.std.proofs.Common.{Some, None}
-use Rattle.std.specs.Prelude.{if◌then◌else◌, IfSome}
-use Rattle.std.specs.List.{All, AllByRecursion}
+pub use Rattle.bb_memory_bump_machine.proofs.BumpAllowed.{owner_of}
+use Rattle.bb_memory_bump_machine.proofs.BumpAllowed.{first_allowed, parties_stay, rest_allowed}
+use Rattle.bb_memory_bump_machine.proofs.BumpPositions.{below_greater, greater_below, seen_below, step_leaves}
+use Rattle.bb_memory_bump_machine.proofs.BumpSteps.{step_view}
+use Rattle.bb_memory_bump_machine.specs.BumpLogs.{AllAllowed, BumpEntry, BumpLog, HasLog, HasPositionUpTo, LogsAgree, bump_history, chunks_won, entries_by, entry_at, greater_of, greatest_in, is_by, log_of, position_in, seen_in, won_at}
+use Rattle.bb_memory_bump_machine.specs.BumpMachine.{BumpOutcome, BumpScene, BumpState, BumpStep, Wins, bump_after, bump_step, opening_state}
+use Rattle.bb_memory_traits.specs.Chunk.{Chunk, Region, chunk_end}
+use Rattle.std.proofs.Common.{Bool, List, None, Option, Some, [], arith, false, length, subst, sym, true, ℕ, ◌++◌, ◌+◌, ◌<◌, ◌∷◌, ◌≡◌, ◌≤◌}
 use Rattle.std.proofs.lemmas.List.{length-replicate}
 use Rattle.std.proofs.lemmas.List.Elements.{All-from_recursion}
-use Rattle.bb_memory_traits.specs.Chunk.{Region, Chunk, chunk_end}
-use Rattle.bb_memory_bump_machine.specs.BumpMachine.{BumpState, BumpScene, opening_state, bump_step, bump_after, BumpStep}
-use Rattle.bb_memory_bump_machine.specs.BumpMachine.{BumpOutcome, Wins}
-use Rattle.bb_memory_bump_machine.specs.BumpLogs.{BumpEntry, BumpLog, entry_at, bump_history, is_by, entries_by, won_at}
-use Rattle.bb_memory_bump_machine.specs.BumpLogs.{chunks_won, log_of, AllAllowed, HasLog, LogsAgree, HasPositionUpTo, position_in}
-use Rattle.bb_memory_bump_machine.specs.BumpLogs.{greater_of, greatest_in, seen_in}
-use Rattle.bb_memory_bump_machine.proofs.BumpSteps.{step_view}
-use Rattle.bb_memory_bump_machine.proofs.BumpAllowed.{first_allowed, rest_allowed, parties_stay}
-use Rattle.bb_memory_bump_machine.proofs.BumpPositions.{step_leaves, below_greater, greater_below, seen_below}
-pub use Rattle.bb_memory_bump_machine.proofs.BumpAllowed.{owner_of}
+use Rattle.std.specs.List.{All, AllByRecursion}
+use Rattle.std.specs.Prelude.{IfSome, if◌then◌else◌}
 
 -- WHAT A LOG HAS SEEN
 

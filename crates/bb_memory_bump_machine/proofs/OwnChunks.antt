@@ -1,18 +1,16 @@
 -- A party's own chunks, by its log.
-use Rattle.std.proofs.Common.{◌≡◌, ℕ, ◌≤◌, List, [], ◌∷◌, ◌++◌, subst, arith, Bool, true, false}
-use Rattle.std.specs.Prelude.{if◌then◌else◌}
-use Rattle.std.specs.List.{All}
-use Rattle.std.proofs.lemmas.List.Elements.{All-from_recursion}
-use Rattle.bb_memory_traits.specs.Chunk.{Chunk, IsInside, AreApart, IsSound}
-use Rattle.bb_memory_traits.specs.BumpObject.{end_of_last, IsInOrder, StandsFor}
-use Rattle.bb_memory_bump_machine.specs.BumpMachine.{BumpScene, opening_state, BumpStep}
-use Rattle.bb_memory_bump_machine.specs.BumpLogs.{OpensWith, live_after, BumpEntry, BumpLog, history_of, is_by, entries_by}
-use Rattle.bb_memory_bump_machine.specs.BumpLogs.{won_at, chunks_won, AllAllowed, Interleaving, LogsAgree}
-use Rattle.bb_memory_traits.proofs.LiveLists.{all_above, all_end_by, apart_from_order, end_of_last-above, in_order-append}
-use Rattle.bb_memory_traits.proofs.LiveLists.{in_order-front, in_order-rest, stands_for_some}
+use Rattle.bb_memory_bump_machine.proofs.BumpAllowed.{no_clear_when_allowed}
 use Rattle.bb_memory_bump_machine.proofs.BumpMeetings.{all_in_log, all_parts, allowed_stands, apart_behind}
 use Rattle.bb_memory_bump_machine.proofs.BumpStretches.{stretch_grows}
-use Rattle.bb_memory_bump_machine.proofs.BumpAllowed.{no_clear_when_allowed}
+use Rattle.bb_memory_bump_machine.specs.BumpLogs.{AllAllowed, BumpEntry, BumpLog, Interleaving, LogsAgree, OpensWith, chunks_won, entries_by, history_of, is_by, live_after, won_at}
+use Rattle.bb_memory_bump_machine.specs.BumpMachine.{BumpScene, BumpStep, opening_state}
+use Rattle.bb_memory_traits.proofs.LiveLists.{all_above, all_end_by, apart_from_order, end_of_last-above, in_order-append, in_order-front, in_order-rest, stands_for_some}
+use Rattle.bb_memory_traits.specs.BumpObject.{IsInOrder, StandsFor, end_of_last}
+use Rattle.bb_memory_traits.specs.Chunk.{AreApart, Chunk, IsInside, IsSound}
+use Rattle.std.proofs.Common.{Bool, List, [], arith, false, subst, true, ℕ, ◌++◌, ◌∷◌, ◌≡◌, ◌≤◌}
+use Rattle.std.proofs.lemmas.List.Elements.{All-from_recursion}
+use Rattle.std.specs.List.{All}
+use Rattle.std.specs.Prelude.{if◌then◌else◌}
 
 in_order_lower : (v w : ℕ) (xs : List Chunk) → v ≤ w → IsInOrder w xs → IsInOrder v xs
 in_order_lower v w [] le ordered = tt

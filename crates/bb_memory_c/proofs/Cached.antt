@@ -1,18 +1,16 @@
 -- Where cached buckets stand in their list: when none is cached, after one more, and after one fewer.
-use Rattle.std.proofs.Common.{◌≡◌, ◌<◌, ◌≤◌, ◌⊎◌, ◌∙◌, ◌∷◌, ◌++◌, [], ℕ, List, Some, inl, inr, ap, arith, length}
-use Rattle.std.proofs.Common.{Bool, None, false, refl, subst, sym, set, ◌↔◌}
-use Rattle.std.specs.Prelude.{Contains, Err, IsTrue, Ok, Result, slice_get}
-use Rattle.std.proofs.lemmas.Bool.{cases_lt}
-use Rattle.std.proofs.lemmas.Option.{same_Some, slice_get-get_or, slice_get_within}
-use Rattle.std.proofs.lemmas.List.{length-append}
+use Rattle.bb_memory_c.specs.SharedPools.{ArePlaces, IsJoinedAt, emptied}
 use Rattle.bb_memory_lists.proofs.ListEntries.{contains_at}
-use Rattle.bb_memory_lists.proofs.SliceGets.{length-set_at, slice_get-last, slice_get-push, slice_get-set_apart}
-use Rattle.bb_memory_lists.proofs.SliceGets.{slice_get-set_same}
-use Rattle.bb_memory_traits.specs.declared.layout.Layout.{Layout}
-use Rattle.bb_memory_traits.specs.declared.allocator.AllocationError.{AllocationError}
+use Rattle.bb_memory_lists.proofs.SliceGets.{length-set_at, slice_get-last, slice_get-push, slice_get-set_apart, slice_get-set_same}
 use Rattle.bb_memory_shared_pools.specs.SharedPool.{PoolParty, SharedPool, TakenBucket}
 use Rattle.bb_memory_shared_pools.specs.SharedPoolCaching.{CachingParty, ReturnsCaching, TakesCaching}
-use Rattle.bb_memory_c.specs.SharedPools.{ArePlaces, IsJoinedAt, emptied}
+use Rattle.bb_memory_traits.specs.declared.allocator.AllocationError.{AllocationError}
+use Rattle.bb_memory_traits.specs.declared.layout.Layout.{Layout}
+use Rattle.std.proofs.Common.{Bool, List, None, Some, [], ap, arith, false, inl, inr, length, refl, set, subst, sym, ℕ, ◌++◌, ◌<◌, ◌↔◌, ◌∙◌, ◌∷◌, ◌≡◌, ◌≤◌, ◌⊎◌}
+use Rattle.std.proofs.lemmas.Bool.{cases_lt}
+use Rattle.std.proofs.lemmas.List.{length-append}
+use Rattle.std.proofs.lemmas.Option.{same_Some, slice_get-get_or, slice_get_within}
+use Rattle.std.specs.Prelude.{Contains, Err, IsTrue, Ok, Result, slice_get}
 
 -- a bucket that is cached has a place, and stands there
 pub at-place : (cached places : List ℕ) (number : ℕ) → ArePlaces cached places → (has : Contains cached number) →
@@ -107,6 +105,16 @@ pub joined-emptied : {pool : SharedPool} (joined : CachingParty) (most : ℕ) {a
     IsJoinedAt pool after places
 joined-emptied {pool} joined most places theirs is room = subst (λ (j : CachingParty). IsJoinedAt pool j places) (sym is)
     record { theirs = theirs; room = room; listed = none-listed places refl }
+
+-- none is cached any more
+pub joined-cleared : {pool : SharedPool} {joined : CachingParty} (after : CachingParty) {places : List ℕ} →
+    IsJoinedAt pool joined places → after.party.allocator ≡ joined.party.allocator → after.cached ≡ [] →
+    after.most ≡ joined.most → IsJoinedAt pool after places
+joined-cleared after {places} is same none most = record {
+  theirs = same ∙ is.theirs;
+  room = λ some. is.room (omega (arith, some, most));
+  listed = none-listed places none;
+}
 
 -- none is cached, and none is to be
 pub joined-fresh : {pool : SharedPool} {joined : CachingParty} {places : List ℕ} → joined.party.allocator ≡ pool →

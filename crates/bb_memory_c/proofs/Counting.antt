@@ -1,17 +1,16 @@
 -- How many buckets are out, counted from bucket 0 up.
-use Rattle.std.proofs.Common.{◌≡◌, ◌<◌, ◌+◌, ◌↔◌, ◌∙◌, ◌∷◌, ◌++◌, [], ℕ, Bool, List, Some, ap, arith, false, inl, inr, length}
-use Rattle.std.proofs.Common.{refl, subst, sym, true}
-use Rattle.std.specs.Prelude.{count_by, slice_get}
-use Rattle.std.proofs.lemmas.Bool.{cases_lt, false≢true}
-use Rattle.std.proofs.lemmas.Option.{same_Some, slice_get-get_or, slice_get_within}
-use Rattle.std.proofs.lemmas.List.{length-append}
-use Rattle.std.proofs.lemmas.List.Sums.{sum_by_push}
+use Rattle.bb_memory_c.specs.SharedPools.{CountsOut}
 use Rattle.bb_memory_index_set.specs.IndexSets.{Has}
 use Rattle.bb_memory_lists.proofs.SliceGets.{slice_get-last, slice_get-push}
+use Rattle.bb_memory_shared_pools.proofs.SharedPoolLaws.{held_below}
 use Rattle.bb_memory_shared_pools.specs.SharedPool.{IsParty}
 use Rattle.bb_memory_shared_pools.specs.SharedPoolCaching.{CachingParty, IsOut}
-use Rattle.bb_memory_shared_pools.proofs.SharedPoolLaws.{held_below}
-use Rattle.bb_memory_c.specs.SharedPools.{CountsOut}
+use Rattle.std.proofs.Common.{Bool, List, Some, [], ap, arith, false, inl, inr, length, refl, subst, sym, true, ℕ, ◌++◌, ◌+◌, ◌<◌, ◌↔◌, ◌∙◌, ◌∷◌, ◌≡◌}
+use Rattle.std.proofs.lemmas.Bool.{cases_lt, false≢true}
+use Rattle.std.proofs.lemmas.List.{length-append}
+use Rattle.std.proofs.lemmas.List.Sums.{sum_by_push}
+use Rattle.std.proofs.lemmas.Option.{same_Some, slice_get-get_or, slice_get_within}
+use Rattle.std.specs.Prelude.{count_by, slice_get}
 
 -- of the first buckets, this many are out
 pub record CountsBelow (joined : CachingParty) (number count : ℕ) : Type 0 where

@@ -1,9 +1,9 @@
 -- Answers where a party detaches a bucket.
-use Rattle.std.proofs.Common.{◌≡◌, ◌≤◌, ℕ, None, arith, refl}
+use Rattle.bb_memory_c.specs.SharedPools.{Detached, HasDetached, HasOthers, HoldsAt, TellsDetach, geometry_of, holding}
+use Rattle.bb_memory_c_calls.specs.declared.code.TheConstants.{OK as ok}
 use Rattle.bb_memory_shared_pools.specs.SharedPool.{TakenBucket}
 use Rattle.bb_memory_shared_pools.specs.SharedPoolCaching.{CachingParty}
-use Rattle.bb_handles.specs.declared.code.TheConstants.{OK as ok}
-use Rattle.bb_memory_c.specs.SharedPools.{Detached, HasDetached, HasOthers, HoldsAt, TellsDetach, geometry_of, holding}
+use Rattle.std.proofs.Common.{None, arith, refl, ℕ, ◌≡◌, ◌≤◌}
 
 pub detaches : {party : CachingParty} {before : Detached} {place len : ℕ} {after : CachingParty} {filled : Detached} (number : ℕ)
     (token : TakenBucket) → HoldsAt party place number → HasOthers party → len ≤ (geometry_of party).bucket.size →

@@ -1,6 +1,6 @@
 mod Cached
 mod Counting
 mod Detaching
-mod Leaving
+mod Numbers
 mod SentHandles
 mod Unjoined

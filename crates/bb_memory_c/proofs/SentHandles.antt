@@ -1,18 +1,18 @@
 -- Handles go to other threads: what they own may.
-use mathlib.Core.List.{[], ◌∷◌}
-use mathlib.Core.Bool.{Bool, true, false}
-use mir.Raw.{raw}
+use Rattle.bb_memory_c_calls.specs.Handles.{heap, owns_if}
+use Rattle.std.proofs.Crossing.{frees}
+use Rattle.std.specs.Prelude.{None, Option, Some}
 use base.Fraction.{full_share}
 use base.Shift.{Keyless}
-use denote.Memory.{lone}
-use denote.RattleType.{RattleType}
-use denote.RawPtr.{Ptr, block_ptr, null_ptr, lies_at}
 use denote.Builtin.{RawPtr, bool}
-use denote.Param.Send.{AllSend, part_keyless, sendable}
+use denote.Memory.{lone}
 pub use denote.Param.Send.{IsSend, owning_send}
-use Rattle.std.specs.Prelude.{Option, Some, None}
-use Rattle.std.proofs.Crossing.{frees}
-use Rattle.bb_handles.specs.Handles.{heap, owns_if}
+use denote.Param.Send.{AllSend, part_keyless, sendable}
+use denote.RattleType.{RattleType}
+use denote.RawPtr.{Ptr, block_ptr, lies_at, null_ptr}
+use mathlib.Core.Bool.{Bool, false, true}
+use mathlib.Core.List.{[], ◌∷◌}
+use mir.Raw.{raw}
 
 -- the two fields of a handle may
 pub two_send : AllSend (RawPtr ∷ bool ∷ [])

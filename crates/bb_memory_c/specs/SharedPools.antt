@@ -1,53 +1,48 @@
--- A shared pool, its parties, and detached buckets that go from party to party, behind handles: what their calls are answered.
-use Rattle.std.specs.Prelude.{◌≡◌, ◌≢◌, ◌-◌, ◌<◌, ◌≤◌, ◌↔◌, ◌++◌, [], ℕ, zero, suc, All, Bool, false, List, Result, Ok}
-use Rattle.std.specs.Prelude.{Err, IfErr, Option, Some, None, IfOk, IfSome, MatchOption, count_by, fold, length, min, slice_get}
-use Rattle.std.specs.Prelude.{if◌then◌else◌}
-use Rattle.std.specs.Result.{result_map_both}
-use Rattle.bb_memory_traits.specs.Chunk.{Region, Chunk, IsInside, first_place}
-use Rattle.bb_memory_traits.specs.PoolObject.{IsCut, PoolGeometry, bucket_place}
-use Rattle.bb_memory_pool_machine.specs.PoolLogs.{PoolLog, IsHeldAfter, MayBeFound, held_after}
-use Rattle.bb_memory_pool_machine.specs.declared.steps.pool.Flag.{Flag}
-use Rattle.bb_memory_traits.specs.declared.layout.Layout.{Layout}
-use Rattle.bb_memory_traits.specs.declared.allocator.AllocationError.{AllocationError}
+-- A shared pool, its parties, and detached buckets that go from party to party, in handles: what C gets from their calls.
+use Rattle.bb_memory_c_calls.specs.Answers.{answer_of, figure_of, no_figure, refused, shown_flag}
+use Rattle.bb_memory_c_calls.specs.Calls.{Answers, AreKnown, Cutting, HasRoom, IsOneOf, IsThere, MayBeShared, Parties, Sharing, count_unjoined, with_party}
+use Rattle.bb_memory_c_calls.specs.OneOwner.{pool_info}
+use Rattle.bb_memory_c_calls.specs.declared.answer.Answer.{Answer}
+use Rattle.bb_memory_c_calls.specs.declared.answer.Figure.{Figure}
+use Rattle.bb_memory_c_calls.specs.declared.answer.Holder.{Holder}
+use Rattle.bb_memory_c_calls.specs.declared.answer.PoolInfo.{PoolInfo}
+use Rattle.bb_memory_c_calls.specs.declared.answer.SharedPoolInfo.{SharedPoolInfo}
+use Rattle.bb_memory_c_calls.specs.declared.code.TheConstants.{ALREADY_INITIALIZED as already_initialized, DETACHED_EMPTY as detached_empty, DETACHED_FULL as detached_full, INVALID_ARGUMENT as invalid_argument, MALLOC_REFUSED as malloc_refused, NOT_A_BUCKET as not_a_bucket, NOT_HELD as not_held, NO_PARTY as no_party, NO_READER as no_reader, OK as ok, ONE_PARTY as one_party, OTHER_POOL as other_pool, READERS_LEFT as readers_left, SIZE_TOO_LARGE as size_too_large, UNINITIALIZED as uninitialized}
 use Rattle.bb_memory_index_set.specs.IndexSets.{Has}
-use Rattle.bb_memory_shared_pools.specs.SharedPool.{AreFresh, PoolParty, SharedPool, TakenBucket, attach_entry, chunk_of}
-use Rattle.bb_memory_shared_pools.specs.SharedPool.{detach_entry, return_detached_entry, return_entry, taken_bucket, with_entries}
-use Rattle.bb_memory_shared_pools.specs.SharedPoolCaching.{CachingParty, IsOut, ReturnsCaching, ServesCaching}
+use Rattle.bb_memory_pool_machine.specs.PoolLogs.{MayBeFound}
+use Rattle.bb_memory_pool_machine.specs.declared.steps.pool.Flag.{Flag}
+use Rattle.bb_memory_shared_pools.specs.SharedPool.{AreFresh, PoolParty, SharedPool, TakenBucket, attach_entry, chunk_of, detach_entry, return_detached_entry, taken_bucket, with_entries}
+use Rattle.bb_memory_shared_pools.specs.SharedPoolCaching.{AttachesCaching, CachingParty, IsOut, ReturnsCaching, ServesCaching}
 use Rattle.bb_memory_shared_pools.specs.SharedPoolCaching as caching
-use Rattle.bb_handles.specs.Answers.{answer_of, refused, figure_of, no_figure, shown_flag}
-use Rattle.bb_handles.specs.declared.code.TheConstants.{DETACHED_EMPTY as detached_empty, DETACHED_FULL as detached_full}
-use Rattle.bb_handles.specs.declared.code.TheConstants.{OK as ok, NOT_HELD as not_held, ONE_PARTY as one_party}
-use Rattle.bb_handles.specs.declared.code.TheConstants.{OTHER_POOL as other_pool}
-use Rattle.bb_handles.specs.declared.code.TheConstants.{INVALID_ARGUMENT as invalid_argument, MALLOC_REFUSED as malloc_refused}
-use Rattle.bb_handles.specs.declared.code.TheConstants.{NO_READER as no_reader, READERS_LEFT as readers_left}
-use Rattle.bb_handles.specs.declared.code.TheConstants.{NOT_A_BUCKET as not_a_bucket, SIZE_TOO_LARGE as size_too_large}
-use Rattle.bb_handles.specs.Calls.{AreKnown, IsOneOf, Parties, with_party}
-use Rattle.bb_handles.specs.declared.answer.Answer.{Answer}
-use Rattle.bb_handles.specs.OneOwner.{pool_info}
-use Rattle.bb_handles.specs.declared.answer.Figure.{Figure}
-use Rattle.bb_handles.specs.declared.answer.Holder.{Holder}
-use Rattle.bb_handles.specs.declared.answer.PoolInfo.{PoolInfo}
-use Rattle.bb_handles.specs.declared.answer.SharedPoolInfo.{SharedPoolInfo}
+use Rattle.bb_memory_shared_pools.specs.SharedPoolLeaving.{GivesAllBack}
+use Rattle.bb_memory_traits.specs.Chunk.{Chunk, IsInside, Region, first_place}
+use Rattle.bb_memory_traits.specs.PoolObject.{IsCut, PoolGeometry, bucket_place}
+use Rattle.bb_memory_traits.specs.declared.allocator.AllocationError.{AllocationError}
+use Rattle.bb_memory_traits.specs.declared.layout.Layout.{Layout}
+use Rattle.std.specs.Prelude.{All, Bool, Err, IfErr, IfOk, IfSome, List, MatchOption, None, Ok, OnErr, Option, Result, Some, [], count_by, length, min, slice_get, swap, ℕ, ◌-◌, ◌<◌, ◌↔◌, ◌≡◌, ◌≢◌, ◌≤◌}
+use Rattle.std.specs.Result.{result_map_both}
 
+-- a shared pool, and its parties that haven't joined
 abbrev pub PoolParties : Type 0
 PoolParties = Parties SharedPool PoolParty
 
--- a party as it joins: the buckets that it gives back go to the pool, until it is to cache some
+-- a party as it joins: it caches no bucket, and gives each one back to the pool
 abbrev pub as_joined : PoolParty → CachingParty
 as_joined party = record { party = party; cached = []; most = 0 }
 
--- the shared pool with one more party that hasn't joined, behind the others
+-- the shared pool with one more party that hasn't joined, after the others
 abbrev pub with_unjoined : PoolParties → CachingParty → PoolParties
 with_unjoined all joined = with_party all joined.party
 
--- the party is this pool's, and one of its parties has joined
+-- the party is of this pool, and one of its parties has joined
 abbrev pub IsAt : PoolParties → CachingParty → Type 0
 IsAt all joined = IsOneOf all joined.party.allocator all.shared.scene.parties
 
--- the party is this pool's, and has just joined
+-- the party is of this pool, and has just joined
 abbrev pub JoinsAt : PoolParties → CachingParty → Type 0
 JoinsAt all joined = IsAt all joined × (joined ≡ as_joined joined.party)
 
+-- the buckets of a party's pool
 abbrev pub geometry_of : CachingParty → PoolGeometry
 geometry_of joined = joined.party.allocator.scene.geometry
 
@@ -55,140 +50,191 @@ geometry_of joined = joined.party.allocator.scene.geometry
 abbrev pub start_of : SharedPool → ℕ
 start_of pool = first_place pool.scene.geometry.region pool.scene.geometry.bucket
 
--- a party of a pool that begins where this one does is this one's
+-- if the party's pool begins where this one does, it is this one
 abbrev pub Knows : PoolParties → CachingParty → Type 0
 Knows all joined = AreKnown start_of joined.party.allocator all.shared
 
-abbrev pub HoldsSome : PoolParty → Type 0
-HoldsSome party = (bucket : ℕ) × IsHeldAfter party.log bucket
-
--- a party of this pool, which holds nothing
-pub record IsIdleAt (pool : SharedPool) (party : PoolParty) : Type 0 where
-  pub theirs : party.allocator ≡ pool
-  pub idle : ¬ HoldsSome party
-
--- parties of this pool, which hold nothing, with room for all of its parties
+-- some of the pool's parties, with room for all of them
 pub record AreUnjoined (pool : SharedPool) (capacity : ℕ) (parties : List PoolParty) : Type 0 where
   pub at_most : length parties ≤ pool.scene.parties
   pub room : pool.scene.parties ≤ capacity
-  pub idle : All (IsIdleAt pool) parties
+  pub theirs : All (λ party. party.allocator ≡ pool) parties
 
--- the flags say which of the pool's buckets are so; those behind them aren't set
+-- the flags say for which of the pool's buckets `are_so` holds; flags after the last bucket aren't
+-- set
 pub record AreFlagged (pool : SharedPool) (are_so : ℕ → Type 0) (flags : List Bool) : Type 0 where
   pub enough : pool.scene.geometry.buckets ≤ length flags
   pub below : (bucket : ℕ) → Has flags bucket → bucket < pool.scene.geometry.buckets
   pub exact : (bucket : ℕ) → Has flags bucket ↔ are_so bucket
 
--- the places are those of these buckets in their list
+-- `places` has, for each of these cached buckets, where it is in their list
 abbrev pub ArePlaces : List ℕ → List ℕ → Type 0
 ArePlaces cached places = (k bucket : ℕ) → slice_get cached k ≡ Some bucket → slice_get places bucket ≡ Some k
 
--- The party is this pool's, and the places are those of the buckets that it caches. There is room for each bucket where it
--- caches some.
+-- The party is of this pool, and `places` has where the buckets are that it caches. There is room
+-- for each bucket of the pool if the party caches any.
 pub record IsJoinedAt (pool : SharedPool) (joined : CachingParty) (places : List ℕ) : Type 0 where
   pub theirs : joined.party.allocator ≡ pool
   pub room : 0 < joined.most → pool.scene.geometry.buckets ≤ length places
   pub listed : ArePlaces joined.cached places
 
--- a pool over the region, cut into buckets of the layout, and its parties, which haven't joined or made a step
+-- a pool over the region, cut into buckets of this layout, and all of its parties, which have made
+-- no step
 pub record AreFreshOver (region : Region) (bucket : Layout) (count : ℕ) (all : PoolParties) : Type 0 where
   pub cut : IsCut region bucket all.shared.scene.geometry
   pub parties : AreFresh all.shared count all.parties
 
--- the buckets that are out are this many
+-- how a shared pool over this region, for this number of parties, describes its initialization
+abbrev pub cutting_shared_pool : Region → ℕ → Cutting PoolParties
+cutting_shared_pool region count = record {
+  may = MayBeShared region count;
+  room = HasRoom region;
+  fresh = λ bucket. IsThere (AreFreshOver region bucket count);
+}
+
+-- the party has this many buckets in use: held, and not cached
 abbrev pub CountsOut : CachingParty → ℕ → Type 0
 CountsOut joined count = (flags : List Bool) × AreFlagged joined.party.allocator (IsOut joined) flags
     × (count ≡ count_by (λ flag. flag) flags)
 
--- figures of a party: of its pool's buckets those that are out are counted, and no fewer are told as the most that were found
+-- C gets a party's figures: how many buckets it has in use, and the most that were found, which is
+-- no less. The party doesn't change.
 abbrev pub ShowsParty : CachingParty → PoolInfo → CachingParty → Type 0
 ShowsParty joined info after = (flags : List Bool) × AreFlagged joined.party.allocator (IsOut joined) flags × (greatest : ℕ)
     × (count_by (λ flag. flag) flags ≤ greatest)
     × (info ≡ pool_info (geometry_of joined) (count_by (λ flag. flag) flags) greatest) × (after ≡ joined)
 
--- figures of a shared pool: whatever its parties did meanwhile, no more are held than were at most, nor than it has buckets
+-- C gets a shared pool's figures: whatever its parties did meanwhile, no more buckets are held than
+-- were at most, and those are no more than it has.
 abbrev pub ShowsShared : PoolParties → SharedPoolInfo → PoolParties → Type 0
 ShowsShared all info after = let geometry = all.shared.scene.geometry in (held : ℕ) × (greatest : ℕ)
     × (held ≤ greatest) × (greatest ≤ geometry.buckets) × (info.pool ≡ pool_info geometry held greatest) × (after ≡ all)
 
--- C gets the holder of the bucket of a number: its flag, as it may be found, or that there is no such bucket.
+-- C gets the flag of the bucket of a number, as it may be found, or BB_NOT_A_BUCKET if there is no
+-- such bucket.
 pub record TellsHolder (all : PoolParties) (number code : ℕ) (before told : Holder) : Type 0 where
   pub found : number < all.shared.scene.geometry.buckets → (code ≡ ok)
       × ((flag : Flag) × MayBeFound all.shared.scene number flag × (told ≡ shown_flag flag))
   pub past : all.shared.scene.geometry.buckets ≤ number → (code ≡ not_a_bucket) × (told ≡ before)
 
--- the bucket of this number is out, and is at this place
+-- the bucket of this number is in use, and begins at this place
 pub record HoldsAt (joined : CachingParty) (place number : ℕ) : Type 0 where
   pub out : IsOut joined number
   pub placed : place ≡ bucket_place (geometry_of joined) number
 
--- the place is that of a bucket that is out
+-- the party has a bucket in use that begins at this place
 abbrev pub HoldsPlace : CachingParty → ℕ → Type 0
 HoldsPlace joined place = (number : ℕ) × HoldsAt joined place number
 
--- a request is answered the chunk in the bucket that it took, or why it took none
+-- the answer to a request: the chunk in the bucket that it took, or why it took none
 abbrev pub GivesChunk : CachingParty → Layout → Result Chunk AllocationError → CachingParty → Type 0
 GivesChunk joined layout answer after =
     (taken : Result TakenBucket AllocationError) × (answer ≡ result_map_both chunk_of (λ error. error) taken)
     × ServesCaching joined layout taken after
 
--- the bucket at the place was given back
+-- the party gave back the bucket at this place
 abbrev pub GivesBack : CachingParty → ℕ → CachingParty → Type 0
 GivesBack joined place after = (number : ℕ) × HoldsAt joined place number × ReturnsCaching joined number after
 
--- the party gave back what it cached, by a step each: it caches nothing then, and at most `most` buckets from then on
+-- the party after it gave back what it cached, each bucket by one step, which caches at most `most`
+-- buckets from then on
 abbrev pub emptied : CachingParty → ℕ → CachingParty
 emptied joined most = let returns = caching.returns_of joined.party.number joined.cached in
     record { party = with_entries joined.party returns; cached = []; most = most }
 
--- The code where the party is to cache at most that many, and no more than the pool has: memory for their list may be
--- refused, and then all stays.
+-- The party gives back what it caches, and caches at most `most` buckets from then on, or as many
+-- as the pool has if that is less. If memory for their list runs out, nothing changes.
 pub record TellsCache (joined : CachingParty) (most code : ℕ) (after : CachingParty) : Type 0 where
   pub done : code ≡ ok → after ≡ emptied joined (min most (geometry_of joined).buckets)
   pub else_memory : code ≢ ok → (code ≡ malloc_refused) × (after ≡ joined)
 
--- ALL THAT A PARTY HOLDS
-
-abbrev pub holds_bucket : PoolParty → ℕ → Bool
-holds_bucket party bucket = fold (λ held entry. held_after bucket held entry.outcome) false party.log
-
--- the party's return of the bucket, if it holds it
-abbrev pub return_of : PoolParty → ℕ → PoolLog
-return_of party bucket = if holds_bucket party bucket then return_entry party.number bucket else []
-
--- the party's returns of buckets, in order of their numbers
-abbrev pub returns_of : PoolParty → ℕ → PoolLog
-returns_of party zero = []
-returns_of party (suc bucket) = returns_of party bucket ++ return_of party bucket
-
--- the party gave back each bucket that it held, each by one step, and holds nothing then
-pub record GivesAllBack (party after : PoolParty) : Type 0 where
-  pub returned : after ≡ with_entries party (returns_of party party.allocator.scene.geometry.buckets)
-  pub idle : ¬ HoldsSome after
-
--- a party that leaves gives back what its pool's flags say that it holds, out or cached
+-- a party that leaves gives back what its pool's flags say that it holds, in use or cached
 abbrev pub Leaves : CachingParty → CachingParty → Type 0
 Leaves joined after = GivesAllBack joined.party after.party
 
+-- a party that stays has given back what its pool's flags say that it holds, in use or cached
+pub record HasGivenAllBack (joined after : CachingParty) : Type 0 where
+  pub given : GivesAllBack joined.party after.party
+  pub empty : after.cached ≡ []
+  pub most : after.most ≡ joined.most
+
+-- PARTIES BY THEIR NUMBERS
+
+-- the party of this number is at this position of the list
+abbrev pub IsNumberAt : List PoolParty → ℕ → ℕ → Type 0
+IsNumberAt parties at number = (party : PoolParty) × (slice_get parties at ≡ Some party) × (party.number ≡ number)
+
+-- the party of this number hasn't joined
+abbrev pub HasUnjoined : PoolParties → ℕ → Type 0
+HasUnjoined all number = (at : ℕ) × IsNumberAt all.parties at number
+
+-- the one at this position of those that haven't joined has changed places with the last one
+abbrev pub with_last : PoolParties → ℕ → PoolParties
+with_last all at = record { shared = all.shared; parties = swap all.parties at (length all.parties - 1) }
+
+-- the party has joined, and the last of those that hadn't joined has its position among them
+abbrev pub IsWithout : PoolParties → PoolParty → PoolParties → Type 0
+IsWithout all party after = (at : ℕ) × (slice_get all.parties at ≡ Some party)
+    × (with_party after party ≡ with_last all at)
+
+-- The party of this number joins, and is returned; `value` is the party of what is returned.
+pub record TakesNumber {Y : Type 0} (value : Y → CachingParty) (old : PoolParties) (number : ℕ) (told : Result Y ℕ)
+    (new : PoolParties) : Type 0 where
+  pub joins : IfOk told (λ joined. JoinsAt new (value joined) × ((value joined).party.number ≡ number)
+      × IsWithout old (value joined).party new)
+  pub none_such : (told ≡ Err no_party) ↔ (¬ HasUnjoined old number)
+  pub else_memory : IfErr told (λ code. code ≢ no_party → code ≡ malloc_refused)
+  pub unchanged : OnErr told (new ≡ old)
+
+-- The party of this number joins, if it hasn't joined and memory doesn't run out. Its handle holds
+-- `party` then.
+pub record TellsJoinNumber (made after : PoolParties) (party : Option CachingParty) (number code : ℕ) : Type 0 where
+  pub joins : code ≡ ok → (joined : CachingParty) × (party ≡ Some joined) × JoinsAt after joined
+      × (joined.party.number ≡ number) × IsWithout made joined.party after
+  pub none_such : (code ≡ no_party) ↔ (¬ HasUnjoined made number)
+  pub else_memory : code ≢ ok → code ≢ no_party → code ≡ malloc_refused
+  pub unchanged : code ≢ ok → (after ≡ made) × (party ≡ None)
+
+-- a party joins by its number; its handle has to be empty
+pub record AnswersJoinNumber (old new : Option PoolParties) (old_party new_party : Option CachingParty) (number code : ℕ)
+    : Type 0 where
+  pub held_one : old_party ≢ None → (code ≡ already_initialized) × (new ≡ old) × (new_party ≡ old_party)
+  pub joins : old_party ≡ None → Answers old new ((code ≡ uninitialized) × (new_party ≡ None))
+      (λ made after. TellsJoinNumber made after new_party number code)
+
+-- a party that is forgotten is as it was: what it holds stays held
+abbrev pub IsForgotten : CachingParty → CachingParty → Type 0
+IsForgotten joined after = after ≡ joined
+
+-- how a shared pool describes its parties
+abbrev pub sharing_pool : Sharing PoolParties CachingParty
+sharing_pool = record { unjoined = count_unjoined; with_party = with_unjoined; joins = JoinsAt; at = IsAt; leaves = Leaves }
+
+-- how a shared pool describes its parties, if one that leaves is forgotten
+abbrev pub forgetting_pool : Sharing PoolParties CachingParty
+forgetting_pool = record sharing_pool { leaves = IsForgotten }
+
 -- DETACHED BUCKETS
 
--- behind the handle: a detached bucket, or none, and for how many readers it waits
+-- what a `bb_detached` holds: a detached bucket or none, and how many readers it waits for
 pub record Detached : Type 0 where
   pub inside : Option TakenBucket
   pub readers : ℕ
 
--- a bucket that waits for no reader, and none
+-- a `bb_detached` that holds a bucket and waits for no reader
 abbrev pub holding : TakenBucket → Detached
 holding token = record { inside = Some token; readers = 0 }
 
+-- a `bb_detached` that holds no bucket and waits for no reader
 abbrev pub nothing : Detached
 nothing = record { inside = None; readers = 0 }
 
--- C gets the length of the chunk in the bucket, or a code where there is none
+-- C gets the length of the chunk in the bucket, or BB_DETACHED_EMPTY if there is none
 abbrev pub TellsLen : Detached → Figure → Type 0
 TellsLen detached told = MatchOption detached.inside (told ≡ no_figure detached_empty) (λ token. told ≡ figure_of token.len)
 
--- The code where the bucket is to wait for that many readers: each cause of a refusal where none before it is one.
+-- The bucket is to wait for that many readers. If several errors apply, the first one in this list
+-- is returned.
 pub record TellsShare (before : Detached) (readers code : ℕ) (after : Detached) : Type 0 where
   pub empty : before.inside ≡ None → code ≡ detached_empty
   pub nobody : before.inside ≢ None → readers ≡ 0 → code ≡ invalid_argument
@@ -197,7 +243,7 @@ pub record TellsShare (before : Detached) (readers code : ℕ) (after : Detached
       (code ≡ ok) × (after ≡ record before { readers = readers })
   pub unchanged : code ≢ ok → after ≡ before
 
--- A reader is done, and C gets for how many more the bucket waits.
+-- A reader is done, and C gets how many more the bucket waits for.
 pub record TellsRelease (before : Detached) (told : Figure) (after : Detached) : Type 0 where
   pub released : 0 < before.readers →
       (told ≡ figure_of (before.readers - 1)) × (after ≡ record before { readers = before.readers - 1 })
@@ -209,21 +255,22 @@ pub record TellsRelease (before : Detached) (told : Figure) (after : Detached) :
 abbrev pub HasOthers : CachingParty → Type 0
 HasOthers joined = 1 < joined.party.allocator.scene.parties
 
--- a party, which isn't the only one, has the bucket at the place
+-- the party isn't the only one, and has a bucket in use that begins at this place
 abbrev pub MayDetachAt : CachingParty → ℕ → Type 0
 MayDetachAt joined place = HasOthers joined × HoldsPlace joined place
 
--- a party may detach the bucket at the place, and a chunk of `len` bytes has room there
+-- the party may detach the bucket at this place, and a chunk of `len` bytes has room there
 abbrev pub MayDetachChunk : CachingParty → ℕ → ℕ → Type 0
 MayDetachChunk joined place len = MayDetachAt joined place × (len ≤ (geometry_of joined).bucket.size)
 
--- the party detached the bucket of a number, by one step; the token of the detached bucket has a chunk of `len` bytes
+-- The party detached the bucket of a number, by one step, and the token of that bucket has a chunk
+-- of `len` bytes.
 pub record HasDetached (joined : CachingParty) (number len : ℕ) (after : CachingParty) (token : TakenBucket) : Type 0 where
   pub detached : after ≡ record joined { party = with_entries joined.party (detach_entry joined.party.number number) }
   pub its : token ≡ taken_bucket joined.party.allocator number len
 
--- The code where a party is to detach the bucket at a place, with a chunk of that many bytes: each cause of a refusal where
--- none before it is one, and then all stays.
+-- A party is to detach the bucket at a place, with a chunk of `len` bytes. If several errors apply,
+-- the first one in this list is returned, and nothing changes.
 pub record TellsDetach (party : CachingParty) (before : Detached) (place len code : ℕ) (after : CachingParty) (filled : Detached)
     : Type 0 where
   pub one_party : ¬ HasOthers party → code ≡ one_party
@@ -235,13 +282,34 @@ pub record TellsDetach (party : CachingParty) (before : Detached) (place len cod
       × HasDetached party number len after token)
   pub unchanged : code ≢ ok → (after ≡ party) × (filled ≡ before)
 
+-- WITHOUT A TOKEN
+
+-- A party is to detach the bucket at a place, by one step, and C gets its number. If several errors
+-- apply, the first one in this list is returned, and nothing changes.
+pub record TellsDetachNumber (party : CachingParty) (place : ℕ) (told : Figure) (after : CachingParty) : Type 0 where
+  pub one_party : ¬ HasOthers party → told ≡ no_figure one_party
+  pub not_held : HasOthers party → ¬ HoldsPlace party place → told ≡ no_figure not_held
+  pub detached : MayDetachAt party place → (number : ℕ) × HoldsAt party place number × (told ≡ figure_of number)
+      × (after ≡ record party { party = with_entries party.party (detach_entry party.party.number number) })
+  pub unchanged : told.code ≢ ok → after ≡ party
+
+-- A party is to attach the bucket of this number, if `from` has detached it by number. C gets the
+-- bucket's place if the party's exchange won. If it lost, or there is no such bucket, nothing
+-- changes.
+pub record TellsAttachNumber (party : CachingParty) (number from : ℕ) (told : Answer) (after : CachingParty) : Type 0 where
+  pub past : (geometry_of party).buckets ≤ number → told ≡ refused not_a_bucket
+  pub lost : number < (geometry_of party).buckets → told.code ≢ ok → told ≡ refused not_held
+  pub attached : told.code ≡ ok → (number < (geometry_of party).buckets) × AttachesCaching party number from after
+      × (told ≡ answer_of (Ok (chunk_of (taken_bucket party.party.allocator number (geometry_of party).bucket.size))))
+  pub unchanged : told.code ≢ ok → after ≡ party
+
 -- ATTACHING
 
--- a detached bucket, where there is one, of a pool that begins where the party's does is of that one
+-- if the pool of the detached bucket begins where the party's pool does, it is that pool
 abbrev pub KnowsInside : CachingParty → Detached → Type 0
 KnowsInside joined detached = IfSome detached.inside (λ token. AreKnown start_of token.allocator joined.party.allocator)
 
--- the party attached the detached bucket, by one step; the chunk in it lies in the region
+-- The party attached the detached bucket, by one step. The chunk in it is inside the region.
 pub record HasAttached (joined : CachingParty) (token : TakenBucket) (after : CachingParty) : Type 0 where
   pub attached : after ≡ record joined { party = with_entries joined.party (attach_entry joined.party.number token.number) }
   pub inside : IsInside (geometry_of joined).region (chunk_of token)
@@ -251,8 +319,9 @@ abbrev pub HasReturned : CachingParty → ℕ → CachingParty → Type 0
 HasReturned joined number after =
     after ≡ record joined { party = with_entries joined.party (return_detached_entry joined.party.number number) }
 
--- The bucket is taken out of the `bb_detached` for a party of its pool, and none is there then. It stays, and all does, by the
--- first of these causes: none is there, it is of another pool, or it waits for a reader.
+-- The bucket is taken out of a `bb_detached` for a party of its pool. If several errors apply, the
+-- first one in this list is returned, and nothing changes: none is there, it is of another pool, it
+-- waits for a reader.
 pub record TakesInside (joined : CachingParty) (before : Detached) (told : Result TakenBucket ℕ) (left : Detached) : Type 0 where
   pub empty : before.inside ≡ None → told ≡ Err detached_empty
   pub others : IfSome before.inside (λ token. token.allocator ≢ joined.party.allocator → told ≡ Err other_pool)
@@ -262,25 +331,30 @@ pub record TakesInside (joined : CachingParty) (before : Detached) (told : Resul
       (told ≡ Ok token) × (left ≡ nothing))
   pub unchanged : IfErr told (λ code. left ≡ before)
 
--- The answer for the bucket where it was taken out, and else for the cause.
+-- If a bucket was taken out of a `bb_detached`, `done` holds of it. Otherwise C gets the code of
+-- the error, and the party doesn't change.
 abbrev pub OfInside : {T : Type 0} → CachingParty → Detached → T → CachingParty → Detached → (ℕ → T) → (TakenBucket → Type 0)
     → Type 0
 OfInside joined before told after left cause done = (inside : Result TakenBucket ℕ) × TakesInside joined before inside left
     × IfOk inside done × IfErr inside (λ code. (told ≡ cause code) × (after ≡ joined))
 
+-- C gets the place of the chunk in the detached bucket, which the party attached, or the code of an
+-- error
 abbrev pub TellsAttach : CachingParty → Detached → Answer → CachingParty → Detached → Type 0
 TellsAttach joined before told after left = OfInside joined before told after left refused
     (λ token. (told ≡ answer_of (Ok (chunk_of token))) × HasAttached joined token after)
 
+-- the party gave back the detached bucket, or C gets the code of an error
 abbrev pub TellsReturnDetached : CachingParty → Detached → ℕ → CachingParty → Detached → Type 0
 TellsReturnDetached joined before code after left = OfInside joined before code after left (λ cause. cause)
     (λ token. (code ≡ ok) × HasReturned joined token.number after)
 
--- The code where a party is to give back a detached bucket by its number.
+-- A party is to give back a detached bucket by its number. If there is no such bucket, nothing
+-- changes.
 pub record TellsRecover (joined : CachingParty) (number code : ℕ) (after : CachingParty) : Type 0 where
   pub recovered : number < (geometry_of joined).buckets → (code ≡ ok) × HasReturned joined number after
   pub past : (geometry_of joined).buckets ≤ number → (code ≡ not_a_bucket) × (after ≡ joined)
 
--- the token is that of the bucket of this number, where the party's pool has one
+-- if the party's pool has a bucket of this number, the token is that of the bucket
 abbrev pub IsLostAt : CachingParty → ℕ → TakenBucket → Type 0
 IsLostAt joined number lost = number < (geometry_of joined).buckets → lost ≡ taken_bucket joined.party.allocator number 0

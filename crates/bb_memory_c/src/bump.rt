@@ -1,15 +1,15 @@
 //! A bump behind a handle.
-ghost use Rattle.std.specs.Prelude.{◌≡◌, Some};
-ghost use Rattle.bb_memory_traits.specs.Chunk.{IsRegion, region_at};
 ghost use Rattle.bb_memory_bump.specs.Bump.{bump_of};
-ghost use Rattle.bb_handles.specs.declared.code.TheConstants.{OK as ok, UNINITIALIZED as uninitialized};
-ghost use Rattle.bb_handles.specs.Calls.{Answers, AnswersFree, AnswersInfo, AnswersMake, AnswersRequest};
-ghost use Rattle.bb_handles.specs.OneOwner.{BumpAllocates, ShowsBump};
+ghost use Rattle.bb_memory_c_calls.specs.Calls.{Answers, AnswersFree, AnswersInfo, AnswersMake, AnswersRequest};
+ghost use Rattle.bb_memory_c_calls.specs.OneOwner.{BumpAllocates, ShowsBump};
+ghost use Rattle.bb_memory_c_calls.specs.declared.code.TheConstants.{OK as ok, UNINITIALIZED as uninitialized};
+ghost use Rattle.bb_memory_traits.specs.Chunk.{IsRegion, region_at};
+ghost use Rattle.std.specs.Prelude.{Some, ◌≡◌};
 
 use crate::handle::{BumpHandle, Handle};
-use bb_handles::answer::{Answer, BumpInfo};
-use bb_handles::{call, code};
 use bb_memory_bump::bump_allocator::{BaseAllocator, BumpAllocator};
+use bb_memory_c_calls::answer::{Answer, BumpInfo};
+use bb_memory_c_calls::{call, code};
 use bb_memory_traits::layout::Layout;
 use std::alloc::Global;
 

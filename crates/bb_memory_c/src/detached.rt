@@ -1,15 +1,14 @@
-//! Detached buckets behind handles, which go from party to party of a shared pool.
-ghost use Rattle.std.specs.Prelude.{◌≡◌, IfOk, MatchOption, Some};
-ghost use Rattle.bb_handles.specs.Answers.{no_figure, refused};
-ghost use Rattle.bb_handles.specs.declared.code.TheConstants.{UNINITIALIZED as uninitialized};
-ghost use Rattle.bb_handles.specs.Calls.{Answers, AnswersFree, AnswersMake, AnswersOfBoth, IfBoth};
-ghost use Rattle.bb_memory_c.specs.SharedPools.{Detached, IsLostAt, KnowsInside, TakesInside, TellsAttach, TellsDetach, TellsLen};
-ghost use Rattle.bb_memory_c.specs.SharedPools.{TellsRecover, TellsRelease, TellsReturnDetached, TellsShare, nothing, start_of};
+//! Detached buckets behind handles, which go from party to party of a shared pool, and those that go by their numbers alone.
+ghost use Rattle.bb_memory_c.specs.SharedPools.{Detached, IsLostAt, KnowsInside, TakesInside, TellsAttach, TellsAttachNumber, TellsDetach, TellsDetachNumber, TellsLen, TellsRecover, TellsRelease, TellsReturnDetached, TellsShare, nothing, start_of};
+ghost use Rattle.bb_memory_c_calls.specs.Answers.{no_figure, refused};
+ghost use Rattle.bb_memory_c_calls.specs.Calls.{Answers, AnswersFree, AnswersMake, AnswersOfBoth, IfBoth};
+ghost use Rattle.bb_memory_c_calls.specs.declared.code.TheConstants.{UNINITIALIZED as uninitialized};
+ghost use Rattle.std.specs.Prelude.{IfOk, MatchOption, Some, ◌≡◌};
 
 use crate::handle::{DetachedHandle, Handle, LostHandle, PoolPartyHandle};
 use crate::shared_pool::JoinedPool;
-use bb_handles::answer::{Answer, Figure};
-use bb_handles::{call, code};
+use bb_memory_c_calls::answer::{Answer, Figure};
+use bb_memory_c_calls::{call, code};
 use bb_memory_shared_pools::shared_pool::{DetachedBucket, LostBucket, by_number};
 use bb_memory_traits::layout::Chunk;
 use std::alloc::Global;
@@ -72,6 +71,39 @@ impl JoinedPool {
             return Err(code::READERS_LEFT);
         }
         detached.inside.take().ok_or(code::DETACHED_EMPTY)
+    }
+
+    /// Detaches the bucket at this place, and returns its number.
+    #[tactic(auto, unfolding(bb_memory_shared_pools::specs::SharedPoolCaching::IsOut))]
+    fn detach_number(&mut self, place: usize) -> Figure
+        ensures { TellsDetachNumber self.old place result self.new }
+    {
+        if self.pool.number_of_parties() < 2 {
+            return Figure::refusal(code::ONE_PARTY);
+        }
+        let Some(number) = self.held_at(place) else {
+            return Figure::refusal(code::NOT_HELD);
+        };
+        let bucket = by_number::bucket(&*self.pool, self.party.party(), number, 0);
+        let told = self.party.detach_number(&*self.pool, bucket);
+        Figure::of(told as usize)
+    }
+
+    /// Attaches the bucket of this number, if the party of number `from` has detached it by its number.
+    #[tactic(auto, unfolding(bb_memory_shared_pools::specs::SharedPoolCaching::IsOut))]
+    fn attach_number(&mut self, number: u32, from: u32) -> Answer
+        ensures { TellsAttachNumber self.old number from result self.new }
+    {
+        let buckets = self.pool.number_of_buckets();
+        if buckets <= number {
+            return Answer::refusal(code::NOT_A_BUCKET);
+        }
+        if !self.party.attach_number(&*self.pool, number, from) {
+            return Answer::refusal(code::NOT_HELD);
+        }
+        let size = self.pool.bucket_size();
+        let bucket = by_number::bucket(&*self.pool, self.party.party(), number, size);
+        Answer::of(Ok(bucket.chunk()))
     }
 
     /// Attaches the bucket that is in `detached`, which has none then.
@@ -211,6 +243,37 @@ pub extern "C" fn bb_pool_party_detach(
         return code::UNINITIALIZED;
     };
     joined.detach(place, len, inside)
+}
+
+/// Detaches the bucket at this place, which this party holds, and returns the bucket's number. The party doesn't hold it then, and
+/// another party attaches it by that number and this party's. It takes no memory, and waits for nothing.
+#[unsafe(no_mangle)]
+pub extern "C" fn bb_pool_party_detach_number(handle: &mut PoolPartyHandle, place: usize) -> Figure
+    ensures { Answers handle.old.value handle.new.value (result ≡ no_figure uninitialized)
+        (λ party after. TellsDetachNumber party place result after) }
+{
+    match handle.made_mut() {
+        Some(joined) => joined.detach_number(place),
+        None => Figure::refusal(code::UNINITIALIZED),
+    }
+}
+
+/// Attaches the bucket of this number, if the party of number `from` has detached it by its number: this party holds it then, and
+/// its place is returned. It makes one exchange of the bucket's flag, so of any number of callers at most one wins. The others get
+/// `BB_NOT_HELD`, and that changes nothing. A number past the last is refused. It takes no memory, and waits for nothing.
+#[unsafe(no_mangle)]
+pub extern "C" fn bb_pool_party_attach_number(
+    handle: &mut PoolPartyHandle,
+    number: u32,
+    from: u32,
+) -> Answer
+    ensures { Answers handle.old.value handle.new.value (result ≡ refused uninitialized)
+        (λ party after. TellsAttachNumber party number from result after) }
+{
+    match handle.made_mut() {
+        Some(joined) => joined.attach_number(number, from),
+        None => Answer::refusal(code::UNINITIALIZED),
+    }
 }
 
 /// Attaches the bucket that is in the `bb_detached`, which has none then: this party holds it, with the chunk that is returned.

@@ -1,25 +1,25 @@
 //! Handles: a pointer that owns an allocator, which the host holds. There is a type for each kind, since no type with parameters
 //! is passed to C; all have the same two fields. The host holds a handle in a variable of its own, and passes that by its
 //! address. An empty one has both fields zero. It may be moved, and then the old one isn't used.
-ghost use Rattle.std.specs.Prelude.{Option};
-ghost use Rattle.bb_handles.specs.Handles.{owns_if};
 ghost use Rattle.bb_memory_bump.specs.contracts.bump_allocator.BumpAllocator.{the_row as bump_row};
-ghost use Rattle.bb_memory_owned.specs.contracts.one_chunk_allocator.OneChunkAllocator.{the_row as one_chunk_row};
 ghost use Rattle.bb_memory_c.specs.contracts.detached.Detached.{the_row as detached_row};
-ghost use Rattle.bb_memory_shared_pools.specs.contracts.shared_pool.detached.LostBucket.{the_row as lost_row};
-ghost use Rattle.bb_handles.specs.contracts.one_owner.Pool.{the_row as pool_row};
 ghost use Rattle.bb_memory_c.specs.contracts.shared_bump.BumpParties.{the_row as shared_bump_row};
 ghost use Rattle.bb_memory_c.specs.contracts.shared_bump.JoinedBump.{the_row as bump_party_row};
 ghost use Rattle.bb_memory_c.specs.contracts.shared_pool.JoinedPool.{the_row as pool_party_row};
 ghost use Rattle.bb_memory_c.specs.contracts.shared_pool.PoolParties.{the_row as shared_pool_row};
+ghost use Rattle.bb_memory_c_calls.specs.Handles.{owns_if};
+ghost use Rattle.bb_memory_c_calls.specs.contracts.one_owner.Pool.{the_row as pool_row};
+ghost use Rattle.bb_memory_owned.specs.contracts.one_chunk_allocator.OneChunkAllocator.{the_row as one_chunk_row};
+ghost use Rattle.bb_memory_shared_pools.specs.contracts.shared_pool.detached.LostBucket.{the_row as lost_row};
+ghost use Rattle.std.specs.Prelude.{Option};
 
 use crate::detached::Detached;
 use crate::shared_bump::{BumpParties, JoinedBump};
 use crate::shared_pool::{JoinedPool, PoolParties};
-pub use bb_handles::handle::Handle;
-use bb_handles::held::Held;
-use bb_handles::one_owner::Pool;
 use bb_memory_bump::bump_allocator::BumpAllocator;
+pub use bb_memory_c_calls::handle::Handle;
+use bb_memory_c_calls::held::Held;
+use bb_memory_c_calls::one_owner::Pool;
 use bb_memory_owned::one_chunk_allocator::OneChunkAllocator;
 use bb_memory_shared_pools::shared_pool::LostBucket;
 use std::marker::Model;
@@ -208,7 +208,8 @@ impl Handle<Detached> for DetachedHandle {
     }
 }
 
-/// Empty, or the owner of the token of a lost bucket, which has no bytes: its pointer is any that isn't null.
+/// Empty, or the owner of the token of a lost bucket, which has no bytes. The token that a host passes has a null pointer, at which
+/// no box is. So the contract of a call with it says nothing of a host's call, and tests show what that does.
 #[repr(C)]
 #[derive(Drop)]
 pub struct LostHandle {

@@ -1,17 +1,16 @@
 //! A one-chunk allocator behind a handle.
-ghost use Rattle.std.specs.Prelude.{◌≡◌, None, Some};
-ghost use Rattle.bb_memory_traits.specs.Chunk.{IsRegion, region_at};
+ghost use Rattle.bb_memory_c_calls.specs.Answers.{AnswersStill, TellsOfLayouts, no_figure};
+ghost use Rattle.bb_memory_c_calls.specs.Calls.{Answers, AnswersFree, AnswersInfo, AnswersMake, AnswersRequest, AnswersResize, AnswersReturn, AnswersWhether};
+ghost use Rattle.bb_memory_c_calls.specs.OneOwner.{OneChunkAllocates, ShowsOneChunk, TellsGrow, TellsReserved, TellsShrink};
+ghost use Rattle.bb_memory_c_calls.specs.declared.code.TheConstants.{UNINITIALIZED as uninitialized};
 ghost use Rattle.bb_memory_owned.specs.OneChunk.{one_chunk_of};
-ghost use Rattle.bb_handles.specs.Answers.{AnswersStill, TellsOfLayouts, no_figure};
-ghost use Rattle.bb_handles.specs.declared.code.TheConstants.{UNINITIALIZED as uninitialized};
-ghost use Rattle.bb_handles.specs.Calls.{Answers, AnswersFree, AnswersInfo, AnswersMake, AnswersRequest, AnswersResize};
-ghost use Rattle.bb_handles.specs.Calls.{AnswersReturn, AnswersWhether};
-ghost use Rattle.bb_handles.specs.OneOwner.{OneChunkAllocates, ShowsOneChunk, TellsGrow, TellsReserved, TellsShrink};
+ghost use Rattle.bb_memory_traits.specs.Chunk.{IsRegion, region_at};
+ghost use Rattle.std.specs.Prelude.{None, Some, ◌≡◌};
 
 use crate::handle::{Handle, OneChunkHandle};
-use bb_handles::answer::{Answer, Figure, OneChunkInfo};
-use bb_handles::layout::layouts_of;
-use bb_handles::{call, code};
+use bb_memory_c_calls::answer::{Answer, Figure, OneChunkInfo};
+use bb_memory_c_calls::layout::layouts_of;
+use bb_memory_c_calls::{call, code};
 use bb_memory_owned::one_chunk_allocator::OneChunkAllocator;
 use bb_memory_traits::allocator::{Allocator, BaseAllocator};
 use bb_memory_traits::layout::Layout;

@@ -1,16 +1,14 @@
 //! A pool behind a handle.
-ghost use Rattle.bb_memory_traits.specs.Chunk.{region_at};
+ghost use Rattle.bb_memory_c_calls.specs.Calls.{AnswersFree, AnswersInfo, AnswersNumber, AnswersPlace, AnswersPoolMake, AnswersRequest, AnswersReturn, AnswersTake, AnswersWhether};
+ghost use Rattle.bb_memory_c_calls.specs.OneOwner.{PoolAllocates, ShowsPool, cutting_pool};
 ghost use Rattle.bb_memory_owned.specs.Pool.{FreesBucket, HoldsPlace};
-ghost use Rattle.bb_memory_traits.specs.Geometry.{MayBeCut};
-ghost use Rattle.bb_handles.specs.Calls.{AnswersFree, AnswersInfo, AnswersNumber, AnswersPlace, AnswersPoolMake};
-ghost use Rattle.bb_handles.specs.Calls.{AnswersRequest, AnswersReturn, AnswersTake, AnswersWhether, HasRoom};
-ghost use Rattle.bb_handles.specs.OneOwner.{MakesPool, PoolAllocates, ShowsPool};
+ghost use Rattle.bb_memory_traits.specs.Chunk.{region_at};
 
 use crate::handle::PoolHandle;
-use bb_handles::answer::{Answer, Figure, PoolInfo};
-use bb_handles::layout::cut_into;
-use bb_handles::one_owner::Pool;
-use bb_handles::{call, code};
+use bb_memory_c_calls::answer::{Answer, Figure, PoolInfo};
+use bb_memory_c_calls::layout::cut_into;
+use bb_memory_c_calls::one_owner::Pool;
+use bb_memory_c_calls::{call, code};
 use bb_memory_owned::pool_allocator::PoolAllocator;
 use std::alloc::Global;
 
@@ -26,7 +24,7 @@ pub extern "C" fn bb_pool_init(
     size: usize,
 ) -> u32
     ensures { AnswersPoolMake handle.old.value handle.new.value bucket_size bucket_align result
-        (MayBeCut (region_at start size)) (HasRoom (region_at start size)) (MakesPool (region_at start size)) }
+        (cutting_pool (region_at start size)) }
 {
     if call::is_made(handle) {
         return code::ALREADY_INITIALIZED;

@@ -1,20 +1,18 @@
 //! A shared bump behind handles: one for the bump and the parties that haven't joined, and one for each party that has.
-ghost use Rattle.std.specs.Prelude.{◌≡◌, IfSome, vec_capacity};
-ghost use Rattle.std.specs.Arc.{arc_value};
-ghost use Rattle.bb_memory_traits.specs.Chunk.{region_at};
 ghost use Rattle.bb_memory_bump.specs.SharedBump.{BumpParty};
-ghost use Rattle.bb_handles.specs.declared.code.TheConstants.{UNINITIALIZED as uninitialized};
-ghost use Rattle.bb_handles.specs.Calls.{Answers, AnswersFree, AnswersInfo, AnswersJoin, AnswersLeave, AnswersMake};
-ghost use Rattle.bb_handles.specs.Calls.{AnswersRequest, IfBoth, IsThere, count_unjoined, with_party};
-ghost use Rattle.bb_memory_c.specs.SharedBumps.{AreFreshOver, AreUnjoined, BumpParties, GivesChunk, IsAt, IsShareable, Knows};
-ghost use Rattle.bb_memory_c.specs.SharedBumps.{ShowsLoad, TellsReset};
+ghost use Rattle.bb_memory_c.specs.SharedBumps.{AreFreshOver, AreUnjoined, BumpParties, GivesChunk, IsShareable, Knows, ShowsLoad, TellsReset, sharing_bump};
+ghost use Rattle.bb_memory_c_calls.specs.Calls.{Answers, AnswersFree, AnswersInfo, AnswersJoin, AnswersLeave, AnswersMake, AnswersRequest, IfBoth, IsThere};
+ghost use Rattle.bb_memory_c_calls.specs.declared.code.TheConstants.{UNINITIALIZED as uninitialized};
+ghost use Rattle.bb_memory_traits.specs.Chunk.{region_at};
+ghost use Rattle.std.specs.Arc.{arc_value};
+ghost use Rattle.std.specs.Prelude.{IfSome, vec_capacity, ◌≡◌};
 
 use crate::handle::{BumpPartyHandle, Handle, SharedBumpHandle};
-use bb_handles::answer::{Answer, BumpInfo};
-use bb_handles::kind::{Gives, Shares};
-use bb_handles::{call, code};
 use bb_memory_bump::bump_allocator::{AllocationError, BumpAllocator};
 use bb_memory_bump::shared_bump::{BumpParty, SharedBumpAllocator};
+use bb_memory_c_calls::answer::{Answer, BumpInfo};
+use bb_memory_c_calls::kind::{Gives, Shares};
+use bb_memory_c_calls::{call, code};
 use bb_memory_traits::layout::{Chunk, Layout};
 use std::alloc::Global;
 use std::marker::Model;
@@ -90,13 +88,7 @@ impl BumpParties {
 }
 
 impl Shares<JoinedBump> for BumpParties {
-    ghost unjoined = { count_unjoined };
-
-    ghost with_party = { with_party };
-
-    ghost joins = { IsAt };
-
-    ghost is_at = { IsAt };
+    ghost sharing = { sharing_bump };
 
     ghost knows = { Knows };
 
@@ -168,7 +160,7 @@ pub extern "C" fn bb_shared_bump_join(
     party: &mut BumpPartyHandle,
 ) -> u32
     ensures { AnswersJoin handle.old.value handle.new.value party.old.value party.new.value result
-        count_unjoined with_party IsAt }
+        sharing_bump }
 {
     call::join(handle, alloc, party)
 }
@@ -182,7 +174,7 @@ pub extern "C" fn bb_shared_bump_leave(
 ) -> u32
     requires { IfBoth handle.old.value party.old.value Knows }
     ensures { AnswersLeave handle.old.value handle.new.value party.old.value party.new.value result
-        IsAt (λ party after. after ≡ party) with_party }
+        sharing_bump }
 {
     call::leave(handle, alloc, party)
 }

@@ -1,27 +1,21 @@
 //! A shared pool behind handles: one for the pool and the parties that haven't joined, and one for each party that has.
-ghost use Rattle.std.specs.Prelude.{◌≡◌, ◌<◌, ◌≤◌, ◌↔◌, Contains, IfErr, IfNone, IfOk, IfSome, IsFalse, IsTrue, Some};
-ghost use Rattle.std.specs.Prelude.{ℕ, slice_get, slice_set, vec_capacity};
-ghost use Rattle.std.specs.Arc.{arc_value};
+ghost use Rattle.bb_memory_c.specs.SharedPools.{AnswersJoinNumber, ArePlaces, AreUnjoined, CountsOut, GivesBack, GivesChunk, HasGivenAllBack, HasUnjoined, HoldsAt, HoldsPlace, IsAt, IsJoinedAt, IsNumberAt, Knows, PoolParties, ShowsParty, ShowsShared, TakesNumber, TellsCache, TellsHolder, as_joined, cutting_shared_pool, emptied, forgetting_pool, geometry_of, sharing_pool, with_last, with_unjoined};
+ghost use Rattle.bb_memory_c_calls.specs.Answers.{figure_of, no_figure};
+ghost use Rattle.bb_memory_c_calls.specs.Calls.{Answers, AnswersFree, AnswersInfo, AnswersJoin, AnswersLeave, AnswersNumber, AnswersPlace, AnswersPoolMake, AnswersRequest, AnswersReturn, AnswersReturns, AnswersTake, AnswersTakings, AnswersWhether, IfBoth};
+ghost use Rattle.bb_memory_c_calls.specs.OneOwner.{pool_info};
+ghost use Rattle.bb_memory_c_calls.specs.declared.code.TheConstants.{OK as ok, UNINITIALIZED as uninitialized};
+ghost use Rattle.bb_memory_shared_pools.specs.SharedPool.{IsParty};
+ghost use Rattle.bb_memory_shared_pools.specs.SharedPoolCaching.{CachingParty, IsOut, ReturnsCaching};
 ghost use Rattle.bb_memory_traits.specs.Chunk.{region_at};
 ghost use Rattle.bb_memory_traits.specs.PoolObject.{bucket_place};
-ghost use Rattle.bb_memory_shared_pools.specs.SharedPoolCaching.{CachingParty, IsOut, ReturnsCaching};
-ghost use Rattle.bb_handles.specs.Answers.{figure_of, no_figure};
-ghost use Rattle.bb_handles.specs.declared.code.TheConstants.{OK as ok, UNINITIALIZED as uninitialized};
-ghost use Rattle.bb_handles.specs.Calls.{Answers, AnswersFree, AnswersInfo, AnswersJoin, AnswersLeave, AnswersNumber};
-ghost use Rattle.bb_handles.specs.Calls.{AnswersPlace, AnswersPoolMake, AnswersRequest, AnswersReturn, AnswersReturns};
-ghost use Rattle.bb_handles.specs.Calls.{AnswersTake, AnswersTakings, AnswersWhether, HasRoom, IfBoth, IsThere, MayBeShared};
-ghost use Rattle.bb_handles.specs.Calls.{count_unjoined};
-ghost use Rattle.bb_handles.specs.OneOwner.{pool_info};
-ghost use Rattle.bb_memory_c.specs.SharedPools.{AreFreshOver, ArePlaces, AreUnjoined, CountsOut, GivesAllBack, GivesBack};
-ghost use Rattle.bb_memory_c.specs.SharedPools.{GivesChunk, HoldsAt, HoldsPlace, IsAt, IsIdleAt, IsJoinedAt, JoinsAt, Knows};
-ghost use Rattle.bb_memory_c.specs.SharedPools.{Leaves, PoolParties, ShowsParty, ShowsShared, TellsCache, TellsHolder, as_joined};
-ghost use Rattle.bb_memory_c.specs.SharedPools.{emptied, geometry_of, with_unjoined};
+ghost use Rattle.std.specs.Arc.{arc_value};
+ghost use Rattle.std.specs.Prelude.{Contains, IfErr, IfNone, IfOk, IfSome, IsFalse, IsTrue, Some, length, slice_get, slice_set, vec_capacity, ℕ, ◌<◌, ◌↔◌, ◌≡◌, ◌≤◌};
 
 use crate::handle::{Handle, PoolPartyHandle, SharedPoolHandle};
-use bb_handles::answer::{Answer, Figure, Holder, PoolInfo, SharedPoolInfo};
-use bb_handles::kind::{Bucketed, Gives, Keeps, Shares};
-use bb_handles::layout::cut_into;
-use bb_handles::{call, code};
+use bb_memory_c_calls::answer::{Answer, Figure, Holder, PoolInfo, SharedPoolInfo};
+use bb_memory_c_calls::kind::{Bucketed, Gives, Keeps, Shares};
+use bb_memory_c_calls::layout::cut_into;
+use bb_memory_c_calls::{call, code};
 use bb_memory_owned::pool_allocator::AllocationError;
 use bb_memory_shared_pools::shared_pool::{
     CachingParty, PoolParty, SharedPoolAllocator, by_number,
@@ -65,22 +59,6 @@ fn figures_of(pool: &SharedPoolAllocator, held: usize, greatest: usize) -> PoolI
         number_of_buckets: pool.number_of_buckets() as usize,
         held_buckets: held,
         greatest_held: greatest,
-    }
-}
-
-/// Gives back each bucket whose flag names the party, in order of their numbers.
-fn give_all_back(pool: &SharedPoolAllocator, party: &mut PoolParty)
-    requires { party.old.allocator ≡ pool.now }
-    ensures { GivesAllBack party.old party.new }
-{
-    // Proof hint, here and below: brings the party's invariant into scope.
-    let _ = party.number();
-    for number in 0..pool.number_of_buckets() {
-        let is_held = pool.is_held_by(party, number);
-        if is_held {
-            let bucket = by_number::bucket(pool, party, number, 0);
-            pool.deallocate_bucket(party, bucket);
-        }
     }
 }
 
@@ -129,7 +107,7 @@ impl JoinedPool {
         pool: &Arc<SharedPoolAllocator, Global>,
         party: PoolParty,
     ) -> Result<Box<JoinedPool>, PoolParty>
-        requires { IsIdleAt (arc_value pool.now) party }
+        requires { party.allocator ≡ arc_value pool.now }
         ensures joined { IfOk result (λ joined. joined.value ≡ as_joined party) }
         ensures refused { IfErr result (λ back. back ≡ party) }
     {
@@ -145,6 +123,13 @@ impl JoinedPool {
             gap: [0; 16],
         };
         Box::new(alloc, joined).map_err(|refused| refused.value.party.into_inner())
+    }
+
+    /// Proof hint: brings into scope what holds of every party.
+    fn invariant(&self)
+        ensures { IsParty self.now.party }
+    {
+        let _ = self.party.party().number();
     }
 
     /// Tells whether the bucket of this number is cached.
@@ -177,7 +162,7 @@ impl JoinedPool {
             → place ≡ bucket_place (geometry_of self.now) other → other ≡ number) }
         ensures none { IfNone result (¬ HoldsPlace self.now place) }
     {
-        let _ = self.party.party().number();
+        self.invariant();
         self.pool.number_at(place)
     }
 
@@ -214,7 +199,7 @@ impl JoinedPool {
         ensures count { CountsOut self.old result }
         ensures unchanged { self.new ≡ self.old }
     {
-        let _ = self.party.party().number();
+        self.invariant();
         let mut count = 0;
         for number in 0..self.pool.number_of_buckets() {
             let is_out = self.is_out(number);
@@ -233,7 +218,7 @@ impl JoinedPool {
         ensures returned { IsTrue result → ReturnsCaching self.old number self.new }
         ensures unchanged { IsFalse result → self.new ≡ self.old }
     {
-        let _ = self.party.party().number();
+        self.invariant();
         let pool = &*self.pool;
         let place = self.party.number_of_cached();
         if note(&mut self.places, self.party.cached(), number, place) {
@@ -313,7 +298,7 @@ impl Bucketed for JoinedPool {
     }
 }
 
-/// A shared pool, and those of its parties that haven't joined, which hold nothing.
+/// A shared pool, and those of its parties that haven't joined. They hold nothing, but for one that was forgotten.
 #[derive(Drop)]
 pub struct PoolParties {
     pub(crate) pool: Arc<SharedPoolAllocator, Global>,
@@ -328,18 +313,60 @@ impl Model for PoolParties {
     ghost invariant = { λ s. AreUnjoined (arc_value s.pool) (vec_capacity s.parties) s.parties.items };
 }
 
+impl PoolParties {
+    /// Returns where the party of this number stands among those that haven't joined.
+    fn place_of(&self, number: u32) -> Option<usize>
+        ensures there { IfSome result (λ at. IsNumberAt self.now.parties at number) }
+        ensures none { IfNone result (¬ HasUnjoined self.now number) }
+    {
+        for at in 0..self.parties.len() {
+            if self.parties[at].number() == number {
+                return Some(at);
+            }
+        }
+        None
+    }
+
+    /// Has the last party that hasn't joined and the one at this place change their places.
+    fn swap_with_last(&mut self, at: usize)
+        requires { at < length self.old.parties }
+        ensures { self.new ≡ with_last self.old at }
+    {
+        let last = self.parties.len() - 1;
+        self.parties.swap(at, last);
+    }
+
+    /// Makes the party of this number join, in memory of its own.
+    fn join_number(&mut self, alloc: Global, number: u32) -> Result<Box<JoinedPool>, u32>
+        ensures { TakesNumber (λ joined. joined.value) self.old number result self.new }
+    {
+        let Some(at) = self.place_of(number) else {
+            return Err(code::NO_PARTY);
+        };
+        self.swap_with_last(at);
+        match self.join_last(alloc) {
+            Ok(joined) => Ok(joined),
+            Err(code) => {
+                self.swap_with_last(at);
+                Err(code)
+            }
+        }
+    }
+
+    /// Takes the party back as it is, behind those that haven't joined.
+    fn take_back_as_it_is(&mut self, joined: JoinedPool)
+        requires { IsAt self.old joined }
+        ensures { self.new ≡ with_unjoined self.old joined }
+    {
+        let JoinedPool { pool: _, party, .. } = joined;
+        self.parties.push_reserved(party.into_inner());
+    }
+}
+
 impl Shares<JoinedPool> for PoolParties {
-    ghost unjoined = { count_unjoined };
-
-    ghost with_party = { with_unjoined };
-
-    ghost joins = { JoinsAt };
-
-    ghost is_at = { IsAt };
+    ghost sharing = { sharing_pool };
 
     ghost knows = { Knows };
-
-    ghost leaves = { Leaves };
 
     fn join_last(&mut self, alloc: Global) -> Result<Box<JoinedPool>, u32> {
         let Some(party) = self.parties.pop() else {
@@ -363,7 +390,7 @@ impl Shares<JoinedPool> for PoolParties {
     fn take_back(&mut self, joined: JoinedPool) {
         let JoinedPool { pool, party, .. } = joined;
         let mut party = party.into_inner();
-        give_all_back(&*pool, &mut party);
+        pool.give_all_back(&mut party);
         self.parties.push_reserved(party);
     }
 }
@@ -381,8 +408,7 @@ pub extern "C" fn bb_shared_pool_init(
     parties: u32,
 ) -> u32
     ensures { AnswersPoolMake handle.old.value handle.new.value bucket_size bucket_align result
-        (MayBeShared (region_at start size) parties) (HasRoom (region_at start size))
-        (λ bucket. IsThere (AreFreshOver (region_at start size) bucket parties)) }
+        (cutting_shared_pool (region_at start size) parties) }
 {
     if call::is_made(handle) {
         return code::ALREADY_INITIALIZED;
@@ -454,9 +480,60 @@ pub extern "C" fn bb_shared_pool_join(
     party: &mut PoolPartyHandle,
 ) -> u32
     ensures { AnswersJoin handle.old.value handle.new.value party.old.value party.new.value result
-        count_unjoined with_unjoined JoinsAt }
+        sharing_pool }
 {
     call::join(handle, alloc, party)
+}
+
+/// Makes the party of this number join, behind a handle that has to be empty. It is refused with `BB_NO_PARTY` where that party
+/// has joined, or there is none of that number.
+#[unsafe(no_mangle)]
+pub extern "C" fn bb_shared_pool_join_number(
+    alloc: Global,
+    handle: &mut SharedPoolHandle,
+    number: u32,
+    party: &mut PoolPartyHandle,
+) -> u32
+    ensures { AnswersJoinNumber handle.old.value handle.new.value party.old.value party.new.value number result }
+{
+    if call::is_made(party) {
+        return code::ALREADY_INITIALIZED;
+    }
+    let Some(all) = handle.made_mut() else {
+        return code::UNINITIALIZED;
+    };
+    let joined = match all.join_number(alloc, number) {
+        Ok(joined) => joined,
+        Err(code) => return code,
+    };
+    party.put(joined);
+    code::OK
+}
+
+/// Forgets a party of this pool, whose handle is empty then. It steps on no flag: what the party holds stays held, and a party of
+/// its number may join again, which holds that then. The party of a pool that begins at another place is refused with
+/// `BB_OTHER_POOL`.
+#[unsafe(no_mangle)]
+pub extern "C" fn bb_shared_pool_forget(
+    alloc: Global,
+    handle: &mut SharedPoolHandle,
+    party: &mut PoolPartyHandle,
+) -> u32
+    requires { IfBoth handle.old.value party.old.value Knows }
+    ensures { AnswersLeave handle.old.value handle.new.value party.old.value party.new.value result forgetting_pool }
+{
+    let Some(all) = handle.made_mut() else {
+        return code::UNINITIALIZED;
+    };
+    let Some(joined) = party.take(alloc) else {
+        return code::UNINITIALIZED;
+    };
+    if !all.has_joined(&joined) {
+        party.put(joined);
+        return code::OTHER_POOL;
+    }
+    all.take_back_as_it_is(Box::into_inner(joined));
+    code::OK
 }
 
 /// Ends a party of this pool, whose handle is empty then: each bucket that it holds is given back. It may join again. The party
@@ -468,7 +545,7 @@ pub extern "C" fn bb_shared_pool_leave(
     party: &mut PoolPartyHandle,
 ) -> u32
     requires { IfBoth handle.old.value party.old.value Knows }
-    ensures { AnswersLeave handle.old.value handle.new.value party.old.value party.new.value result IsAt Leaves with_unjoined }
+    ensures { AnswersLeave handle.old.value handle.new.value party.old.value party.new.value result sharing_pool }
 {
     call::leave(handle, alloc, party)
 }
@@ -509,6 +586,19 @@ pub extern "C" fn bb_pool_party_flush(handle: &mut PoolPartyHandle) -> u32
         return code::UNINITIALIZED;
     };
     joined.party.flush(&*joined.pool);
+    code::OK
+}
+
+/// Gives back each bucket whose flag says that the party holds it, cached or not, as leaving does. The party stays.
+#[unsafe(no_mangle)]
+pub extern "C" fn bb_pool_party_give_all_back(handle: &mut PoolPartyHandle) -> u32
+    ensures { Answers handle.old.value handle.new.value (result ≡ uninitialized)
+        (λ joined after. (result ≡ ok) × HasGivenAllBack joined after) }
+{
+    let Some(joined) = handle.made_mut() else {
+        return code::UNINITIALIZED;
+    };
+    joined.party.give_all_back(&*joined.pool);
     code::OK
 }
 

@@ -1,6 +1,9 @@
-// Each call of the allocators with one owner, and each cause of a refusal; and each `init` and `join` with each request for
-// memory refused in turn: `malloc` is wrapped at the link. Its places are numbers, at which there is no memory.
+// Each call, and each cause of a refusal; and each call that takes memory with each of its requests
+// for memory refused in turn: `malloc` is wrapped at the link. The places are numbers, at which
+// there is no memory.
 #define BB_PLACES_ARE_NUMBERS
+#include <pthread.h>
+#include <sched.h>
 #include <stdint.h>
 #include <stdio.h>
 #include <stdlib.h>
@@ -8,7 +11,9 @@
 
 #include "bb_memory.h"
 
-static size_t to_refuse, requests, bytes;
+static size_t to_refuse;
+static size_t requests;
+static size_t bytes;
 
 #ifdef __cplusplus
 extern "C" {
@@ -38,13 +43,19 @@ static int given(bb_answer answer, size_t place) {
     return answer.code == BB_OK && answer.place == place;
 }
 
-static int refused(bb_answer answer, uint32_t code) { return answer.code == code && answer.place == 0; }
+static int refused(bb_answer answer, uint32_t code) {
+    return answer.code == code && answer.place == 0;
+}
 
-static int is(bb_figure figure, size_t number) { return figure.code == BB_OK && figure.number == number; }
+static int is(bb_figure figure, size_t number) {
+    return figure.code == BB_OK && figure.number == number;
+}
 
-static int same(size_t told, size_t number) { return told == number; }
+static int same(size_t figure, size_t number) {
+    return figure == number;
+}
 
-// The figures of what is behind a handle, which isn't empty.
+// Returns the figures of what a handle owns, which isn't empty.
 #define INFO_OF(KIND, INFO)                                \
     static struct bb_##INFO of_##KIND(bb_##KIND *handle) { \
         struct bb_##INFO info;                             \
@@ -58,44 +69,63 @@ INFO_OF(pool, pool_info)
 INFO_OF(bump_party, bump_info)
 INFO_OF(pool_party, pool_info)
 
-static int has_none(bb_figure figure, uint32_t code) { return figure.code == code && figure.number == 0; }
+static int has_none(bb_figure figure, uint32_t code) {
+    return figure.code == code && figure.number == 0;
+}
 
 // The version's text and its numbers are one version.
 static void run_version(void) {
     char text[40];
-    EXPECT(snprintf(text, sizeof text, "%d.%d.%d", BB_VERSION_MAJOR, BB_VERSION_MINOR, BB_VERSION_PATCH) > 0);
+    EXPECT(snprintf(text, sizeof text, "%d.%d.%d", BB_VERSION_MAJOR, BB_VERSION_MINOR,
+                    BB_VERSION_PATCH) > 0);
     EXPECT(strcmp(text, BB_VERSION) == 0);
-    EXPECT(BB_VERSION_NUMBER == BB_VERSION_MAJOR * 10000 + BB_VERSION_MINOR * 100 + BB_VERSION_PATCH);
+    EXPECT(BB_VERSION_NUMBER ==
+           BB_VERSION_MAJOR * 10000 + BB_VERSION_MINOR * 100 + BB_VERSION_PATCH);
 }
 
 // Each code has a text of its own, and no other number has one.
 static void run_texts(void) {
     const char *none = bb_text(BB_LAST_CODE + 1);
-    EXPECT(strcmp(none, bb_text(UINT32_MAX)) == 0 && strcmp(none, bb_text(17)) == 0);
+    EXPECT(strcmp(none, bb_text(UINT32_MAX)) == 0);
+    EXPECT(strcmp(none, bb_text(17)) == 0);
     for (uint32_t code = BB_OK; code <= BB_LAST_CODE; code++) {
-        if (code == 17) continue;  // A code of earlier versions.
+        // A code of earlier versions.
+        if (code == 17)
+            continue;
         EXPECT(strcmp(bb_text(code), none) != 0);
         for (uint32_t before = BB_OK; before < code; before++)
             EXPECT(strcmp(bb_text(code), bb_text(before)) != 0);
     }
 }
 
-// As many bytes as are said have room for as many buckets, and a byte less for one less.
+// The bytes that are said have room for exactly that number of buckets, and one byte less for one
+// bucket less.
 static void run_bytes(void) {
     static unsigned char buffer[BB_BYTES_FOR(48, 32, 3)];
-    EXPECT(sizeof buffer == 192 && BB_STRIDE(48, 32) == 64 && BB_STRIDE(1, 1) == 1 && BB_STRIDE(8, 8) == 8);
-    EXPECT(bb_bytes_for(48, 32, 3) == 192 && bb_bytes_for(48, 32, 0) == 0 && bb_bytes_for(1, 1, UINT32_MAX) == UINT32_MAX);
-    EXPECT(bb_bytes_for(0, 8, 1) == 0 && bb_bytes_for(8, 0, 1) == 0 && bb_bytes_for(8, 3, 1) == 0);
-    EXPECT(bb_bytes_for((size_t)PTRDIFF_MAX, 1, 1) == (size_t)PTRDIFF_MAX && bb_bytes_for((size_t)PTRDIFF_MAX, 1, 2) == 0);
-    EXPECT(bb_bytes_for((size_t)PTRDIFF_MAX, 2, 1) == 0 && bb_bytes_for(1, (size_t)1 << 63, 1) == 0);
+    EXPECT(sizeof buffer == 192);
+    EXPECT(BB_STRIDE(48, 32) == 64);
+    EXPECT(BB_STRIDE(1, 1) == 1);
+    EXPECT(BB_STRIDE(8, 8) == 8);
+    EXPECT(bb_bytes_for(48, 32, 3) == 192);
+    EXPECT(bb_bytes_for(48, 32, 0) == 0);
+    EXPECT(bb_bytes_for(1, 1, UINT32_MAX) == UINT32_MAX);
+    EXPECT(bb_bytes_for(0, 8, 1) == 0);
+    EXPECT(bb_bytes_for(8, 0, 1) == 0);
+    EXPECT(bb_bytes_for(8, 3, 1) == 0);
+    EXPECT(bb_bytes_for((size_t)PTRDIFF_MAX, 1, 1) == (size_t)PTRDIFF_MAX);
+    EXPECT(bb_bytes_for((size_t)PTRDIFF_MAX, 1, 2) == 0);
+    EXPECT(bb_bytes_for((size_t)PTRDIFF_MAX, 2, 1) == 0);
+    EXPECT(bb_bytes_for(1, (size_t)1 << 63, 1) == 0);
     for (size_t size = 1; size < 70; size++)
         for (size_t align = 1; align <= 64; align *= 2)
             for (uint32_t buckets = 1; buckets < 6; buckets++) {
                 size_t needed = bb_bytes_for(size, align, buckets);
                 EXPECT(needed == BB_BYTES_FOR(size, align, buckets));
-                bb_pool pool = BB_EMPTY, shorter = BB_EMPTY;
+                bb_pool pool = BB_EMPTY;
+                bb_pool shorter = BB_EMPTY;
                 EXPECT(bb_pool_init(&pool, size, align, 4096, needed) == BB_OK);
-                EXPECT(same(of_pool(&pool).number_of_buckets, buckets) && bb_pool_destroy(&pool) == BB_OK);
+                EXPECT(same(of_pool(&pool).number_of_buckets, buckets));
+                EXPECT(bb_pool_destroy(&pool) == BB_OK);
                 uint32_t told = bb_pool_init(&shorter, size, align, 4096, needed - 1);
                 EXPECT(told == (buckets == 1 ? BB_NO_BUCKET : BB_OK));
                 EXPECT(buckets == 1 || same(of_pool(&shorter).number_of_buckets, buckets - 1));
@@ -105,34 +135,51 @@ static void run_bytes(void) {
 
 static void run_bump(void) {
     bb_bump bump = BB_EMPTY;
-    EXPECT(bb_bump_init(&bump, 0, 8) == BB_INVALID_ARGUMENT && bb_bump_init(&bump, SIZE_MAX, 1) == BB_INVALID_ARGUMENT);
-    EXPECT(refused(bb_bump_allocate(&bump, 8, 8), BB_UNINITIALIZED) && bb_bump_deallocate(&bump) == BB_UNINITIALIZED);
-    EXPECT(bb_bump_init(&bump, 4096, 1024) == BB_OK && bb_bump_init(&bump, 4096, 1024) == BB_ALREADY_INITIALIZED);
+    EXPECT(bb_bump_init(&bump, 0, 8) == BB_INVALID_ARGUMENT);
+    EXPECT(bb_bump_init(&bump, SIZE_MAX, 1) == BB_INVALID_ARGUMENT);
+    EXPECT(refused(bb_bump_allocate(&bump, 8, 8), BB_UNINITIALIZED));
+    EXPECT(bb_bump_deallocate(&bump) == BB_UNINITIALIZED);
+    EXPECT(bb_bump_init(&bump, 4096, 1024) == BB_OK);
+    EXPECT(bb_bump_init(&bump, 4096, 1024) == BB_ALREADY_INITIALIZED);
     requests = 0;
-    EXPECT(given(bb_bump_allocate(&bump, 48, 4), 4096) && given(bb_bump_allocate(&bump, 10, 32), 4160));
-    EXPECT(same(of_bump(&bump).used_space, 74) && same(of_bump(&bump).free_space, 950));
-    EXPECT(given(bb_bump_allocate(&bump, 950, 1), 4170) && refused(bb_bump_allocate(&bump, 1, 1), BB_OUT_OF_MEMORY));
-    EXPECT(refused(bb_bump_allocate(&bump, 0, 1), BB_SIZE_IS_ZERO) && refused(bb_bump_allocate(&bump, 1, 3), BB_INVALID_LAYOUT));
-    EXPECT(bb_bump_deallocate(&bump) == BB_OK && same(of_bump(&bump).used_space, 0));
-    EXPECT(same(of_bump(&bump).total_space, 1024) && same(of_bump(&bump).start_address, 4096));
+    EXPECT(given(bb_bump_allocate(&bump, 48, 4), 4096));
+    EXPECT(given(bb_bump_allocate(&bump, 10, 32), 4160));
+    EXPECT(same(of_bump(&bump).used_space, 74));
+    EXPECT(same(of_bump(&bump).free_space, 950));
+    EXPECT(given(bb_bump_allocate(&bump, 950, 1), 4170));
+    EXPECT(refused(bb_bump_allocate(&bump, 1, 1), BB_OUT_OF_MEMORY));
+    EXPECT(refused(bb_bump_allocate(&bump, 0, 1), BB_SIZE_IS_ZERO));
+    EXPECT(refused(bb_bump_allocate(&bump, 1, 3), BB_INVALID_LAYOUT));
+    EXPECT(bb_bump_deallocate(&bump) == BB_OK);
+    EXPECT(same(of_bump(&bump).used_space, 0));
+    EXPECT(same(of_bump(&bump).total_space, 1024));
+    EXPECT(same(of_bump(&bump).start_address, 4096));
     EXPECT(requests == 0);
-    EXPECT(bb_bump_destroy(&bump) == BB_OK && bb_bump_destroy(&bump) == BB_UNINITIALIZED);
+    EXPECT(bb_bump_destroy(&bump) == BB_OK);
+    EXPECT(bb_bump_destroy(&bump) == BB_UNINITIALIZED);
     struct bb_bump_info info = {1, 2, 3, 4};
-    EXPECT(bb_bump_info(&bump, &info) == BB_UNINITIALIZED && info.start_address == 1 && info.total_space == 4);
+    EXPECT(bb_bump_info(&bump, &info) == BB_UNINITIALIZED);
+    EXPECT(info.start_address == 1);
+    EXPECT(info.total_space == 4);
 }
 
 static void run_one_chunk(void) {
     bb_one_chunk one = BB_EMPTY;
     EXPECT(bb_one_chunk_init(&one, 0, 8) == BB_INVALID_ARGUMENT);
-    EXPECT(bb_one_chunk_init(&one, 4097, 1024) == BB_OK && bb_one_chunk_init(&one, 4097, 1024) == BB_ALREADY_INITIALIZED);
+    EXPECT(bb_one_chunk_init(&one, 4097, 1024) == BB_OK);
+    EXPECT(bb_one_chunk_init(&one, 4097, 1024) == BB_ALREADY_INITIALIZED);
     requests = 0;
     EXPECT(same(of_one_chunk(&one).has_chunk_available, 1));
-    EXPECT(same(of_one_chunk(&one).start_address, 4097) && same(of_one_chunk(&one).size, 1024));
+    EXPECT(same(of_one_chunk(&one).start_address, 4097));
+    EXPECT(same(of_one_chunk(&one).size, 1024));
     EXPECT(refused(bb_one_chunk_allocate(&one, 1022, 4), BB_OUT_OF_MEMORY));
-    EXPECT(given(bb_one_chunk_allocate(&one, 48, 4), 4100) && same(of_one_chunk(&one).has_chunk_available, 0));
+    EXPECT(given(bb_one_chunk_allocate(&one, 48, 4), 4100));
+    EXPECT(same(of_one_chunk(&one).has_chunk_available, 0));
     EXPECT(refused(bb_one_chunk_allocate(&one, 1, 1), BB_OUT_OF_MEMORY));
-    EXPECT(is(bb_one_chunk_holds(&one, 4100), 1) && is(bb_one_chunk_holds(&one, 4101), 0));
-    EXPECT(is(bb_one_chunk_reserved(&one, 4100), 1021) && has_none(bb_one_chunk_reserved(&one, 4101), BB_NOT_HELD));
+    EXPECT(is(bb_one_chunk_holds(&one, 4100), 1));
+    EXPECT(is(bb_one_chunk_holds(&one, 4101), 0));
+    EXPECT(is(bb_one_chunk_reserved(&one, 4100), 1021));
+    EXPECT(has_none(bb_one_chunk_reserved(&one, 4101), BB_NOT_HELD));
     EXPECT(given(bb_one_chunk_shrink(&one, 4100, 64, 4, 32, 4), 4100));
     EXPECT(given(bb_one_chunk_grow(&one, 4100, 48, 4, 64, 4), 4100));
     EXPECT(refused(bb_one_chunk_grow(&one, 4100, 64, 4, 64, 4), BB_GROW_WOULD_SHRINK));
@@ -146,10 +193,13 @@ static void run_one_chunk(void) {
     EXPECT(refused(bb_one_chunk_shrink(&one, 4100, 32, 4, 32, 4), BB_SHRINK_WOULD_GROW));
     EXPECT(refused(bb_one_chunk_shrink(&one, 4100, 32, 4, 16, 8), BB_ALIGNMENT_FAILURE));
     EXPECT(refused(bb_one_chunk_shrink(&one, 4100, 1022, 4, 16, 4), BB_LAYOUT_MISMATCH));
-    EXPECT(bb_one_chunk_deallocate(&one, 4101) == BB_NOT_HELD && bb_one_chunk_deallocate(&one, 4100) == BB_OK);
-    EXPECT(bb_one_chunk_deallocate(&one, 4100) == BB_NOT_HELD && same(of_one_chunk(&one).has_chunk_available, 1));
+    EXPECT(bb_one_chunk_deallocate(&one, 4101) == BB_NOT_HELD);
+    EXPECT(bb_one_chunk_deallocate(&one, 4100) == BB_OK);
+    EXPECT(bb_one_chunk_deallocate(&one, 4100) == BB_NOT_HELD);
+    EXPECT(same(of_one_chunk(&one).has_chunk_available, 1));
     EXPECT(requests == 0);
-    EXPECT(bb_one_chunk_destroy(&one) == BB_OK && bb_one_chunk_destroy(&one) == BB_UNINITIALIZED);
+    EXPECT(bb_one_chunk_destroy(&one) == BB_OK);
+    EXPECT(bb_one_chunk_destroy(&one) == BB_UNINITIALIZED);
     EXPECT(refused(bb_one_chunk_grow(&one, 4100, 48, 4, 64, 4), BB_UNINITIALIZED));
     EXPECT(has_none(bb_one_chunk_reserved(&one, 4100), BB_UNINITIALIZED));
 }
@@ -162,86 +212,108 @@ static void run_pool(void) {
     EXPECT(bb_pool_init(&pool, 128, 8, 4097, 1024) == BB_OK);
     EXPECT(bb_pool_init(&pool, 128, 8, 4097, 1024) == BB_ALREADY_INITIALIZED);
     requests = 0;
-    EXPECT(same(of_pool(&pool).number_of_buckets, 7) && same(of_pool(&pool).size, 1024));
-    EXPECT(same(of_pool(&pool).bucket_size, 128) && same(of_pool(&pool).max_alignment, 8));
+    EXPECT(same(of_pool(&pool).number_of_buckets, 7));
+    EXPECT(same(of_pool(&pool).size, 1024));
+    EXPECT(same(of_pool(&pool).bucket_size, 128));
+    EXPECT(same(of_pool(&pool).max_alignment, 8));
     EXPECT(refused(bb_pool_allocate(&pool, 129, 16), BB_SIZE_TOO_LARGE));
     EXPECT(refused(bb_pool_allocate(&pool, 48, 16), BB_ALIGNMENT_FAILURE));
-    EXPECT(refused(bb_pool_allocate(&pool, 48, 0), BB_INVALID_LAYOUT) && same(of_pool(&pool).held_buckets, 0));
+    EXPECT(refused(bb_pool_allocate(&pool, 48, 0), BB_INVALID_LAYOUT));
+    EXPECT(same(of_pool(&pool).held_buckets, 0));
     size_t places[7];
     for (size_t at = 0; at < 7; at++) {
         bb_answer answer = bb_pool_allocate(&pool, 48, 4);
-        EXPECT(answer.code == BB_OK && (answer.place - 4104) % 128 == 0);
+        EXPECT(answer.code == BB_OK);
+        EXPECT((answer.place - 4104) % 128 == 0);
         places[at] = answer.place;
-        EXPECT(same(of_pool(&pool).held_buckets, at + 1) && same(of_pool(&pool).greatest_held, at + 1));
+        EXPECT(same(of_pool(&pool).held_buckets, at + 1));
+        EXPECT(same(of_pool(&pool).greatest_held, at + 1));
     }
     EXPECT(refused(bb_pool_allocate(&pool, 0, 1), BB_OUT_OF_MEMORY));
     size_t place = places[3];
-    EXPECT(is(bb_pool_holds(&pool, place), 1) && is(bb_pool_holds(&pool, place + 1), 0));
-    EXPECT(bb_pool_deallocate(&pool, place + 1) == BB_NOT_HELD && bb_pool_deallocate(&pool, place) == BB_OK);
-    EXPECT(bb_pool_deallocate(&pool, place) == BB_NOT_HELD && same(of_pool(&pool).held_buckets, 6));
+    EXPECT(is(bb_pool_holds(&pool, place), 1));
+    EXPECT(is(bb_pool_holds(&pool, place + 1), 0));
+    EXPECT(bb_pool_deallocate(&pool, place + 1) == BB_NOT_HELD);
+    EXPECT(bb_pool_deallocate(&pool, place) == BB_OK);
+    EXPECT(bb_pool_deallocate(&pool, place) == BB_NOT_HELD);
+    EXPECT(same(of_pool(&pool).held_buckets, 6));
     EXPECT(same(of_pool(&pool).greatest_held, 7));
     EXPECT(given(bb_pool_allocate(&pool, 48, 4), place));
     EXPECT(requests == 0);
-    EXPECT(bb_pool_destroy(&pool) == BB_OK && bb_pool_destroy(&pool) == BB_UNINITIALIZED);
+    EXPECT(bb_pool_destroy(&pool) == BB_OK);
+    EXPECT(bb_pool_destroy(&pool) == BB_UNINITIALIZED);
     EXPECT(bb_pool_deallocate(&pool, place) == BB_UNINITIALIZED);
     struct bb_pool_info info;
     EXPECT(bb_pool_info(&pool, &info) == BB_UNINITIALIZED);
 }
 
-// Takes both buckets of 500 bytes, and the one that came back: what a request of the bucket's own size and alignment gets.
-#define RUN_TAKE(POOL, MADE)                                                                            \
-    do {                                                                                                 \
-        requests = 0;                                                                                    \
-        bb_answer one = POOL##_take(&MADE), other = POOL##_take(&MADE);                                  \
-        EXPECT(one.code == BB_OK && other.code == BB_OK && one.place + other.place == 4096 + 4596);      \
-        EXPECT(one.place == 4096 || one.place == 4596);                                                  \
-        EXPECT(refused(POOL##_take(&MADE), BB_OUT_OF_MEMORY));                                           \
-        EXPECT(POOL##_deallocate(&MADE, one.place) == BB_OK && given(POOL##_take(&MADE), one.place));    \
-        EXPECT(requests == 0 && POOL##_destroy(&MADE) == BB_OK);                                         \
-        EXPECT(refused(POOL##_take(&MADE), BB_UNINITIALIZED));                                           \
+// Takes both buckets of 500 bytes, and the one that came back: what a request of the bucket's own
+// size and alignment gets.
+#define RUN_TAKE(POOL, MADE)                                   \
+    do {                                                       \
+        requests = 0;                                          \
+        bb_answer one = POOL##_take(&MADE);                    \
+        bb_answer other = POOL##_take(&MADE);                  \
+        EXPECT(one.code == BB_OK && other.code == BB_OK);      \
+        EXPECT(one.place + other.place == 4096 + 4596);        \
+        EXPECT(one.place == 4096 || one.place == 4596);        \
+        EXPECT(refused(POOL##_take(&MADE), BB_OUT_OF_MEMORY)); \
+        EXPECT(POOL##_deallocate(&MADE, one.place) == BB_OK);  \
+        EXPECT(given(POOL##_take(&MADE), one.place));          \
+        EXPECT(requests == 0);                                 \
+        EXPECT(POOL##_destroy(&MADE) == BB_OK);                \
+        EXPECT(refused(POOL##_take(&MADE), BB_UNINITIALIZED)); \
     } while (0)
 
 static void run_take(void) {
     bb_pool pool = BB_EMPTY;
     bb_shared_pool shared = BB_EMPTY;
-    bb_pool_party caching = BB_EMPTY, party = BB_EMPTY;
+    bb_pool_party caching = BB_EMPTY;
+    bb_pool_party party = BB_EMPTY;
     EXPECT(bb_pool_init(&pool, 500, 4, 4096, 1024) == BB_OK);
     RUN_TAKE(bb_pool, pool);
-    EXPECT(bb_shared_pool_init(&shared, 500, 4, 4096, 1024, 2) == BB_OK && bb_shared_pool_join(&shared, &party) == BB_OK);
+    EXPECT(bb_shared_pool_init(&shared, 500, 4, 4096, 1024, 2) == BB_OK);
+    EXPECT(bb_shared_pool_join(&shared, &party) == BB_OK);
     RUN_TAKE(bb_pool_party, party);
-    EXPECT(bb_shared_pool_destroy(&shared) == BB_OK && bb_shared_pool_init(&shared, 500, 4, 4096, 1024, 2) == BB_OK);
-    EXPECT(bb_shared_pool_join(&shared, &caching) == BB_OK && bb_pool_party_cache(&caching, 1) == BB_OK);
+    EXPECT(bb_shared_pool_destroy(&shared) == BB_OK);
+    EXPECT(bb_shared_pool_init(&shared, 500, 4, 4096, 1024, 2) == BB_OK);
+    EXPECT(bb_shared_pool_join(&shared, &caching) == BB_OK);
+    EXPECT(bb_pool_party_cache(&caching, 1) == BB_OK);
     RUN_TAKE(bb_pool_party, caching);
     EXPECT(bb_shared_pool_destroy(&shared) == BB_OK);
 }
 
-// Buckets of 48 bytes at multiples of 32 are 64 bytes apart, the first at 4096, and the region has room for five. A number or a
-// place is told whether the bucket is held or not, and it takes no memory.
-#define RUN_NUMBERS(POOL, MADE)                                                                          \
-    do {                                                                                                 \
-        requests = 0;                                                                                    \
-        for (uint32_t number = 0; number < 5; number++) {                                                \
-            EXPECT(is(POOL##_place_at(&MADE, number), 4096 + 64 * (size_t)number));                      \
-            EXPECT(is(POOL##_number_at(&MADE, 4096 + 64 * (size_t)number), number));                     \
-            EXPECT(has_none(POOL##_number_at(&MADE, 4096 + 64 * (size_t)number + 1), BB_NOT_A_BUCKET));  \
-            EXPECT(has_none(POOL##_number_at(&MADE, 4096 + 64 * (size_t)number + 63), BB_NOT_A_BUCKET)); \
-        }                                                                                                \
-        EXPECT(has_none(POOL##_place_at(&MADE, 5), BB_NOT_A_BUCKET));                                    \
-        EXPECT(has_none(POOL##_place_at(&MADE, UINT32_MAX), BB_NOT_A_BUCKET));                           \
-        EXPECT(has_none(POOL##_number_at(&MADE, 0), BB_NOT_A_BUCKET));                                   \
-        EXPECT(has_none(POOL##_number_at(&MADE, 4095), BB_NOT_A_BUCKET));                                \
-        EXPECT(has_none(POOL##_number_at(&MADE, 4096 + 64 * 5), BB_NOT_A_BUCKET));                       \
-        EXPECT(has_none(POOL##_number_at(&MADE, SIZE_MAX), BB_NOT_A_BUCKET));                            \
-        bb_answer given = POOL##_allocate(&MADE, 48, 4);                                                 \
-        bb_figure number = POOL##_number_at(&MADE, given.place);                                         \
-        EXPECT(given.code == BB_OK && is(number, (given.place - 4096) / 64));                            \
-        EXPECT(is(POOL##_place_at(&MADE, (uint32_t)number.number), given.place) && requests == 0);       \
-        EXPECT(POOL##_destroy(&MADE) == BB_OK);                                                          \
-        EXPECT(has_none(POOL##_place_at(&MADE, 0), BB_UNINITIALIZED));                                   \
-        EXPECT(has_none(POOL##_number_at(&MADE, 4096), BB_UNINITIALIZED));                               \
+// Buckets of 48 bytes at multiples of 32 are 64 bytes apart, the first at 4096, and the region has
+// room for five. A bucket has its number and its place whether it is held or not, and no call takes
+// memory.
+#define RUN_NUMBERS(POOL, MADE)                                                                    \
+    do {                                                                                           \
+        requests = 0;                                                                              \
+        for (uint32_t number = 0; number < 5; number++) {                                          \
+            EXPECT(is(POOL##_place_at(&MADE, number), 4096 + 64 * (size_t)number));                \
+            EXPECT(is(POOL##_number_at(&MADE, 4096 + 64 * (size_t)number), number));               \
+            EXPECT(has_none(POOL##_number_at(&MADE, 4096 + 64 * (size_t)number + 1),               \
+                            BB_NOT_A_BUCKET));                                                     \
+            EXPECT(has_none(POOL##_number_at(&MADE, 4096 + 64 * (size_t)number + 63),              \
+                            BB_NOT_A_BUCKET));                                                     \
+        }                                                                                          \
+        EXPECT(has_none(POOL##_place_at(&MADE, 5), BB_NOT_A_BUCKET));                              \
+        EXPECT(has_none(POOL##_place_at(&MADE, UINT32_MAX), BB_NOT_A_BUCKET));                     \
+        EXPECT(has_none(POOL##_number_at(&MADE, 0), BB_NOT_A_BUCKET));                             \
+        EXPECT(has_none(POOL##_number_at(&MADE, 4095), BB_NOT_A_BUCKET));                          \
+        EXPECT(has_none(POOL##_number_at(&MADE, 4096 + 64 * 5), BB_NOT_A_BUCKET));                 \
+        EXPECT(has_none(POOL##_number_at(&MADE, SIZE_MAX), BB_NOT_A_BUCKET));                      \
+        bb_answer given = POOL##_allocate(&MADE, 48, 4);                                           \
+        bb_figure number = POOL##_number_at(&MADE, given.place);                                   \
+        EXPECT(given.code == BB_OK && is(number, (given.place - 4096) / 64));                      \
+        EXPECT(is(POOL##_place_at(&MADE, (uint32_t)number.number), given.place) && requests == 0); \
+        EXPECT(POOL##_destroy(&MADE) == BB_OK);                                                    \
+        EXPECT(has_none(POOL##_place_at(&MADE, 0), BB_UNINITIALIZED));                             \
+        EXPECT(has_none(POOL##_number_at(&MADE, 4096), BB_UNINITIALIZED));                         \
     } while (0)
 
-// A bucket's place by its number, and back, of each pool. The region starts in front of bucket 0, and ends behind the last.
+// A bucket's place by its number, and back, of each pool. The region starts before bucket 0, and
+// ends after the last one.
 static void run_numbers(void) {
     bb_pool pool = BB_EMPTY;
     bb_shared_pool shared = BB_EMPTY;
@@ -254,51 +326,65 @@ static void run_numbers(void) {
     EXPECT(bb_shared_pool_destroy(&shared) == BB_OK);
 }
 
-// Bucket 0 is at the region's start rounded up, and the size is the region's as it was handed in.
+// Bucket 0 is at the region's start rounded up, and the size is the region's as it was passed.
 static void run_starts(void) {
     bb_pool unaligned = BB_EMPTY;
-    EXPECT(bb_pool_init(&unaligned, 128, 64, 4097, 1024) == BB_OK && same(of_pool(&unaligned).number_of_buckets, 7));
-    EXPECT(same(of_pool(&unaligned).start_address, 4160) && same(of_pool(&unaligned).size, 1024));
+    EXPECT(bb_pool_init(&unaligned, 128, 64, 4097, 1024) == BB_OK);
+    EXPECT(same(of_pool(&unaligned).number_of_buckets, 7));
+    EXPECT(same(of_pool(&unaligned).start_address, 4160));
+    EXPECT(same(of_pool(&unaligned).size, 1024));
     bb_shared_pool shared = BB_EMPTY;
     bb_pool_party party = BB_EMPTY;
-    EXPECT(bb_shared_pool_init(&shared, 128, 64, 4097, 1024, 1) == BB_OK && bb_shared_pool_join(&shared, &party) == BB_OK);
-    EXPECT(same(of_pool_party(&party).start_address, 4160) && same(of_pool_party(&party).size, 1024));
+    EXPECT(bb_shared_pool_init(&shared, 128, 64, 4097, 1024, 1) == BB_OK);
+    EXPECT(bb_shared_pool_join(&shared, &party) == BB_OK);
+    EXPECT(same(of_pool_party(&party).start_address, 4160));
+    EXPECT(same(of_pool_party(&party).size, 1024));
     EXPECT(bb_pool_destroy(&unaligned) == BB_OK);
-    EXPECT(bb_shared_pool_destroy(&shared) == BB_OK && bb_pool_party_destroy(&party) == BB_OK);
+    EXPECT(bb_shared_pool_destroy(&shared) == BB_OK);
+    EXPECT(bb_pool_party_destroy(&party) == BB_OK);
 }
 
-// A region without room for one bucket is refused, behind what can't be made at all.
+// A region without room for one bucket is refused, after what is invalid.
 static void run_no_bucket(void) {
     bb_pool pool = BB_EMPTY;
     bb_shared_pool shared = BB_EMPTY;
-    EXPECT(bb_pool_init(&pool, 128, 64, 4096, 127) == BB_NO_BUCKET && bb_pool_init(&pool, 1, 1, 4096, 0) == BB_NO_BUCKET);
-    EXPECT(bb_pool_init(&pool, 4096, 64, 64, 8) == BB_NO_BUCKET && bb_pool_init(&pool, 128, 64, 4097, 190) == BB_NO_BUCKET);
+    EXPECT(bb_pool_init(&pool, 128, 64, 4096, 127) == BB_NO_BUCKET);
+    EXPECT(bb_pool_init(&pool, 1, 1, 4096, 0) == BB_NO_BUCKET);
+    EXPECT(bb_pool_init(&pool, 4096, 64, 64, 8) == BB_NO_BUCKET);
+    EXPECT(bb_pool_init(&pool, 128, 64, 4097, 190) == BB_NO_BUCKET);
     EXPECT(bb_shared_pool_init(&shared, 128, 64, 4096, 127, 1) == BB_NO_BUCKET);
     EXPECT(bb_shared_pool_init(&shared, 128, 64, 4096, 127, 0) == BB_INVALID_ARGUMENT);
-    EXPECT(bb_pool_init(&pool, 0, 64, 4096, 0) == BB_INVALID_ARGUMENT && bb_pool_init(&pool, 1, 3, 4096, 0) == BB_INVALID_LAYOUT);
+    EXPECT(bb_pool_init(&pool, 0, 64, 4096, 0) == BB_INVALID_ARGUMENT);
+    EXPECT(bb_pool_init(&pool, 1, 3, 4096, 0) == BB_INVALID_LAYOUT);
     EXPECT(bb_pool_destroy(&pool) == BB_UNINITIALIZED);
     EXPECT(bb_shared_pool_destroy(&shared) == BB_UNINITIALIZED);
-    EXPECT(bb_pool_init(&pool, 128, 64, 4097, 191) == BB_OK && same(of_pool(&pool).number_of_buckets, 1));
+    EXPECT(bb_pool_init(&pool, 128, 64, 4097, 191) == BB_OK);
+    EXPECT(same(of_pool(&pool).number_of_buckets, 1));
     EXPECT(bb_pool_destroy(&pool) == BB_OK);
 }
 
-// Fewer buckets than asked for are refused, and nothing is behind the handle then.
+// Fewer buckets than requested are refused, and the handle is empty then.
 static void run_at_least(void) {
     bb_pool pool = BB_EMPTY;
     bb_shared_pool shared = BB_EMPTY;
     bb_pool_party party = BB_EMPTY;
     EXPECT(bb_pool_init_at_least(&pool, 64, 64, 4097, 64 * 16, 16) == BB_NO_BUCKET);
     EXPECT(bb_pool_init_at_least(&pool, 64, 3, 4096, 64 * 16, 1) == BB_INVALID_LAYOUT);
-    EXPECT(bb_pool_init_at_least(&pool, 64, 64, 4096, 64 * 16, 16) == BB_OK && same(of_pool(&pool).number_of_buckets, 16));
-    EXPECT(bb_pool_init_at_least(&pool, 64, 64, 4096, 64 * 16, 16) == BB_ALREADY_INITIALIZED && bb_pool_destroy(&pool) == BB_OK);
+    EXPECT(bb_pool_init_at_least(&pool, 64, 64, 4096, 64 * 16, 16) == BB_OK);
+    EXPECT(same(of_pool(&pool).number_of_buckets, 16));
+    EXPECT(bb_pool_init_at_least(&pool, 64, 64, 4096, 64 * 16, 16) == BB_ALREADY_INITIALIZED);
+    EXPECT(bb_pool_destroy(&pool) == BB_OK);
     EXPECT(bb_shared_pool_init_at_least(&shared, 64, 64, 4097, 64 * 16, 2, 16) == BB_NO_BUCKET);
-    EXPECT(bb_shared_pool_init_at_least(&shared, 64, 64, 4097, 64 * 16, 0, 15) == BB_INVALID_ARGUMENT);
+    EXPECT(bb_shared_pool_init_at_least(&shared, 64, 64, 4097, 64 * 16, 0, 15) ==
+           BB_INVALID_ARGUMENT);
     EXPECT(bb_shared_pool_init_at_least(&shared, 64, 64, 4097, 64 * 16, 1, 15) == BB_OK);
-    EXPECT(bb_shared_pool_join(&shared, &party) == BB_OK && same(of_pool_party(&party).number_of_buckets, 15));
-    EXPECT(bb_shared_pool_leave(&shared, &party) == BB_OK && bb_shared_pool_destroy(&shared) == BB_OK);
+    EXPECT(bb_shared_pool_join(&shared, &party) == BB_OK);
+    EXPECT(same(of_pool_party(&party).number_of_buckets, 15));
+    EXPECT(bb_shared_pool_leave(&shared, &party) == BB_OK);
+    EXPECT(bb_shared_pool_destroy(&shared) == BB_OK);
 }
 
-// Asks `malloc` for at most so many bytes.
+// Requests at most this many bytes of `malloc`.
 #define WITHIN(MOST, MAKE)                          \
     do {                                            \
         bytes = 0;                                  \
@@ -311,7 +397,8 @@ static void run_memory(void) {
     bb_one_chunk one = BB_EMPTY;
     WITHIN(64, bb_bump_init(&bump, 4096, 1024));
     WITHIN(64, bb_one_chunk_init(&one, 4096, 1024));
-    EXPECT(bb_bump_destroy(&bump) == BB_OK && bb_one_chunk_destroy(&one) == BB_OK);
+    EXPECT(bb_bump_destroy(&bump) == BB_OK);
+    EXPECT(bb_one_chunk_destroy(&one) == BB_OK);
     bb_detached detached = BB_EMPTY;
     WITHIN(64, bb_detached_init(&detached));
     EXPECT(bb_detached_destroy(&detached) == BB_OK);
@@ -323,86 +410,127 @@ static void run_memory(void) {
             bb_shared_pool shared_pool = BB_EMPTY;
             bb_pool_party pool_party = BB_EMPTY;
             WITHIN(256 + 16 * ((buckets + 63) / 64), bb_pool_init(&pool, 8, 8, 4096, 8 * buckets));
-            WITHIN(256 + 16 * parties, bb_shared_bump_init(&shared_bump, 4096, 8 * buckets, parties));
+            WITHIN(256 + 16 * parties,
+                   bb_shared_bump_init(&shared_bump, 4096, 8 * buckets, parties));
             WITHIN(64, bb_shared_bump_join(&shared_bump, &bump_party));
-            WITHIN(336 + 16 * buckets + 12 * parties, bb_shared_pool_init(&shared_pool, 8, 8, 4096, 8 * buckets, parties));
+            WITHIN(336 + 16 * buckets + 12 * parties,
+                   bb_shared_pool_init(&shared_pool, 8, 8, 4096, 8 * buckets, parties));
             WITHIN(256, bb_shared_pool_join(&shared_pool, &pool_party));
-            WITHIN(256 + 4 * buckets + 4 * (buckets / 2), bb_pool_party_cache(&pool_party, (uint32_t)buckets / 2));
+            WITHIN(256 + 4 * buckets + 4 * (buckets / 2),
+                   bb_pool_party_cache(&pool_party, (uint32_t)buckets / 2));
             WITHIN(256 + 8 * buckets, bb_pool_party_cache(&pool_party, UINT32_MAX));
             EXPECT(bb_pool_destroy(&pool) == BB_OK);
-            EXPECT(bb_shared_bump_destroy(&shared_bump) == BB_OK && bb_bump_party_destroy(&bump_party) == BB_OK);
-            EXPECT(bb_shared_pool_destroy(&shared_pool) == BB_OK && bb_pool_party_destroy(&pool_party) == BB_OK);
+            EXPECT(bb_shared_bump_destroy(&shared_bump) == BB_OK);
+            EXPECT(bb_bump_party_destroy(&bump_party) == BB_OK);
+            EXPECT(bb_shared_pool_destroy(&shared_pool) == BB_OK);
+            EXPECT(bb_pool_party_destroy(&pool_party) == BB_OK);
         }
 }
 
-// What any thread is told of a shared pool: how many buckets are held, how many at most were found, and how many requests were
-// refused.
+// Returns whether a shared pool has these figures: how many buckets are held, how many at most were
+// found, and how many requests were refused.
 static int counts(const bb_shared_pool *pool, size_t held, size_t most, size_t refusals) {
     struct bb_shared_pool_info info;
     EXPECT(bb_shared_pool_info(pool, &info) == BB_OK);
-    EXPECT(info.pool.start_address == 4104 && info.pool.size == 1100 && info.pool.bucket_size == 128);
-    EXPECT(info.pool.max_alignment == 8 && info.pool.number_of_buckets == 8);
-    return info.pool.held_buckets == held && info.pool.greatest_held == most && info.refused == refusals;
+    EXPECT(info.pool.start_address == 4104);
+    EXPECT(info.pool.size == 1100);
+    EXPECT(info.pool.bucket_size == 128);
+    EXPECT(info.pool.max_alignment == 8);
+    EXPECT(info.pool.number_of_buckets == 8);
+    return info.pool.held_buckets == held && info.pool.greatest_held == most &&
+           info.refused == refusals;
 }
 
 static void run_counts(void) {
     bb_shared_pool pool = BB_EMPTY;
-    bb_pool_party one = BB_EMPTY, other = BB_EMPTY;
-    struct bb_shared_pool_info info, before;
+    bb_pool_party one = BB_EMPTY;
+    bb_pool_party other = BB_EMPTY;
+    struct bb_shared_pool_info info;
+    struct bb_shared_pool_info before;
     memset(&info, 0xa5, sizeof info);
     before = info;
-    EXPECT(bb_shared_pool_info(&pool, &info) == BB_UNINITIALIZED && memcmp(&info, &before, sizeof info) == 0);
-    EXPECT(bb_shared_pool_init(&pool, 128, 8, 4097, 1100, 2) == BB_OK && counts(&pool, 0, 0, 0));
-    EXPECT(bb_shared_pool_join(&pool, &one) == BB_OK && bb_pool_party_cache(&one, 1) == BB_OK);
-    EXPECT(bb_shared_pool_join(&pool, &other) == BB_OK && counts(&pool, 0, 0, 0));
-    bb_answer first = bb_pool_party_allocate(&one, 48, 8), second = bb_pool_party_allocate(&one, 48, 8);
-    EXPECT(first.code == BB_OK && second.code == BB_OK && bb_pool_party_allocate(&other, 48, 8).code == BB_OK);
-    EXPECT(counts(&pool, 3, 3, 0) && same(of_pool_party(&one).greatest_held, 2));
-    EXPECT(bb_pool_party_deallocate(&one, first.place) == BB_OK && counts(&pool, 3, 3, 0));
-    EXPECT(bb_pool_party_deallocate(&one, second.place) == BB_OK && counts(&pool, 2, 3, 0));
+    EXPECT(bb_shared_pool_info(&pool, &info) == BB_UNINITIALIZED);
+    EXPECT(memcmp(&info, &before, sizeof info) == 0);
+    EXPECT(bb_shared_pool_init(&pool, 128, 8, 4097, 1100, 2) == BB_OK);
+    EXPECT(counts(&pool, 0, 0, 0));
+    EXPECT(bb_shared_pool_join(&pool, &one) == BB_OK);
+    EXPECT(bb_pool_party_cache(&one, 1) == BB_OK);
+    EXPECT(bb_shared_pool_join(&pool, &other) == BB_OK);
+    EXPECT(counts(&pool, 0, 0, 0));
+    bb_answer first = bb_pool_party_allocate(&one, 48, 8);
+    bb_answer second = bb_pool_party_allocate(&one, 48, 8);
+    EXPECT(first.code == BB_OK);
+    EXPECT(second.code == BB_OK);
+    EXPECT(bb_pool_party_allocate(&other, 48, 8).code == BB_OK);
+    EXPECT(counts(&pool, 3, 3, 0));
+    EXPECT(same(of_pool_party(&one).greatest_held, 2));
+    EXPECT(bb_pool_party_deallocate(&one, first.place) == BB_OK);
+    EXPECT(counts(&pool, 3, 3, 0));
+    EXPECT(bb_pool_party_deallocate(&one, second.place) == BB_OK);
+    EXPECT(counts(&pool, 2, 3, 0));
     for (size_t at = 1; at < 7; at++) {
-        EXPECT(bb_pool_party_allocate(&other, 48, 8).code == BB_OK && counts(&pool, 2 + at, 2 + at, 0));
+        EXPECT(bb_pool_party_allocate(&other, 48, 8).code == BB_OK);
+        EXPECT(counts(&pool, 2 + at, 2 + at, 0));
     }
-    EXPECT(refused(bb_pool_party_allocate(&other, 48, 8), BB_OUT_OF_MEMORY) && counts(&pool, 8, 8, 1));
-    EXPECT(refused(bb_pool_party_allocate(&other, 129, 8), BB_SIZE_TOO_LARGE) && counts(&pool, 8, 8, 1));
-    EXPECT(given(bb_pool_party_allocate(&one, 48, 8), first.place) && counts(&pool, 8, 8, 1));
-    EXPECT(refused(bb_pool_party_allocate(&one, 48, 8), BB_OUT_OF_MEMORY) && counts(&pool, 8, 8, 2));
-    EXPECT(same(of_pool_party(&one).held_buckets, 1) && same(of_pool_party(&one).greatest_held, 2));
-    EXPECT(bb_shared_pool_leave(&pool, &other) == BB_OK && counts(&pool, 1, 8, 2));
-    EXPECT(bb_shared_pool_leave(&pool, &one) == BB_OK && counts(&pool, 0, 8, 2));
-    EXPECT(bb_shared_pool_destroy(&pool) == BB_OK && bb_shared_pool_info(&pool, &info) == BB_UNINITIALIZED);
+    EXPECT(refused(bb_pool_party_allocate(&other, 48, 8), BB_OUT_OF_MEMORY));
+    EXPECT(counts(&pool, 8, 8, 1));
+    EXPECT(refused(bb_pool_party_allocate(&other, 129, 8), BB_SIZE_TOO_LARGE));
+    EXPECT(counts(&pool, 8, 8, 1));
+    EXPECT(given(bb_pool_party_allocate(&one, 48, 8), first.place));
+    EXPECT(counts(&pool, 8, 8, 1));
+    EXPECT(refused(bb_pool_party_allocate(&one, 48, 8), BB_OUT_OF_MEMORY));
+    EXPECT(counts(&pool, 8, 8, 2));
+    EXPECT(same(of_pool_party(&one).held_buckets, 1));
+    EXPECT(same(of_pool_party(&one).greatest_held, 2));
+    EXPECT(bb_shared_pool_leave(&pool, &other) == BB_OK);
+    EXPECT(counts(&pool, 1, 8, 2));
+    EXPECT(bb_shared_pool_leave(&pool, &one) == BB_OK);
+    EXPECT(counts(&pool, 0, 8, 2));
+    EXPECT(bb_shared_pool_destroy(&pool) == BB_OK);
+    EXPECT(bb_shared_pool_info(&pool, &info) == BB_UNINITIALIZED);
 }
 
 // The buckets of a destroyed party stay held, and it joins no more.
 static void run_freed_pool_party(void) {
     bb_shared_pool pool = BB_EMPTY;
-    bb_pool_party freed = BB_EMPTY, other = BB_EMPTY;
+    bb_pool_party freed = BB_EMPTY;
+    bb_pool_party other = BB_EMPTY;
     EXPECT(bb_shared_pool_init(&pool, 64, 8, 4096, 128, 2) == BB_OK);
-    EXPECT(bb_shared_pool_join(&pool, &freed) == BB_OK && bb_shared_pool_join(&pool, &other) == BB_OK);
+    EXPECT(bb_shared_pool_join(&pool, &freed) == BB_OK);
+    EXPECT(bb_shared_pool_join(&pool, &other) == BB_OK);
     bb_answer kept = bb_pool_party_allocate(&freed, 64, 8);
-    EXPECT(kept.code == BB_OK && (kept.place == 4096 || kept.place == 4160));
-    EXPECT(bb_pool_party_destroy(&freed) == BB_OK && bb_shared_pool_join(&pool, &freed) == BB_NO_PARTY);
+    EXPECT(kept.code == BB_OK);
+    EXPECT((kept.place == 4096 || kept.place == 4160));
+    EXPECT(bb_pool_party_destroy(&freed) == BB_OK);
+    EXPECT(bb_shared_pool_join(&pool, &freed) == BB_NO_PARTY);
     size_t place = kept.place == 4096 ? 4160 : 4096;
     EXPECT(given(bb_pool_party_allocate(&other, 64, 8), place));
     EXPECT(refused(bb_pool_party_allocate(&other, 64, 8), BB_OUT_OF_MEMORY));
     EXPECT(bb_pool_party_deallocate(&other, kept.place) == BB_NOT_HELD);
-    EXPECT(bb_shared_pool_destroy(&pool) == BB_OK && bb_pool_party_deallocate(&other, place) == BB_OK);
+    EXPECT(bb_shared_pool_destroy(&pool) == BB_OK);
+    EXPECT(bb_pool_party_deallocate(&other, place) == BB_OK);
     EXPECT(given(bb_pool_party_allocate(&other, 48, 8), place));
-    EXPECT(bb_pool_party_destroy(&other) == BB_OK && bb_pool_party_destroy(&freed) == BB_UNINITIALIZED);
+    EXPECT(bb_pool_party_destroy(&other) == BB_OK);
+    EXPECT(bb_pool_party_destroy(&freed) == BB_UNINITIALIZED);
 }
 
 // The chunks of a destroyed party stay used, and it joins no more.
 static void run_freed_bump_party(void) {
     bb_shared_bump bump = BB_EMPTY;
-    bb_bump_party freed = BB_EMPTY, other = BB_EMPTY;
+    bb_bump_party freed = BB_EMPTY;
+    bb_bump_party other = BB_EMPTY;
     EXPECT(bb_shared_bump_init(&bump, 4096, 64, 2) == BB_OK);
-    EXPECT(bb_shared_bump_join(&bump, &freed) == BB_OK && bb_shared_bump_join(&bump, &other) == BB_OK);
+    EXPECT(bb_shared_bump_join(&bump, &freed) == BB_OK);
+    EXPECT(bb_shared_bump_join(&bump, &other) == BB_OK);
     EXPECT(given(bb_bump_party_allocate(&freed, 40, 8), 4096));
-    EXPECT(bb_bump_party_destroy(&freed) == BB_OK && bb_shared_bump_join(&bump, &freed) == BB_NO_PARTY);
-    EXPECT(bb_shared_bump_destroy(&bump) == BB_OK && same(of_bump_party(&other).used_space, 40));
+    EXPECT(bb_bump_party_destroy(&freed) == BB_OK);
+    EXPECT(bb_shared_bump_join(&bump, &freed) == BB_NO_PARTY);
+    EXPECT(bb_shared_bump_destroy(&bump) == BB_OK);
+    EXPECT(same(of_bump_party(&other).used_space, 40));
     EXPECT(given(bb_bump_party_allocate(&other, 24, 8), 4136));
     EXPECT(refused(bb_bump_party_allocate(&other, 1, 1), BB_OUT_OF_MEMORY));
-    EXPECT(bb_bump_party_destroy(&other) == BB_OK && bb_bump_party_destroy(&freed) == BB_UNINITIALIZED);
+    EXPECT(bb_bump_party_destroy(&other) == BB_OK);
+    EXPECT(bb_bump_party_destroy(&freed) == BB_UNINITIALIZED);
 }
 
 // Large numbers are served.
@@ -411,10 +539,14 @@ static void run_large(void) {
     bb_one_chunk one = BB_EMPTY;
     bb_pool pool = BB_EMPTY;
     size_t gibibyte = (size_t)1 << 30;
-    EXPECT(bb_bump_init(&bump, 4096, gibibyte) == BB_OK && given(bb_bump_allocate(&bump, gibibyte, 1), 4096));
-    EXPECT(bb_one_chunk_init(&one, 4096, gibibyte) == BB_OK && given(bb_one_chunk_allocate(&one, 0, 1), 4096));
-    EXPECT(bb_pool_init(&pool, 64, 8, 4096, gibibyte / 16) == BB_OK && same(of_pool(&pool).number_of_buckets, 1048576));
-    EXPECT(bb_bump_destroy(&bump) == BB_OK && bb_one_chunk_destroy(&one) == BB_OK);
+    EXPECT(bb_bump_init(&bump, 4096, gibibyte) == BB_OK);
+    EXPECT(given(bb_bump_allocate(&bump, gibibyte, 1), 4096));
+    EXPECT(bb_one_chunk_init(&one, 4096, gibibyte) == BB_OK);
+    EXPECT(given(bb_one_chunk_allocate(&one, 0, 1), 4096));
+    EXPECT(bb_pool_init(&pool, 64, 8, 4096, gibibyte / 16) == BB_OK);
+    EXPECT(same(of_pool(&pool).number_of_buckets, 1048576));
+    EXPECT(bb_bump_destroy(&bump) == BB_OK);
+    EXPECT(bb_one_chunk_destroy(&one) == BB_OK);
     EXPECT(bb_pool_destroy(&pool) == BB_OK);
 }
 
@@ -428,18 +560,21 @@ static void run_many_parties(void) {
         EXPECT(same(of_pool_party(&parties[at]).number_of_buckets, 4096));
         EXPECT(bb_pool_party_allocate(&parties[at], 64, 8).code == BB_OK);
     }
-    EXPECT(bb_shared_pool_join(&pool, &none) == BB_NO_PARTY && bb_shared_pool_destroy(&pool) == BB_OK);
+    EXPECT(bb_shared_pool_join(&pool, &none) == BB_NO_PARTY);
+    EXPECT(bb_shared_pool_destroy(&pool) == BB_OK);
     for (size_t at = 0; at < 100; at++)
         EXPECT(bb_pool_party_destroy(&parties[at]) == BB_OK);
 }
 
-// A call answers BB_MALLOC_REFUSED with each of its requests refused, and leaves its handle empty. With none refused it is done.
+// A call answers BB_MALLOC_REFUSED with each of its requests refused, and leaves its handle empty.
+// With none refused it is done.
 #define WITH_EACH_REFUSED(FREE, MAKE)                                                \
     do {                                                                             \
         uint32_t told = BB_MALLOC_REFUSED;                                           \
         size_t nth = 0;                                                              \
         while (told == BB_MALLOC_REFUSED) {                                          \
-            EXPECT(++nth < 100);                                                     \
+            nth++;                                                                   \
+            EXPECT(nth < 100);                                                       \
             requests = 0;                                                            \
             to_refuse = nth;                                                         \
             told = (MAKE);                                                           \
@@ -464,123 +599,184 @@ static void run_refused_memory(void) {
     WITH_EACH_REFUSED(bb_pool_destroy(&pool), bb_pool_init(&pool, 128, 8, 4096, 1024));
     EXPECT(bb_pool_destroy(&pool) == BB_OK);
     WITH_EACH_REFUSED(bb_pool_destroy(&pool), bb_pool_init_at_least(&pool, 128, 8, 4096, 1024, 8));
-    WITH_EACH_REFUSED(bb_shared_bump_destroy(&shared_bump), bb_shared_bump_init(&shared_bump, 4096, 1024, 2));
-    WITH_EACH_REFUSED(bb_shared_pool_destroy(&shared_pool), bb_shared_pool_init(&shared_pool, 128, 8, 4096, 1024, 2));
+    WITH_EACH_REFUSED(bb_shared_bump_destroy(&shared_bump),
+                      bb_shared_bump_init(&shared_bump, 4096, 1024, 2));
+    WITH_EACH_REFUSED(bb_shared_pool_destroy(&shared_pool),
+                      bb_shared_pool_init(&shared_pool, 128, 8, 4096, 1024, 2));
     EXPECT(bb_shared_pool_destroy(&shared_pool) == BB_OK);
-    WITH_EACH_REFUSED(bb_shared_pool_destroy(&shared_pool), bb_shared_pool_init_at_least(&shared_pool, 128, 8, 4096, 1024, 2, 8));
-    bb_bump_party bump_partys[2] = {BB_EMPTY, BB_EMPTY};
-    bb_pool_party pool_partys[2] = {BB_EMPTY, BB_EMPTY};
+    WITH_EACH_REFUSED(bb_shared_pool_destroy(&shared_pool),
+                      bb_shared_pool_init_at_least(&shared_pool, 128, 8, 4096, 1024, 2, 8));
+    bb_bump_party bump_parties[2] = {BB_EMPTY, BB_EMPTY};
+    bb_pool_party pool_parties[2] = {BB_EMPTY, BB_EMPTY};
     for (size_t at = 0; at < 2; at++) {
-        WITH_EACH_REFUSED(bb_bump_party_destroy(&bump_partys[at]), bb_shared_bump_join(&shared_bump, &bump_partys[at]));
-        WITH_EACH_REFUSED(bb_pool_party_destroy(&pool_partys[at]), bb_shared_pool_join(&shared_pool, &pool_partys[at]));
+        WITH_EACH_REFUSED(bb_bump_party_destroy(&bump_parties[at]),
+                          bb_shared_bump_join(&shared_bump, &bump_parties[at]));
+        WITH_EACH_REFUSED(bb_pool_party_destroy(&pool_parties[at]),
+                          bb_shared_pool_join(&shared_pool, &pool_parties[at]));
     }
     bb_bump_party no_bump_party = BB_EMPTY;
     // A refused join loses no party, and there are two.
     EXPECT(bb_shared_bump_join(&shared_bump, &no_bump_party) == BB_NO_PARTY);
     // No other call takes memory.
     requests = 0;
-    EXPECT(given(bb_bump_party_allocate(&bump_partys[0], 40, 1), 4096));
-    EXPECT(same(of_bump_party(&bump_partys[1]).used_space, 40) && same(of_bump_party(&bump_partys[1]).free_space, 984));
+    EXPECT(given(bb_bump_party_allocate(&bump_parties[0], 40, 1), 4096));
+    EXPECT(same(of_bump_party(&bump_parties[1]).used_space, 40));
+    EXPECT(same(of_bump_party(&bump_parties[1]).free_space, 984));
     // The first round of party 1 of two begins in the second half of the eight buckets.
     size_t fifth = 4096 + 4 * 128;
-    EXPECT(given(bb_pool_party_allocate(&pool_partys[0], 48, 4), fifth));
-    EXPECT(bb_pool_party_deallocate(&pool_partys[1], fifth) == BB_NOT_HELD);
-    EXPECT(bb_pool_party_deallocate(&pool_partys[0], fifth) == BB_OK);
-    EXPECT(bb_pool_allocate(&pool, 48, 4).code == BB_OK && bb_bump_allocate(&bump, 48, 4).code == BB_OK);
+    EXPECT(given(bb_pool_party_allocate(&pool_parties[0], 48, 4), fifth));
+    EXPECT(bb_pool_party_deallocate(&pool_parties[1], fifth) == BB_NOT_HELD);
+    EXPECT(bb_pool_party_deallocate(&pool_parties[0], fifth) == BB_OK);
+    EXPECT(bb_pool_allocate(&pool, 48, 4).code == BB_OK);
+    EXPECT(bb_bump_allocate(&bump, 48, 4).code == BB_OK);
     EXPECT(requests == 0);
-    EXPECT(bb_bump_destroy(&bump) == BB_OK && bb_one_chunk_destroy(&one) == BB_OK);
+    EXPECT(bb_bump_destroy(&bump) == BB_OK);
+    EXPECT(bb_one_chunk_destroy(&one) == BB_OK);
     EXPECT(bb_pool_destroy(&pool) == BB_OK);
-    EXPECT(bb_shared_bump_destroy(&shared_bump) == BB_OK && bb_shared_pool_destroy(&shared_pool) == BB_OK);
-    for (size_t at = 0; at < 2; at++)
-        EXPECT(bb_bump_party_destroy(&bump_partys[at]) == BB_OK && bb_pool_party_destroy(&pool_partys[at]) == BB_OK);
+    EXPECT(bb_shared_bump_destroy(&shared_bump) == BB_OK);
+    EXPECT(bb_shared_pool_destroy(&shared_pool) == BB_OK);
+    for (size_t at = 0; at < 2; at++) {
+        EXPECT(bb_bump_party_destroy(&bump_parties[at]) == BB_OK);
+        EXPECT(bb_pool_party_destroy(&pool_parties[at]) == BB_OK);
+    }
 }
 
 // A party that left joins again, and a bump whose parties have all left is reset.
 static void run_reset(void) {
     bb_shared_bump bump = BB_EMPTY;
-    bb_bump_party one = BB_EMPTY, other = BB_EMPTY;
-    EXPECT(bb_shared_bump_reset(&bump) == BB_UNINITIALIZED && bb_shared_bump_leave(&bump, &one) == BB_UNINITIALIZED);
-    EXPECT(bb_shared_bump_init(&bump, 4096, 64, 2) == BB_OK && bb_shared_bump_leave(&bump, &one) == BB_UNINITIALIZED);
-    EXPECT(bb_shared_bump_join(&bump, &one) == BB_OK && bb_shared_bump_join(&bump, &other) == BB_OK);
-    EXPECT(given(bb_bump_party_allocate(&one, 40, 8), 4096) && given(bb_bump_party_allocate(&other, 24, 8), 4136));
-    EXPECT(refused(bb_bump_party_allocate(&one, 1, 1), BB_OUT_OF_MEMORY) && bb_shared_bump_reset(&bump) == BB_PARTIES_JOINED);
+    bb_bump_party one = BB_EMPTY;
+    bb_bump_party other = BB_EMPTY;
+    EXPECT(bb_shared_bump_reset(&bump) == BB_UNINITIALIZED);
+    EXPECT(bb_shared_bump_leave(&bump, &one) == BB_UNINITIALIZED);
+    EXPECT(bb_shared_bump_init(&bump, 4096, 64, 2) == BB_OK);
+    EXPECT(bb_shared_bump_leave(&bump, &one) == BB_UNINITIALIZED);
+    EXPECT(bb_shared_bump_join(&bump, &one) == BB_OK);
+    EXPECT(bb_shared_bump_join(&bump, &other) == BB_OK);
+    EXPECT(given(bb_bump_party_allocate(&one, 40, 8), 4096));
+    EXPECT(given(bb_bump_party_allocate(&other, 24, 8), 4136));
+    EXPECT(refused(bb_bump_party_allocate(&one, 1, 1), BB_OUT_OF_MEMORY));
+    EXPECT(bb_shared_bump_reset(&bump) == BB_PARTIES_JOINED);
     // A party leaves and joins again, and what it took stays used.
     requests = 0;
-    EXPECT(bb_shared_bump_leave(&bump, &one) == BB_OK && bb_shared_bump_leave(&bump, &one) == BB_UNINITIALIZED);
-    EXPECT(bb_shared_bump_reset(&bump) == BB_PARTIES_JOINED && requests == 0);
-    EXPECT(bb_shared_bump_join(&bump, &one) == BB_OK && same(of_bump_party(&one).used_space, 64));
-    EXPECT(bb_shared_bump_leave(&bump, &one) == BB_OK && bb_shared_bump_leave(&bump, &other) == BB_OK);
-    EXPECT(bb_bump_party_destroy(&one) == BB_UNINITIALIZED && bb_bump_party_destroy(&other) == BB_UNINITIALIZED);
+    EXPECT(bb_shared_bump_leave(&bump, &one) == BB_OK);
+    EXPECT(bb_shared_bump_leave(&bump, &one) == BB_UNINITIALIZED);
+    EXPECT(bb_shared_bump_reset(&bump) == BB_PARTIES_JOINED);
+    EXPECT(requests == 0);
+    EXPECT(bb_shared_bump_join(&bump, &one) == BB_OK);
+    EXPECT(same(of_bump_party(&one).used_space, 64));
+    EXPECT(bb_shared_bump_leave(&bump, &one) == BB_OK);
+    EXPECT(bb_shared_bump_leave(&bump, &other) == BB_OK);
+    EXPECT(bb_bump_party_destroy(&one) == BB_UNINITIALIZED);
+    EXPECT(bb_bump_party_destroy(&other) == BB_UNINITIALIZED);
     WITH_EACH_REFUSED(bb_bump_party_destroy(&one), bb_shared_bump_reset(&bump));
-    EXPECT(bb_shared_bump_join(&bump, &one) == BB_OK && bb_shared_bump_join(&bump, &other) == BB_OK);
-    EXPECT(same(of_bump_party(&one).used_space, 0) && same(of_bump_party(&one).total_space, 64));
-    EXPECT(same(of_bump_party(&one).start_address, 4096) && given(bb_bump_party_allocate(&other, 64, 8), 4096));
+    EXPECT(bb_shared_bump_join(&bump, &one) == BB_OK);
+    EXPECT(bb_shared_bump_join(&bump, &other) == BB_OK);
+    EXPECT(same(of_bump_party(&one).used_space, 0));
+    EXPECT(same(of_bump_party(&one).total_space, 64));
+    EXPECT(same(of_bump_party(&one).start_address, 4096));
+    EXPECT(given(bb_bump_party_allocate(&other, 64, 8), 4096));
     for (size_t round = 0; round < 1000; round++) {
-        EXPECT(bb_shared_bump_leave(&bump, &one) == BB_OK && bb_shared_bump_leave(&bump, &other) == BB_OK);
+        EXPECT(bb_shared_bump_leave(&bump, &one) == BB_OK);
+        EXPECT(bb_shared_bump_leave(&bump, &other) == BB_OK);
         WITHIN(256 + 16 * 2, bb_shared_bump_reset(&bump));
-        EXPECT(bb_shared_bump_join(&bump, &one) == BB_OK && bb_shared_bump_join(&bump, &other) == BB_OK);
-        EXPECT(given(bb_bump_party_allocate(&one, 48, 8), 4096) && given(bb_bump_party_allocate(&other, 16, 8), 4144));
+        EXPECT(bb_shared_bump_join(&bump, &one) == BB_OK);
+        EXPECT(bb_shared_bump_join(&bump, &other) == BB_OK);
+        EXPECT(given(bb_bump_party_allocate(&one, 48, 8), 4096));
+        EXPECT(given(bb_bump_party_allocate(&other, 16, 8), 4144));
     }
     // A destroyed party doesn't come back.
-    EXPECT(bb_bump_party_destroy(&one) == BB_OK && bb_shared_bump_leave(&bump, &other) == BB_OK);
-    EXPECT(bb_shared_bump_reset(&bump) == BB_PARTIES_JOINED && bb_shared_bump_destroy(&bump) == BB_OK);
+    EXPECT(bb_bump_party_destroy(&one) == BB_OK);
+    EXPECT(bb_shared_bump_leave(&bump, &other) == BB_OK);
+    EXPECT(bb_shared_bump_reset(&bump) == BB_PARTIES_JOINED);
+    EXPECT(bb_shared_bump_destroy(&bump) == BB_OK);
 }
 
-// A party of a pool joins and leaves ten thousand times. It leaves with what it holds, some buckets or none, so it finds every
-// bucket free then but what another party holds.
+// A party of a pool joins and leaves ten thousand times. It leaves with what it holds, some buckets
+// or none, so it finds every bucket free then but what another party holds.
 static void run_parties_come_and_go(void) {
     bb_shared_pool pool = BB_EMPTY;
-    bb_pool_party one = BB_EMPTY, other = BB_EMPTY, none = BB_EMPTY;
-    EXPECT(bb_shared_pool_leave(&pool, &one) == BB_UNINITIALIZED && bb_shared_pool_init(&pool, 64, 8, 4096, 64 * 5, 2) == BB_OK);
-    EXPECT(bb_shared_pool_leave(&pool, &one) == BB_UNINITIALIZED && bb_pool_party_deallocate(&one, 4096) == BB_UNINITIALIZED);
-    EXPECT(bb_shared_pool_join(&pool, &other) == BB_OK && bb_shared_pool_join(&pool, &one) == BB_OK);
-    EXPECT(bb_shared_pool_join(&pool, &none) == BB_NO_PARTY && same(of_pool_party(&one).held_buckets, 0));
+    bb_pool_party one = BB_EMPTY;
+    bb_pool_party other = BB_EMPTY;
+    bb_pool_party none = BB_EMPTY;
+    EXPECT(bb_shared_pool_leave(&pool, &one) == BB_UNINITIALIZED);
+    EXPECT(bb_shared_pool_init(&pool, 64, 8, 4096, 64 * 5, 2) == BB_OK);
+    EXPECT(bb_shared_pool_leave(&pool, &one) == BB_UNINITIALIZED);
+    EXPECT(bb_pool_party_deallocate(&one, 4096) == BB_UNINITIALIZED);
+    EXPECT(bb_shared_pool_join(&pool, &other) == BB_OK);
+    EXPECT(bb_shared_pool_join(&pool, &one) == BB_OK);
+    EXPECT(bb_shared_pool_join(&pool, &none) == BB_NO_PARTY);
+    EXPECT(same(of_pool_party(&one).held_buckets, 0));
     bb_answer kept = bb_pool_party_allocate(&other, 64, 8);
-    EXPECT(kept.code == BB_OK && same(of_pool_party(&other).held_buckets, 1));
+    EXPECT(kept.code == BB_OK);
+    EXPECT(same(of_pool_party(&other).held_buckets, 1));
     for (size_t round = 0; round < 10000; round++) {
         size_t place = 0;
         for (size_t held = 0; held < round % 5; held++) {
             bb_answer given = bb_pool_party_allocate(&one, 48, 8);
-            EXPECT(given.code == BB_OK && given.place != kept.place && same(of_pool_party(&one).held_buckets, held + 1));
+            EXPECT(given.code == BB_OK);
+            EXPECT(given.place != kept.place);
+            EXPECT(same(of_pool_party(&one).held_buckets, held + 1));
             place = given.place;
         }
-        if (round % 5 == 4) EXPECT(refused(bb_pool_party_allocate(&one, 1, 1), BB_OUT_OF_MEMORY));
-        if (round % 5 == 3) EXPECT(bb_pool_party_deallocate(&one, place) == BB_OK && same(of_pool_party(&one).held_buckets, 2));
+        if (round % 5 == 4)
+            EXPECT(refused(bb_pool_party_allocate(&one, 1, 1), BB_OUT_OF_MEMORY));
+        if (round % 5 == 3) {
+            EXPECT(bb_pool_party_deallocate(&one, place) == BB_OK);
+            EXPECT(same(of_pool_party(&one).held_buckets, 2));
+        }
         requests = 0;
-        EXPECT(bb_shared_pool_leave(&pool, &one) == BB_OK && requests == 0);
-        EXPECT(bb_shared_pool_leave(&pool, &one) == BB_UNINITIALIZED && bb_pool_party_destroy(&one) == BB_UNINITIALIZED);
+        EXPECT(bb_shared_pool_leave(&pool, &one) == BB_OK);
+        EXPECT(requests == 0);
+        EXPECT(bb_shared_pool_leave(&pool, &one) == BB_UNINITIALIZED);
+        EXPECT(bb_pool_party_destroy(&one) == BB_UNINITIALIZED);
         WITHIN(256, bb_shared_pool_join(&pool, &one));
         EXPECT(is(bb_pool_party_holds(&one, place), 0));
-        EXPECT(same(of_pool_party(&one).held_buckets, 0) && is(bb_pool_party_holds(&other, kept.place), 1));
+        EXPECT(same(of_pool_party(&one).held_buckets, 0));
+        EXPECT(is(bb_pool_party_holds(&other, kept.place), 1));
     }
     // What was left is any party's.
-    EXPECT(bb_pool_party_allocate(&one, 1, 1).code == BB_OK && bb_shared_pool_leave(&pool, &one) == BB_OK);
-    for (size_t held = 1; held < 5; held++) EXPECT(bb_pool_party_allocate(&other, 64, 8).code == BB_OK);
-    EXPECT(same(of_pool_party(&other).held_buckets, 5) && refused(bb_pool_party_allocate(&other, 1, 1), BB_OUT_OF_MEMORY));
-    EXPECT(bb_shared_pool_destroy(&pool) == BB_OK && bb_shared_pool_leave(&pool, &other) == BB_UNINITIALIZED);
+    EXPECT(bb_pool_party_allocate(&one, 1, 1).code == BB_OK);
+    EXPECT(bb_shared_pool_leave(&pool, &one) == BB_OK);
+    for (size_t held = 1; held < 5; held++)
+        EXPECT(bb_pool_party_allocate(&other, 64, 8).code == BB_OK);
+    EXPECT(same(of_pool_party(&other).held_buckets, 5));
+    EXPECT(refused(bb_pool_party_allocate(&other, 1, 1), BB_OUT_OF_MEMORY));
+    EXPECT(bb_shared_pool_destroy(&pool) == BB_OK);
+    EXPECT(bb_shared_pool_leave(&pool, &other) == BB_UNINITIALIZED);
     EXPECT(bb_pool_party_destroy(&other) == BB_OK);
 }
 
-// A party that caches two of its buckets takes these again, the one that came back last first. To the other party they are held,
-// until they are flushed, or the party is to cache others, or leaves.
+// A party that caches two of its buckets takes these again, the one that came back last first. To
+// the other party they are held, until they are flushed, or the party is to cache others, or
+// leaves.
 static void run_caching(void) {
     bb_shared_pool pool = BB_EMPTY;
-    bb_pool_party one = BB_EMPTY, other = BB_EMPTY;
+    bb_pool_party one = BB_EMPTY;
+    bb_pool_party other = BB_EMPTY;
     bb_detached detached = BB_EMPTY;
-    EXPECT(bb_pool_party_cache(&one, 2) == BB_UNINITIALIZED && bb_pool_party_flush(&one) == BB_UNINITIALIZED);
-    EXPECT(bb_shared_pool_init(&pool, 64, 8, 4096, 64 * 4, 2) == BB_OK && bb_detached_init(&detached) == BB_OK);
-    EXPECT(bb_shared_pool_join(&pool, &one) == BB_OK && bb_shared_pool_join(&pool, &other) == BB_OK);
-    EXPECT(bb_pool_party_cache(&one, 2) == BB_OK && bb_pool_party_flush(&one) == BB_OK);
+    EXPECT(bb_pool_party_cache(&one, 2) == BB_UNINITIALIZED);
+    EXPECT(bb_pool_party_flush(&one) == BB_UNINITIALIZED);
+    EXPECT(bb_shared_pool_init(&pool, 64, 8, 4096, 64 * 4, 2) == BB_OK);
+    EXPECT(bb_detached_init(&detached) == BB_OK);
+    EXPECT(bb_shared_pool_join(&pool, &one) == BB_OK);
+    EXPECT(bb_shared_pool_join(&pool, &other) == BB_OK);
+    EXPECT(bb_pool_party_cache(&one, 2) == BB_OK);
+    EXPECT(bb_pool_party_flush(&one) == BB_OK);
     size_t places[3];
-    for (size_t at = 0; at < 3; at++) places[at] = bb_pool_party_allocate(&one, 64, 8).place;
-    for (size_t at = 0; at < 3; at++) EXPECT(bb_pool_party_deallocate(&one, places[at]) == BB_OK);
+    for (size_t at = 0; at < 3; at++)
+        places[at] = bb_pool_party_allocate(&one, 64, 8).place;
+    for (size_t at = 0; at < 3; at++)
+        EXPECT(bb_pool_party_deallocate(&one, places[at]) == BB_OK);
     // The third one went back to the pool.
-    EXPECT(same(of_pool_party(&one).held_buckets, 0) && is(bb_pool_party_holds(&one, places[1]), 0));
+    EXPECT(same(of_pool_party(&one).held_buckets, 0));
+    EXPECT(is(bb_pool_party_holds(&one, places[1]), 0));
     EXPECT(bb_pool_party_deallocate(&one, places[1]) == BB_NOT_HELD);
     EXPECT(bb_pool_party_detach(&one, places[1], 8, &detached) == BB_NOT_HELD);
     for (size_t at = 0; at < 2; at++) {
         size_t place = bb_pool_party_allocate(&other, 64, 8).place;
-        EXPECT(place != 0 && place != places[0] && place != places[1]);
+        EXPECT(place != 0);
+        EXPECT(place != places[0]);
+        EXPECT(place != places[1]);
     }
     EXPECT(refused(bb_pool_party_allocate(&other, 8, 8), BB_OUT_OF_MEMORY));
     // A refused request for memory leaves all as it is.
@@ -590,128 +786,203 @@ static void run_caching(void) {
     to_refuse = 0;
     EXPECT(refused(bb_pool_party_allocate(&one, 65, 8), BB_SIZE_TOO_LARGE));
     EXPECT(refused(bb_pool_party_allocate(&one, 64, 16), BB_ALIGNMENT_FAILURE));
-    EXPECT(given(bb_pool_party_allocate(&one, 8, 8), places[1]) && given(bb_pool_party_allocate(&one, 8, 8), places[0]));
-    EXPECT(refused(bb_pool_party_allocate(&one, 8, 8), BB_OUT_OF_MEMORY) && same(of_pool_party(&one).held_buckets, 2));
-    EXPECT(bb_pool_party_deallocate(&one, places[0]) == BB_OK && bb_pool_party_flush(&one) == BB_OK);
-    EXPECT(given(bb_pool_party_allocate(&other, 8, 8), places[0]) && bb_pool_party_deallocate(&other, places[0]) == BB_OK);
-    EXPECT(bb_pool_party_deallocate(&one, places[1]) == BB_OK && bb_pool_party_cache(&one, 0) == BB_OK);
-    for (size_t at = 0; at < 2; at++) EXPECT(bb_pool_party_allocate(&other, 8, 8).code == BB_OK);
-    EXPECT(bb_pool_party_deallocate(&other, places[1]) == BB_OK && bb_pool_party_cache(&one, 2) == BB_OK);
-    EXPECT(given(bb_pool_party_allocate(&one, 8, 8), places[1]) && bb_pool_party_deallocate(&one, places[1]) == BB_OK);
-    EXPECT(refused(bb_pool_party_allocate(&other, 8, 8), BB_OUT_OF_MEMORY) && bb_shared_pool_leave(&pool, &one) == BB_OK);
+    EXPECT(given(bb_pool_party_allocate(&one, 8, 8), places[1]));
+    EXPECT(given(bb_pool_party_allocate(&one, 8, 8), places[0]));
+    EXPECT(refused(bb_pool_party_allocate(&one, 8, 8), BB_OUT_OF_MEMORY));
+    EXPECT(same(of_pool_party(&one).held_buckets, 2));
+    EXPECT(bb_pool_party_deallocate(&one, places[0]) == BB_OK);
+    EXPECT(bb_pool_party_flush(&one) == BB_OK);
+    EXPECT(given(bb_pool_party_allocate(&other, 8, 8), places[0]));
+    EXPECT(bb_pool_party_deallocate(&other, places[0]) == BB_OK);
+    EXPECT(bb_pool_party_deallocate(&one, places[1]) == BB_OK);
+    EXPECT(bb_pool_party_cache(&one, 0) == BB_OK);
+    for (size_t at = 0; at < 2; at++)
+        EXPECT(bb_pool_party_allocate(&other, 8, 8).code == BB_OK);
+    EXPECT(bb_pool_party_deallocate(&other, places[1]) == BB_OK);
+    EXPECT(bb_pool_party_cache(&one, 2) == BB_OK);
+    EXPECT(given(bb_pool_party_allocate(&one, 8, 8), places[1]));
+    EXPECT(bb_pool_party_deallocate(&one, places[1]) == BB_OK);
+    EXPECT(refused(bb_pool_party_allocate(&other, 8, 8), BB_OUT_OF_MEMORY));
+    EXPECT(bb_shared_pool_leave(&pool, &one) == BB_OK);
     EXPECT(given(bb_pool_party_allocate(&other, 8, 8), places[1]));
-    EXPECT(bb_shared_pool_destroy(&pool) == BB_OK && bb_pool_party_destroy(&other) == BB_OK);
+    EXPECT(bb_shared_pool_destroy(&pool) == BB_OK);
+    EXPECT(bb_pool_party_destroy(&other) == BB_OK);
     EXPECT(bb_detached_destroy(&detached) == BB_OK);
 }
 
-// A party takes many buckets and gives many back as one by one: where none is left fewer, and up to a place that it doesn't hold.
-// Slots behind the taken ones stay as they are.
+// A party takes many buckets and gives many back as it does one by one: fewer if none is left, and
+// up to a place that it doesn't hold. Slots after the taken ones stay as they are.
 static void run_many(void) {
     bb_shared_pool pool = BB_EMPTY;
-    bb_pool_party one = BB_EMPTY, other = BB_EMPTY;
-    size_t slots[4] = {1, 2, 3, 4}, more[3] = {5, 6, 7};
-    EXPECT(has_none(bb_pool_party_take_many(&one, slots, 4), BB_UNINITIALIZED) && slots[0] == 1);
+    bb_pool_party one = BB_EMPTY;
+    bb_pool_party other = BB_EMPTY;
+    size_t slots[4] = {1, 2, 3, 4};
+    size_t more[3] = {5, 6, 7};
+    EXPECT(has_none(bb_pool_party_take_many(&one, slots, 4), BB_UNINITIALIZED));
+    EXPECT(slots[0] == 1);
     EXPECT(has_none(bb_pool_party_deallocate_many(&one, slots, 4), BB_UNINITIALIZED));
-    EXPECT(bb_shared_pool_init(&pool, 64, 8, 4096, 64 * 5, 2) == BB_OK && bb_shared_pool_join(&pool, &one) == BB_OK);
-    EXPECT(bb_shared_pool_join(&pool, &other) == BB_OK && bb_pool_party_cache(&one, 2) == BB_OK);
+    EXPECT(bb_shared_pool_init(&pool, 64, 8, 4096, 64 * 5, 2) == BB_OK);
+    EXPECT(bb_shared_pool_join(&pool, &one) == BB_OK);
+    EXPECT(bb_shared_pool_join(&pool, &other) == BB_OK);
+    EXPECT(bb_pool_party_cache(&one, 2) == BB_OK);
     requests = 0;
-    EXPECT(is(bb_pool_party_take_many(&one, slots, 3), 3) && slots[3] == 4 && same(of_pool_party(&one).held_buckets, 3));
-    for (size_t at = 0; at < 3; at++) EXPECT(is(bb_pool_party_holds(&one, slots[at]), 1));
-    EXPECT(is(bb_pool_party_take_many(&other, more, 3), 2) && more[2] == 7 && same(of_pool_party(&other).held_buckets, 2));
-    EXPECT(is(bb_pool_party_take_many(&one, slots + 3, 1), 0) && slots[3] == 4);
-    EXPECT(is(bb_pool_party_take_many(&one, NULL, 0), 0) && is(bb_pool_party_deallocate_many(&one, NULL, 0), 0));
+    EXPECT(is(bb_pool_party_take_many(&one, slots, 3), 3));
+    EXPECT(slots[3] == 4);
+    EXPECT(same(of_pool_party(&one).held_buckets, 3));
+    for (size_t at = 0; at < 3; at++)
+        EXPECT(is(bb_pool_party_holds(&one, slots[at]), 1));
+    EXPECT(is(bb_pool_party_take_many(&other, more, 3), 2));
+    EXPECT(more[2] == 7);
+    EXPECT(same(of_pool_party(&other).held_buckets, 2));
+    EXPECT(is(bb_pool_party_take_many(&one, slots + 3, 1), 0));
+    EXPECT(slots[3] == 4);
+    EXPECT(is(bb_pool_party_take_many(&one, NULL, 0), 0));
+    EXPECT(is(bb_pool_party_deallocate_many(&one, NULL, 0), 0));
     // Neither the other's bucket nor one that is back is held.
-    EXPECT(is(bb_pool_party_deallocate_many(&one, more, 2), 0) && same(of_pool_party(&other).held_buckets, 2));
+    EXPECT(is(bb_pool_party_deallocate_many(&one, more, 2), 0));
+    EXPECT(same(of_pool_party(&other).held_buckets, 2));
     const size_t back[4] = {slots[2], slots[0], slots[2], slots[1]};
-    EXPECT(is(bb_pool_party_deallocate_many(&one, back, 4), 2) && is(bb_pool_party_holds(&one, slots[1]), 1));
+    EXPECT(is(bb_pool_party_deallocate_many(&one, back, 4), 2));
+    EXPECT(is(bb_pool_party_holds(&one, slots[1]), 1));
     // Both are cached, and the one that came back last is first.
-    EXPECT(is(bb_pool_party_take_many(&one, more, 3), 2) && more[0] == slots[0] && more[1] == slots[2] && more[2] == 7);
+    EXPECT(is(bb_pool_party_take_many(&one, more, 3), 2));
+    EXPECT(more[0] == slots[0]);
+    EXPECT(more[1] == slots[2]);
+    EXPECT(more[2] == 7);
     // The third one goes to the pool.
-    EXPECT(is(bb_pool_party_deallocate_many(&one, slots, 3), 3) && is(bb_pool_party_take_many(&other, more, 3), 1));
-    EXPECT(more[0] == slots[2] && requests == 0);
-    EXPECT(bb_shared_pool_destroy(&pool) == BB_OK && bb_pool_party_destroy(&one) == BB_OK);
+    EXPECT(is(bb_pool_party_deallocate_many(&one, slots, 3), 3));
+    EXPECT(is(bb_pool_party_take_many(&other, more, 3), 1));
+    EXPECT(more[0] == slots[2]);
+    EXPECT(requests == 0);
+    EXPECT(bb_shared_pool_destroy(&pool) == BB_OK);
+    EXPECT(bb_pool_party_destroy(&one) == BB_OK);
     EXPECT(bb_pool_party_destroy(&other) == BB_OK);
 }
 
-// A party of another pool or bump, and a bucket of another pool or one that is read, are refused by codes, and stay as they are.
+// A party of another pool or bump, and a bucket of another pool or one that is read, are refused by
+// codes, and stay as they are.
 static void run_others(void) {
-    bb_shared_pool pool = BB_EMPTY, far = BB_EMPTY;
-    bb_pool_party party = BB_EMPTY, stranger = BB_EMPTY;
+    bb_shared_pool pool = BB_EMPTY;
+    bb_shared_pool far = BB_EMPTY;
+    bb_pool_party party = BB_EMPTY;
+    bb_pool_party stranger = BB_EMPTY;
     bb_detached detached = BB_EMPTY;
-    EXPECT(bb_shared_pool_init(&pool, 64, 8, 4096, 128, 2) == BB_OK && bb_shared_pool_init(&far, 64, 8, 8192, 128, 2) == BB_OK);
-    EXPECT(bb_shared_pool_join(&pool, &party) == BB_OK && bb_shared_pool_join(&far, &stranger) == BB_OK);
-    EXPECT(bb_shared_pool_leave(&far, &party) == BB_OTHER_POOL && bb_shared_pool_leave(&pool, &stranger) == BB_OTHER_POOL);
+    EXPECT(bb_shared_pool_init(&pool, 64, 8, 4096, 128, 2) == BB_OK);
+    EXPECT(bb_shared_pool_init(&far, 64, 8, 8192, 128, 2) == BB_OK);
+    EXPECT(bb_shared_pool_join(&pool, &party) == BB_OK);
+    EXPECT(bb_shared_pool_join(&far, &stranger) == BB_OK);
+    EXPECT(bb_shared_pool_leave(&far, &party) == BB_OTHER_POOL);
+    EXPECT(bb_shared_pool_leave(&pool, &stranger) == BB_OTHER_POOL);
     bb_answer sent = bb_pool_party_allocate(&party, 40, 8);
-    EXPECT(bb_detached_init(&detached) == BB_OK && bb_pool_party_detach(&party, sent.place, 40, &detached) == BB_OK);
-    EXPECT(refused(bb_pool_party_attach(&stranger, &detached), BB_OTHER_POOL) && is(bb_detached_len(&detached), 40));
+    EXPECT(bb_detached_init(&detached) == BB_OK);
+    EXPECT(bb_pool_party_detach(&party, sent.place, 40, &detached) == BB_OK);
+    EXPECT(refused(bb_pool_party_attach(&stranger, &detached), BB_OTHER_POOL));
+    EXPECT(is(bb_detached_len(&detached), 40));
     EXPECT(same(of_pool_party(&stranger).held_buckets, 0));
     // Until each of two readers has released it, the bucket stays in its `bb_detached`.
-    EXPECT(bb_detached_share(&detached, 0) == BB_INVALID_ARGUMENT && has_none(bb_detached_release(&detached), BB_NO_READER));
-    EXPECT(bb_detached_share(&detached, 2) == BB_OK && bb_detached_share(&detached, 1) == BB_READERS_LEFT);
-    EXPECT(refused(bb_pool_party_attach(&party, &detached), BB_READERS_LEFT) && is(bb_detached_release(&detached), 1));
+    EXPECT(bb_detached_share(&detached, 0) == BB_INVALID_ARGUMENT);
+    EXPECT(has_none(bb_detached_release(&detached), BB_NO_READER));
+    EXPECT(bb_detached_share(&detached, 2) == BB_OK);
+    EXPECT(bb_detached_share(&detached, 1) == BB_READERS_LEFT);
+    EXPECT(refused(bb_pool_party_attach(&party, &detached), BB_READERS_LEFT));
+    EXPECT(is(bb_detached_release(&detached), 1));
     EXPECT(refused(bb_pool_party_attach(&stranger, &detached), BB_OTHER_POOL));
-    EXPECT(refused(bb_pool_party_attach(&party, &detached), BB_READERS_LEFT) && is(bb_detached_release(&detached), 0));
-    EXPECT(has_none(bb_detached_release(&detached), BB_NO_READER) && is(bb_detached_len(&detached), 40));
+    EXPECT(refused(bb_pool_party_attach(&party, &detached), BB_READERS_LEFT));
+    EXPECT(is(bb_detached_release(&detached), 0));
+    EXPECT(has_none(bb_detached_release(&detached), BB_NO_READER));
+    EXPECT(is(bb_detached_len(&detached), 40));
     EXPECT(given(bb_pool_party_attach(&party, &detached), sent.place));
-    EXPECT(bb_detached_share(&detached, 1) == BB_DETACHED_EMPTY && has_none(bb_detached_release(&detached), BB_NO_READER));
+    EXPECT(bb_detached_share(&detached, 1) == BB_DETACHED_EMPTY);
+    EXPECT(has_none(bb_detached_release(&detached), BB_NO_READER));
     EXPECT(bb_detached_destroy(&detached) == BB_OK);
-    EXPECT(bb_detached_share(&detached, 1) == BB_UNINITIALIZED && has_none(bb_detached_release(&detached), BB_UNINITIALIZED));
-    EXPECT(bb_shared_pool_leave(&pool, &party) == BB_OK && bb_shared_pool_leave(&far, &stranger) == BB_OK);
-    EXPECT(bb_shared_pool_destroy(&pool) == BB_OK && bb_shared_pool_destroy(&far) == BB_OK);
+    EXPECT(bb_detached_share(&detached, 1) == BB_UNINITIALIZED);
+    EXPECT(has_none(bb_detached_release(&detached), BB_UNINITIALIZED));
+    EXPECT(bb_shared_pool_leave(&pool, &party) == BB_OK);
+    EXPECT(bb_shared_pool_leave(&far, &stranger) == BB_OK);
+    EXPECT(bb_shared_pool_destroy(&pool) == BB_OK);
+    EXPECT(bb_shared_pool_destroy(&far) == BB_OK);
 
-    bb_shared_bump bump = BB_EMPTY, other = BB_EMPTY;
+    bb_shared_bump bump = BB_EMPTY;
+    bb_shared_bump other = BB_EMPTY;
     bb_bump_party taker = BB_EMPTY;
-    EXPECT(bb_shared_bump_init(&bump, 4096, 64, 1) == BB_OK && bb_shared_bump_init(&other, 8192, 64, 1) == BB_OK);
-    EXPECT(bb_shared_bump_join(&bump, &taker) == BB_OK && bb_shared_bump_leave(&other, &taker) == BB_OTHER_POOL);
-    EXPECT(bb_shared_bump_leave(&bump, &taker) == BB_OK && bb_shared_bump_destroy(&bump) == BB_OK);
+    EXPECT(bb_shared_bump_init(&bump, 4096, 64, 1) == BB_OK);
+    EXPECT(bb_shared_bump_init(&other, 8192, 64, 1) == BB_OK);
+    EXPECT(bb_shared_bump_join(&bump, &taker) == BB_OK);
+    EXPECT(bb_shared_bump_leave(&other, &taker) == BB_OTHER_POOL);
+    EXPECT(bb_shared_bump_leave(&bump, &taker) == BB_OK);
+    EXPECT(bb_shared_bump_destroy(&bump) == BB_OK);
     EXPECT(bb_shared_bump_destroy(&other) == BB_OK);
 }
 
-// A shared pool may lie in a bucket of another one but bucket 0, where both would begin at one place. Each pool refuses what is
-// the other's.
+// A shared pool may lie in any bucket of another one but bucket 0, at which both would begin at one
+// place. Each pool refuses what is the other's.
 static void run_nested(void) {
-    bb_shared_pool outer = BB_EMPTY, inner = BB_EMPTY;
-    bb_pool_party of_outer = BB_EMPTY, of_inner = BB_EMPTY;
+    bb_shared_pool outer = BB_EMPTY;
+    bb_shared_pool inner = BB_EMPTY;
+    bb_pool_party of_outer = BB_EMPTY;
+    bb_pool_party of_inner = BB_EMPTY;
     bb_detached detached = BB_EMPTY;
-    EXPECT(bb_shared_pool_init(&outer, 1024, 8, 4096, 2048, 2) == BB_OK && bb_shared_pool_join(&outer, &of_outer) == BB_OK);
-    bb_answer first = bb_pool_party_allocate(&of_outer, 1024, 8), second = bb_pool_party_allocate(&of_outer, 1024, 8);
-    EXPECT(first.code == BB_OK && second.code == BB_OK && first.place + second.place == 4096 + 5120);
-    EXPECT(bb_shared_pool_init(&inner, 64, 8, 5120, 1024, 2) == BB_OK && bb_shared_pool_join(&inner, &of_inner) == BB_OK);
+    EXPECT(bb_shared_pool_init(&outer, 1024, 8, 4096, 2048, 2) == BB_OK);
+    EXPECT(bb_shared_pool_join(&outer, &of_outer) == BB_OK);
+    bb_answer first = bb_pool_party_allocate(&of_outer, 1024, 8);
+    bb_answer second = bb_pool_party_allocate(&of_outer, 1024, 8);
+    EXPECT(first.code == BB_OK);
+    EXPECT(second.code == BB_OK);
+    EXPECT(first.place + second.place == 4096 + 5120);
+    EXPECT(bb_shared_pool_init(&inner, 64, 8, 5120, 1024, 2) == BB_OK);
+    EXPECT(bb_shared_pool_join(&inner, &of_inner) == BB_OK);
     bb_answer nested = bb_pool_party_allocate(&of_inner, 8, 8);
-    EXPECT(nested.code == BB_OK && nested.place >= 5120 && nested.place < 6144 && bb_detached_init(&detached) == BB_OK);
+    EXPECT(nested.code == BB_OK);
+    EXPECT(nested.place >= 5120);
+    EXPECT(nested.place < 6144);
+    EXPECT(bb_detached_init(&detached) == BB_OK);
     EXPECT(bb_pool_party_detach(&of_inner, nested.place, 8, &detached) == BB_OK);
     EXPECT(refused(bb_pool_party_attach(&of_outer, &detached), BB_OTHER_POOL));
-    EXPECT(bb_shared_pool_leave(&outer, &of_inner) == BB_OTHER_POOL && bb_shared_pool_leave(&inner, &of_outer) == BB_OTHER_POOL);
-    EXPECT(given(bb_pool_party_attach(&of_inner, &detached), nested.place) && bb_detached_destroy(&detached) == BB_OK);
-    EXPECT(bb_shared_pool_leave(&inner, &of_inner) == BB_OK && bb_shared_pool_destroy(&inner) == BB_OK);
-    EXPECT(bb_shared_pool_leave(&outer, &of_outer) == BB_OK && bb_shared_pool_destroy(&outer) == BB_OK);
+    EXPECT(bb_shared_pool_leave(&outer, &of_inner) == BB_OTHER_POOL);
+    EXPECT(bb_shared_pool_leave(&inner, &of_outer) == BB_OTHER_POOL);
+    EXPECT(given(bb_pool_party_attach(&of_inner, &detached), nested.place));
+    EXPECT(bb_detached_destroy(&detached) == BB_OK);
+    EXPECT(bb_shared_pool_leave(&inner, &of_inner) == BB_OK);
+    EXPECT(bb_shared_pool_destroy(&inner) == BB_OK);
+    EXPECT(bb_shared_pool_leave(&outer, &of_outer) == BB_OK);
+    EXPECT(bb_shared_pool_destroy(&outer) == BB_OK);
 }
 
 // A bucket goes from one party to another, and each refusal comes by its first cause.
 static void run_detached(void) {
     bb_shared_pool pool = BB_EMPTY;
     bb_pool_party parties[2] = {BB_EMPTY, BB_EMPTY};
-    bb_detached detached = BB_EMPTY, other = BB_EMPTY;
+    bb_detached detached = BB_EMPTY;
+    bb_detached other = BB_EMPTY;
     EXPECT(bb_pool_party_detach(&parties[0], 4096, 65, &detached) == BB_UNINITIALIZED);
     EXPECT(refused(bb_pool_party_attach(&parties[0], &detached), BB_UNINITIALIZED));
     EXPECT(has_none(bb_detached_len(&detached), BB_UNINITIALIZED));
     EXPECT(bb_shared_pool_init(&pool, 64, 8, 4096, 128, 2) == BB_OK);
-    EXPECT(bb_shared_pool_join(&pool, &parties[0]) == BB_OK && bb_shared_pool_join(&pool, &parties[1]) == BB_OK);
+    EXPECT(bb_shared_pool_join(&pool, &parties[0]) == BB_OK);
+    EXPECT(bb_shared_pool_join(&pool, &parties[1]) == BB_OK);
     EXPECT(bb_pool_party_detach(&parties[0], 4096, 65, &detached) == BB_UNINITIALIZED);
     EXPECT(refused(bb_pool_party_attach(&parties[0], &detached), BB_UNINITIALIZED));
-    EXPECT(bb_detached_init(&detached) == BB_OK && bb_detached_init(&detached) == BB_ALREADY_INITIALIZED);
-    EXPECT(bb_detached_init(&other) == BB_OK && has_none(bb_detached_len(&detached), BB_DETACHED_EMPTY));
+    EXPECT(bb_detached_init(&detached) == BB_OK);
+    EXPECT(bb_detached_init(&detached) == BB_ALREADY_INITIALIZED);
+    EXPECT(bb_detached_init(&other) == BB_OK);
+    EXPECT(has_none(bb_detached_len(&detached), BB_DETACHED_EMPTY));
     EXPECT(refused(bb_pool_party_attach(&parties[0], &detached), BB_DETACHED_EMPTY));
 
     requests = 0;
-    bb_answer sent = bb_pool_party_allocate(&parties[0], 48, 8), kept = bb_pool_party_allocate(&parties[0], 48, 8);
-    EXPECT(sent.code == BB_OK && kept.code == BB_OK && sent.place + kept.place == 4096 + 4160);
+    bb_answer sent = bb_pool_party_allocate(&parties[0], 48, 8);
+    bb_answer kept = bb_pool_party_allocate(&parties[0], 48, 8);
+    EXPECT(sent.code == BB_OK);
+    EXPECT(kept.code == BB_OK);
+    EXPECT(sent.place + kept.place == 4096 + 4160);
     EXPECT(bb_pool_party_detach(&parties[0], sent.place + 1, 65, &detached) == BB_NOT_HELD);
     EXPECT(bb_pool_party_detach(&parties[1], sent.place, 65, &detached) == BB_NOT_HELD);
     EXPECT(bb_pool_party_detach(&parties[0], sent.place, 65, &detached) == BB_SIZE_TOO_LARGE);
-    EXPECT(has_none(bb_detached_len(&detached), BB_DETACHED_EMPTY) && same(of_pool_party(&parties[0]).held_buckets, 2));
-    EXPECT(bb_pool_party_detach(&parties[0], sent.place, 40, &detached) == BB_OK && is(bb_detached_len(&detached), 40));
-    EXPECT(is(bb_pool_party_holds(&parties[0], sent.place), 0) && same(of_pool_party(&parties[0]).held_buckets, 1));
+    EXPECT(has_none(bb_detached_len(&detached), BB_DETACHED_EMPTY));
+    EXPECT(same(of_pool_party(&parties[0]).held_buckets, 2));
+    EXPECT(bb_pool_party_detach(&parties[0], sent.place, 40, &detached) == BB_OK);
+    EXPECT(is(bb_detached_len(&detached), 40));
+    EXPECT(is(bb_pool_party_holds(&parties[0], sent.place), 0));
+    EXPECT(same(of_pool_party(&parties[0]).held_buckets, 1));
     EXPECT(bb_pool_party_deallocate(&parties[0], sent.place) == BB_NOT_HELD);
     EXPECT(bb_pool_party_detach(&parties[0], sent.place, 40, &other) == BB_NOT_HELD);
     EXPECT(bb_pool_party_detach(&parties[0], kept.place, 65, &detached) == BB_SIZE_TOO_LARGE);
@@ -721,8 +992,10 @@ static void run_detached(void) {
     EXPECT(refused(bb_pool_party_allocate(&parties[1], 8, 8), BB_OUT_OF_MEMORY));
     // A `bb_detached` may be moved, and serves again.
     bb_detached moved = detached;
-    EXPECT(given(bb_pool_party_attach(&parties[1], &moved), sent.place) && has_none(bb_detached_len(&moved), BB_DETACHED_EMPTY));
-    EXPECT(is(bb_pool_party_holds(&parties[1], sent.place), 1) && same(of_pool_party(&parties[1]).held_buckets, 1));
+    EXPECT(given(bb_pool_party_attach(&parties[1], &moved), sent.place));
+    EXPECT(has_none(bb_detached_len(&moved), BB_DETACHED_EMPTY));
+    EXPECT(is(bb_pool_party_holds(&parties[1], sent.place), 1));
+    EXPECT(same(of_pool_party(&parties[1]).held_buckets, 1));
     EXPECT(refused(bb_pool_party_attach(&parties[1], &moved), BB_DETACHED_EMPTY));
     EXPECT(bb_pool_party_deallocate(&parties[0], sent.place) == BB_NOT_HELD);
     EXPECT(bb_pool_party_deallocate(&parties[1], sent.place) == BB_OK);
@@ -736,90 +1009,411 @@ static void run_detached(void) {
     EXPECT(bb_shared_pool_leave(&pool, &parties[0]) == BB_OK);
     EXPECT(given(bb_pool_party_allocate(&parties[1], 8, 8), sent.place));
     EXPECT(refused(bb_pool_party_allocate(&parties[1], 8, 8), BB_OUT_OF_MEMORY));
-    EXPECT(given(bb_pool_party_attach(&parties[1], &moved), kept.place) && bb_shared_pool_leave(&pool, &parties[1]) == BB_OK);
-    EXPECT(requests == 0 && bb_shared_pool_join(&pool, &parties[0]) == BB_OK);
+    EXPECT(given(bb_pool_party_attach(&parties[1], &moved), kept.place));
+    EXPECT(bb_shared_pool_leave(&pool, &parties[1]) == BB_OK);
+    EXPECT(requests == 0);
+    EXPECT(bb_shared_pool_join(&pool, &parties[0]) == BB_OK);
     sent = bb_pool_party_allocate(&parties[0], 48, 8);
     kept = bb_pool_party_allocate(&parties[0], 48, 8);
-    EXPECT(sent.code == BB_OK && kept.code == BB_OK && sent.place + kept.place == 4096 + 4160);
+    EXPECT(sent.code == BB_OK);
+    EXPECT(kept.code == BB_OK);
+    EXPECT(sent.place + kept.place == 4096 + 4160);
 
     // A bucket in a freed `bb_detached` stays detached.
-    EXPECT(bb_pool_party_detach(&parties[0], sent.place, 48, &moved) == BB_OK && bb_detached_destroy(&moved) == BB_OK);
-    EXPECT(bb_detached_destroy(&moved) == BB_UNINITIALIZED && bb_shared_pool_leave(&pool, &parties[0]) == BB_OK);
+    EXPECT(bb_pool_party_detach(&parties[0], sent.place, 48, &moved) == BB_OK);
+    EXPECT(bb_detached_destroy(&moved) == BB_OK);
+    EXPECT(bb_detached_destroy(&moved) == BB_UNINITIALIZED);
+    EXPECT(bb_shared_pool_leave(&pool, &parties[0]) == BB_OK);
     EXPECT(bb_shared_pool_join(&pool, &parties[0]) == BB_OK);
     EXPECT(given(bb_pool_party_allocate(&parties[0], 48, 8), kept.place));
     EXPECT(refused(bb_pool_party_allocate(&parties[0], 48, 8), BB_OUT_OF_MEMORY));
-    // A `bb_detached` keeps no pool: it is freed behind the pool of which the bucket in it was.
+    // A `bb_detached` keeps no pool: it is freed after the pool of the bucket that is in it.
     EXPECT(bb_pool_party_detach(&parties[0], kept.place, 48, &other) == BB_OK);
-    EXPECT(bb_shared_pool_destroy(&pool) == BB_OK && bb_pool_party_destroy(&parties[0]) == BB_OK);
-    EXPECT(is(bb_detached_len(&other), 48) && bb_detached_destroy(&other) == BB_OK);
+    EXPECT(bb_shared_pool_destroy(&pool) == BB_OK);
+    EXPECT(bb_pool_party_destroy(&parties[0]) == BB_OK);
+    EXPECT(is(bb_detached_len(&other), 48));
+    EXPECT(bb_detached_destroy(&other) == BB_OK);
 }
 
 static int says(bb_shared_pool *pool, uint32_t number, uint32_t state, uint32_t party) {
     struct bb_holder holder = {7, 7};
-    return bb_shared_pool_holder(pool, number, &holder) == BB_OK && holder.state == state && holder.party == party;
+    return bb_shared_pool_holder(pool, number, &holder) == BB_OK && holder.state == state &&
+           holder.party == party;
 }
 
-// A flag says who holds a bucket, cached or not, or has detached it. A detached bucket is given back without attaching it, by its
-// `bb_detached` or, where that is lost, by its number.
+// A flag says who holds a bucket, cached or not, or has detached it. A detached bucket is given
+// back without attaching it, by its `bb_detached` or, if that is lost, by its number.
 static void run_holders(void) {
-    bb_shared_pool pool = BB_EMPTY, far = BB_EMPTY;
-    bb_pool_party parties[2] = {BB_EMPTY, BB_EMPTY}, stranger = BB_EMPTY;
+    bb_shared_pool pool = BB_EMPTY;
+    bb_shared_pool far = BB_EMPTY;
+    bb_pool_party parties[2] = {BB_EMPTY, BB_EMPTY};
+    bb_pool_party stranger = BB_EMPTY;
     bb_detached detached = BB_EMPTY;
-    bb_lost lost = BB_LOST, none = BB_EMPTY;
+    bb_lost lost = BB_LOST;
+    bb_lost none = BB_EMPTY;
     struct bb_holder holder = {7, 7};
-    EXPECT(bb_shared_pool_holder(&pool, 0, &holder) == BB_UNINITIALIZED && holder.state == 7 && holder.party == 7);
+    EXPECT(bb_shared_pool_holder(&pool, 0, &holder) == BB_UNINITIALIZED);
+    EXPECT(holder.state == 7);
+    EXPECT(holder.party == 7);
     EXPECT(has_none(bb_pool_party_number(&parties[0]), BB_UNINITIALIZED));
     EXPECT(bb_pool_party_return_detached(&parties[0], &detached) == BB_UNINITIALIZED);
-    EXPECT(bb_pool_party_recover(&parties[0], 0, &lost) == BB_UNINITIALIZED && lost.made);
-    EXPECT(bb_shared_pool_init(&pool, 64, 8, 4096, 128, 2) == BB_OK && bb_shared_pool_init(&far, 64, 8, 8192, 128, 2) == BB_OK);
-    EXPECT(bb_shared_pool_join(&pool, &parties[0]) == BB_OK && bb_shared_pool_join(&pool, &parties[1]) == BB_OK);
-    EXPECT(bb_shared_pool_join(&far, &stranger) == BB_OK && bb_pool_party_cache(&parties[0], 1) == BB_OK);
-    EXPECT(bb_pool_party_return_detached(&parties[0], &detached) == BB_UNINITIALIZED && bb_detached_init(&detached) == BB_OK);
+    EXPECT(bb_pool_party_recover(&parties[0], 0, &lost) == BB_UNINITIALIZED);
+    EXPECT(lost.made);
+    EXPECT(bb_shared_pool_init(&pool, 64, 8, 4096, 128, 2) == BB_OK);
+    EXPECT(bb_shared_pool_init(&far, 64, 8, 8192, 128, 2) == BB_OK);
+    EXPECT(bb_shared_pool_join(&pool, &parties[0]) == BB_OK);
+    EXPECT(bb_shared_pool_join(&pool, &parties[1]) == BB_OK);
+    EXPECT(bb_shared_pool_join(&far, &stranger) == BB_OK);
+    EXPECT(bb_pool_party_cache(&parties[0], 1) == BB_OK);
+    EXPECT(bb_pool_party_return_detached(&parties[0], &detached) == BB_UNINITIALIZED);
+    EXPECT(bb_detached_init(&detached) == BB_OK);
     EXPECT(bb_pool_party_return_detached(&parties[0], &detached) == BB_DETACHED_EMPTY);
     requests = 0;
-    bb_figure one = bb_pool_party_number(&parties[0]), other = bb_pool_party_number(&parties[1]);
-    EXPECT(one.code == BB_OK && other.code == BB_OK && one.number < 2 && other.number < 2 && one.number != other.number);
-    uint32_t by = (uint32_t)one.number, others = (uint32_t)other.number;
-    EXPECT(bb_shared_pool_holder(&pool, 2, &holder) == BB_NOT_A_BUCKET && holder.state == 7 && holder.party == 7);
-    EXPECT(says(&pool, 0, BB_FREE, 0) && says(&pool, 1, BB_FREE, 0));
+    bb_figure one = bb_pool_party_number(&parties[0]);
+    bb_figure other = bb_pool_party_number(&parties[1]);
+    EXPECT(one.code == BB_OK);
+    EXPECT(other.code == BB_OK);
+    EXPECT(one.number < 2);
+    EXPECT(other.number < 2);
+    EXPECT(one.number != other.number);
+    uint32_t by = (uint32_t)one.number;
+    uint32_t others = (uint32_t)other.number;
+    EXPECT(bb_shared_pool_holder(&pool, 2, &holder) == BB_NOT_A_BUCKET);
+    EXPECT(holder.state == 7);
+    EXPECT(holder.party == 7);
+    EXPECT(says(&pool, 0, BB_FREE, 0));
+    EXPECT(says(&pool, 1, BB_FREE, 0));
 
     size_t place = bb_pool_party_allocate(&parties[0], 48, 8).place;
     uint32_t number = (uint32_t)((place - 4096) / 64);
-    EXPECT(says(&pool, number, BB_HELD, by) && says(&pool, 1 - number, BB_FREE, 0));
-    EXPECT(bb_pool_party_deallocate(&parties[0], place) == BB_OK && says(&pool, number, BB_HELD, by));
-    EXPECT(given(bb_pool_party_allocate(&parties[0], 48, 8), place) && bb_pool_party_recover(&parties[1], number, &none) == 8);
-    EXPECT(bb_pool_party_recover(&parties[1], number, &lost) == BB_NOT_HELD && !lost.made && lost.at == NULL);
-    EXPECT(bb_pool_party_detach(&parties[0], place, 40, &detached) == BB_OK && says(&pool, number, BB_DETACHED, by));
-    EXPECT(bb_pool_party_return_detached(&stranger, &detached) == BB_OTHER_POOL && bb_detached_share(&detached, 1) == BB_OK);
-    EXPECT(bb_pool_party_return_detached(&parties[1], &detached) == BB_READERS_LEFT && is(bb_detached_release(&detached), 0));
-    EXPECT(bb_pool_party_return_detached(&parties[1], &detached) == BB_OK && says(&pool, number, BB_FREE, 0));
+    EXPECT(says(&pool, number, BB_HELD, by));
+    EXPECT(says(&pool, 1 - number, BB_FREE, 0));
+    EXPECT(bb_pool_party_deallocate(&parties[0], place) == BB_OK);
+    EXPECT(says(&pool, number, BB_HELD, by));
+    EXPECT(given(bb_pool_party_allocate(&parties[0], 48, 8), place));
+    EXPECT(bb_pool_party_recover(&parties[1], number, &none) == 8);
+    EXPECT(bb_pool_party_recover(&parties[1], number, &lost) == BB_NOT_HELD);
+    EXPECT(!lost.made);
+    EXPECT(lost.at == NULL);
+    EXPECT(bb_pool_party_detach(&parties[0], place, 40, &detached) == BB_OK);
+    EXPECT(says(&pool, number, BB_DETACHED, by));
+    EXPECT(bb_pool_party_return_detached(&stranger, &detached) == BB_OTHER_POOL);
+    EXPECT(bb_detached_share(&detached, 1) == BB_OK);
+    EXPECT(bb_pool_party_return_detached(&parties[1], &detached) == BB_READERS_LEFT);
+    EXPECT(is(bb_detached_release(&detached), 0));
+    EXPECT(bb_pool_party_return_detached(&parties[1], &detached) == BB_OK);
+    EXPECT(says(&pool, number, BB_FREE, 0));
     EXPECT(bb_pool_party_return_detached(&parties[1], &detached) == BB_DETACHED_EMPTY);
 
     // The other party attaches what the first detached, and leaves with it.
     place = bb_pool_party_allocate(&parties[0], 48, 8).place;
     number = (uint32_t)((place - 4096) / 64);
     EXPECT(bb_pool_party_detach(&parties[0], place, 40, &detached) == BB_OK);
-    EXPECT(given(bb_pool_party_attach(&parties[1], &detached), place) && says(&pool, number, BB_HELD, others));
-    EXPECT(bb_shared_pool_leave(&pool, &parties[1]) == BB_OK && says(&pool, number, BB_FREE, 0));
+    EXPECT(given(bb_pool_party_attach(&parties[1], &detached), place));
+    EXPECT(says(&pool, number, BB_HELD, others));
+    EXPECT(bb_shared_pool_leave(&pool, &parties[1]) == BB_OK);
+    EXPECT(says(&pool, number, BB_FREE, 0));
     EXPECT(has_none(bb_pool_party_number(&parties[1]), BB_UNINITIALIZED));
-    // A bucket whose `bb_detached` is destroyed comes back by its number, behind its party too.
+    // A bucket whose `bb_detached` is destroyed comes back by its number, also after its party has
+    // left.
     place = bb_pool_party_allocate(&parties[0], 48, 8).place;
     number = (uint32_t)((place - 4096) / 64);
-    EXPECT(bb_pool_party_detach(&parties[0], place, 40, &detached) == BB_OK && bb_detached_destroy(&detached) == BB_OK);
-    EXPECT(bb_shared_pool_leave(&pool, &parties[0]) == BB_OK && says(&pool, number, BB_DETACHED, by) && requests == 0);
+    EXPECT(bb_pool_party_detach(&parties[0], place, 40, &detached) == BB_OK);
+    EXPECT(bb_detached_destroy(&detached) == BB_OK);
+    EXPECT(bb_shared_pool_leave(&pool, &parties[0]) == BB_OK);
+    EXPECT(says(&pool, number, BB_DETACHED, by));
+    EXPECT(requests == 0);
     EXPECT(bb_shared_pool_join(&pool, &parties[1]) == BB_OK);
-    bb_lost behind = BB_LOST, again = BB_LOST, found = BB_LOST;
-    EXPECT(bb_pool_party_recover(&parties[1], 2, &behind) == BB_NOT_A_BUCKET);
-    EXPECT(bb_pool_party_recover(&parties[1], number, &found) == BB_OK && says(&pool, number, BB_FREE, 0));
+    bb_lost past = BB_LOST;
+    bb_lost again = BB_LOST;
+    bb_lost found = BB_LOST;
+    EXPECT(bb_pool_party_recover(&parties[1], 2, &past) == BB_NOT_A_BUCKET);
+    EXPECT(bb_pool_party_recover(&parties[1], number, &found) == BB_OK);
+    EXPECT(says(&pool, number, BB_FREE, 0));
     EXPECT(bb_pool_party_recover(&parties[1], number, &again) == BB_NOT_HELD);
-    EXPECT(bb_shared_pool_leave(&pool, &parties[1]) == BB_OK && bb_shared_pool_destroy(&pool) == BB_OK);
-    EXPECT(bb_shared_pool_leave(&far, &stranger) == BB_OK && bb_shared_pool_destroy(&far) == BB_OK);
+    EXPECT(bb_shared_pool_leave(&pool, &parties[1]) == BB_OK);
+    EXPECT(bb_shared_pool_destroy(&pool) == BB_OK);
+    EXPECT(bb_shared_pool_leave(&far, &stranger) == BB_OK);
+    EXPECT(bb_shared_pool_destroy(&far) == BB_OK);
 }
 
-static size_t taken, resized, released;
-static void *take(size_t size) { return taken++, malloc(size); }
-static void *resize(void *at, size_t size) { return resized++, realloc(at, size); }
-static void release(void *at) { released += at != NULL, free(at); }
+// A bucket goes by its number, and each refusal comes by its first cause. Of all numbers of a
+// sender only the right one wins.
+static void run_by_number(void) {
+    bb_shared_pool pool = BB_EMPTY;
+    bb_pool_party sender = BB_EMPTY;
+    bb_pool_party receiver = BB_EMPTY;
+    bb_detached detached = BB_EMPTY;
+    bb_lost lost = BB_LOST;
+    EXPECT(has_none(bb_pool_party_detach_number(&sender, 4096), BB_UNINITIALIZED));
+    EXPECT(refused(bb_pool_party_attach_number(&receiver, 0, 0), BB_UNINITIALIZED));
+    EXPECT(bb_shared_pool_init(&pool, 64, 8, 4096, 64 * 4, 8) == BB_OK);
+    EXPECT(bb_shared_pool_join_number(&pool, 3, &sender) == BB_OK);
+    EXPECT(bb_shared_pool_join_number(&pool, 0, &receiver) == BB_OK);
+    EXPECT(bb_detached_init(&detached) == BB_OK);
+    requests = 0;
+
+    size_t place = bb_pool_party_take(&sender).place;
+    EXPECT(has_none(bb_pool_party_detach_number(&receiver, place), BB_NOT_HELD));
+    EXPECT(has_none(bb_pool_party_detach_number(&sender, place + 1), BB_NOT_HELD));
+    bb_figure number = bb_pool_party_number_at(&sender, place);
+    uint32_t bucket = (uint32_t)number.number;
+    EXPECT(refused(bb_pool_party_attach_number(&receiver, bucket, 3), BB_NOT_HELD));
+    EXPECT(is(bb_pool_party_detach_number(&sender, place), bucket));
+    EXPECT(says(&pool, bucket, BB_DETACHED, 3));
+    EXPECT(has_none(bb_pool_party_detach_number(&sender, place), BB_NOT_HELD));
+    EXPECT(bb_pool_party_deallocate(&sender, place) == BB_NOT_HELD);
+    EXPECT(refused(bb_pool_party_attach_number(&receiver, 4, 3), BB_NOT_A_BUCKET));
+    EXPECT(refused(bb_pool_party_attach_number(&receiver, UINT32_MAX, 3), BB_NOT_A_BUCKET));
+    for (uint32_t from = 0; from < 20; from++) {
+        if (from == 3)
+            continue;
+        EXPECT(refused(bb_pool_party_attach_number(&receiver, bucket, from), BB_NOT_HELD));
+    }
+    EXPECT(refused(bb_pool_party_attach_number(&receiver, bucket, UINT32_MAX), BB_NOT_HELD));
+    EXPECT(refused(bb_pool_party_attach_number(&receiver, (bucket + 1) % 4, 3), BB_NOT_HELD));
+    EXPECT(bb_pool_party_recover(&receiver, bucket, &lost) == BB_NOT_HELD);
+    EXPECT(says(&pool, bucket, BB_DETACHED, 3));
+    EXPECT(given(bb_pool_party_attach_number(&receiver, bucket, 3), place));
+    EXPECT(says(&pool, bucket, BB_HELD, 0));
+    EXPECT(refused(bb_pool_party_attach_number(&receiver, bucket, 3), BB_NOT_HELD));
+
+    // A bucket in a `bb_detached` is lost to each number.
+    EXPECT(bb_pool_party_detach(&receiver, place, 64, &detached) == BB_OK);
+    EXPECT(says(&pool, bucket, BB_DETACHED, 0));
+    for (uint32_t from = 0; from < 20; from++)
+        EXPECT(refused(bb_pool_party_attach_number(&sender, bucket, from), BB_NOT_HELD));
+    EXPECT(given(bb_pool_party_attach(&sender, &detached), place));
+
+    // A party attaches what it detached itself. A cached bucket isn't detached, and one that is
+    // detached outlives its party.
+    EXPECT(is(bb_pool_party_detach_number(&sender, place), bucket));
+    EXPECT(given(bb_pool_party_attach_number(&sender, bucket, 3), place));
+    EXPECT(requests == 0);
+    EXPECT(bb_pool_party_cache(&sender, 1) == BB_OK);
+    EXPECT(bb_pool_party_deallocate(&sender, place) == BB_OK);
+    EXPECT(has_none(bb_pool_party_detach_number(&sender, place), BB_NOT_HELD));
+    EXPECT(given(bb_pool_party_take(&sender), place));
+    EXPECT(is(bb_pool_party_detach_number(&sender, place), bucket));
+    EXPECT(bb_shared_pool_leave(&pool, &sender) == BB_OK);
+    EXPECT(says(&pool, bucket, BB_DETACHED, 3));
+    EXPECT(given(bb_pool_party_attach_number(&receiver, bucket, 3), place));
+    EXPECT(bb_shared_pool_leave(&pool, &receiver) == BB_OK);
+    EXPECT(says(&pool, bucket, BB_FREE, 0));
+    EXPECT(bb_shared_pool_destroy(&pool) == BB_OK);
+    EXPECT(bb_detached_destroy(&detached) == BB_OK);
+
+    // In a pool of one party nothing is detached.
+    EXPECT(bb_shared_pool_init(&pool, 64, 8, 4096, 64, 1) == BB_OK);
+    EXPECT(bb_shared_pool_join(&pool, &sender) == BB_OK);
+    EXPECT(given(bb_pool_party_take(&sender), 4096));
+    EXPECT(has_none(bb_pool_party_detach_number(&sender, 4096), BB_ONE_PARTY));
+    EXPECT(has_none(bb_pool_party_detach_number(&sender, 4097), BB_ONE_PARTY));
+    EXPECT(is(bb_pool_party_holds(&sender, 4096), 1));
+    EXPECT(bb_shared_pool_leave(&pool, &sender) == BB_OK);
+    EXPECT(bb_shared_pool_destroy(&pool) == BB_OK);
+}
+
+// A party joins by its number. One that is forgotten leaves what it holds to the next of its
+// number, which may give all of it back.
+static void run_join_number(void) {
+    bb_shared_pool pool = BB_EMPTY;
+    bb_shared_pool far = BB_EMPTY;
+    bb_pool_party party = BB_EMPTY;
+    bb_pool_party other = BB_EMPTY;
+    EXPECT(bb_shared_pool_join_number(&pool, 0, &party) == BB_UNINITIALIZED);
+    EXPECT(bb_shared_pool_forget(&pool, &party) == BB_UNINITIALIZED);
+    EXPECT(bb_pool_party_give_all_back(&party) == BB_UNINITIALIZED);
+    EXPECT(bb_shared_pool_init(&pool, 64, 8, 4096, 64 * 16, 8) == BB_OK);
+    EXPECT(bb_shared_pool_init(&far, 64, 8, 8192, 64, 1) == BB_OK);
+    EXPECT(bb_shared_pool_join_number(&pool, 8, &party) == BB_NO_PARTY);
+    EXPECT(bb_shared_pool_join_number(&pool, UINT32_MAX, &party) == BB_NO_PARTY);
+    WITHIN(256, bb_shared_pool_join_number(&pool, 3, &party));
+    EXPECT(is(bb_pool_party_number(&party), 3));
+    EXPECT(bb_shared_pool_join_number(&pool, 3, &other) == BB_NO_PARTY);
+    EXPECT(bb_shared_pool_join_number(&pool, 7, &party) == BB_ALREADY_INITIALIZED);
+    EXPECT(bb_shared_pool_join_number(&pool, 0, &other) == BB_OK);
+    EXPECT(is(bb_pool_party_number(&other), 0));
+    EXPECT(bb_shared_pool_leave(&pool, &other) == BB_OK);
+    requests = 0;
+
+    size_t places[2] = {bb_pool_party_take(&party).place, bb_pool_party_take(&party).place};
+    uint32_t bucket = (uint32_t)bb_pool_party_number_at(&party, places[0]).number;
+    EXPECT(bb_shared_pool_forget(&far, &party) == BB_OTHER_POOL);
+    EXPECT(is(bb_pool_party_holds(&party, places[0]), 1));
+    EXPECT(bb_shared_pool_forget(&pool, &party) == BB_OK);
+    EXPECT(says(&pool, bucket, BB_HELD, 3));
+    EXPECT(bb_shared_pool_forget(&pool, &party) == BB_UNINITIALIZED);
+    EXPECT(bb_pool_party_give_all_back(&party) == BB_UNINITIALIZED);
+    EXPECT(requests == 0);
+    EXPECT(bb_shared_pool_join_number(&pool, 3, &party) == BB_OK);
+    EXPECT(same(of_pool_party(&party).held_buckets, 2));
+
+    // Cached buckets are forgotten as held ones, and come back with all others.
+    EXPECT(bb_pool_party_cache(&party, 1) == BB_OK);
+    EXPECT(bb_pool_party_deallocate(&party, places[0]) == BB_OK);
+    EXPECT(same(of_pool_party(&party).held_buckets, 1));
+    EXPECT(bb_shared_pool_forget(&pool, &party) == BB_OK);
+    EXPECT(says(&pool, bucket, BB_HELD, 3));
+    EXPECT(bb_shared_pool_join_number(&pool, 3, &party) == BB_OK);
+    EXPECT(is(bb_pool_party_holds(&party, places[0]), 1));
+    EXPECT(bb_pool_party_cache(&party, 2) == BB_OK);
+    EXPECT(bb_pool_party_deallocate(&party, places[0]) == BB_OK);
+    EXPECT(bb_shared_pool_join(&pool, &other) == BB_OK);
+    EXPECT(bb_pool_party_take(&other).code == BB_OK);
+    requests = 0;
+    EXPECT(bb_pool_party_give_all_back(&party) == BB_OK);
+    EXPECT(says(&pool, bucket, BB_FREE, 0));
+    EXPECT(same(of_pool_party(&party).held_buckets, 0));
+    EXPECT(same(of_pool_party(&other).held_buckets, 1));
+    for (size_t held = 0; held < 15; held++)
+        EXPECT(bb_pool_party_take(&party).code == BB_OK);
+    EXPECT(refused(bb_pool_party_take(&party), BB_OUT_OF_MEMORY));
+    EXPECT(requests == 0);
+    EXPECT(bb_pool_party_give_all_back(&party) == BB_OK);
+    EXPECT(same(of_pool_party(&party).held_buckets, 0));
+    EXPECT(bb_shared_pool_leave(&pool, &party) == BB_OK);
+    EXPECT(bb_shared_pool_leave(&pool, &other) == BB_OK);
+    EXPECT(bb_shared_pool_destroy(&pool) == BB_OK);
+    EXPECT(bb_shared_pool_destroy(&far) == BB_OK);
+}
+
+// If memory is refused, no party joins by its number, and nothing changes: the parties join in the
+// order in which those of another pool do that saw no refusal.
+static void run_join_number_refused(void) {
+    bb_shared_pool pool = BB_EMPTY;
+    bb_shared_pool twin = BB_EMPTY;
+    bb_pool_party parties[3] = {BB_EMPTY, BB_EMPTY, BB_EMPTY};
+    bb_pool_party of_twin[3] = {BB_EMPTY, BB_EMPTY, BB_EMPTY};
+    EXPECT(bb_shared_pool_init(&pool, 64, 8, 4096, 64, 3) == BB_OK);
+    EXPECT(bb_shared_pool_init(&twin, 64, 8, 8192, 64, 3) == BB_OK);
+    for (uint32_t number = 0; number < 3; number++) {
+        requests = 0;
+        to_refuse = 1;
+        uint32_t told = bb_shared_pool_join_number(&pool, number, &parties[0]);
+        to_refuse = 0;
+        EXPECT(told == BB_MALLOC_REFUSED);
+        EXPECT(requests == 1);
+        EXPECT(bb_pool_party_destroy(&parties[0]) == BB_UNINITIALIZED);
+    }
+    for (uint32_t at = 0; at < 3; at++) {
+        EXPECT(bb_shared_pool_join(&pool, &parties[at]) == BB_OK);
+        EXPECT(bb_shared_pool_join(&twin, &of_twin[at]) == BB_OK);
+        bb_figure number = bb_pool_party_number(&of_twin[at]);
+        EXPECT(number.code == BB_OK);
+        EXPECT(is(bb_pool_party_number(&parties[at]), number.number));
+    }
+    for (uint32_t at = 0; at < 3; at++) {
+        EXPECT(bb_shared_pool_leave(&pool, &parties[at]) == BB_OK);
+        EXPECT(bb_shared_pool_leave(&twin, &of_twin[at]) == BB_OK);
+    }
+    WITH_EACH_REFUSED(bb_pool_party_destroy(&parties[0]),
+                      bb_shared_pool_join_number(&pool, 1, &parties[0]));
+    EXPECT(is(bb_pool_party_number(&parties[0]), 1));
+    EXPECT(bb_shared_pool_leave(&pool, &parties[0]) == BB_OK);
+    EXPECT(bb_shared_pool_destroy(&pool) == BB_OK);
+    EXPECT(bb_shared_pool_destroy(&twin) == BB_OK);
+}
+
+// Two threads attach one bucket after another at once. In each round exactly one of them wins.
+enum {
+    RECEIVERS = 2,
+    SENDER = 2,
+    ROUNDS = 20000
+};
+
+typedef struct {
+    bb_pool_party party;
+    uint32_t wins;
+} receiver;
+
+static uint32_t bucket_sent;
+static uint32_t round_begun;
+static uint32_t rounds_ended;
+static uint32_t wins_in_round;
+
+static uint32_t load(const uint32_t *word) {
+    return __atomic_load_n(word, __ATOMIC_SEQ_CST);
+}
+
+static void store(uint32_t *word, uint32_t value) {
+    __atomic_store_n(word, value, __ATOMIC_SEQ_CST);
+}
+
+static void wait_for(const uint32_t *word, uint32_t least) {
+    while (load(word) < least)
+        sched_yield();
+}
+
+static void *receive(void *argument) {
+    receiver *self = (receiver *)argument;
+    for (uint32_t round = 1; round <= ROUNDS; round++) {
+        wait_for(&round_begun, round);
+        bb_answer got = bb_pool_party_attach_number(&self->party, load(&bucket_sent), SENDER);
+        if (got.code == BB_OK) {
+            __atomic_fetch_add(&wins_in_round, 1, __ATOMIC_SEQ_CST);
+            EXPECT(bb_pool_party_deallocate(&self->party, got.place) == BB_OK);
+            self->wins++;
+        } else {
+            EXPECT(got.code == BB_NOT_HELD);
+            EXPECT(got.place == 0);
+        }
+        __atomic_fetch_add(&rounds_ended, 1, __ATOMIC_SEQ_CST);
+    }
+    return NULL;
+}
+
+static void run_attach_at_once(void) {
+    bb_shared_pool pool = BB_EMPTY;
+    bb_pool_party sender = BB_EMPTY;
+    static receiver receivers[RECEIVERS];
+    pthread_t threads[RECEIVERS];
+    EXPECT(bb_shared_pool_init(&pool, 64, 8, 4096, 64 * 4, RECEIVERS + 1) == BB_OK);
+    EXPECT(bb_shared_pool_join_number(&pool, SENDER, &sender) == BB_OK);
+    for (uint32_t at = 0; at < RECEIVERS; at++) {
+        EXPECT(bb_shared_pool_join_number(&pool, at, &receivers[at].party) == BB_OK);
+        EXPECT(pthread_create(&threads[at], NULL, receive, &receivers[at]) == 0);
+    }
+    for (uint32_t round = 1; round <= ROUNDS; round++) {
+        bb_answer sent = bb_pool_party_take(&sender);
+        EXPECT(sent.code == BB_OK);
+        store(&bucket_sent, (uint32_t)bb_pool_party_detach_number(&sender, sent.place).number);
+        store(&wins_in_round, 0);
+        store(&round_begun, round);
+        wait_for(&rounds_ended, round * RECEIVERS);
+        EXPECT(load(&wins_in_round) == 1);
+    }
+    for (uint32_t at = 0; at < RECEIVERS; at++)
+        EXPECT(pthread_join(threads[at], NULL) == 0);
+    EXPECT(receivers[0].wins + receivers[1].wins == ROUNDS);
+    struct bb_shared_pool_info info;
+    EXPECT(bb_shared_pool_info(&pool, &info) == BB_OK);
+    EXPECT(info.pool.held_buckets == 0);
+    for (uint32_t at = 0; at < RECEIVERS; at++)
+        EXPECT(bb_shared_pool_leave(&pool, &receivers[at].party) == BB_OK);
+    EXPECT(bb_shared_pool_leave(&pool, &sender) == BB_OK);
+    EXPECT(bb_shared_pool_destroy(&pool) == BB_OK);
+}
+
+static size_t taken;
+static size_t resized;
+static size_t released;
+
+static void *take(size_t size) {
+    taken++;
+    return malloc(size);
+}
+
+static void *resize(void *at, size_t size) {
+    resized++;
+    return realloc(at, size);
+}
+
+static void release(void *at) {
+    if (at != NULL)
+        released++;
+    free(at);
+}
 
 // The library's memory comes from the functions that the host names.
 static void run_use_memory(void) {
@@ -827,9 +1421,14 @@ static void run_use_memory(void) {
     bb_pool_party party = BB_EMPTY;
     bb_use_memory(take, resize, release);
     requests = 0;
-    EXPECT(bb_shared_pool_init(&pool, 64, 8, 4096, 128, 2) == BB_OK && bb_shared_pool_join(&pool, &party) == BB_OK);
-    EXPECT(taken > 0 && taken == requests && released < taken);
-    EXPECT(bb_shared_pool_leave(&pool, &party) == BB_OK && bb_shared_pool_destroy(&pool) == BB_OK && released == taken);
+    EXPECT(bb_shared_pool_init(&pool, 64, 8, 4096, 128, 2) == BB_OK);
+    EXPECT(bb_shared_pool_join(&pool, &party) == BB_OK);
+    EXPECT(taken > 0);
+    EXPECT(taken == requests);
+    EXPECT(released < taken);
+    EXPECT(bb_shared_pool_leave(&pool, &party) == BB_OK);
+    EXPECT(bb_shared_pool_destroy(&pool) == BB_OK);
+    EXPECT(released == taken);
     bb_use_memory(malloc, realloc, free);
 }
 
@@ -838,13 +1437,17 @@ static void run_one_party(void) {
     bb_shared_pool pool = BB_EMPTY;
     bb_pool_party party = BB_EMPTY;
     bb_detached detached = BB_EMPTY;
-    EXPECT(bb_shared_pool_init(&pool, 64, 8, 4096, 64, 1) == BB_OK && bb_shared_pool_join(&pool, &party) == BB_OK);
-    EXPECT(bb_detached_init(&detached) == BB_OK && given(bb_pool_party_allocate(&party, 64, 8), 4096));
+    EXPECT(bb_shared_pool_init(&pool, 64, 8, 4096, 64, 1) == BB_OK);
+    EXPECT(bb_shared_pool_join(&pool, &party) == BB_OK);
+    EXPECT(bb_detached_init(&detached) == BB_OK);
+    EXPECT(given(bb_pool_party_allocate(&party, 64, 8), 4096));
     EXPECT(bb_pool_party_detach(&party, 4096, 64, &detached) == BB_ONE_PARTY);
     EXPECT(bb_pool_party_detach(&party, 4097, 65, &detached) == BB_ONE_PARTY);
-    EXPECT(is(bb_pool_party_holds(&party, 4096), 1) && has_none(bb_detached_len(&detached), BB_DETACHED_EMPTY));
+    EXPECT(is(bb_pool_party_holds(&party, 4096), 1));
+    EXPECT(has_none(bb_detached_len(&detached), BB_DETACHED_EMPTY));
     EXPECT(refused(bb_pool_party_attach(&party, &detached), BB_DETACHED_EMPTY));
-    EXPECT(bb_shared_pool_destroy(&pool) == BB_OK && bb_pool_party_destroy(&party) == BB_OK);
+    EXPECT(bb_shared_pool_destroy(&pool) == BB_OK);
+    EXPECT(bb_pool_party_destroy(&party) == BB_OK);
     EXPECT(bb_detached_destroy(&detached) == BB_OK);
 }
 
@@ -876,6 +1479,10 @@ int main(void) {
     run_detached();
     run_one_party();
     run_holders();
+    run_by_number();
+    run_join_number();
+    run_join_number_refused();
+    run_attach_at_once();
     run_use_memory();
     puts("calls: each is answered as it has to be");
     return 0;

@@ -1,13 +1,13 @@
 -- Heap blocks: bytes that the language's allocator gave. What the heap may answer, and when: nothing here foretells that
 -- memory is refused. Alignments decide nothing.
-use Rattle.std.specs.Prelude.{◌≡◌, ℕ, ◌-◌, ◌<◌, ◌≤◌, List, ◌++◌, take, replicate, Result, Ok, Err}
-use Rattle.bb_memory_traits.specs.declared.layout.Layout.{Layout}
 use Rattle.bb_memory_traits.specs.declared.allocator.AllocationError.{AllocationError}
-use Rattle.bb_memory_traits.specs.declared.allocator.AllocationError.TheVariants.{SizeIsZero, OutOfMemory}
+use Rattle.bb_memory_traits.specs.declared.allocator.AllocationError.TheVariants.{OutOfMemory, SizeIsZero}
 use Rattle.bb_memory_traits.specs.declared.allocator.AllocationGrowError.{AllocationGrowError}
-use Rattle.bb_memory_traits.specs.declared.allocator.AllocationShrinkError.{AllocationShrinkError}
 use Rattle.bb_memory_traits.specs.declared.allocator.AllocationGrowError.TheVariants as grow
+use Rattle.bb_memory_traits.specs.declared.allocator.AllocationShrinkError.{AllocationShrinkError}
 use Rattle.bb_memory_traits.specs.declared.allocator.AllocationShrinkError.TheVariants as shrink
+use Rattle.bb_memory_traits.specs.declared.layout.Layout.{Layout}
+use Rattle.std.specs.Prelude.{Err, List, Ok, Result, replicate, take, ℕ, ◌++◌, ◌-◌, ◌<◌, ◌≡◌, ◌≤◌}
 
 -- a new block has the asked length and is all zero
 abbrev pub MayAllocate : Layout → Result (List ℕ) AllocationError → Type 0

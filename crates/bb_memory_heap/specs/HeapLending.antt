@@ -1,7 +1,7 @@
 -- A heap block whose bytes were lent.
-use Rattle.std.specs.Prelude.{ℕ, List, ◌++◌, take, drop, length}
-use Rattle.std.specs.Borrow.{Lends, MutBor, Fml, u8, Array}
 use Rattle.bb_memory_heap.specs.contracts.heap_allocator.HeapBlock.{the_row}
+use Rattle.std.specs.Borrow.{Array, Fml, Lends, MutBor, u8}
+use Rattle.std.specs.Prelude.{List, drop, length, take, ℕ, ◌++◌}
 
 -- the bytes that were written, cut to the block's length, since a borrower writes as many bytes as it was lent
 abbrev pub written : List ℕ → List ℕ → List ℕ

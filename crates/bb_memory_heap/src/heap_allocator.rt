@@ -1,8 +1,8 @@
 //! Blocks of bytes from the language's allocator. Lengths are in bytes, and alignments decide nothing.
-ghost use Rattle.std.specs.Prelude.{◌≡◌, List, ℕ, length};
-ghost use Rattle.std.specs.Borrow.{sem};
 ghost use Rattle.bb_memory_heap.specs.Heap.{MayAllocate, MayGrow, MayShrink};
 ghost use Rattle.bb_memory_heap.specs.HeapLending.{LendsBlock, written};
+ghost use Rattle.std.specs.Borrow.{sem};
+ghost use Rattle.std.specs.Prelude.{List, length, ℕ, ◌≡◌};
 
 pub use bb_memory_traits::allocator::{
     AllocationError, AllocationGrowError, AllocationShrinkError, Allocator, BaseAllocator,

@@ -1,14 +1,12 @@
 -- A set of numbers without the one that was freed last: its bit is set, and it is free.
-use Rattle.std.proofs.Common.{◌≡◌, ◌≢◌, ℕ, ◌-◌, ◌/◌, ◌<◌, ◌≤◌, true, false, Bool, List, length, set, get_or, sym, ◌∙◌, ap}
-use Rattle.std.proofs.Common.{arith, length-set, eqb}
-use Rattle.std.proofs.lemmas.List.{set-set, set_comm, set-get_or, set_past}
-use Rattle.std.proofs.lemmas.Option.{slice_get-get_or, slice_get_within}
-use Rattle.std.specs.Prelude.{IsTrue, ◌↔◌, not, Some}
-use Rattle.bb_memory_lists.proofs.SliceGets.{slice_get-set, slice_get-set_same, slice_get-set_other}
-use Rattle.bb_memory_index_set.specs.IndexSets.{Has, Lacks, IsLastFreed, IsTally, index_words, less_last_freed, numbers_of}
-use Rattle.bb_memory_index_set.specs.IndexSets.{AreIndexWords, SetsBit}
 use Rattle.bb_memory_index_set.proofs.NumberWords.{length-numbers_of, released}
 use Rattle.bb_memory_index_set.proofs.Tallies.{tally-released}
+use Rattle.bb_memory_index_set.specs.IndexSets.{AreIndexWords, Has, IsLastFreed, IsTally, Lacks, SetsBit, index_words, less_last_freed, numbers_of}
+use Rattle.bb_memory_lists.proofs.SliceGets.{slice_get-set, slice_get-set_other, slice_get-set_same}
+use Rattle.std.proofs.Common.{Bool, List, ap, arith, eqb, false, get_or, length, length-set, set, sym, true, ℕ, ◌-◌, ◌/◌, ◌<◌, ◌∙◌, ◌≡◌, ◌≢◌, ◌≤◌}
+use Rattle.std.proofs.lemmas.List.{set-get_or, set-set, set_comm, set_past}
+use Rattle.std.proofs.lemmas.Option.{slice_get-get_or, slice_get_within}
+use Rattle.std.specs.Prelude.{IsTrue, Some, not, ◌↔◌}
 
 -- THE NUMBER THAT IS ASIDE, AND THE OTHERS
 

@@ -1,14 +1,13 @@
 -- A listing of the numbers that are open, after one is open no more, or again.
-use Rattle.std.proofs.Common.{◌≡◌, ◌≢◌, ℕ, ◌+◌, ◌-◌, ◌<◌, ◌≤◌, eqb, List, length, map, get_or, if◌then◌else◌, sym, ◌∙◌, ap}
-use Rattle.std.proofs.Common.{subst, inl, inr, arith, eq-eqb}
-use Rattle.std.specs.List.{range_with_len}
+use Rattle.bb_memory_index_set.specs.IndexSets.{IsListing}
+use Rattle.std.proofs.Common.{List, ap, arith, eq-eqb, eqb, get_or, if◌then◌else◌, inl, inr, length, map, subst, sym, ℕ, ◌+◌, ◌-◌, ◌<◌, ◌∙◌, ◌≡◌, ◌≢◌, ◌≤◌}
 use Rattle.std.proofs.lemmas.Bool.{cases_eq, eqb-true, ne_eqb}
 use Rattle.std.proofs.lemmas.List.{get_or_default}
-use Rattle.std.proofs.lemmas.List.FromFn.{length-map-range_with_len, get_or-map-range_with_len}
+use Rattle.std.proofs.lemmas.List.FromFn.{get_or-map-range_with_len, length-map-range_with_len}
 use Rattle.std.proofs.lemmas.Map.Keys.{IsDistinct-from_apart}
 use Rattle.std.proofs.lemmas.Map.Steps.{length-le_from_distinct_below}
 use Rattle.std.proofs.lemmas.Map.Views.{Contains-from_any}
-use Rattle.bb_memory_index_set.specs.IndexSets.{IsListing}
+use Rattle.std.specs.List.{range_with_len}
 
 -- numbers below n, each once, are at most n
 few : (xs : List ℕ) (n : ℕ) → ((k : ℕ) → k < length xs → get_or xs k 0 < n) →

@@ -1,11 +1,10 @@
 -- The lowest clear bit of a word, the word with that bit set, and a set of numbers with that bit's number.
-use Rattle.std.proofs.Common.{◌≡◌, ℕ, zero, suc, ◌+◌, ◌*◌, ◌/◌, ◌%◌, ◌^◌, ◌<◌, true, false, eqb, List, length, get_or, set, sym}
-use Rattle.std.proofs.Common.{◌∙◌, ap, arith, w64}
-use Rattle.std.proofs.lemmas.Nat.Bits.{bit_at-trailing_ones, bit_at-suc, bit_at_lowest, bit_at_or}
-use Rattle.std.specs.Prelude.{bit_or}
-use Rattle.std.specs.Int.{bit_at, trailing_ones}
-use Rattle.bb_memory_index_set.specs.IndexSets.{Lacks, AreIndexWords, has_bit, numbers_of, SetsBit}
 use Rattle.bb_memory_index_set.proofs.NumberWords.{AreIndexWords-set, Changes, change, lacks, numbers_of-set}
+use Rattle.bb_memory_index_set.specs.IndexSets.{AreIndexWords, Lacks, SetsBit, has_bit, numbers_of}
+use Rattle.std.proofs.Common.{List, ap, arith, eqb, false, get_or, length, set, suc, sym, true, w64, zero, ℕ, ◌%◌, ◌*◌, ◌+◌, ◌/◌, ◌<◌, ◌^◌, ◌∙◌, ◌≡◌}
+use Rattle.std.proofs.lemmas.Nat.Bits.{bit_at-suc, bit_at-trailing_ones, bit_at_lowest, bit_at_or}
+use Rattle.std.specs.Int.{bit_at, trailing_ones}
+use Rattle.std.specs.Prelude.{bit_or}
 
 -- half of a number, and of the next
 half_even : (n : ℕ) → n % 2 ≡ 0 → (n + 1) / 2 ≡ n / 2

@@ -1,13 +1,12 @@
 -- Flags of the numbers that are in a set, and the others as the first entries of an array.
-use Rattle.std.proofs.Common.{◌≡◌, ◌≢◌, ℕ, zero, suc, ◌+◌, ◌-◌, ◌≤◌, ◌<◌, Bool, true, false, List, [], ◌∷◌, length, get_or, set}
-use Rattle.std.proofs.Common.{take, replicate, refl, sym, ◌∙◌, arith, length-set, get_or-set_same, get_or-set_other}
-use Rattle.std.specs.Prelude.{Some, slice_get, IsTrue, ◌↔◌}
-use Rattle.std.proofs.lemmas.List.{length-take-le, length-replicate}
-use Rattle.std.proofs.lemmas.Option.{slice_get_within, slice_get-get_or}
-use Rattle.bb_memory_lists.proofs.SliceGets.{slice_get-replicate, slice_get-set_other, slice_get-set_same}
-use Rattle.bb_memory_index_set.specs.IndexSets.{AreFlags, Has, Lacks, IsFull}
 use Rattle.bb_memory_index_set.proofs.Listings.{filled, opened, room_left}
 use Rattle.bb_memory_index_set.proofs.NumberSets.{has_or_lacks}
+use Rattle.bb_memory_index_set.specs.IndexSets.{AreFlags, Has, IsFull, Lacks}
+use Rattle.bb_memory_lists.proofs.SliceGets.{slice_get-replicate, slice_get-set_other, slice_get-set_same}
+use Rattle.std.proofs.Common.{Bool, List, [], arith, false, get_or, get_or-set_other, get_or-set_same, length, length-set, refl, replicate, set, suc, sym, take, true, zero, ℕ, ◌+◌, ◌-◌, ◌<◌, ◌∙◌, ◌∷◌, ◌≡◌, ◌≢◌, ◌≤◌}
+use Rattle.std.proofs.lemmas.List.{length-replicate, length-take-le}
+use Rattle.std.proofs.lemmas.Option.{slice_get-get_or, slice_get_within}
+use Rattle.std.specs.Prelude.{IsTrue, Some, slice_get, ◌↔◌}
 
 -- a number below the bound has its flag among the first ones
 slice_get-take : (bound : ℕ) (held : List Bool) (n : ℕ) → n < bound → slice_get (take bound held) n ≡ slice_get held n

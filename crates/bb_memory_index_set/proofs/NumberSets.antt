@@ -1,8 +1,8 @@
 -- Sets of numbers below a bound.
-use Rattle.std.proofs.Common.{◌≡◌, ◌<◌, ℕ, zero, suc, List, [], ◌∷◌, Bool, length, sym, ◌∙◌, refl, arith, ◌⊎◌, inl, inr}
+use Rattle.bb_memory_index_set.specs.IndexSets.{Has, IsFull, Lacks}
+use Rattle.std.proofs.Common.{Bool, List, [], arith, inl, inr, length, refl, suc, sym, zero, ℕ, ◌<◌, ◌∙◌, ◌∷◌, ◌≡◌, ◌⊎◌}
 use Rattle.std.proofs.lemmas.Option.{slice_get_within}
-use Rattle.std.specs.Prelude.{false, true, Some}
-use Rattle.bb_memory_index_set.specs.IndexSets.{Has, Lacks, IsFull}
+use Rattle.std.specs.Prelude.{Some, false, true}
 
 -- a full set lacks no number
 pub full_lacks_none : (set : List Bool) (number : ℕ) → IsFull set → Lacks set number → ⊥

@@ -1,17 +1,14 @@
 -- Words of 64 bits as a set of numbers.
-use Rattle.std.proofs.lemmas.Grind.{common_steps}
-use Rattle.std.proofs.Common.{◌≡◌, ◌≢◌, ℕ, ◌-◌, ◌*◌, ◌/◌, ◌%◌, ◌^◌, ◌<◌, ◌≤◌, Bool, true, false, eqb, List, length, replicate}
-use Rattle.std.proofs.Common.{get_or, set, sym, ◌∙◌, ap, inl, inr, arith, ext_get_or, length-set, get_or-set_same}
-use Rattle.std.proofs.Common.{get_or-set_other, eq-eqb, w64}
-use Rattle.std.proofs.lemmas.List.{length-replicate, get_or-replicate}
-use Rattle.std.proofs.lemmas.List.FromFn.{length-map-range_with_len, get_or-map-range_with_len}
+use Rattle.bb_memory_index_set.specs.IndexSets.{AreIndexWords, Has, IsFull, Lacks, SetsBit, has_bit, index_words, numbers_of}
+use Rattle.std.proofs.Common.{Bool, List, ap, arith, eq-eqb, eqb, ext_get_or, false, get_or, get_or-set_other, get_or-set_same, inl, inr, length, length-set, replicate, set, sym, true, w64, ℕ, ◌%◌, ◌*◌, ◌-◌, ◌/◌, ◌<◌, ◌^◌, ◌∙◌, ◌≡◌, ◌≢◌, ◌≤◌}
 use Rattle.std.proofs.lemmas.Bool.{cases_eq, cases_lt, false≢true}
-use Rattle.std.proofs.lemmas.Nat.Bits.{bit_at_clear_same, bit_at_clear_other, bit_at-zero, bit_at_ones, bit_at_mask_inside}
-use Rattle.std.proofs.lemmas.Nat.Bits.{bit_at_mask_below, ones_shl}
+use Rattle.std.proofs.lemmas.Grind.{common_steps}
+use Rattle.std.proofs.lemmas.List.{get_or-replicate, length-replicate}
+use Rattle.std.proofs.lemmas.List.FromFn.{get_or-map-range_with_len, length-map-range_with_len}
+use Rattle.std.proofs.lemmas.Nat.Bits.{bit_at-zero, bit_at_clear_other, bit_at_clear_same, bit_at_mask_below, bit_at_mask_inside, bit_at_ones, ones_shl}
 use Rattle.std.proofs.lemmas.Option.{slice_get-get_or, slice_get_within}
-use Rattle.std.specs.Prelude.{bit_and, Some, slice_get, slice_index, IsTrue, ◌↔◌}
 use Rattle.std.specs.Int.{bit_at, bit_not}
-use Rattle.bb_memory_index_set.specs.IndexSets.{index_words, Has, Lacks, IsFull, has_bit, numbers_of, AreIndexWords, SetsBit}
+use Rattle.std.specs.Prelude.{IsTrue, Some, bit_and, slice_get, slice_index, ◌↔◌}
 
 -- a set has a flag for each number below its bound
 pub length-numbers_of : (bound : ℕ) (words : List ℕ) → length (numbers_of bound words) ≡ bound

@@ -1,16 +1,14 @@
 -- The words that aren't full, the current one and the listed ones: after a taking and after a release.
-use Rattle.std.proofs.lemmas.Grind.{common_steps}
-use Rattle.std.proofs.Common.{◌≡◌, ◌≢◌, ℕ, ◌+◌, ◌-◌, ◌^◌, ◌<◌, ◌≤◌, List, length, get_or, set, sym, ◌∙◌, ap, if◌then◌else◌, inl}
-use Rattle.std.proofs.Common.{inr, arith, eq-eqb, get_or-set_same, get_or-set_other, length-set, w64, ◌*◌, true}
+use Rattle.bb_memory_index_set.proofs.LastFreed.{given, word_count}
+use Rattle.bb_memory_index_set.proofs.Listings.{filled, opened, still}
+use Rattle.bb_memory_index_set.proofs.LowestBits.{taken}
+use Rattle.bb_memory_index_set.proofs.NumberWords.{full_words, has_word}
+use Rattle.bb_memory_index_set.specs.IndexSets.{AreIndexWords, IsFull, IsListing, IsOpen, IsWordSet, Lacks, PutsAt, index_words, numbers_of, open_word}
+use Rattle.std.proofs.Common.{List, ap, arith, eq-eqb, get_or, get_or-set_other, get_or-set_same, if◌then◌else◌, inl, inr, length, length-set, set, sym, true, w64, ℕ, ◌*◌, ◌+◌, ◌-◌, ◌<◌, ◌^◌, ◌∙◌, ◌≡◌, ◌≢◌, ◌≤◌}
 use Rattle.std.proofs.lemmas.Bool.{cases_eq, ne_eqb}
+use Rattle.std.proofs.lemmas.Grind.{common_steps}
 use Rattle.std.specs.Int.{trailing_ones}
 use Rattle.std.specs.Prelude.{bit_or}
-use Rattle.bb_memory_index_set.specs.IndexSets.{IsListing, IsOpen, IsWordSet, PutsAt, AreIndexWords, open_word, index_words}
-use Rattle.bb_memory_index_set.specs.IndexSets.{Lacks, IsFull, numbers_of}
-use Rattle.bb_memory_index_set.proofs.LowestBits.{taken}
-use Rattle.bb_memory_index_set.proofs.LastFreed.{given, word_count}
-use Rattle.bb_memory_index_set.proofs.NumberWords.{full_words, has_word}
-use Rattle.bb_memory_index_set.proofs.Listings.{filled, opened, still}
 
 -- THE WORD IN HAND ON TOP OF THE LIST
 

@@ -1,11 +1,10 @@
 -- How many members a set of numbers has, and the greatest number of them that it had.
+use Rattle.bb_memory_index_set.specs.IndexSets.{Has, IsTally, Lacks, member_count}
+use Rattle.std.proofs.Common.{Bool, List, [], ap, arith, false, get_or, length, length-set, max, min, refl, replicate, set, suc, sym, true, zero, ℕ, ◌+◌, ◌-◌, ◌<◌, ◌∷◌, ◌≡◌, ◌≤◌}
 use Rattle.std.proofs.lemmas.Grind.{common_steps}
-use Rattle.std.proofs.Common.{◌≡◌, ℕ, zero, suc, ◌+◌, ◌-◌, ◌<◌, ◌≤◌, max, min, Bool, true, false, List, [], ◌∷◌, length}
-use Rattle.std.proofs.Common.{replicate, get_or, set, refl, sym, ap, arith, length-set}
 use Rattle.std.proofs.lemmas.List.Sums.{count_by-le-length, sum_by-cons, sum_by-set}
-use Rattle.std.proofs.lemmas.Option.{slice_get_within, get_or_from_slice_get}
+use Rattle.std.proofs.lemmas.Option.{get_or_from_slice_get, slice_get_within}
 use Rattle.std.specs.Prelude.{if◌then◌else◌}
-use Rattle.bb_memory_index_set.specs.IndexSets.{Has, Lacks, IsTally, member_count}
 
 -- a flag counts for one or nothing
 abbrev weight : Bool → ℕ

@@ -1,9 +1,9 @@
 -- A set of numbers below a bound, as a flag for each number.
-use Rattle.std.specs.Prelude.{◌≡◌, ℕ, ◌<◌, Bool, true, false, List, Some, length, slice_get, slice_set, ◌+◌, ◌-◌, ◌/◌, ◌≢◌, ◌*◌}
-use Rattle.std.specs.Prelude.{◌%◌, ◌^◌, ◌≤◌, ◌==◌, if◌then◌else◌, map, take, drop, slice_index, count_by, replicate}
-use Rattle.std.specs.List.{range_with_len}
 use Rattle.std.specs.Int.{bit_at}
+use Rattle.std.specs.List.{range_with_len}
+use Rattle.std.specs.Prelude.{Bool, List, Some, count_by, drop, false, if◌then◌else◌, length, map, replicate, slice_get, slice_index, slice_set, take, true, ℕ, ◌%◌, ◌*◌, ◌+◌, ◌-◌, ◌/◌, ◌<◌, ◌==◌, ◌^◌, ◌≡◌, ◌≢◌, ◌≤◌}
 
+-- the number is in the set
 abbrev pub Has : List Bool → ℕ → Type 0
 Has set number = slice_get set number ≡ Some true
 
@@ -15,79 +15,86 @@ Lacks set number = slice_get set number ≡ Some false
 abbrev pub IsFull : List Bool → Type 0
 IsFull set = (number : ℕ) → number < length set → Has set number
 
+-- how many numbers are in the set
 abbrev pub member_count : List Bool → ℕ
 member_count set = count_by (λ held. held) set
 
--- a set of numbers, and the greatest number of members that the set had at one time so far
+-- a set of numbers, and the greatest number of members that it has had at one time so far
 pub record NumberSet : Type 0 where
   pub numbers : List Bool
   pub most : ℕ
 
+-- the set with these numbers, which has had at most `most` members so far
 abbrev pub number_set : List Bool → ℕ → NumberSet
 number_set numbers most = record { numbers = numbers; most = most }
 
--- the set of no number below a bound, as it is made
+-- the empty set below a bound, which has had no member
 abbrev pub fresh_set : ℕ → NumberSet
 fresh_set bound = number_set (replicate bound false) 0
 
--- the set has this many members, and never had more than `most`, which is at most its bound
+-- the set has this many members, and has never had more than `most`, which is at most its bound
 pub record IsTally (set : List Bool) (count most : ℕ) : Type 0 where
   pub members : count ≡ member_count set
   pub few : count ≤ most
   pub within : most ≤ length set
 
--- How many words of 64 bits keep a set of numbers.
+-- HOW MANY WORDS of 64 bits keep a set of numbers
 
 -- how many words hold a bit for each of these numbers: their count divided by 64, rounded up
 abbrev pub index_words : ℕ → ℕ
 index_words numbers = (numbers + 63) / 64
 
--- how many words of memory that takes: these, and a list with room for each but one
+-- how many words of memory a set takes: its index words, and a list with room for all of them but
+-- one
 abbrev pub words_with_list : ℕ → ℕ
 words_with_list numbers = index_words numbers + (index_words numbers - 1)
 
--- A set of numbers below a bound, as the bits of words.
+-- THE BITS OF WORDS, as a set of numbers below a bound
 
--- a number's bit is set: the bits are counted from the lowest of the first word
+-- a number's bit is set; bits are counted from the lowest one of the first word
 abbrev pub has_bit : List ℕ → ℕ → Bool
 has_bit words number = bit_at (slice_index words (number / 64)) (number % 64) == 1
 
--- the bit of this number becomes the flag, and no other bit changes
+-- the bit of this number becomes `flag`, and no other bit changes
 pub record SetsBit (words : List ℕ) (number : ℕ) (flag : Bool) (new : List ℕ) : Type 0 where
   pub len : length new ≡ length words
   pub set : has_bit new number ≡ flag
   pub others : (other : ℕ) → other ≢ number → has_bit new other ≡ has_bit words other
 
--- the set: for each number below the bound, whether its bit is set
+-- the set that the words hold: for each number below the bound, whether its bit is set
 unfoldable pub numbers_of : ℕ → List ℕ → List Bool
 numbers_of bound words = map (has_bit words) (range_with_len 0 bound)
 
+-- the set without the number that was freed last
 abbrev pub less_last_freed : List Bool → ℕ → List Bool
 less_last_freed numbers last_freed = slice_set numbers last_freed false
 
--- the number that was freed last has its bit set; where there is none, 2 ^ 64 - 1 stands for it, which is above each bound
+-- The number that was freed last still has its bit set. If there is no such number, `last_freed` is
+-- 2 ^ 64 - 1, which is above each bound.
 abbrev pub IsLastFreed : List Bool → ℕ → Type 0
 IsLastFreed numbers last_freed = last_freed ≢ 2 ^ 64 - 1 → Has numbers last_freed
 
--- there are just the words that the bound needs, and their bits from the bound on are set
+-- the words are as many as the bound needs, and their bits from the bound on are set
 pub record AreIndexWords (bound : ℕ) (words : List ℕ) : Type 0 where
   pub count : length words ≡ index_words bound
   pub past : (number : ℕ) → bound ≤ number → number < 64 * length words → has_bit words number ≡ true
 
--- words, and behind them a list of some of their numbers
+-- an array in two parts: words, and after them a list of some of their numbers
 pub record Slots : Type 0 where
   pub words : List ℕ
   pub listed : List ℕ
 
+-- the array whose first `count` slots are words, and whose other slots are the list
 abbrev pub slots_of : ℕ → List ℕ → Slots
 slots_of count slots = record { words = take count slots; listed = drop count slots }
 
--- no other word than this changes
+-- no word changes but the one at `at`
 pub record PutsAt (words : List ℕ) (at : ℕ) (new : List ℕ) : Type 0 where
   pub len : length new ≡ length words
   pub others : (other : ℕ) → other ≢ at → slice_index new other ≡ slice_index words other
 
--- word k of those that aren't full: an entry of the list, and last the current word
+-- the number of the k-th word that isn't full: an entry of the list, or the current word if it is
+-- the last one
 abbrev pub open_word : List ℕ → ℕ → ℕ → ℕ → ℕ
 open_word listed current open_count k = if k + 1 == open_count then current else slice_index listed k
 
@@ -95,7 +102,7 @@ open_word listed current open_count k = if k + 1 == open_count then current else
 abbrev pub IsOpen : List ℕ → ℕ → Type 0
 IsOpen words at = slice_index words at ≢ 2 ^ 64 - 1
 
--- the first `open_count` names are just the numbers below the bound that are open, each once
+-- the first `open_count` names are exactly the numbers below the bound that are open, each once
 pub record IsListing (bound : ℕ) (Open : ℕ → Type 0) (named : ℕ → ℕ) (open_count : ℕ) : Type 0 where
   pub fits : open_count ≤ bound
   pub below : (k : ℕ) → k < open_count → named k < bound
@@ -103,13 +110,14 @@ pub record IsListing (bound : ℕ) (Open : ℕ → Type 0) (named : ℕ → ℕ)
   pub once : (i : ℕ) (k : ℕ) → i < k → k < open_count → named i ≢ named k
   pub all : (at : ℕ) → at < bound → Open at → (k : ℕ) × (k < open_count) × (named k ≡ at)
 
--- the words hold a set, one of them is current, and those that aren't full are listed or current
+-- The words hold a set. Each word that isn't full is in the list or is the current one.
 pub record IsWordSet (bound : ℕ) (words : List ℕ) (listed : List ℕ) (current : ℕ) (open_count : ℕ) : Type 0 where
   pub are : AreIndexWords bound words
   pub room : length listed ≡ length words - 1
   pub listing : IsListing (length words) (IsOpen words) (open_word listed current open_count) open_count
 
--- A set of numbers below a bound, as flags: the first entries of an array are just the numbers that aren't in it, each once.
+-- A set of numbers below a bound, as flags. The first `left` entries of an array are exactly the
+-- numbers that aren't in it, each once.
 pub record AreFlags (room : ℕ) (bound : ℕ) (held : List Bool) (free : List ℕ) (left : ℕ) : Type 0 where
   pub len : length held ≡ room
   pub free_len : length free ≡ room

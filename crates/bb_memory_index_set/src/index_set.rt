@@ -3,9 +3,8 @@
 //! [`words::Words`] takes memory once, for a bit a number and a list of the words that have a clear bit; [`flags::Flags`] takes
 //! none, and has an array with a flag a number. Both keep a list of where a number is free, so that no taking looks further than
 //! one place.
-ghost use Rattle.std.specs.Prelude.{◌≡◌, ◌<◌, ◌↔◌, ℕ, Bool, true, false, List, ◌≤◌, length, max, min, slice_set, IsTrue, IfSome};
-ghost use Rattle.std.specs.Prelude.{IfNone};
-ghost use Rattle.bb_memory_index_set.specs.IndexSets.{Has, Lacks, IsFull, member_count};
+ghost use Rattle.bb_memory_index_set.specs.IndexSets.{Has, IsFull, Lacks, member_count};
+ghost use Rattle.std.specs.Prelude.{Bool, IfNone, IfSome, IsTrue, List, false, length, max, min, slice_set, true, ℕ, ◌<◌, ◌↔◌, ◌≡◌, ◌≤◌};
 
 pub mod flags;
 pub mod index_words;

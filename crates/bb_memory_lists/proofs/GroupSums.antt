@@ -1,11 +1,11 @@
 -- Sums of a measure over items that are of groups, each group with a number.
-use Rattle.std.proofs.lemmas.Grind.{common_steps}
-use Rattle.std.proofs.Common.{◌≡◌, ℕ, zero, suc, ◌+◌, ◌-◌, ◌≤◌, cond, List, [], ◌∷◌, length, get_or, set, refl, ap, arith}
-use mathlib.Core.Logic.{⊎_elim}
-use Rattle.std.specs.Prelude.{◌==◌, sum, sum_by}
+use Rattle.std.proofs.Common.{List, [], ap, arith, cond, get_or, length, refl, set, suc, zero, ℕ, ◌+◌, ◌-◌, ◌∷◌, ◌≡◌, ◌≤◌}
 use Rattle.std.proofs.lemmas.Bool.{cases_eq, cases_lt, eq-eqb, ne_eqb}
-use Rattle.std.proofs.lemmas.List.{get_or-set_same, get_or-set_other, get_or_past, set_past}
+use Rattle.std.proofs.lemmas.Grind.{common_steps}
+use Rattle.std.proofs.lemmas.List.{get_or-set_other, get_or-set_same, get_or_past, set_past}
 use Rattle.std.proofs.lemmas.List.Sums.{sum_by-cons, sum_by-set}
+use Rattle.std.specs.Prelude.{sum, sum_by, ◌==◌}
+use mathlib.Core.Logic.{⊎_elim}
 
 -- a list of zeros makes zero
 zeros : (sums : List ℕ) → ((number : ℕ) → 0 ≡ get_or sums number 0) → 0 ≡ sum sums

@@ -1,10 +1,9 @@
 -- Items of a list: behind others, in a part that is kept, and by a number of their own.
-use Rattle.std.proofs.Common.{◌≡◌, ℕ, zero, suc, ◌<◌, ◌≤◌, Some, Bool, true, List, [], ◌∷◌, refl, sym, ap, ◌∙◌, subst}
-use Rattle.std.proofs.Common.{arith, inl, inr}
-use Rattle.std.specs.Prelude.{All, Any, Contains, filter, if◌then◌else◌, map, slice_get}
+use Rattle.std.proofs.Common.{Bool, List, Some, [], ap, arith, inl, inr, refl, subst, suc, sym, true, zero, ℕ, ◌<◌, ◌∙◌, ◌∷◌, ◌≡◌, ◌≤◌}
 use Rattle.std.proofs.lemmas.Bool.{cases_lt, cond_both}
-use Rattle.std.proofs.lemmas.Option.{same_Some}
 use Rattle.std.proofs.lemmas.List.Elements.{All-contains}
+use Rattle.std.proofs.lemmas.Option.{same_Some}
+use Rattle.std.specs.Prelude.{All, Any, Contains, filter, if◌then◌else◌, map, slice_get}
 
 module _ {X : Type 0} where
   pub contains-first : (x y : X) (xs : List X) → x ≡ y → Contains (x ∷ xs) y

@@ -1,11 +1,10 @@
 -- A party's log, in front and behind: one more entry makes it longer by that entry, and no other log.
-use Rattle.std.proofs.Common.{arith}
-use Rattle.std.proofs.lemmas.Grind.{common_steps}
-use Rattle.std.proofs.Common.{◌≡◌, ◌≢◌, ℕ, List, [], ◌∷◌, ◌++◌, append-nil, refl, Bool, true, false, Some}
-use Rattle.std.specs.Prelude.{slice_get, slice_set, if◌then◌else◌, filter, fold}
-use Rattle.std.proofs.lemmas.Bool.{cases_eq}
-use Rattle.std.proofs.lemmas.Option.{same_Some}
 use Rattle.bb_memory_lists.proofs.SliceGets.{slice_get-same, slice_get-set_apart, slice_get-set_at}
+use Rattle.std.proofs.Common.{Bool, List, Some, [], append-nil, arith, false, refl, true, ℕ, ◌++◌, ◌∷◌, ◌≡◌, ◌≢◌}
+use Rattle.std.proofs.lemmas.Bool.{cases_eq}
+use Rattle.std.proofs.lemmas.Grind.{common_steps}
+use Rattle.std.proofs.lemmas.Option.{same_Some}
+use Rattle.std.specs.Prelude.{filter, fold, if◌then◌else◌, slice_get, slice_set}
 
 -- what folds a party's own entries, with one more in front that is the party's or not
 pub fold-own : {A B : Type 0} (f : B → A → B) (own : Bool) (now : B) (entry : A) (log : List A) →

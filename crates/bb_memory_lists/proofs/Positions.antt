@@ -1,7 +1,10 @@
--- Items by their positions in a list, also after a removal.
-use Rattle.std.proofs.Common.{◌≡◌, ◌≢◌, ℕ, zero, suc, ◌<◌, List, [], ◌∷◌, get_or, refl, ap, subst, arith, Some}
-use Rattle.std.specs.Prelude.{slice_get, remove, All, AllPairs}
-use Rattle.std.proofs.lemmas.Option.{slice_get_within, slice_get-get_or, get_or_from_slice_get}
+-- Items by their positions in a list, also after a removal; the first position of an item that passes a test.
+use Rattle.bb_memory_lists.proofs.SliceGets.{slice_get-last}
+use Rattle.std.proofs.Common.{Bool, IsSome, List, None, Some, [], ap, arith, cond, false, get_or, is_some, length, not, refl, subst, suc, true, zero, ℕ, ◌++◌, ◌+◌, ◌<◌, ◌∷◌, ◌≡◌, ◌≢◌}
+use Rattle.std.proofs.lemmas.Bool.{lt-ltb}
+use Rattle.std.proofs.lemmas.Option.{get_or_from_slice_get, slice_get-get_or, slice_get_within}
+use Rattle.std.specs.List.{position_or_len}
+use Rattle.std.specs.Prelude.{All, AllPairs, position, remove, slice_get}
 
 -- A FACT OF EACH ELEMENT, BY ITS POSITION
 
@@ -48,3 +51,28 @@ slice_get-unremoved (y ∷ ys) (suc n) zero x apart at = (zero, at)
 slice_get-unremoved (y ∷ ys) (suc n) (suc j) x apart at =
     let still = slice_get-unremoved ys n j x (λ same. apart (ap suc same)) at in
     (suc still.0, still.1)
+
+-- THE FIRST POSITION THAT PASSES A TEST
+
+one_more : (passes : Bool) (before items : ℕ) → before < items → cond (not passes) (1 + before) 0 < suc items
+one_more true before items lt = omega arith
+one_more false before items lt = omega arith
+
+module _ {X : Type 0} (test : X → Bool) where
+  position-before : (items : List X) (index : ℕ) (item : X) → slice_get items index ≡ Some item → test item ≡ true →
+      position_or_len test items < length items
+  position-before [] index item at passes = absurd (cc)
+  position-before (first ∷ items) zero item at passes =
+      let here : test first ≡ true = cc in
+      omega (arith, ap (λ b. cond (not b) (1 + position_or_len test items) 0) here)
+  position-before (first ∷ items) (suc index) item at passes =
+      one_more (test first) (position_or_len test items) (length items) (position-before items index item at passes)
+
+  pub position-there : (items : List X) (index : ℕ) (item : X) → slice_get items index ≡ Some item → test item ≡ true →
+      IsSome (position test items)
+  position-there items index item at passes =
+      ap (λ b. is_some (cond b (Some (position_or_len test items)) None))
+      (lt-ltb (position_or_len test items) (length items) (position-before items index item at passes))
+
+  pub position-last : (items : List X) (item : X) → test item ≡ true → IsSome (position test (items ++ item ∷ []))
+  position-last items item passes = position-there (items ++ item ∷ []) (length items) item (slice_get-last items item) passes

@@ -1,7 +1,6 @@
 //! Laws of lists, for a user whose contracts speak of what a vector has. Each is a function that does nothing: called in a
 //! body, it puts its clauses in reach there.
-ghost use Rattle.std.specs.Prelude.{◌≡◌, ◌==◌, if◌then◌else◌, ◌<◌, ◌≤◌, ◌+◌, ◌∷◌, ◌++◌, ℕ, [], List, Some, length, map, remove};
-ghost use Rattle.std.specs.Prelude.{slice_get, slice_index_or, sum, sum_by};
+ghost use Rattle.std.specs.Prelude.{Bool, IsSome, List, Some, [], if◌then◌else◌, length, map, position, remove, slice_get, slice_index_or, slice_set, sum, sum_by, true, ℕ, ◌++◌, ◌+◌, ◌-◌, ◌<◌, ◌==◌, ◌∷◌, ◌≡◌, ◌≤◌};
 
 /// One more item behind the others.
 pub fn append_law<T>()
@@ -22,6 +21,8 @@ pub fn remove_law<T>()
     ensures behind { (items : List T) (position other : ℕ)
         → position ≤ other → position < length items
         → slice_get (remove items position) other ≡ slice_get items (other + 1) }
+    ensures length { (items : List T) (position : ℕ) → position < length items
+        → length (remove items position) + 1 ≡ length items }
     ensures found { (items : List T) (position : ℕ) (item : T)
         → slice_get items position ≡ Some item
         → length (remove items position) + 1 ≡ length items }
@@ -35,6 +36,15 @@ pub fn sum_law<T>()
     ensures removed { (measure : T → ℕ) (items : List T) (position : ℕ) (item : T)
         → slice_get items position ≡ Some item
         → sum_by measure (remove items position) + measure item ≡ sum_by measure items }
+    ensures rest { (measure : T → ℕ) (items : List T) (position : ℕ) (item : T)
+        → slice_get items position ≡ Some item
+        → sum_by measure (remove items position) ≡ sum_by measure items - measure item }
+    ensures set { (measure : T → ℕ) (items : List T) (position : ℕ) (old item : T)
+        → slice_get items position ≡ Some old
+        → (sum_by measure (slice_set items position item) + measure old
+        ≡ sum_by measure items + measure item) }
+    ensures within { (measure : T → ℕ) (items : List T) (position : ℕ) (item : T)
+        → slice_get items position ≡ Some item → measure item ≤ sum_by measure items }
 {}
 
 /// A list of what each item is mapped to, as a part of it.
@@ -44,21 +54,24 @@ pub fn map_law<T, U>()
         → map of (items ++ item ∷ []) ≡ map of items ++ of item ∷ [] }
     ensures removed { (of : T → U) (items : List T) (position : ℕ)
         → map of (remove items position) ≡ remove (map of items) position }
+    ensures set { (of : T → U) (items : List T) (position : ℕ) (item : T)
+        → map of (slice_set items position item) ≡ slice_set (map of items) position (of item) }
     ensures there { (of : T → U) (items : List T) (position : ℕ) (item : T)
         → slice_get items position ≡ Some item
         → slice_get (map of items) position ≡ Some (of item) }
+    ensures length { (of : T → U) (items : List T) → length (map of items) ≡ length items }
 {}
 
-/// Items of which each is of a group, which has a number, and has so much of what is added up: a type says it for `group_law`.
+/// Items that belong to numbered groups, with a measure to be summed. `group_law` is about such items.
 pub trait Grouped {
     /// The number of the item's group.
     ghost group: { Self → ℕ };
 
-    /// How much the item has.
+    /// The item's measure.
     ghost measure: { Self → ℕ };
 }
 
-/// Says that all items have what the groups have together, which is within the bounds of the groups together.
+/// Says that the measures of all items sum up to the sums of the groups together, and to no more than their bounds together.
 pub fn group_law<T: Grouped>()
     ensures together { (items : List T) (sums : List ℕ)
         → ((number : ℕ) → (sum_by (λ item. if T.group item == number then T.measure item else 0) items
@@ -66,4 +79,14 @@ pub fn group_law<T: Grouped>()
     ensures within { (items : List T) (bounds : List ℕ)
         → ((number : ℕ) → sum_by (λ item. if T.group item == number then T.measure item else 0) items
         ≤ slice_index_or bounds number 0) → sum_by T.measure items ≤ sum bounds }
+{}
+
+/// The first position of an item that passes a test.
+pub fn position_law<T>()
+    ensures there { (test : T → Bool) (items : List T) (index : ℕ) (item : T)
+        → slice_get items index ≡ Some item → test item ≡ true → IsSome (position test items) }
+    ensures last { (test : T → Bool) (items : List T) (item : T) → test item ≡ true
+        → IsSome (position test (items ++ item ∷ [])) }
+    ensures others { (test : T → Bool) (items : List T) (item : T) → IsSome (position test items)
+        → position test (items ++ item ∷ []) ≡ position test items }
 {}

@@ -1,11 +1,11 @@
 -- A pool that a maker has made: no bucket is held, and no word was read.
-use Rattle.std.proofs.Common.{◌≡◌, ℕ, Bool, false, ◌≤◌, List, length, replicate, ap, ◌∙◌, arith}
-use Rattle.std.proofs.lemmas.List.{length-replicate}
-use Rattle.bb_memory_traits.specs.Chunk.{IsRegion}
-use Rattle.bb_memory_traits.specs.PoolObject.{PoolGeometry, IsPoolGeometry}
-use Rattle.bb_memory_owned.specs.Pool.{IsPool, counted, held_count, pool_of, fresh_pool}
-use Rattle.bb_memory_index_set.specs.IndexSets.{member_count}
 use Rattle.bb_memory_index_set.proofs.Tallies.{member_count-fresh}
+use Rattle.bb_memory_index_set.specs.IndexSets.{member_count}
+use Rattle.bb_memory_owned.specs.Pool.{IsPool, counted, fresh_pool, held_count, pool_of}
+use Rattle.bb_memory_traits.specs.Chunk.{IsRegion}
+use Rattle.bb_memory_traits.specs.PoolObject.{IsPoolGeometry, PoolGeometry}
+use Rattle.std.proofs.Common.{Bool, List, ap, arith, false, length, replicate, ℕ, ◌∙◌, ◌≡◌, ◌≤◌}
+use Rattle.std.proofs.lemmas.List.{length-replicate}
 
 -- a set of as many numbers as there are buckets, with none in it
 module _ (geometry : PoolGeometry) (held : List Bool) (count : ℕ) (none : held ≡ replicate count false)

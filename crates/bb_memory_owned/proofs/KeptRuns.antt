@@ -1,13 +1,13 @@
 -- Lists that each step of an object keeps, and so each run.
-use Rattle.std.proofs.Common.{◌≡◌, ℕ, ◌<◌, List, [], ◌∷◌, ◌++◌, Ok, length, slice_set, sym, subst}
-use Rattle.bb_memory_traits.specs.Chunk.{Chunk}
 use Rattle.bb_memory_owned.specs.OneChunk.{Layout}
-use Rattle.bb_memory_traits.specs.Object.{ResizableObject, Step, ResizableStep, IsRun, MayBeGrown, MayBeShrunk, released}
-use Rattle.bb_memory_traits.specs.declared.allocator.Command.{Command}
-use Rattle.bb_memory_traits.specs.declared.allocator.Reply.{Reply}
-use Rattle.bb_memory_traits.specs.declared.allocator.Command.TheVariants.{Allocate, Release, Grow, Shrink}
 use Rattle.bb_memory_traits.proofs.Runs.{IsRun-keeps}
+use Rattle.bb_memory_traits.specs.Chunk.{Chunk}
+use Rattle.bb_memory_traits.specs.Object.{IsRun, MayBeGrown, MayBeShrunk, ResizableObject, ResizableStep, Step, released}
+use Rattle.bb_memory_traits.specs.declared.allocator.Command.{Command}
+use Rattle.bb_memory_traits.specs.declared.allocator.Command.TheVariants.{Allocate, Grow, Release, Shrink}
+use Rattle.bb_memory_traits.specs.declared.allocator.Reply.{Reply}
 use Rattle.bb_memory_traits.specs.declared.allocator.Reply.TheVariants as reply
+use Rattle.std.proofs.Common.{List, Ok, [], length, slice_set, subst, sym, ℕ, ◌++◌, ◌<◌, ◌∷◌, ◌≡◌}
 
 -- the property goes on where a chunk is given, is given back, or is resized
 pub record IsKept (object : ResizableObject) (P : List Chunk → Type 0) : Type 0 where

@@ -1,20 +1,19 @@
 -- Answers of the one-chunk object, and the live lists of at most one chunk that it goes on to.
-use Rattle.std.proofs.lemmas.Grind.{common_steps}
-use Rattle.std.proofs.Common.{◌≡◌, ℕ, ◌+◌, ◌<◌, ◌≤◌, ◌%◌, List, [], ◌∷◌, ◌++◌, Option, Some, None, Result, Ok, Err, length}
-use Rattle.std.proofs.Common.{slice_get, slice_set, remove, refl, sym, ◌∙◌, ap, subst, inl, inr, arith}
-use Rattle.std.specs.Option.{ForSome}
-use Rattle.std.proofs.lemmas.Bool.{cases_lt}
-use Rattle.bb_memory_traits.specs.Chunk.{Region, region_end, Chunk, chunk_end, IsInside, first_place}
-use Rattle.bb_memory_owned.specs.OneChunk.{Layout, AllocationError, OneChunk, HasByteAt, IsOneChunk, IsKept, StandsFor}
-use Rattle.bb_memory_traits.proofs.OneChunkLists.{only_chunk}
-use Rattle.bb_memory_traits.specs.declared.allocator.AllocationError.TheVariants.{OutOfMemory}
-use Rattle.bb_memory_traits.specs.Object.{IsRun, Step, ResizableStep}
-use Rattle.bb_memory_traits.specs.declared.allocator.Command.{Command}
-use Rattle.bb_memory_traits.specs.declared.allocator.Reply.{Reply}
+use Rattle.bb_memory_owned.proofs.KeptRuns as kept_runs
+use Rattle.bb_memory_owned.specs.OneChunk.{AllocationError, HasByteAt, IsKept, IsOneChunk, Layout, OneChunk, StandsFor}
 use Rattle.bb_memory_traits.proofs.LeastPlaces.{least_place-is, least_place-multiple}
 use Rattle.bb_memory_traits.proofs.LiveLists.{sound_from_order}
-use Rattle.bb_memory_traits.specs.OneChunkObject.{rest_from, MayAllocate, one_chunk_object}
-use Rattle.bb_memory_owned.proofs.KeptRuns as kept_runs
+use Rattle.bb_memory_traits.proofs.OneChunkLists.{only_chunk}
+use Rattle.bb_memory_traits.specs.Chunk.{Chunk, IsInside, Region, chunk_end, first_place, region_end}
+use Rattle.bb_memory_traits.specs.Object.{IsRun, ResizableStep, Step}
+use Rattle.bb_memory_traits.specs.OneChunkObject.{MayAllocate, one_chunk_object, rest_from}
+use Rattle.bb_memory_traits.specs.declared.allocator.AllocationError.TheVariants.{OutOfMemory}
+use Rattle.bb_memory_traits.specs.declared.allocator.Command.{Command}
+use Rattle.bb_memory_traits.specs.declared.allocator.Reply.{Reply}
+use Rattle.std.proofs.Common.{Err, List, None, Ok, Option, Result, Some, [], ap, arith, inl, inr, length, refl, remove, slice_get, slice_set, subst, sym, ℕ, ◌%◌, ◌++◌, ◌+◌, ◌<◌, ◌∙◌, ◌∷◌, ◌≡◌, ◌≤◌}
+use Rattle.std.proofs.lemmas.Bool.{cases_lt}
+use Rattle.std.proofs.lemmas.Grind.{common_steps}
+use Rattle.std.specs.Option.{ForSome}
 
 abbrev one_of : Region → Option ℕ → OneChunk
 one_of region kept = record { region = region; kept = kept }

@@ -1,17 +1,16 @@
 -- Answers of the pool object.
-use Rattle.std.proofs.Common.{◌≡◌, ◌≢◌, ℕ, zero, suc, ◌<◌, ◌%◌, List, Result, Ok, Err, refl, ◌∙◌, ap, subst, ◌⊎◌, inl, inr}
-use Rattle.std.proofs.Common.{arith}
-use Rattle.std.specs.Prelude.{All}
-use Rattle.std.proofs.lemmas.Bool.{cases_lt}
-use Rattle.bb_memory_traits.specs.Chunk.{Chunk, IsInside}
-use Rattle.bb_memory_traits.specs.PoolObject.{PoolGeometry, bucket_place, IsPoolGeometry, IsHeld, IsWithin, MayAllocate, chunk_in}
-use Rattle.bb_memory_traits.specs.declared.layout.Layout.{Layout}
-use Rattle.bb_memory_traits.specs.declared.allocator.AllocationError.{AllocationError}
-use Rattle.bb_memory_traits.specs.declared.allocator.AllocationError.TheVariants.{SizeTooLarge, AlignmentFailure, OutOfMemory}
-use Rattle.bb_memory_traits.proofs.PoolGeometries.{bucket_place-aligned}
-use Rattle.bb_memory_traits.proofs.PoolLists.{count_at, at_from_count, count_from_at, inside_from_bucket}
-use Rattle.bb_memory_traits.proofs.Measures.{bucket_place-multiple}
 use Rattle.bb_memory_lists.proofs.Positions.{All-from_positions}
+use Rattle.bb_memory_traits.proofs.Measures.{bucket_place-multiple}
+use Rattle.bb_memory_traits.proofs.PoolGeometries.{bucket_place-aligned}
+use Rattle.bb_memory_traits.proofs.PoolLists.{at_from_count, count_at, count_from_at, inside_from_bucket}
+use Rattle.bb_memory_traits.specs.Chunk.{Chunk, IsInside}
+use Rattle.bb_memory_traits.specs.PoolObject.{IsHeld, IsPoolGeometry, IsWithin, MayAllocate, PoolGeometry, bucket_place, chunk_in}
+use Rattle.bb_memory_traits.specs.declared.allocator.AllocationError.{AllocationError}
+use Rattle.bb_memory_traits.specs.declared.allocator.AllocationError.TheVariants.{AlignmentFailure, OutOfMemory, SizeTooLarge}
+use Rattle.bb_memory_traits.specs.declared.layout.Layout.{Layout}
+use Rattle.std.proofs.Common.{Err, List, Ok, Result, ap, arith, inl, inr, refl, subst, suc, zero, ℕ, ◌%◌, ◌<◌, ◌∙◌, ◌≡◌, ◌≢◌, ◌⊎◌}
+use Rattle.std.proofs.lemmas.Bool.{cases_lt}
+use Rattle.std.specs.Prelude.{All}
 
 -- REQUESTS
 

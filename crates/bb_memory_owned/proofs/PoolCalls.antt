@@ -1,26 +1,22 @@
 -- Each live list that a pool stands for, after its requests and releases.
-use Rattle.std.proofs.Common.{◌≡◌, ◌≢◌, ℕ, ◌-◌, ◌/◌, ◌%◌, ◌<◌, ◌≤◌, Bool, true, false, List, [], ◌∷◌, ◌++◌, Result, Ok, Err, refl}
-use Rattle.std.proofs.Common.{sym, ap, subst, ◌∙◌, arith, Some, inl, inr, cond, leb, max, min, ◌&&◌}
-use Rattle.std.proofs.lemmas.Bool.{le-leb, cases_lt}
-use Rattle.std.specs.Prelude.{slice_get, slice_set, remove, IfOk}
-use Rattle.bb_memory_traits.specs.Chunk.{Chunk, IsInside, first_place}
-use Rattle.bb_memory_traits.specs.PoolObject.{bucket_place, stride, IsWithin, chunk_in, MayAllocate, MayGrow, MayShrink}
-use Rattle.bb_memory_traits.specs.declared.layout.Layout.{Layout}
-use Rattle.bb_memory_traits.specs.declared.allocator.AllocationError.{AllocationError}
-use Rattle.bb_memory_traits.specs.declared.allocator.AllocationError.TheVariants.{SizeIsZero, SizeTooLarge, AlignmentFailure}
-use Rattle.bb_memory_traits.specs.declared.allocator.AllocationError.TheVariants.{OutOfMemory}
-use Rattle.bb_memory_traits.specs.declared.allocator.AllocationGrowError.{AllocationGrowError}
-use Rattle.bb_memory_traits.specs.declared.allocator.AllocationShrinkError.{AllocationShrinkError}
-use Rattle.bb_memory_traits.proofs.PoolGeometries.{bucket_place-aligned, bucket_place-after}
-use Rattle.bb_memory_lists.proofs.SliceGets.{slice_get-set_other, slice_get-set_same}
+use Rattle.bb_memory_index_set.proofs.Tallies.{member_count-released, member_count-taken}
 use Rattle.bb_memory_index_set.specs.IndexSets.{Has, Lacks}
-use Rattle.bb_memory_owned.specs.Pool.{Pool, IsPool, StandsFor, filled-at, HoldsPlace, Takes, with_flag, CountedPool, TakesBucket}
-use Rattle.bb_memory_owned.specs.Pool.{FreesBucket, counted, held_count, reads_of, bucket_held_at, held_at_bucket}
+use Rattle.bb_memory_lists.proofs.SliceGets.{slice_get-set_other, slice_get-set_same}
+use Rattle.bb_memory_owned.proofs.Pools.{Has-set_true, IsPool-with_flag, bucket-below, held-inside, lacked-free, one_bucket, stands-freed, stands-given, stands-resized}
+use Rattle.bb_memory_owned.specs.Pool.{CountedPool, FreesBucket, HoldsPlace, IsPool, Pool, StandsFor, Takes, TakesBucket, bucket_held_at, counted, filled-at, held_at_bucket, held_count, reads_of, with_flag}
 use Rattle.bb_memory_traits.proofs.Cuts.{number-counted}
 use Rattle.bb_memory_traits.proofs.Measures.{bucket_place-multiple}
-use Rattle.bb_memory_owned.proofs.Pools.{Has-set_true, IsPool-with_flag, bucket-below, held-inside, lacked-free}
-use Rattle.bb_memory_owned.proofs.Pools.{one_bucket, stands-given, stands-freed, stands-resized}
-use Rattle.bb_memory_index_set.proofs.Tallies.{member_count-taken, member_count-released}
+use Rattle.bb_memory_traits.proofs.PoolGeometries.{bucket_place-after, bucket_place-aligned}
+use Rattle.bb_memory_traits.specs.Chunk.{Chunk, IsInside, first_place}
+use Rattle.bb_memory_traits.specs.PoolObject.{IsWithin, MayAllocate, MayGrow, MayShrink, bucket_place, chunk_in, stride}
+use Rattle.bb_memory_traits.specs.declared.allocator.AllocationError.{AllocationError}
+use Rattle.bb_memory_traits.specs.declared.allocator.AllocationError.TheVariants.{AlignmentFailure, OutOfMemory, SizeIsZero, SizeTooLarge}
+use Rattle.bb_memory_traits.specs.declared.allocator.AllocationGrowError.{AllocationGrowError}
+use Rattle.bb_memory_traits.specs.declared.allocator.AllocationShrinkError.{AllocationShrinkError}
+use Rattle.bb_memory_traits.specs.declared.layout.Layout.{Layout}
+use Rattle.std.proofs.Common.{Bool, Err, List, Ok, Result, Some, [], ap, arith, cond, false, inl, inr, leb, max, min, refl, subst, sym, true, ℕ, ◌%◌, ◌&&◌, ◌++◌, ◌-◌, ◌/◌, ◌<◌, ◌∙◌, ◌∷◌, ◌≡◌, ◌≢◌, ◌≤◌}
+use Rattle.std.proofs.lemmas.Bool.{cases_lt, le-leb}
+use Rattle.std.specs.Prelude.{IfOk, remove, slice_get, slice_set}
 
 -- REQUESTS
 

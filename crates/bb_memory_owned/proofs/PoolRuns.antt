@@ -1,27 +1,25 @@
 -- The live lists that a pool stands for: where their chunks are, and what releases and runs of the pool object lead to.
-use Rattle.std.proofs.Common.{◌≡◌, ◌≢◌, ℕ, ◌%◌, ◌<◌, ◌≤◌, Bool, true, false, List, Result, Ok, Err}
-use Rattle.std.proofs.Common.{Some, length, get_or, refl, sym, ◌∙◌, ap, inl, inr, arith}
-use Rattle.std.specs.Prelude.{slice_get, slice_set, remove, All, AllPairs, IsOk}
-use Rattle.std.proofs.lemmas.Bool.{cases_lt}
-use Rattle.std.proofs.lemmas.Option.{slice_get-get_or}
+use Rattle.bb_memory_index_set.proofs.NumberSets.{has_or_lacks}
+use Rattle.bb_memory_index_set.specs.IndexSets.{Lacks}
+use Rattle.bb_memory_lists.proofs.Positions.{All-from_positions, AllPairs-at, AllPairs-from_positions}
+use Rattle.bb_memory_lists.proofs.SliceGets.{slice_get-set_same}
+use Rattle.bb_memory_owned.proofs.KeptRuns.{IsKept, base_run_keeps, run_keeps}
+use Rattle.bb_memory_owned.proofs.Pools.{IsPool-with_flag, bucket-below, lacked-free, stands-freed, stands-given, stands-resized}
+use Rattle.bb_memory_owned.specs.Pool.{IsPool, Pool, StandsFor, filled-at, pool_of, with_flag}
+use Rattle.bb_memory_traits.proofs.PoolGeometries.{bucket_place-after, bucket_place-aligned}
 use Rattle.bb_memory_traits.specs.Chunk.{Chunk}
-use Rattle.bb_memory_traits.specs.Object.{IsRun, Step, ResizableStep}
-use Rattle.bb_memory_traits.specs.PoolObject.{PoolGeometry, bucket_place, IsWithin, MayAllocate, pool_object}
-use Rattle.bb_memory_traits.specs.declared.layout.Layout.{Layout}
+use Rattle.bb_memory_traits.specs.Geometry.{AreAStrideApart}
+use Rattle.bb_memory_traits.specs.Object.{IsRun, ResizableStep, Step}
+use Rattle.bb_memory_traits.specs.PoolObject.{IsWithin, MayAllocate, PoolGeometry, bucket_place, pool_object}
 use Rattle.bb_memory_traits.specs.declared.allocator.AllocationError.{AllocationError}
-use Rattle.bb_memory_traits.specs.declared.allocator.AllocationError.TheVariants.{SizeIsZero, SizeTooLarge, AlignmentFailure}
-use Rattle.bb_memory_traits.specs.declared.allocator.AllocationError.TheVariants.{OutOfMemory}
+use Rattle.bb_memory_traits.specs.declared.allocator.AllocationError.TheVariants.{AlignmentFailure, OutOfMemory, SizeIsZero, SizeTooLarge}
 use Rattle.bb_memory_traits.specs.declared.allocator.Command.{Command}
 use Rattle.bb_memory_traits.specs.declared.allocator.Reply.{Reply}
-use Rattle.bb_memory_traits.proofs.PoolGeometries.{bucket_place-aligned, bucket_place-after}
-use Rattle.bb_memory_index_set.proofs.NumberSets.{has_or_lacks}
-use Rattle.bb_memory_owned.proofs.KeptRuns.{IsKept, run_keeps, base_run_keeps}
-use Rattle.bb_memory_lists.proofs.SliceGets.{slice_get-set_same}
-use Rattle.bb_memory_index_set.specs.IndexSets.{Lacks}
-use Rattle.bb_memory_owned.specs.Pool.{Pool, IsPool, StandsFor, filled-at, pool_of, with_flag}
-use Rattle.bb_memory_traits.specs.Geometry.{AreAStrideApart}
-use Rattle.bb_memory_owned.proofs.Pools.{IsPool-with_flag, bucket-below, lacked-free, stands-given, stands-freed, stands-resized}
-use Rattle.bb_memory_lists.proofs.Positions.{All-from_positions, AllPairs-at, AllPairs-from_positions}
+use Rattle.bb_memory_traits.specs.declared.layout.Layout.{Layout}
+use Rattle.std.proofs.Common.{Bool, Err, List, Ok, Result, Some, ap, arith, false, get_or, inl, inr, length, refl, sym, true, ℕ, ◌%◌, ◌<◌, ◌∙◌, ◌≡◌, ◌≢◌, ◌≤◌}
+use Rattle.std.proofs.lemmas.Bool.{cases_lt}
+use Rattle.std.proofs.lemmas.Option.{slice_get-get_or}
+use Rattle.std.specs.Prelude.{All, AllPairs, IsOk, remove, slice_get, slice_set}
 
 -- PLACES
 

@@ -1,26 +1,22 @@
 -- The live lists that a pool stands for: of no chunk, of one more, of one less, and with one resized.
-use Rattle.std.proofs.Common.{◌≡◌, ◌≢◌, ℕ, zero, suc, ◌<◌, ◌≤◌, Bool, true, false, List, [], ◌∷◌, ◌++◌, length, refl, sym, ap}
-use Rattle.std.proofs.Common.{subst, ◌∙◌, arith, Some, inl, inr}
-use Rattle.std.specs.Prelude.{slice_get, slice_set, remove, All}
-use Rattle.std.proofs.lemmas.Bool.{cases_eq, cases_lt}
-use Rattle.std.proofs.lemmas.Option.{slice_get_within, slice_get-get_or, same_Some}
-use Rattle.std.proofs.lemmas.List.Elements.{All-push}
-use Rattle.std.proofs.lemmas.List.Quantifiers.{all_pairs_push, all_pairs_remove}
-use Rattle.bb_memory_traits.specs.Chunk.{Chunk, IsInside}
-use Rattle.bb_memory_traits.specs.Object.{PlacesDiffer}
-use Rattle.bb_memory_traits.specs.PoolObject.{PoolGeometry, bucket_place, IsPoolGeometry, IsAt, IsHeld, IsWithin, chunk_in}
-use Rattle.bb_memory_traits.specs.declared.layout.Layout.{Layout}
-use Rattle.bb_memory_traits.proofs.PoolGeometries.{bucket_place-apart}
-use Rattle.bb_memory_traits.proofs.PoolLists.{IsInBucket, AreInBuckets-from_places, inside_from_bucket, sound_from_buckets}
-use Rattle.bb_memory_lists.proofs.SliceGets.{slice_get-set, slice_get-set_other, slice_get-set_same, slice_get-replicated}
-use Rattle.bb_memory_lists.proofs.SliceGets.{length-set_at, slice_get-last, slice_get-push}
-use Rattle.bb_memory_index_set.specs.IndexSets.{Has, Lacks}
 use Rattle.bb_memory_index_set.proofs.LastFreed.{given}
 use Rattle.bb_memory_index_set.proofs.Tallies.{member_count-released, some_member}
-use Rattle.bb_memory_owned.specs.Pool.{Pool, IsPool, Fills, StandsFor, filled-at, HoldsPlace, fresh_pool, with_flag}
-use Rattle.bb_memory_owned.specs.Pool.{bucket_held_at, held_count, pool_of}
-use Rattle.bb_memory_lists.proofs.Positions.{All-from_positions, AllPairs-at, AllPairs-from_positions, slice_get-removed}
-use Rattle.bb_memory_lists.proofs.Positions.{slice_get-unremoved}
+use Rattle.bb_memory_index_set.specs.IndexSets.{Has, Lacks}
+use Rattle.bb_memory_lists.proofs.Positions.{All-from_positions, AllPairs-at, AllPairs-from_positions, slice_get-removed, slice_get-unremoved}
+use Rattle.bb_memory_lists.proofs.SliceGets.{length-set_at, slice_get-last, slice_get-push, slice_get-replicated, slice_get-set, slice_get-set_other, slice_get-set_same}
+use Rattle.bb_memory_owned.specs.Pool.{Fills, HoldsPlace, IsPool, Pool, StandsFor, bucket_held_at, filled-at, fresh_pool, held_count, pool_of, with_flag}
+use Rattle.bb_memory_traits.proofs.PoolGeometries.{bucket_place-apart}
+use Rattle.bb_memory_traits.proofs.PoolLists.{AreInBuckets-from_places, IsInBucket, inside_from_bucket, sound_from_buckets}
+use Rattle.bb_memory_traits.specs.Chunk.{Chunk, IsInside}
+use Rattle.bb_memory_traits.specs.Object.{PlacesDiffer}
+use Rattle.bb_memory_traits.specs.PoolObject.{IsAt, IsHeld, IsPoolGeometry, IsWithin, PoolGeometry, bucket_place, chunk_in}
+use Rattle.bb_memory_traits.specs.declared.layout.Layout.{Layout}
+use Rattle.std.proofs.Common.{Bool, List, Some, [], ap, arith, false, inl, inr, length, refl, subst, suc, sym, true, zero, ℕ, ◌++◌, ◌<◌, ◌∙◌, ◌∷◌, ◌≡◌, ◌≢◌, ◌≤◌}
+use Rattle.std.proofs.lemmas.Bool.{cases_eq, cases_lt}
+use Rattle.std.proofs.lemmas.List.Elements.{All-push}
+use Rattle.std.proofs.lemmas.List.Quantifiers.{all_pairs_push, all_pairs_remove}
+use Rattle.std.proofs.lemmas.Option.{same_Some, slice_get-get_or, slice_get_within}
+use Rattle.std.specs.Prelude.{All, remove, slice_get, slice_set}
 
 -- BUCKETS
 

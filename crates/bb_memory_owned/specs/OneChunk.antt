@@ -1,24 +1,24 @@
 -- A one-chunk allocator, as its contracts see it.
-use Rattle.std.specs.Prelude.{◌≡◌, ◌↔◌, ◌⊎◌, Some, None, IsSome, Result, Err, IsOk, IfOk, OnErr}
-use Rattle.bb_memory_traits.specs.Chunk.{region_end, Chunk, chunk_end, first_place}
-pub use Rattle.bb_memory_traits.specs.declared.layout.Layout.{Layout}
+use Rattle.bb_memory_traits.specs.Chunk.{Chunk, chunk_end, first_place, region_end}
+pub use Rattle.bb_memory_traits.specs.OneChunkObject.{HasByteAt, IsKept, IsOneChunk, OneChunk, StandsFor, one_chunk_of}
+use Rattle.bb_memory_traits.specs.OneChunkObject.{HasRoom, LacksRoom}
 pub use Rattle.bb_memory_traits.specs.declared.allocator.AllocationError.{AllocationError}
+use Rattle.bb_memory_traits.specs.declared.allocator.AllocationError.TheVariants.{OutOfMemory}
 pub use Rattle.bb_memory_traits.specs.declared.allocator.AllocationGrowError.{AllocationGrowError}
 pub use Rattle.bb_memory_traits.specs.declared.allocator.AllocationShrinkError.{AllocationShrinkError}
-use Rattle.bb_memory_traits.specs.declared.allocator.AllocationError.TheVariants.{OutOfMemory}
-use Rattle.bb_memory_traits.specs.OneChunkObject.{HasRoom, LacksRoom}
-pub use Rattle.bb_memory_traits.specs.OneChunkObject.{HasByteAt, IsKept, IsOneChunk, OneChunk, StandsFor, one_chunk_of}
+pub use Rattle.bb_memory_traits.specs.declared.layout.Layout.{Layout}
+use Rattle.std.specs.Prelude.{Err, IfOk, IsOk, IsSome, None, OnErr, Result, Some, ◌↔◌, ◌≡◌, ◌⊎◌}
 
--- A request by the value alone: its answer, and the allocator after it.
+-- A request, by the allocator's value: its answer, and the allocator after it.
 pub record Takes (old : OneChunk) (layout : Layout) (answer : Result Chunk AllocationError) (new : OneChunk) : Type 0 where
   -- each outcome, both ways
   pub accepted : IsOk answer ↔ ((old.kept ≡ None) × HasRoom old.region layout)
   pub refused : (answer ≡ Err OutOfMemory) ↔ (IsSome old.kept ⊎ LacksRoom old.region layout)
-  -- the chunk begins at the layout's place, which is then kept, and ends where the region does
+  -- the chunk begins at the layout's first place, which is then kept, and ends where the region does
   pub begins : IfOk answer (λ chunk. chunk.place ≡ first_place old.region layout)
   pub ends : IfOk answer (λ chunk. chunk_end chunk ≡ region_end old.region)
   pub keeps_place : IfOk answer (λ chunk. new.kept ≡ Some chunk.place)
-  -- a refusal leaves everything
+  -- a refusal changes nothing
   pub unchanged : OnErr answer (new ≡ old)
 
 -- the allocator after a release: no place is kept

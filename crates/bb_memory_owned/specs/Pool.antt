@@ -1,40 +1,38 @@
 -- A pool, as its contracts see it.
-use Rattle.std.specs.Prelude.{◌≡◌, ◌≢◌, ℕ, ◌+◌, ◌%◌, ◌≤◌, ◌<◌, ◌↔◌, Bool, true, false, ◌&&◌, if◌then◌else◌}
-use Rattle.std.specs.Prelude.{get_or, nat_eq, nat_le, List, All, length, max, min, replicate, slice_set, Result, Ok, Err, IsOk}
-use Rattle.std.specs.Prelude.{IfOk, OnErr, Some, slice_get}
-use Rattle.std.specs.List.{list_any, range_with_len}
-use Rattle.bb_memory_traits.specs.Chunk.{IsRegion, Chunk, IsSound}
-use Rattle.bb_memory_traits.specs.Object.{PlacesDiffer, note_after_run}
-use Rattle.bb_memory_traits.specs.Request.{Requested}
-use Rattle.bb_memory_traits.specs.PoolObject.{PoolGeometry, bucket_place, IsCut, IsPoolGeometry, IsHeld, IsWithin}
-use Rattle.bb_memory_traits.specs.PoolObject.{MayAllocate, chunk_in}
-use Rattle.bb_memory_traits.specs.declared.layout.Layout.{Layout}
-use Rattle.bb_memory_traits.specs.declared.allocator.Command.{Command}
-use Rattle.bb_memory_traits.specs.declared.allocator.AllocationError.{AllocationError}
-use Rattle.bb_memory_traits.specs.declared.allocator.AllocationError.TheVariants.{SizeIsZero, SizeTooLarge, AlignmentFailure}
-use Rattle.bb_memory_traits.specs.declared.allocator.AllocationError.TheVariants.{OutOfMemory}
+use Rattle.bb_memory_index_set.specs.IndexSets.{Has, IsFull, Lacks, member_count}
+use Rattle.bb_memory_lists.proofs.Positions.{All-at}
+use Rattle.bb_memory_traits.specs.Chunk.{Chunk, IsRegion, IsSound}
 use Rattle.bb_memory_traits.specs.Geometry.{AreAStrideApart, MayBeCut}
-use Rattle.bb_memory_index_set.specs.IndexSets.{Has, Lacks, IsFull, member_count}
-use Rattle.std.specs.Cmp.Derive.{both_true}
-use Rattle.std.proofs.Common.{sym, ◌∙◌, ap, arith}
+use Rattle.bb_memory_traits.specs.Object.{PlacesDiffer, note_after_run}
+use Rattle.bb_memory_traits.specs.PoolObject.{IsCut, IsHeld, IsPoolGeometry, IsWithin, MayAllocate, PoolGeometry, bucket_place, chunk_in}
+use Rattle.bb_memory_traits.specs.Request.{Requested}
+use Rattle.bb_memory_traits.specs.declared.allocator.AllocationError.{AllocationError}
+use Rattle.bb_memory_traits.specs.declared.allocator.AllocationError.TheVariants.{AlignmentFailure, OutOfMemory, SizeIsZero, SizeTooLarge}
+use Rattle.bb_memory_traits.specs.declared.allocator.Command.{Command}
+use Rattle.bb_memory_traits.specs.declared.layout.Layout.{Layout}
+use Rattle.std.proofs.Common.{ap, arith, sym, ◌∙◌}
 use Rattle.std.proofs.lemmas.Bool.{and_parts, eq-eqb, eqb-true}
 use Rattle.std.proofs.lemmas.List.Folds.{Any-from_list_any, list_any_at}
 use Rattle.std.proofs.lemmas.List.FromFn.{get_or-range_with_len, length-range_with_len}
-use Rattle.bb_memory_lists.proofs.Positions.{All-at}
-use Rattle.std.proofs.lemmas.Option.{slice_get-get_or, slice_get_within, get_or_from_slice_get}
+use Rattle.std.proofs.lemmas.Option.{get_or_from_slice_get, slice_get-get_or, slice_get_within}
+use Rattle.std.specs.Cmp.Derive.{both_true}
+use Rattle.std.specs.List.{list_any, range_with_len}
+use Rattle.std.specs.Prelude.{All, Bool, Err, IfOk, IsOk, List, Ok, OnErr, Result, Some, false, get_or, if◌then◌else◌, length, max, min, nat_eq, nat_le, replicate, slice_get, slice_set, true, ℕ, ◌%◌, ◌&&◌, ◌+◌, ◌<◌, ◌↔◌, ◌≡◌, ◌≢◌, ◌≤◌}
 
--- where its buckets are, and the set of those that are held
+-- a pool: where its buckets are, and which of them are held
 pub record Pool : Type 0 where
   pub geometry : PoolGeometry
   pub held : List Bool
 
+-- the pool with these buckets, of which those with a set flag are held
 abbrev pub pool_of : PoolGeometry → List Bool → Pool
 pool_of geometry held = record { geometry = geometry; held = held }
 
+-- the pool with these buckets, none of which is held
 abbrev pub fresh_pool : PoolGeometry → Pool
 fresh_pool geometry = pool_of geometry (replicate geometry.buckets false)
 
--- the pool's buckets are inside a region, and each is known to be held or not
+-- The invariant of a pool: its buckets are inside a region, and for each of them there is a flag.
 pub record IsPool (pool : Pool) : Type 0 where
   pub region : IsRegion pool.geometry.region
   pub geometry : IsPoolGeometry pool.geometry
@@ -42,7 +40,7 @@ pub record IsPool (pool : Pool) : Type 0 where
 
 -- MAKING
 
--- the region is cut into just the buckets that it has room for
+-- the region may be cut into such buckets, and is cut into all that it has room for
 pub record IsUninit (geometry : PoolGeometry) : Type 0 where
   pub may : MayBeCut geometry.region geometry.bucket
   pub cut : IsCut geometry.region geometry.bucket geometry
@@ -55,7 +53,8 @@ pub record Fills (pool : Pool) (chunk : Chunk) (i : ℕ) : Type 0 where
   pub placed : chunk.place ≡ bucket_place pool.geometry i
   pub short : chunk.len ≤ pool.geometry.bucket.size
 
--- a pool stands for this live list: each chunk is in a held bucket, no two in one, and each held bucket has its chunk
+-- The pool stands for this live list: each chunk is in a held bucket, no two chunks are in the same
+-- one, and each held bucket has its chunk.
 pub record StandsFor (pool : Pool) (live : List Chunk) : Type 0 where
   pub sound : IsSound pool.geometry.region live
   pub filled : All (λ chunk. (i : ℕ) × Fills pool chunk i) live
@@ -66,18 +65,22 @@ pub record StandsFor (pool : Pool) (live : List Chunk) : Type 0 where
 abbrev pub begins_held : Pool → ℕ → ℕ → Bool
 begins_held pool place i = get_or pool.held i false && nat_eq place (bucket_place pool.geometry i)
 
+-- a held bucket begins at the place, as a flag
 unfoldable pub holds_place : Pool → ℕ → Bool
 holds_place pool place = list_any (begins_held pool place) (range_with_len 0 (length pool.held))
 
+-- a held bucket begins at the place
 abbrev pub HoldsPlace : Pool → ℕ → Type 0
 HoldsPlace pool place = holds_place pool place ≡ true
 
 -- CALLS
 
+-- the pool in which bucket i becomes held or free, by this flag
 abbrev pub with_flag : Pool → ℕ → Bool → Pool
 with_flag pool i flag = pool_of pool.geometry (slice_set pool.held i flag)
 
--- Answers that a pool may give to a request, and the pool after it. Any free bucket is given; a refusal changes nothing.
+-- The answers that a pool may give to a request, and the pool after it. Any free bucket may be
+-- given; a refusal changes nothing.
 abbrev pub Takes : Pool → Layout → Result Chunk AllocationError → Pool → Type 0
 Takes pool layout (Ok chunk) new =
     (i : ℕ) × IsWithin pool.geometry.bucket layout × Lacks pool.held i
@@ -86,13 +89,14 @@ Takes pool layout (Err SizeTooLarge) new = (pool.geometry.bucket.size < layout.s
 Takes pool layout (Err AlignmentFailure) new =
     (layout.size ≤ pool.geometry.bucket.size) × (pool.geometry.bucket.align < layout.align) × (new ≡ pool)
 Takes pool layout (Err OutOfMemory) new = IsWithin pool.geometry.bucket layout × IsFull pool.held × (new ≡ pool)
--- a pool never refuses so
+-- a pool never refuses for this reason
 Takes pool layout (Err SizeIsZero) new = ⊥
 
--- the held bucket at the place is freed, and no other
+-- the held bucket at the place becomes free, and no other bucket changes
 abbrev pub Frees : Pool → ℕ → Pool → Type 0
 Frees pool place new = (i : ℕ) → Has pool.held i → place ≡ bucket_place pool.geometry i → new ≡ with_flag pool i false
 
+-- how many buckets are held
 abbrev pub held_count : Pool → ℕ
 held_count pool = member_count pool.held
 
@@ -102,13 +106,15 @@ pub record CountedPool : Type 0 where
   pub reads : ℕ
   pub greatest : ℕ
 
+-- the pool with this number of reads and this greatest number of held buckets
 abbrev pub counted : Pool → ℕ → ℕ → CountedPool
 counted pool reads greatest = record { pool = pool; reads = reads; greatest = greatest }
 
--- A request by the value alone: its answer, the pool after it, and how many of its words it read.
+-- A request, by the pool's value: its answer, the pool after it, and how many of its index words it
+-- read.
 pub record TakesBucket (old : CountedPool) (layout : Layout) (answer : Result Chunk AllocationError)
     (new : CountedPool) (words : ℕ) : Type 0 where
-  -- the bucket that is held then, each refusal by its cause, and that there is no other
+  -- the bucket that is held then, or the cause of the refusal; there is no other cause
   pub taken : Takes old.pool layout answer new.pool
   pub accepted : IsOk answer ↔ (IsWithin old.pool.geometry.bucket layout × ((i : ℕ) × Lacks old.pool.held i))
   pub pool_unchanged : OnErr answer (new.pool ≡ old.pool)
@@ -117,29 +123,35 @@ pub record TakesBucket (old : CountedPool) (layout : Layout) (answer : Result Ch
       → AreAStrideApart old.pool.geometry.bucket place chunk.place)
   pub others_kept : (place : ℕ) → HoldsPlace old.pool place → HoldsPlace new.pool place
   pub bucket_aligned : IfOk answer (λ chunk. chunk.place % old.pool.geometry.bucket.align ≡ 0)
-  -- a bucket that is given counts, and a refusal doesn't
+  -- a bucket that is given counts as held; a refusal counts nothing
   pub one_more : IfOk answer (λ chunk. held_count new.pool ≡ held_count old.pool + 1)
   pub greatest : new.greatest ≡ max old.greatest (held_count new.pool)
   pub greatest_unchanged : OnErr answer (new.greatest ≡ old.greatest)
   pub one_read : IsWithin old.pool.geometry.bucket layout → 0 < words → new.reads ≡ 1
-  -- where no reads are counted, a refusal leaves all as it was
+  -- if no reads are counted, a refusal changes nothing
   pub uncounted : words ≡ 0 → new.reads ≡ old.reads
   pub unchanged : words ≡ 0 → OnErr answer (new ≡ old)
 
--- how many of `words` index words a request for the layout reads: one if there is one, and none where its size or its alignment
--- is refused
+-- how many of `words` index words a request for the layout reads: one if there is one, and none if
+-- the request is refused by its size or alignment
 abbrev pub reads_of : Layout → ℕ → Layout → ℕ
 reads_of bucket words layout = if nat_le layout.size bucket.size && nat_le layout.align bucket.align then min words 1 else 0
 
--- All that a pool of `words` index words promises of a request for this layout.
+-- All that a pool of `words` index words promises about a request for this layout.
 abbrev pub Allocates : CountedPool → Layout → Result Chunk AllocationError → CountedPool → ℕ → Type 0
-Allocates old layout answer new words = Requested (λ pool. StandsFor pool.pool) (λ pool. HoldsPlace pool.pool)
-    (λ pool. pool.pool.geometry) (λ geometry. geometry.region) MayAllocate (λ pool. pool.reads)
-    (λ geometry asked before. reads_of geometry.bucket words asked)
-    (λ before asked told after. TakesBucket before asked told after words) old layout answer new
+Allocates old layout answer new words = Requested (record {
+  stands_for = λ pool. StandsFor pool.pool;
+  may_release = λ pool. HoldsPlace pool.pool;
+  geometry = λ pool. pool.pool.geometry;
+  region_of = λ geometry. geometry.region;
+  may_allocate = MayAllocate;
+  note = λ pool. pool.reads;
+  note_after = λ geometry asked before. reads_of geometry.bucket words asked;
+  takes = λ before asked told after. TakesBucket before asked told after words;
+}) old layout answer new
 
--- A pool after a release, by the value alone: that bucket, which was held, is free, and so one less is held. Each other
--- place is held or free as it was, and the greatest number stays.
+-- A release, by the pool's value: the bucket, which was held, is free after it, and so one bucket
+-- less is held. Each other place is held or free as before, and the greatest number stays.
 pub record FreesBucket (old : CountedPool) (place : ℕ) (new : CountedPool) : Type 0 where
   pub freed : Frees old.pool place new.pool
   pub others_kept : (other : ℕ) → HoldsPlace old.pool other → other ≢ place → HoldsPlace new.pool other
@@ -151,7 +163,7 @@ pub record FreesBucket (old : CountedPool) (place : ℕ) (new : CountedPool) : T
 
 -- INDEX WORDS
 
--- how many the last request of these commands reads, or as many as before where they have none
+-- how many index words the last request of these commands reads, or `before` if there is no request
 abbrev pub reads_after : Layout → ℕ → ℕ → List Command → ℕ
 reads_after bucket words before commands = note_after_run (λ layout reads. reads_of bucket words layout) before commands
 
@@ -190,6 +202,7 @@ pub filled-at : (pool : Pool) (live : List Chunk) → StandsFor pool live → (p
     slice_get live position ≡ Some chunk → (i : ℕ) × Fills pool chunk i
 filled-at pool live stands position chunk at = All-at (λ c. (i : ℕ) × Fills pool c i) live stands.filled position chunk at
 
+-- a live chunk's place is held
 pub held_place : (pool : Pool) (live : List Chunk) (position : ℕ) (chunk : Chunk) →
     StandsFor pool live → slice_get live position ≡ Some chunk → HoldsPlace pool chunk.place
 held_place pool live position chunk stands at =

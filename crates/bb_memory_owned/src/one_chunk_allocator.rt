@@ -1,13 +1,12 @@
 //! An allocator that gives one chunk at a time, which is all of its region from the chunk's place on.
-ghost use Rattle.std.specs.Prelude.{◌≡◌, [], List, ◌+◌, ◌-◌, ◌<◌, ◌≤◌, ◌%◌, ◌↔◌, ℕ, IsTrue, Some, Result, false, refl};
-ghost use Rattle.bb_memory_traits.specs.Chunk.{Region, IsRegion, region_at, region_end, Chunk, IsInside, chunk_end};
-ghost use Rattle.bb_memory_owned.specs.OneChunk.{Layout, AllocationError, AllocationGrowError, AllocationShrinkError, Frees};
-ghost use Rattle.bb_memory_owned.specs.OneChunk.{IsOneChunk, OneChunk, StandsFor, Takes, one_chunk_of};
+ghost use Rattle.bb_memory_owned.specs.OneChunk.{AllocationError, AllocationGrowError, AllocationShrinkError, Frees, IsOneChunk, Layout, OneChunk, StandsFor, Takes, one_chunk_of};
 ghost use Rattle.bb_memory_traits.proofs.OneChunkLists.{covered, kept_is_live, only_chunk, places_differ};
-ghost use Rattle.bb_memory_traits.specs.Object.{AnswersAll, AnswersOnce, GivesOnly, IsRun, Step, ResizableStep};
+ghost use Rattle.bb_memory_traits.specs.Chunk.{Chunk, IsInside, IsRegion, Region, chunk_end, region_at, region_end};
+ghost use Rattle.bb_memory_traits.specs.Object.{AnswersAll, AnswersOnce, GivesOnly, IsRun, ResizableStep, Step};
+ghost use Rattle.bb_memory_traits.specs.OneChunkObject.{MayAllocate, MayGrow, MayShrink, one_chunk_object, reserved_at};
 ghost use Rattle.bb_memory_traits.specs.declared.allocator.Command.{Command};
 ghost use Rattle.bb_memory_traits.specs.declared.allocator.Reply.{Reply};
-ghost use Rattle.bb_memory_traits.specs.OneChunkObject.{MayAllocate, MayGrow, MayShrink, reserved_at, one_chunk_object};
+ghost use Rattle.std.specs.Prelude.{IsTrue, List, Result, Some, [], false, refl, ℕ, ◌%◌, ◌+◌, ◌-◌, ◌<◌, ◌↔◌, ◌≡◌, ◌≤◌};
 
 pub use bb_memory_traits::allocator::{
     AllocationError, AllocationGrowError, AllocationShrinkError, Allocator, BaseAllocator,

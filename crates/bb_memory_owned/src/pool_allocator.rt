@@ -1,12 +1,11 @@
 //! Allocators that cut a region into buckets of one layout, and give a bucket for each request.
-ghost use Rattle.std.specs.Prelude.{◌≡◌, ◌≢◌, [], List, ℕ, ◌*◌, ◌/◌, ◌<◌, ◌≤◌, ◌^◌, ◌↔◌, IfOk};
-ghost use Rattle.std.specs.Prelude.{IfErr, IsTrue, Some, false, slice_get, remove};
-ghost use Rattle.bb_memory_traits.specs.Chunk.{region_at, Chunk, first_place};
-ghost use Rattle.bb_memory_traits.specs.PoolObject.{PoolGeometry, IsCut};
-ghost use Rattle.bb_memory_traits.specs.declared.allocator.AllocationError.{AllocationError};
-ghost use Rattle.bb_memory_index_set.specs.IndexSets.{index_words, words_with_list, Lacks};
-ghost use Rattle.bb_memory_owned.specs.Pool.{Frees, HoldsPlace, StandsFor, counted, fresh_pool};
+ghost use Rattle.bb_memory_index_set.specs.IndexSets.{index_words, words_with_list};
+ghost use Rattle.bb_memory_owned.specs.Pool.{FreesBucket, HoldsPlace, StandsFor, counted, fresh_pool};
+ghost use Rattle.bb_memory_traits.specs.Chunk.{Chunk, first_place, region_at};
 ghost use Rattle.bb_memory_traits.specs.Geometry.{MayBeCut};
+ghost use Rattle.bb_memory_traits.specs.PoolObject.{IsCut, PoolGeometry};
+ghost use Rattle.bb_memory_traits.specs.declared.allocator.AllocationError.{AllocationError};
+ghost use Rattle.std.specs.Prelude.{IfErr, IfOk, IsTrue, List, Some, [], false, remove, slice_get, ℕ, ◌*◌, ◌/◌, ◌<◌, ◌^◌, ◌↔◌, ◌≡◌, ◌≢◌, ◌≤◌};
 
 mod bucket_pool;
 mod fixed_size;
@@ -34,8 +33,8 @@ pub struct UninitPoolAllocator {
 }
 
 impl Model for UninitPoolAllocator {
-    ghost use Rattle.bb_memory_traits.specs.PoolObject.{PoolGeometry};
     ghost use Rattle.bb_memory_owned.specs.Pool.{IsUninit};
+    ghost use Rattle.bb_memory_traits.specs.PoolObject.{PoolGeometry};
 
     ghost Value = { PoolGeometry };
 
@@ -138,21 +137,18 @@ impl<A: LanguageAllocator> PoolAllocator<A> {
         self.last_search.count()
     }
 
-    /// Gives back the bucket at this place, which has to be held.
+    /// Gives back the bucket at this place, which has to be held. It does what `deallocate` does there.
+    ///
+    /// Example: `pools::counted_by_bucket` of `crates/examples`.
     #[inline(always)]
     pub fn deallocate_bucket(&mut self, place: usize)
         requires { HoldsPlace self.old.pool place }
-        ensures freed { Frees self.old.pool place self.new.pool }
+        ensures value { FreesBucket self.old place self.new }
         ensures released { (live : List Chunk) (position : ℕ) (chunk : Chunk)
             → StandsFor self.old.pool live → slice_get live position ≡ Some chunk
             → chunk.place ≡ place → StandsFor self.new.pool (remove live position) }
-        ensures others_kept { (other : ℕ) → HoldsPlace self.old.pool other → other ≢ place
-            → HoldsPlace self.new.pool other }
-        ensures given_back { ¬ HoldsPlace self.new.pool place }
-        ensures room { (i : ℕ) × Lacks self.new.pool.held i }
         ensures geometry { self.new.pool.geometry ≡ self.old.pool.geometry }
         ensures reads { self.new.reads ≡ self.old.reads }
-        ensures greatest { self.new.greatest ≡ self.old.greatest }
     {
         self.deallocate(place, Layout::empty());
     }

@@ -1,16 +1,11 @@
 -- A pool's flags, and which of them are taken.
-use Rattle.std.proofs.Common.{arith}
-use Rattle.std.proofs.Common.{◌≡◌, ℕ, ◌<◌, length, List, [], ◌∷◌, map, refl, sym, ap, ◌∙◌, subst, Bool, true, Option, Some, None}
-use Rattle.std.proofs.Common.{inl, inr}
-use Rattle.std.specs.Prelude.{◌⊎◌, option_map, slice_get}
-use Rattle.std.proofs.lemmas.Option.{slice_get-map, slice_get_within}
-use Rattle.bb_memory_pool_machine.specs.PoolMachine.{PoolScene, PoolState, PoolMove, PoolStep, IsFlag, IsTaken, Flag, Free}
-use Rattle.bb_memory_pool_machine.specs.PoolMachine.{DetachedBy, HeldBy, NamesMade, left_by, opening_state, pool_after}
-use Rattle.bb_memory_pool_machine.specs.PoolMachine.{pool_step, with_flag}
-use Rattle.bb_memory_pool_machine.specs.PoolLogs.{is_taken}
 use Rattle.bb_memory_lists.proofs.SliceGets.{slice_get-replicated, slice_get-set_apart, slice_get-set_at}
-use Rattle.bb_memory_pool_machine.proofs.PoolSteps.{StepKind, takes, takes_at, gives, detaches, attaches, gives_detached}
-use Rattle.bb_memory_pool_machine.proofs.PoolSteps.{calls-left_by, calls-step, kind_of}
+use Rattle.bb_memory_pool_machine.proofs.PoolSteps.{StepKind, attaches, attaches_from, calls-left_by, calls-step, detaches, gives, gives_detached, kind_of, takes, takes_at}
+use Rattle.bb_memory_pool_machine.specs.PoolLogs.{is_taken}
+use Rattle.bb_memory_pool_machine.specs.PoolMachine.{DetachedBy, Flag, Free, HeldBy, IsFlag, IsTaken, NamesMade, PoolMove, PoolScene, PoolState, PoolStep, left_by, opening_state, pool_after, pool_step, with_flag}
+use Rattle.std.proofs.Common.{Bool, List, None, Option, Some, [], ap, arith, inl, inr, length, map, refl, subst, sym, true, ℕ, ◌<◌, ◌∙◌, ◌∷◌, ◌≡◌}
+use Rattle.std.proofs.lemmas.Option.{slice_get-map, slice_get_within}
+use Rattle.std.specs.Prelude.{option_map, slice_get, ◌⊎◌}
 
 taken_from_shown : (found : Option Flag) → option_map is_taken found ≡ Some true →
     ((party : ℕ) × (found ≡ Some (HeldBy party))) ⊎ ((sender : ℕ) × (found ≡ Some (DetachedBy sender)))
@@ -63,6 +58,8 @@ named_step state step move (detaches party bucket held others) named =
     named_set state bucket (HeldBy party) (DetachedBy party) held named (named bucket (HeldBy party) held)
 named_step state step move (attaches party bucket idle (sender, detached)) named =
     named_set state bucket (DetachedBy sender) (HeldBy party) detached named (there_is state party None idle)
+named_step state step move (attaches_from party bucket from idle detached) named =
+    named_set state bucket (DetachedBy from) (HeldBy party) detached named (there_is state party None idle)
 named_step state step move (gives_detached party bucket idle (sender, detached)) named =
     named_set state bucket (DetachedBy sender) Free detached named tt
 named_step state step move _ named = named

@@ -1,20 +1,14 @@
 -- Who holds a bucket stands in the logs.
-use Rattle.std.proofs.Common.{arith}
-use Rattle.std.proofs.lemmas.Grind.{common_steps}
-use Rattle.std.proofs.Common.{◌≡◌, ℕ, List, [], ◌∷◌, ◌↔◌, replicate, refl, sym, ap, ◌∙◌, subst, Bool, true, false, Option}
-use Rattle.std.proofs.Common.{Some, None}
-use Rattle.std.specs.Prelude.{slice_get, slice_set, ◌==◌, if◌then◌else◌, fold}
-use Rattle.std.proofs.lemmas.Bool.{eqb-true}
-use Rattle.std.proofs.lemmas.Option.{same_Some}
-use Rattle.bb_memory_pool_machine.specs.PoolMachine.{PoolScene, PoolState, PoolMove, IsFlag, IsHolder, IsDetached, pool_step}
-use Rattle.bb_memory_pool_machine.specs.PoolMachine.{pool_after, opening_state, left_by, PoolOutcome, Flag, Free, HeldBy}
-use Rattle.bb_memory_pool_machine.specs.PoolMachine.{DetachedBy, PoolStep}
-use Rattle.bb_memory_pool_machine.specs.PoolLogs.{entry_of, PoolLog, PoolEntry, pool_history, is_by, entries_by, log_of}
-use Rattle.bb_memory_pool_machine.specs.PoolLogs.{held_after, IsHeldAfter}
 use Rattle.bb_memory_lists.proofs.Logs.{fold-own}
 use Rattle.bb_memory_lists.proofs.SliceGets.{replicated-figure, slice_get-same, slice_get-set_apart, slice_get-set_at}
-use Rattle.bb_memory_pool_machine.proofs.PoolSteps.{StepKind, takes, takes_at, gives, detaches, attaches, gives_detached}
-use Rattle.bb_memory_pool_machine.proofs.PoolSteps.{kind_of, test_same, test_apart}
+use Rattle.bb_memory_pool_machine.proofs.PoolSteps.{StepKind, attaches, attaches_from, detaches, gives, gives_detached, kind_of, takes, takes_at, test_apart, test_same}
+use Rattle.bb_memory_pool_machine.specs.PoolLogs.{IsHeldAfter, PoolEntry, PoolLog, entries_by, entry_of, held_after, is_by, log_of, pool_history}
+use Rattle.bb_memory_pool_machine.specs.PoolMachine.{DetachedBy, Flag, Free, HeldBy, IsDetached, IsFlag, IsHolder, PoolMove, PoolOutcome, PoolScene, PoolState, PoolStep, left_by, opening_state, pool_after, pool_step}
+use Rattle.std.proofs.Common.{Bool, List, None, Option, Some, [], ap, arith, false, refl, replicate, subst, sym, true, ℕ, ◌↔◌, ◌∙◌, ◌∷◌, ◌≡◌}
+use Rattle.std.proofs.lemmas.Bool.{eqb-true}
+use Rattle.std.proofs.lemmas.Grind.{common_steps}
+use Rattle.std.proofs.lemmas.Option.{same_Some}
+use Rattle.std.specs.Prelude.{fold, if◌then◌else◌, slice_get, slice_set, ◌==◌}
 
 abbrev pub is_holder : ℕ → Option Flag → Bool
 is_holder party (Some (HeldBy holder)) = holder == party
@@ -67,6 +61,8 @@ step_holds state step move party bucket held (detaches other at taken others) =
     held_set state at bucket party other held false (HeldBy other) (DetachedBy other) taken (when_returned (other == party) held)
 step_holds state step move party bucket held (attaches other at idle (sender, detached)) =
     held_set state at bucket party other held true (DetachedBy sender) (HeldBy other) detached (when_taken (other == party) held)
+step_holds state step move party bucket held (attaches_from other at from idle detached) =
+    held_set state at bucket party other held true (DetachedBy from) (HeldBy other) detached (when_taken (other == party) held)
 step_holds state step move party bucket held (gives_detached other at idle (sender, detached)) =
     held_set state at bucket party other held false (DetachedBy sender) Free detached (when_unheld (other == party) held)
 step_holds state step move party bucket held _ = λ before. either_way (is_by party step) held ∙ before

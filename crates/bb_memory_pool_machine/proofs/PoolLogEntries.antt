@@ -1,17 +1,13 @@
 -- A party's log says where its pass is, and a step of the party adds to it alone.
-use Rattle.std.proofs.Common.{arith}
-use Rattle.std.proofs.Common.{◌≡◌, ℕ, ◌+◌, ◌<◌, List, [], ◌∷◌, ◌++◌, refl, sym, ap, ◌∙◌, subst, Option, Some, None}
-use Rattle.std.specs.Prelude.{slice_get, slice_set, ◌==◌, if◌then◌else◌, All}
-use Rattle.std.proofs.lemmas.List.Elements.{All-push}
-use Rattle.bb_memory_pool_machine.specs.PoolMachine.{PoolScene, PoolState, PoolMove, pool_step, pool_after, opening_state}
-use Rattle.bb_memory_pool_machine.specs.PoolMachine.{left_by, Flag, PoolStep, PoolOutcome}
-use Rattle.bb_memory_pool_machine.specs.PoolLogs.{entry_of, PoolLog, PoolEntry, pool_history, is_by, entries_by, history_of}
-use Rattle.bb_memory_pool_machine.specs.PoolLogs.{log_of, HasLog, pass_after, pass_in, IsAllowed, LogsAgree, with_entry}
 use Rattle.bb_memory_lists.proofs.Logs.{logs-push}
 use Rattle.bb_memory_lists.proofs.SliceGets.{slice_get-replicate, slice_get-set_apart, slice_get-set_at}
-use Rattle.bb_memory_pool_machine.proofs.PoolSteps.{IsNext, StepKind, takes, takes_at, loses, is_refused, kind_of, next_of_idle}
-use Rattle.bb_memory_pool_machine.proofs.PoolSteps.{test_same, test_apart}
 use Rattle.bb_memory_pool_machine.proofs.PoolHolders.{either_way, steps_fold}
+use Rattle.bb_memory_pool_machine.proofs.PoolSteps.{IsNext, StepKind, is_refused, kind_of, loses, next_of_idle, takes, takes_at, test_apart, test_same}
+use Rattle.bb_memory_pool_machine.specs.PoolLogs.{HasLog, IsAllowed, LogsAgree, PoolEntry, PoolLog, entries_by, entry_of, history_of, is_by, log_of, pass_after, pass_in, pool_history, with_entry}
+use Rattle.bb_memory_pool_machine.specs.PoolMachine.{Flag, PoolMove, PoolOutcome, PoolScene, PoolState, PoolStep, left_by, opening_state, pool_after, pool_step}
+use Rattle.std.proofs.Common.{List, None, Option, Some, [], ap, arith, refl, subst, sym, ℕ, ◌++◌, ◌+◌, ◌<◌, ◌∙◌, ◌∷◌, ◌≡◌}
+use Rattle.std.proofs.lemmas.List.Elements.{All-push}
+use Rattle.std.specs.Prelude.{All, if◌then◌else◌, slice_get, slice_set, ◌==◌}
 
 -- WHERE A PASS IS
 

@@ -1,25 +1,17 @@
 -- Consequences of a pool's flags and logs agreeing.
-use Rattle.std.proofs.Common.{◌≡◌, ℕ, ◌<◌, ◌≤◌, List, [], ◌∷◌, length, refl, sym, ap, ◌∙◌, subst}
-use Rattle.std.proofs.Common.{arith, Bool, true, false, Option, Some, None, inl, inr}
-use Rattle.std.specs.Prelude.{◌⊎◌, ◌==◌, slice_get, if◌then◌else◌}
-use Rattle.std.specs.List.{AllByRecursion}
+use Rattle.bb_memory_pool_machine.proofs.PoolDetached.{none_detached_alone, none_detached_at_opening, none_held_at_opening, none_taken_at_opening}
+use Rattle.bb_memory_pool_machine.proofs.PoolFlags.{names_made}
+use Rattle.bb_memory_pool_machine.proofs.PoolHolders.{holder_in_log, is_holder, nobody_holds, step_holds}
+use Rattle.bb_memory_pool_machine.proofs.PoolSteps.{StepKind, attaches, attaches_from, calls-step, detaches, gives, gives_detached, is_refused, kind_of, length-left_by, loses, misses, passes, takes, takes_at, test_apart}
+use Rattle.bb_memory_pool_machine.specs.PoolLogs.{AllAllowed, CommonInterleaving, HasLog, Interleaving, IsAllowed, IsDetachedIn, IsHeldAfter, LogsAgree, MayBeFound, PoolEntry, PoolLog, entries_by, entry_of, held_after, history_of, is_by, is_taken, log_of, pool_history}
+use Rattle.bb_memory_pool_machine.specs.PoolMachine.{DetachedBy, Flag, Free, HeldBy, IsDetached, IsHolder, IsTaken, PoolMove, PoolScene, PoolState, PoolStep, Takes, Try, TryAt, left_by, opening_state, pool_step}
+use Rattle.std.proofs.Common.{Bool, List, None, Option, Some, [], ap, arith, false, inl, inr, length, refl, subst, sym, true, ℕ, ◌<◌, ◌∙◌, ◌∷◌, ◌≡◌, ◌≤◌}
 use Rattle.std.proofs.lemmas.Bool.{cases_lt}
-use Rattle.std.proofs.lemmas.Option.{same_Some, slice_get_within}
 use Rattle.std.proofs.lemmas.List.{length-replicate}
 use Rattle.std.proofs.lemmas.List.Elements.{recursion_from_All}
-use Rattle.bb_memory_pool_machine.specs.PoolMachine.{PoolScene, PoolState, PoolMove, IsHolder, IsDetached, IsTaken, pool_step}
-use Rattle.bb_memory_pool_machine.specs.PoolMachine.{opening_state, left_by, Flag, Free, HeldBy, DetachedBy, PoolStep, Try, TryAt}
-use Rattle.bb_memory_pool_machine.specs.PoolMachine.{Takes}
-use Rattle.bb_memory_pool_machine.specs.PoolLogs.{entry_of, PoolLog, PoolEntry, pool_history, is_by, entries_by, history_of}
-use Rattle.bb_memory_pool_machine.specs.PoolLogs.{log_of, AllAllowed, CommonInterleaving, HasLog, IsHeldAfter, Interleaving}
-use Rattle.bb_memory_pool_machine.specs.PoolLogs.{IsAllowed, held_after, IsDetachedIn, LogsAgree, MayBeFound, is_taken}
-use Rattle.bb_memory_pool_machine.proofs.PoolSteps.{StepKind, takes, takes_at, loses, is_refused, gives, misses, detaches}
-use Rattle.bb_memory_pool_machine.proofs.PoolSteps.{attaches, gives_detached, passes, kind_of, calls-step, length-left_by}
-use Rattle.bb_memory_pool_machine.proofs.PoolSteps.{test_apart}
-use Rattle.bb_memory_pool_machine.proofs.PoolFlags.{names_made}
-use Rattle.bb_memory_pool_machine.proofs.PoolHolders.{is_holder, step_holds, nobody_holds, holder_in_log}
-use Rattle.bb_memory_pool_machine.proofs.PoolDetached.{none_detached_alone, none_detached_at_opening, none_held_at_opening}
-use Rattle.bb_memory_pool_machine.proofs.PoolDetached.{none_taken_at_opening}
+use Rattle.std.proofs.lemmas.Option.{same_Some, slice_get_within}
+use Rattle.std.specs.List.{AllByRecursion}
+use Rattle.std.specs.Prelude.{if◌then◌else◌, slice_get, ◌==◌, ◌⊎◌}
 
 -- WHO TAKES STEPS
 
@@ -45,6 +37,7 @@ module _ (state : PoolState) (party : ℕ) (absent : IsAbsent state party) where
   another_steps step move (is_refused other bucket next taken last) allowed = there other next.pass next.there
   another_steps step move (misses other bucket idle taken) allowed = there other None idle
   another_steps step move (attaches other bucket idle detached) allowed = there other None idle
+  another_steps step move (attaches_from other bucket from idle detached) allowed = there other None idle
   another_steps step move (gives_detached other bucket idle detached) allowed = there other None idle
   another_steps step move (gives other bucket held) allowed = holds other bucket held
   another_steps step move (detaches other bucket held others) allowed = holds other bucket held
@@ -90,6 +83,8 @@ first_kind scene step move (is_refused party bucket next taken last) allowed = a
 first_kind scene step move (gives party bucket taken) allowed = absurd (none_held_at_opening scene bucket party taken)
 first_kind scene step move (detaches party bucket taken others) allowed = absurd (none_held_at_opening scene bucket party taken)
 first_kind scene step move (attaches party bucket idle detached) allowed = absurd (none_detached_at_opening scene bucket detached)
+first_kind scene step move (attaches_from party bucket from idle detached) allowed =
+    absurd (none_detached_at_opening scene bucket (from, detached))
 first_kind scene step move (gives_detached party bucket idle detached) allowed =
     absurd (none_detached_at_opening scene bucket detached)
 first_kind scene step move (passes other) allowed = absurd allowed

@@ -1,21 +1,14 @@
 -- Each step that a party's log allows leaves flags and logs that agree.
-use Rattle.std.proofs.Common.{◌≡◌, ℕ, ◌+◌, ◌<◌, List, length, replicate, refl, sym, ap, ◌∙◌, subst}
-use Rattle.std.proofs.Common.{arith, Bool, true, false, Option, Some, None}
-use Rattle.std.specs.Prelude.{slice_get, slice_set, nat_lt, if◌then◌else◌, All, []}
-use Rattle.std.proofs.lemmas.Bool.{lt-ltb}
-use Rattle.std.proofs.lemmas.Option.{slice_get_within, get_or_from_slice_get}
-use Rattle.std.proofs.lemmas.List.Elements.{All-nil}
-use Rattle.bb_memory_pool_machine.specs.PoolMachine.{move_of, PoolScene, PoolState, with_pass, taking, loss, return_of}
-use Rattle.bb_memory_pool_machine.specs.PoolMachine.{passed, try_flag, try_next, give_flag, try_at, try_one, detach_flag, detach}
-use Rattle.bb_memory_pool_machine.specs.PoolMachine.{detaching, attach_flag, attach, attaching, give_detached, give_detached_flag}
-use Rattle.bb_memory_pool_machine.specs.PoolMachine.{pool_step, left_by, Flag, Free, HeldBy, DetachedBy, Try, GiveBack}
-use Rattle.bb_memory_pool_machine.specs.PoolMachine.{TryAt, Detach, Attach, GiveBackDetached, Takes, Loses, RefusedAtLoss, Gives}
-use Rattle.bb_memory_pool_machine.specs.PoolMachine.{Misses, Detaches, Attaches}
-use Rattle.bb_memory_pool_machine.specs.PoolLogs.{entry_of, PoolLog, PoolEntry, HasLog, pass_in, next_bucket, loss_at, is_taken}
-use Rattle.bb_memory_pool_machine.specs.PoolLogs.{IsAllowed, IsHeldAfter, IsDetachedIn, LogsAgree, with_entry}
-use Rattle.bb_memory_pool_machine.proofs.PoolSteps.{calls-left_by, length-left_by, test_same}
+use Rattle.bb_memory_pool_machine.proofs.PoolLogEntries.{agree_on, log_pass}
 use Rattle.bb_memory_pool_machine.proofs.PoolLogFacts.{machine_flag, named_from_log}
-use Rattle.bb_memory_pool_machine.proofs.PoolLogEntries.{log_pass, agree_on}
+use Rattle.bb_memory_pool_machine.proofs.PoolSteps.{calls-left_by, length-left_by, test_same}
+use Rattle.bb_memory_pool_machine.specs.PoolLogs.{HasLog, IsAllowed, IsDetachedIn, IsHeldAfter, LogsAgree, PoolEntry, PoolLog, entry_of, is_taken, loss_at, next_bucket, pass_in, with_entry}
+use Rattle.bb_memory_pool_machine.specs.PoolMachine.{Attach, AttachFrom, Attaches, Detach, DetachedBy, Detaches, Flag, Free, GiveBack, GiveBackDetached, Gives, HeldBy, Loses, Misses, PoolScene, PoolState, RefusedAtLoss, Takes, Try, TryAt, attach, attach_flag, attach_from, attach_from_flag, attaching, detach, detach_flag, detaching, give_detached, give_detached_flag, give_flag, left_by, loss, move_of, passed, pool_step, return_of, taking, try_at, try_flag, try_next, try_one, with_pass}
+use Rattle.std.proofs.Common.{Bool, List, None, Option, Some, ap, arith, false, length, refl, replicate, subst, sym, true, ℕ, ◌+◌, ◌<◌, ◌∙◌, ◌≡◌}
+use Rattle.std.proofs.lemmas.Bool.{lt-ltb}
+use Rattle.std.proofs.lemmas.List.Elements.{All-nil}
+use Rattle.std.proofs.lemmas.Option.{get_or_from_slice_get, slice_get_within}
+use Rattle.std.specs.Prelude.{All, [], if◌then◌else◌, nat_lt, slice_get, slice_set}
 
 -- A party was made, its log stands in the list, and flags and logs agree.
 module _ (scene : PoolScene) (flags : List Flag) (logs : List PoolLog) (party : ℕ) (log : PoolLog) (bucket : ℕ)
@@ -107,6 +100,17 @@ module _ (scene : PoolScene) (flags : List Flag) (logs : List PoolLog) (party : 
       agree_on scene flags logs party log agree at (Attach party bucket) (λ other. refl) (attaching state party bucket)
       (ap (attach state party bucket) (pass_there None idle)
       ∙ ap (attach_flag state party bucket) (there (DetachedBy sender) detached))
+      tt (slice_set flags bucket (HeldBy party)) (becomes (HeldBy party))
+
+  -- from the party that has detached it
+  pub attach_from_agrees : (from : ℕ) → pass_in log ≡ None → slice_get flags bucket ≡ Some (DetachedBy from) →
+      LogsAgree scene (slice_set flags bucket (HeldBy party))
+      (with_entry logs party log (entry_of (AttachFrom party bucket from) (Attaches bucket)))
+  attach_from_agrees from idle detached =
+      let same = ap (λ (b : Bool). if b then attaching state party bucket else passed state) (test_same from from refl) in
+      agree_on scene flags logs party log agree at (AttachFrom party bucket from) (λ other. refl) (attaching state party bucket)
+      (ap (attach_from state party bucket from) (pass_there None idle)
+      ∙ ap (attach_from_flag state party bucket from) (there (DetachedBy from) detached) ∙ same)
       tt (slice_set flags bucket (HeldBy party)) (becomes (HeldBy party))
 
   pub give_detached_agrees : pass_in log ≡ None → IsDetachedIn flags bucket →

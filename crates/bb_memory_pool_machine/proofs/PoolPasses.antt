@@ -1,21 +1,16 @@
 -- The buckets that a refused pass and a miss have met.
-use Rattle.std.proofs.Common.{◌≡◌, ℕ, zero, suc, ◌+◌, ◌<◌, ◌≤◌, ◌⊎◌, List, [], ◌∷◌, length, refl, sym, ap, ◌∙◌, subst}
-use Rattle.std.proofs.Common.{arith, Option, Some, None, inl, inr}
-use Rattle.std.specs.Prelude.{slice_get, slice_set, take, unwrap_or}
-use Rattle.std.proofs.lemmas.Bool.{cases_eq}
-use Rattle.std.proofs.lemmas.Option.{same_Some}
-use Rattle.std.proofs.lemmas.List.{length-replicate}
-use Rattle.bb_memory_traits.specs.PoolObject.{IsPoolGeometry}
-use Rattle.bb_memory_pool_machine.specs.PoolMachine.{PoolScene, PoolState, PoolMove, IsTaken, IsInCall, left_by, pool_step}
-use Rattle.bb_memory_pool_machine.specs.PoolMachine.{pool_after, opening_state, Flag, Free, PoolStep, Try, TryAt, PoolOutcome}
-use Rattle.bb_memory_pool_machine.specs.PoolMachine.{Misses, RefusedAtLoss}
-use Rattle.bb_memory_pool_machine.specs.PoolLogs.{entry_of, PoolEntry, pool_history, history_of, IsLossAt, LosesAt, IsRefusedAt}
-use Rattle.bb_memory_pool_machine.specs.PoolLogs.{FoundHeld, IsHeldInRun, MissesAt}
 use Rattle.bb_memory_lists.proofs.SliceGets.{replicated-figure, slice_get-same, slice_get-set_apart, slice_get-set_at}
-use Rattle.bb_memory_pool_machine.proofs.PoolSteps.{IsNext, StepKind, takes, takes_at, loses, is_refused, misses, kind_of}
-use Rattle.bb_memory_pool_machine.proofs.PoolSteps.{length-left_by, length-step, next_of_idle}
 use Rattle.bb_memory_pool_machine.proofs.PoolFlags.{taken_within}
 use Rattle.bb_memory_pool_machine.proofs.PoolRuns.{taken_is_held}
+use Rattle.bb_memory_pool_machine.proofs.PoolSteps.{IsNext, StepKind, is_refused, kind_of, length-left_by, length-step, loses, misses, next_of_idle, takes, takes_at}
+use Rattle.bb_memory_pool_machine.specs.PoolLogs.{FoundHeld, IsHeldInRun, IsLossAt, IsRefusedAt, LosesAt, MissesAt, PoolEntry, entry_of, history_of, pool_history}
+use Rattle.bb_memory_pool_machine.specs.PoolMachine.{Flag, Free, IsInCall, IsTaken, Misses, PoolMove, PoolOutcome, PoolScene, PoolState, PoolStep, RefusedAtLoss, Try, TryAt, left_by, opening_state, pool_after, pool_step}
+use Rattle.bb_memory_traits.specs.PoolObject.{IsPoolGeometry}
+use Rattle.std.proofs.Common.{List, None, Option, Some, [], ap, arith, inl, inr, length, refl, subst, suc, sym, zero, ℕ, ◌+◌, ◌<◌, ◌∙◌, ◌∷◌, ◌≡◌, ◌≤◌, ◌⊎◌}
+use Rattle.std.proofs.lemmas.Bool.{cases_eq}
+use Rattle.std.proofs.lemmas.List.{length-replicate}
+use Rattle.std.proofs.lemmas.Option.{same_Some}
+use Rattle.std.specs.Prelude.{slice_get, slice_set, take, unwrap_or}
 
 -- PROGRESS
 
@@ -148,7 +143,7 @@ all_behind state (step ∷ steps) party (suc last) bucket refused below =
     ]
 
 -- the step of an entry finds the state after the steps before it
-entry_step : (state : PoolState) (steps : List PoolStep) (k : ℕ) (step : PoolStep) (outcome : PoolOutcome) →
+pub entry_step : (state : PoolState) (steps : List PoolStep) (k : ℕ) (step : PoolStep) (outcome : PoolOutcome) →
     slice_get (pool_history state steps) k ≡ Some (entry_of step outcome) →
     (pool_step (pool_after state (take k steps)) step).outcome ≡ outcome
 entry_step state [] k step outcome there = absurd (cc)

@@ -1,28 +1,21 @@
 -- The takings and returns of a pool machine are a run of the pool object.
-use Rattle.std.proofs.Common.{◌≡◌, ◌≢◌, ℕ, zero, suc, ◌<◌, ◌↔◌, List, [], ◌∷◌, ◌++◌, length, refl, sym, ap, ◌∙◌, subst}
-use Rattle.std.proofs.Common.{arith, Bool, true, Option, Some, None, inl, inr}
-use Rattle.std.specs.Prelude.{take, drop, slice_get, slice_set, remove, if◌then◌else◌}
-use Rattle.std.specs.List.{AllByRecursion}
-use Rattle.std.proofs.lemmas.Bool.{cases_eq}
-use Rattle.std.proofs.lemmas.Option.{slice_get_within}
-use Rattle.std.proofs.lemmas.List.{drop-map, length-set, length-replicate}
-use Rattle.std.proofs.lemmas.List.Elements.{recursion_from_All}
-use Rattle.bb_memory_traits.specs.Chunk.{Chunk, IsSound}
-use Rattle.bb_memory_pool_machine.specs.PoolLogs.{Layout, PoolLog, PoolEntry, history_of, pool_history, outcomes_of, is_taken}
-use Rattle.bb_memory_pool_machine.specs.PoolLogs.{IsCallRun, PoolCall, AreAsked, IsPoolRun}
-use Rattle.bb_memory_traits.specs.Object.{IsRun}
-use Rattle.bb_memory_traits.specs.PoolObject.{PoolGeometry, bucket_place, IsPoolGeometry, IsAt, IsHeld, IsWithin}
-use Rattle.bb_memory_traits.specs.PoolObject.{MayGive, chunk_in}
-use Rattle.bb_memory_pool_machine.specs.PoolMachine.{PoolScene, PoolState, PoolMove, IsFlag, IsTaken, pool_step}
-use Rattle.bb_memory_pool_machine.specs.PoolMachine.{pool_after, opening_state, left_by, Flag, Free, HeldBy, DetachedBy}
-use Rattle.bb_memory_pool_machine.specs.PoolMachine.{PoolStep, PoolOutcome}
 use Rattle.bb_memory_lists.proofs.SliceGets.{replicated-figure, slice_get-same, slice_get-set_apart, slice_get-set_at}
 use Rattle.bb_memory_pool_machine.proofs.PoolFlags.{taken_within}
+use Rattle.bb_memory_pool_machine.proofs.PoolSteps.{StepKind, attaches, attaches_from, detaches, gives, gives_detached, kind_of, takes, takes_at}
+use Rattle.bb_memory_pool_machine.specs.PoolLogs.{AreAsked, IsCallRun, IsPoolRun, Layout, PoolCall, PoolEntry, PoolLog, history_of, is_taken, outcomes_of, pool_history}
+use Rattle.bb_memory_pool_machine.specs.PoolMachine.{DetachedBy, Flag, Free, HeldBy, IsFlag, IsTaken, PoolMove, PoolOutcome, PoolScene, PoolState, PoolStep, left_by, opening_state, pool_after, pool_step}
 use Rattle.bb_memory_traits.proofs.PoolGeometries.{bucket_place-apart}
-use Rattle.bb_memory_traits.proofs.PoolLists.{AreInBuckets, AreInBuckets-empty, AreInBuckets-push, AreInBuckets-remove}
-use Rattle.bb_memory_traits.proofs.PoolLists.{sound_from_buckets, count_at, count_at-push_same, count_at-push_other}
-use Rattle.bb_memory_traits.proofs.PoolLists.{count_at-remove_same, count_at-remove_other, at_from_count, count_from_at}
-use Rattle.bb_memory_pool_machine.proofs.PoolSteps.{StepKind, takes, takes_at, gives, kind_of, detaches, attaches, gives_detached}
+use Rattle.bb_memory_traits.proofs.PoolLists.{AreInBuckets, AreInBuckets-empty, AreInBuckets-push, AreInBuckets-remove, at_from_count, count_at, count_at-push_other, count_at-push_same, count_at-remove_other, count_at-remove_same, count_from_at, sound_from_buckets}
+use Rattle.bb_memory_traits.specs.Chunk.{Chunk, IsSound}
+use Rattle.bb_memory_traits.specs.Object.{IsRun}
+use Rattle.bb_memory_traits.specs.PoolObject.{IsAt, IsHeld, IsPoolGeometry, IsWithin, MayGive, PoolGeometry, bucket_place, chunk_in}
+use Rattle.std.proofs.Common.{Bool, List, None, Option, Some, [], ap, arith, inl, inr, length, refl, subst, suc, sym, true, zero, ℕ, ◌++◌, ◌<◌, ◌↔◌, ◌∙◌, ◌∷◌, ◌≡◌, ◌≢◌}
+use Rattle.std.proofs.lemmas.Bool.{cases_eq}
+use Rattle.std.proofs.lemmas.List.{drop-map, length-replicate, length-set}
+use Rattle.std.proofs.lemmas.List.Elements.{recursion_from_All}
+use Rattle.std.proofs.lemmas.Option.{slice_get_within}
+use Rattle.std.specs.List.{AllByRecursion}
+use Rattle.std.specs.Prelude.{drop, if◌then◌else◌, remove, slice_get, slice_set, take}
 
 -- STATES AND LISTS
 
@@ -156,6 +149,10 @@ module _ (geometry : PoolGeometry) (is : IsPoolGeometry geometry) where
   step_matches old live new layout step move (attaches party bucket idle (sender, detached)) matches call =
       subst (Matches geometry move.state.flags) (sym call)
       (flag_set old.flags live live bucket (DetachedBy sender) (HeldBy party) matches detached
+      (λ one. one) (λ b apart. refl) matches.buckets)
+  step_matches old live new layout step move (attaches_from party bucket from idle detached) matches call =
+      subst (Matches geometry move.state.flags) (sym call)
+      (flag_set old.flags live live bucket (DetachedBy from) (HeldBy party) matches detached
       (λ one. one) (λ b apart. refl) matches.buckets)
   step_matches old live new layout step move (gives_detached party bucket idle (sender, detached)) matches (i, at, released) =
       subst (Matches geometry move.state.flags) (sym released.leaves)

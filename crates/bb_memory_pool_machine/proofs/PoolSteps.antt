@@ -1,15 +1,9 @@
 -- Steps of the pool machine, by their kinds.
-use Rattle.std.proofs.Common.{◌≡◌, ◌≢◌, ℕ, ◌+◌, ◌<◌, ◌≤◌, List, [], ◌∷◌, length, refl}
-use Rattle.std.proofs.Common.{ap, ◌∙◌, Bool, true, false, Option, Some, None, inl, inr}
-use Rattle.std.specs.Prelude.{slice_get, ◌==◌, nat_lt, if◌then◌else◌, unwrap_or}
-use Rattle.std.proofs.lemmas.Bool.{eqb-true, eq-eqb, ne_eqb, ltb-true, ltb-false}
-use Rattle.std.proofs.lemmas.List.{length-set, length-replicate}
-use Rattle.bb_memory_pool_machine.specs.PoolMachine.{PoolScene, opening_state, left_by, move_of, PoolState, PoolMove, with_pass}
-use Rattle.bb_memory_pool_machine.specs.PoolMachine.{IsFlag, IsHolder, IsDetached, IsTaken, detaching, detach_flag, attaching}
-use Rattle.bb_memory_pool_machine.specs.PoolMachine.{attach_flag, attach, taking, return_of, passed, try_flag, try_next}
-use Rattle.bb_memory_pool_machine.specs.PoolMachine.{give_flag, try_at, try_one, give_detached, give_detached_flag, pool_step}
-use Rattle.bb_memory_pool_machine.specs.PoolMachine.{pool_after, Flag, Free, HeldBy, DetachedBy, PoolStep, Try, GiveBack, TryAt}
-use Rattle.bb_memory_pool_machine.specs.PoolMachine.{Detach, Attach, GiveBackDetached, Loses, RefusedAtLoss, Misses}
+use Rattle.bb_memory_pool_machine.specs.PoolMachine.{Attach, AttachFrom, Detach, DetachedBy, Flag, Free, GiveBack, GiveBackDetached, HeldBy, IsDetached, IsFlag, IsHolder, IsTaken, Loses, Misses, PoolMove, PoolScene, PoolState, PoolStep, RefusedAtLoss, Try, TryAt, attach, attach_flag, attach_from, attach_from_flag, attaching, detach_flag, detaching, give_detached, give_detached_flag, give_flag, left_by, move_of, opening_state, passed, pool_after, pool_step, return_of, taking, try_at, try_flag, try_next, try_one, with_pass}
+use Rattle.std.proofs.Common.{Bool, List, None, Option, Some, [], ap, false, inl, inr, length, refl, true, ℕ, ◌+◌, ◌<◌, ◌∙◌, ◌∷◌, ◌≡◌, ◌≢◌, ◌≤◌}
+use Rattle.std.proofs.lemmas.Bool.{eq-eqb, eqb-true, ltb-false, ltb-true, ne_eqb}
+use Rattle.std.proofs.lemmas.List.{length-replicate, length-set}
+use Rattle.std.specs.Prelude.{if◌then◌else◌, nat_lt, slice_get, unwrap_or, ◌==◌}
 
 -- the party's pass is at this bucket, or begins there
 pub record IsNext (state : PoolState) (party bucket : ℕ) : Type 0 where
@@ -42,6 +36,8 @@ pub data StepKind (state : PoolState) : PoolStep → PoolMove → Type 0 where
       StepKind state (Detach party bucket) (detaching state party bucket)
   attaches : (party bucket : ℕ) → IsIdle state party → IsDetached state bucket →
       StepKind state (Attach party bucket) (attaching state party bucket)
+  attaches_from : (party bucket from : ℕ) → IsIdle state party → IsFlag state bucket (DetachedBy from) →
+      StepKind state (AttachFrom party bucket from) (attaching state party bucket)
   gives_detached : (party bucket : ℕ) → IsIdle state party → IsDetached state bucket →
       StepKind state (GiveBackDetached party bucket) (return_of state bucket)
   passes : (step : PoolStep) → StepKind state step (passed state)
@@ -122,6 +118,24 @@ module _ (state : PoolState) (party bucket : ℕ) where
   kind_of_attach (Some None) is = kind_of_attach_flag (slice_get state.flags bucket) is refl
   kind_of_attach _ is = passes (Attach party bucket)
 
+  kind_of_attach_from_of : (sender from : ℕ) (same : Bool) → (sender == from) ≡ same → IsIdle state party →
+      IsFlag state bucket (DetachedBy sender) → StepKind state (AttachFrom party bucket from)
+      (if same then attaching state party bucket else passed state)
+  kind_of_attach_from_of sender from true test idle is =
+      attaches_from party bucket from idle (is ∙ ap (λ (s : ℕ). Some (DetachedBy s)) (eqb-true sender from test))
+  kind_of_attach_from_of sender from false test idle is = passes (AttachFrom party bucket from)
+
+  kind_of_attach_from_flag : (from : ℕ) (found : Option Flag) → IsIdle state party → slice_get state.flags bucket ≡ found →
+      StepKind state (AttachFrom party bucket from) (attach_from_flag state party bucket from found)
+  kind_of_attach_from_flag from (Some (DetachedBy sender)) idle is =
+      kind_of_attach_from_of sender from (sender == from) refl idle is
+  kind_of_attach_from_flag from _ idle is = passes (AttachFrom party bucket from)
+
+  kind_of_attach_from : (from : ℕ) (found : Option (Option ℕ)) → slice_get state.calls party ≡ found →
+      StepKind state (AttachFrom party bucket from) (attach_from state party bucket from found)
+  kind_of_attach_from from (Some None) is = kind_of_attach_from_flag from (slice_get state.flags bucket) is refl
+  kind_of_attach_from from _ is = passes (AttachFrom party bucket from)
+
   kind_of_give_detached_flag : (found : Option Flag) → IsIdle state party → slice_get state.flags bucket ≡ found →
       StepKind state (GiveBackDetached party bucket) (give_detached_flag state bucket found)
   kind_of_give_detached_flag (Some (DetachedBy sender)) idle is = gives_detached party bucket idle (sender, is)
@@ -146,6 +160,7 @@ kind_of state (GiveBack party bucket) = kind_of_give state party bucket (slice_g
 kind_of state (TryAt party bucket) = kind_of_try_at state party bucket (slice_get state.calls party) refl
 kind_of state (Detach party bucket) = kind_of_detach state party bucket (slice_get state.flags bucket) refl
 kind_of state (Attach party bucket) = kind_of_attach state party bucket (slice_get state.calls party) refl
+kind_of state (AttachFrom party bucket from) = kind_of_attach_from state party bucket from (slice_get state.calls party) refl
 kind_of state (GiveBackDetached party bucket) = kind_of_give_detached state party bucket (slice_get state.calls party) refl
 
 -- HOW MANY FLAGS THERE ARE
@@ -157,6 +172,7 @@ length-step state step move (takes_at party bucket idle free) = length-set state
 length-step state step move (gives party bucket held) = length-set state.flags bucket Free
 length-step state step move (detaches party bucket held others) = length-set state.flags bucket (DetachedBy party)
 length-step state step move (attaches party bucket idle detached) = length-set state.flags bucket (HeldBy party)
+length-step state step move (attaches_from party bucket from idle detached) = length-set state.flags bucket (HeldBy party)
 length-step state step move (gives_detached party bucket idle detached) = length-set state.flags bucket Free
 length-step state step move _ = refl
 

@@ -1,14 +1,13 @@
 -- The numbers of parties that stand in one list: where no number that was made stands there twice, they are different ones, and
 -- where the parties are as many as were made, each number stands there.
-use Rattle.std.proofs.Common.{◌≡◌, ◌≢◌, ℕ, zero, suc, ◌+◌, ◌<◌, ◌≤◌, List, [], ◌∷◌, Some, length}
-use Rattle.std.proofs.Common.{refl, ap, subst, arith, inl, inr}
-use Rattle.std.specs.Prelude.{Contains, map, slice_get}
-use Rattle.std.specs.List.{AllByRecursion}
-use Rattle.std.proofs.lemmas.Bool.{cases_eq}
-use Rattle.std.proofs.lemmas.Option.{same_Some}
-use Rattle.bb_memory_seats.specs.Seats.{HaveLogs, Numbered, times_in}
 use Rattle.bb_memory_lists.proofs.ListEntries.{HasOne, contains-behind, contains-first, one_of_figure}
 use Rattle.bb_memory_seats.proofs.Seatings.{one_apart, one_same}
+use Rattle.bb_memory_seats.specs.Seats.{HaveLogs, Numbered, times_in}
+use Rattle.std.proofs.Common.{List, Some, [], ap, arith, inl, inr, length, refl, subst, suc, zero, ℕ, ◌+◌, ◌<◌, ◌∷◌, ◌≡◌, ◌≢◌, ◌≤◌}
+use Rattle.std.proofs.lemmas.Bool.{cases_eq}
+use Rattle.std.proofs.lemmas.Option.{same_Some}
+use Rattle.std.specs.List.{AllByRecursion}
+use Rattle.std.specs.Prelude.{Contains, map, slice_get}
 
 -- ALL PARTIES IN ONE LIST
 

@@ -1,14 +1,12 @@
 -- How parties stand in the views of seats: each in one, while seats are split, joined and split, and while one party steps.
-use Rattle.std.proofs.Common.{◌≡◌, ◌≢◌, ℕ, zero, suc, ◌+◌, ◌-◌, ◌<◌, ◌≤◌, List, [], ◌∷◌, ◌++◌, length, set}
-use Rattle.std.proofs.Common.{replicate, Some, eqb, ne_eqb, eq-eqb, refl, sym, ap, ◌∙◌, subst, arith, inl, inr}
-use Rattle.std.specs.Prelude.{slice_get, slice_set}
-use Rattle.std.proofs.lemmas.Bool.{cases_eq}
-use mathlib.Core.Option.{some, some-injective, some-ne-none}
-use lib.ListN.{get_elem?}
 use Rattle.atomic_table.proofs.Lists.{at_set, at_snoc}
-use Rattle.bb_memory_lists.proofs.SliceGets.{slice_get-set_other, slice_get-set_same, slice_get-replicate}
-use Rattle.bb_memory_seats.specs.Seats.{AreSeated, HaveLogs, Numbered, View, alone, first_of, fresh_from, head_of}
-use Rattle.bb_memory_seats.specs.Seats.{numbered, one_if, others_of, seat_of, standing_for, tail_of, times_in, total}
+use Rattle.bb_memory_lists.proofs.SliceGets.{slice_get-replicate, slice_get-set_other, slice_get-set_same}
+use Rattle.bb_memory_seats.specs.Seats.{AreSeated, HaveLogs, Numbered, View, alone, first_of, fresh_from, head_of, numbered, one_if, others_of, seat_of, standing_for, tail_of, times_in, total}
+use Rattle.std.proofs.Common.{List, Some, [], ap, arith, eq-eqb, eqb, inl, inr, length, ne_eqb, refl, replicate, set, subst, suc, sym, zero, ℕ, ◌++◌, ◌+◌, ◌-◌, ◌<◌, ◌∙◌, ◌∷◌, ◌≡◌, ◌≢◌, ◌≤◌}
+use Rattle.std.proofs.lemmas.Bool.{cases_eq}
+use Rattle.std.specs.Prelude.{slice_get, slice_set}
+use lib.ListN.{get_elem?}
+use mathlib.Core.Option.{some, some-injective, some-ne-none}
 
 -- HOW OFTEN A PARTY STANDS IN VIEWS
 

@@ -2,11 +2,14 @@ mod FlagWords
 mod SharedPoolCaching
 mod SharedPoolDetached
 mod SharedPoolDetaching
-mod SharedPoolMerges
+mod SharedPoolFlagSteps
 mod SharedPoolKeeps
 pub mod SharedPoolLaws
+mod SharedPoolLeaving
 mod SharedPoolMeetings
+mod SharedPoolMerges
 mod SharedPoolNextFit
+mod SharedPoolNumbers
 mod SharedPoolParties
 mod SharedPoolPasses
 mod SharedPoolRequests

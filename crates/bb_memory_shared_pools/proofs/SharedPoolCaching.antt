@@ -1,21 +1,20 @@
 -- Lists of cached buckets, which lose their last one or get one more; what a request answers then; and what is out.
-use Rattle.std.proofs.Common.{◌≡◌, ◌≢◌, ℕ, List, [], ◌∷◌, ◌++◌, length, refl, sym, ap, ◌∙◌, subst, ⊎_elim, append_assoc, arith}
-use Rattle.std.specs.Prelude.{Contains, Ok, Err, Result, IfOk, ◌⊎◌}
+use Rattle.bb_memory_pool_machine.specs.PoolLogs.{IsHeldAfter, PoolLog}
+use Rattle.bb_memory_shared_pools.proofs.SharedPoolLaws.{held_below}
+use Rattle.bb_memory_shared_pools.proofs.SharedPoolRequests.{not_within, refused_unasked, unasked}
+use Rattle.bb_memory_shared_pools.specs.SharedPool.{IsParty, PoolParty, Serves, ServesAlone, SharedPool, TakenBucket, return_entry, taken_bucket, with_entries}
+use Rattle.bb_memory_shared_pools.specs.SharedPoolCaching.{AreAllOut, AreCached, CachingParty, IsOut, TakesCaching, returns_of}
+use Rattle.bb_memory_shared_pools.specs.SharedPoolNextFit.{MayTakeFrom, hint_of}
+use Rattle.bb_memory_traits.proofs.Measures.{bucket-inside, bucket_place-multiple}
+use Rattle.bb_memory_traits.specs.Geometry.{Admits}
+use Rattle.bb_memory_traits.specs.PoolObject.{IsWithin}
+use Rattle.bb_memory_traits.specs.declared.allocator.AllocationError.{AllocationError}
+use Rattle.bb_memory_traits.specs.declared.layout.Layout.{Layout}
+use Rattle.std.proofs.Common.{List, [], ap, append_assoc, arith, length, refl, subst, sym, ℕ, ⊎_elim, ◌++◌, ◌∙◌, ◌∷◌, ◌≡◌, ◌≢◌}
 use Rattle.std.proofs.lemmas.List.{get_or_append_left, get_or_default, get_or_push, length_push, same_from_push}
 use Rattle.std.proofs.lemmas.List.Elements.{All-push, Contains-append_left, Contains-push, Contains-push_cases}
 use Rattle.std.proofs.lemmas.List.Quantifiers.{all_pairs_push}
-use Rattle.bb_memory_traits.specs.PoolObject.{IsWithin}
-use Rattle.bb_memory_pool_machine.specs.PoolLogs.{IsHeldAfter, PoolLog}
-use Rattle.bb_memory_traits.specs.declared.layout.Layout.{Layout}
-use Rattle.bb_memory_traits.specs.declared.allocator.AllocationError.{AllocationError}
-use Rattle.bb_memory_traits.proofs.Measures.{bucket-inside, bucket_place-multiple}
-use Rattle.bb_memory_shared_pools.specs.SharedPool.{IsParty, PoolParty, Serves, ServesAlone, SharedPool, TakenBucket}
-use Rattle.bb_memory_shared_pools.specs.SharedPool.{return_entry, taken_bucket, with_entries}
-use Rattle.bb_memory_shared_pools.specs.SharedPoolCaching.{AreCached, CachingParty, IsOut, TakesCaching, returns_of}
-use Rattle.bb_memory_shared_pools.specs.SharedPoolNextFit.{MayTakeFrom, hint_of}
-use Rattle.bb_memory_shared_pools.proofs.SharedPoolLaws.{held_below}
-use Rattle.bb_memory_shared_pools.proofs.SharedPoolRequests.{not_within, refused_unasked, unasked}
-use Rattle.bb_memory_traits.specs.Geometry.{Admits}
+use Rattle.std.specs.Prelude.{Contains, Err, IfOk, IsErr, Ok, Result, ◌↔◌, ◌⊎◌}
 
 -- a token's number
 pub number_of : (pool : SharedPool) (token : TakenBucket) (bucket len : ℕ) → token ≡ taken_bucket pool bucket len →
@@ -237,6 +236,15 @@ unfolding IsOut
 last_fresh old cached before last len pool token other own is its out same =
     out.1 (has_last old.cached before last other (sym own ∙ is) (same ∙ number_of pool token last len its))
 
+-- the bucket that was cached last isn't out, so not all are
+pub last_not_all : (old : CachingParty) (cached before : List ℕ) (last : ℕ) → IsParty old.party →
+    AreCached old.party old.cached → cached ≡ old.cached → cached ≡ before ++ last ∷ [] → ¬ AreAllOut old
+unfolding IsOut
+last_not_all old cached before last is are own cut all =
+    let its = sym own ∙ cut in
+    let held = last_held old.party old.cached before last its are in
+    (all last (held_below old.party is last held)).1 (has_last old.cached before last last its refl)
+
 -- what is out stays out where another bucket is cached
 pub out_more : (old new : CachingParty) (bucket other : ℕ) → new.party ≡ old.party → new.cached ≡ old.cached ++ bucket ∷ [] →
     other ≢ bucket → IsOut old other → IsOut new other
@@ -276,6 +284,16 @@ module _ (old new : CachingParty) (layout : Layout) (none : old.cached ≡ []) (
       IfOk result (λ bucket. other ≢ bucket.number) → IsOut new other → IsOut old other
   unfolding IsOut
   found_others result serves other apart out = (serves.serves.others other apart out.0, uncached old.cached other none)
+
+  pub found_alone : (result : Result TakenBucket AllocationError) →
+      ServesAlone old.party.allocator old.party layout result new.party → old.party.allocator.scene.parties ≡ 1 →
+      IsWithin old.party.allocator.scene.geometry.bucket layout → (IsErr result ↔ AreAllOut old)
+  unfolding IsOut
+  found_alone result serves one within =
+      let held = serves.alone one within in (
+        λ refused bucket below. (held.0 refused bucket below, uncached old.cached bucket none),
+        λ out. held.1 (λ bucket below. (out bucket below).0),
+      )
 
 -- a bucket that a search took wasn't out
 pub found_fresh : (old : CachingParty) (new : PoolParty) (layout : Layout) (result : Result TakenBucket AllocationError) →

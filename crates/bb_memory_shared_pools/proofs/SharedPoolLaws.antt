@@ -1,30 +1,28 @@
 -- Histories of a party.
-use Rattle.std.proofs.Common.{◌≡◌, ◌≢◌, ℕ, zero, suc, ◌+◌, ◌<◌, ◌≤◌, Bool, true, false, List, [], ◌∷◌, ◌++◌, Some, take, sym, ◌∙◌}
-use Rattle.std.proofs.Common.{ap, subst, add-one, append_assoc, arith, inl, inr, ◌⊎◌}
-use Rattle.std.specs.Prelude.{filter, slice_get, if◌then◌else◌}
-use Rattle.std.proofs.lemmas.Bool.{cases_Bool, cases_lt, le-ltb}
-use Rattle.std.proofs.lemmas.Option.{slice_get_within}
-use Rattle.bb_memory_traits.specs.Chunk.{AreApart, Chunk}
-use Rattle.bb_memory_traits.specs.PoolObject.{PoolGeometry, IsPoolGeometry, bucket_place, IsHeld}
-use Rattle.bb_memory_pool_machine.specs.PoolMachine.{PoolScene, IsHolder, left_by}
-use Rattle.bb_memory_pool_machine.specs.PoolLogs.{PoolEntry, PoolLog, entries_by, entry_of, history_of, is_by, log_of, IsPoolRun}
-use Rattle.bb_memory_pool_machine.specs.PoolLogs.{IsRefusedAt, MissesAt, IsHeldAfter, loss_at}
-use Rattle.bb_memory_pool_machine.specs.declared.steps.pool.Flag.TheVariants.{HeldBy}
-use Rattle.bb_memory_pool_machine.specs.declared.steps.pool.PoolStep.{PoolStep}
-use Rattle.bb_memory_pool_machine.specs.declared.steps.pool.PoolStep.TheVariants.{Try, TryAt}
-use Rattle.bb_memory_pool_machine.specs.declared.steps.pool.PoolOutcome.{PoolOutcome}
-use Rattle.bb_memory_pool_machine.specs.declared.steps.pool.PoolOutcome.TheVariants.{Loses, Misses, RefusedAtLoss}
-use Rattle.bb_memory_traits.specs.declared.layout.Layout.{Layout}
-use Rattle.bb_memory_traits.proofs.PoolGeometries.{bucket_place-after, stride-above}
 use Rattle.bb_memory_pool_machine.proofs.PoolHolders.{holder_in_log, one_holder}
 use Rattle.bb_memory_pool_machine.proofs.PoolPasses.{missed_is_held, refused_found_held}
 use Rattle.bb_memory_pool_machine.proofs.PoolRuns.{taken_is_held}
 use Rattle.bb_memory_pool_machine.proofs.PoolSteps.{length-left_by}
-use Rattle.bb_memory_traits.specs.Geometry.{AreAStrideApart}
-use Rattle.bb_memory_shared_pools.specs.SharedPool.{AreInterleaved, HasFoundAllHeld, IsHistoryRun, IsParty, PoolParty, SharedPool}
-use Rattle.bb_memory_shared_pools.specs.SharedPool.{TakenBucket, chunk_of, losses, refused_pass}
-use Rattle.bb_memory_shared_pools.specs.SharedPoolNextFit.{HasMissedAll, probed, miss_at, misses, refused_search}
+use Rattle.bb_memory_pool_machine.specs.PoolLogs.{IsHeldAfter, IsPoolRun, IsRefusedAt, MissesAt, PoolEntry, PoolLog, entries_by, entry_of, history_of, is_by, log_of, loss_at}
+use Rattle.bb_memory_pool_machine.specs.PoolMachine.{IsHolder, PoolScene, left_by}
+use Rattle.bb_memory_pool_machine.specs.declared.steps.pool.Flag.TheVariants.{HeldBy}
+use Rattle.bb_memory_pool_machine.specs.declared.steps.pool.PoolOutcome.{PoolOutcome}
+use Rattle.bb_memory_pool_machine.specs.declared.steps.pool.PoolOutcome.TheVariants.{Loses, Misses, RefusedAtLoss}
+use Rattle.bb_memory_pool_machine.specs.declared.steps.pool.PoolStep.{PoolStep}
+use Rattle.bb_memory_pool_machine.specs.declared.steps.pool.PoolStep.TheVariants.{Try, TryAt}
 use Rattle.bb_memory_shared_pools.proofs.SharedPoolNextFit.{probe_at}
+use Rattle.bb_memory_shared_pools.specs.SharedPool.{HasFoundAllHeld, IsHistoryRun, IsParty, PoolParty, SharedPool, TakenBucket, chunk_of, losses, refused_pass}
+use Rattle.bb_memory_shared_pools.specs.SharedPoolMeetings.{AreInterleaved}
+use Rattle.bb_memory_shared_pools.specs.SharedPoolNextFit.{HasMissedAll, miss_at, misses, probed, refused_search}
+use Rattle.bb_memory_traits.proofs.PoolGeometries.{bucket_place-after, stride-above}
+use Rattle.bb_memory_traits.specs.Chunk.{AreApart, Chunk}
+use Rattle.bb_memory_traits.specs.Geometry.{AreAStrideApart}
+use Rattle.bb_memory_traits.specs.PoolObject.{IsHeld, IsPoolGeometry, PoolGeometry, bucket_place}
+use Rattle.bb_memory_traits.specs.declared.layout.Layout.{Layout}
+use Rattle.std.proofs.Common.{Bool, List, Some, [], add-one, ap, append_assoc, arith, false, inl, inr, subst, suc, sym, take, true, zero, ℕ, ◌++◌, ◌+◌, ◌<◌, ◌∙◌, ◌∷◌, ◌≡◌, ◌≢◌, ◌≤◌, ◌⊎◌}
+use Rattle.std.proofs.lemmas.Bool.{cases_Bool, cases_lt, le-ltb}
+use Rattle.std.proofs.lemmas.Option.{slice_get_within}
+use Rattle.std.specs.Prelude.{filter, if◌then◌else◌, slice_get}
 
 -- the party whose log holds a bucket is its holder after each list of steps that has its log
 holder_then : (scene : PoolScene) (steps : List PoolStep) (party bucket : ℕ) (log : PoolLog) → log_of scene steps party ≡ log →

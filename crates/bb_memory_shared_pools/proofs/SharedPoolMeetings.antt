@@ -1,23 +1,23 @@
 -- A load by a seat of several parties: how they agree with the flags, and what two of them have of one another.
-use Rattle.std.proofs.Common.{◌≡◌, ℕ, List, [], ◌∷◌, set, get_or, refl, sym, subst}
-use Rattle.std.proofs.lemmas.List.{set-get_or}
-use mathlib.Core.Option.{none, some}
-use lib.ListN.{get_elem?}
-use Rattle.atomic_table.specs.Table.{State, Me, keeps, step, Allows}
 use Rattle.atomic_table.proofs.Lists.{set_again}
-use Rattle.bb_memory_pool_machine.specs.PoolMachine.{PoolScene}
+use Rattle.atomic_table.specs.Table.{Allows, Me, State, keeps, step}
+use Rattle.bb_memory_pool_machine.proofs.PoolLogFacts.{interleaved_logs, logs_apart}
 use Rattle.bb_memory_pool_machine.specs.PoolLogs.{PoolLog}
-use Rattle.bb_memory_pool_machine.proofs.PoolLogFacts.{logs_apart, interleaved_logs}
-use Rattle.bb_memory_seats.specs.Seats.{numbered, standing_for}
-use Rattle.bb_memory_shared_pools.specs.SharedPoolRule.{NumberedLog, SeatView, WordsAndLogsAgree, AfterMeetingLoad, AfterMeeting}
-use Rattle.bb_memory_shared_pools.specs.SharedPoolRule.{meets}
+use Rattle.bb_memory_pool_machine.specs.PoolMachine.{PoolScene}
 use Rattle.bb_memory_seats.proofs.Seatings.{once_in, two_parties}
+use Rattle.bb_memory_seats.specs.Seats.{numbered, standing_for}
+use Rattle.bb_memory_shared_pools.specs.FlagWords.{flags_in}
+use Rattle.bb_memory_shared_pools.specs.SharedPoolRule.{AfterMeeting, AfterMeetingLoad, NumberedLog, SeatView, WordsAndLogsAgree, meets}
+use Rattle.std.proofs.Common.{List, [], get_or, refl, set, subst, sym, ℕ, ◌∷◌, ◌≡◌}
+use Rattle.std.proofs.lemmas.List.{set-get_or}
+use lib.ListN.{get_elem?}
+use mathlib.Core.Option.{none, some}
 
 -- the rule, by the view of a seat
 told_by : (scene : PoolScene) (state : State ℕ SeatView) (rule : WordsAndLogsAgree scene state) (seat : ℕ)
     (view : SeatView) → get_elem? state.views seat ≡ some view → AfterMeetingLoad scene view.parties
 told_by scene state rule seat view at = record {
-  flags = rule.flags;
+  flags = flags_in rule.marks;
   logs = rule.logs;
   agree = rule.agree;
   one_a_party = rule.one_a_party;

@@ -1,26 +1,25 @@
 -- Parties that come to one seat, and what their meeting says of their logs.
-use Rattle.std.proofs.Common.{◌≡◌, ℕ, replicate, ◌≤◌, List, [], ◌∷◌, ◌++◌, Some, length, refl, sym, ap, ◌∙◌, subst, arith, inl}
-use Rattle.std.proofs.Common.{inr, Bool, true}
-use Rattle.std.specs.Prelude.{All, Contains, map, slice_get}
-use Rattle.std.proofs.lemmas.Option.{same_Some}
-use Rattle.std.proofs.lemmas.List.{length-map, length-replicate, map-append}
-use Rattle.std.proofs.lemmas.List.Elements.{All-contains, All-from_recursion, All-nil, All-replicate}
 use Rattle.atomic_table.specs.Seated.{TableId}
 use Rattle.atomic_table.specs.Table.{Me}
-use Rattle.bb_memory_pool_machine.specs.PoolMachine.{PoolScene, PoolState, left_by}
-use Rattle.bb_memory_pool_machine.specs.declared.steps.pool.Flag.{Flag}
-use Rattle.bb_memory_pool_machine.specs.declared.steps.pool.Flag.TheVariants.{Free, HeldBy}
-use Rattle.bb_memory_pool_machine.specs.PoolLogs.{PoolLog, HasLog, IsHeldAfter, is_taken}
+use Rattle.bb_memory_lists.proofs.ListEntries.{any_contained}
 use Rattle.bb_memory_pool_machine.proofs.PoolFlags.{flag_from_taken, taken_from_flag}
 use Rattle.bb_memory_pool_machine.proofs.PoolLogFacts.{machine_flag, named_from_log, taken_is_held_whole}
 use Rattle.bb_memory_pool_machine.proofs.PoolLogSteps.{opening_agrees}
-use Rattle.bb_memory_seats.specs.Seats.{both_of, standing_for, times_in}
-use Rattle.bb_memory_shared_pools.specs.declared.shared_pool.party.Hint.{Hint}
-use Rattle.bb_memory_shared_pools.specs.SharedPool.{HaveMet, IsHeldByOne, IsSharedScene, PoolParty, SharedPool}
-use Rattle.bb_memory_shared_pools.specs.SharedPoolRule.{IsPartySeat, NumberedLog, SeatView, numbered_of, party_in}
-use Rattle.bb_memory_shared_pools.specs.SharedPoolRule.{AfterMeetingLoad}
+use Rattle.bb_memory_pool_machine.specs.PoolLogs.{HasLog, IsHeldAfter, PoolLog, is_taken}
+use Rattle.bb_memory_pool_machine.specs.PoolMachine.{PoolScene, PoolState, left_by}
+use Rattle.bb_memory_pool_machine.specs.declared.steps.pool.Flag.{Flag}
+use Rattle.bb_memory_pool_machine.specs.declared.steps.pool.Flag.TheVariants.{Free, HeldBy}
 use Rattle.bb_memory_seats.proofs.PartyNumbers.{all_there, has_number, logs_had, numbers_differ, owner}
-use Rattle.bb_memory_lists.proofs.ListEntries.{any_contained}
+use Rattle.bb_memory_seats.specs.Seats.{both_of, standing_for, times_in}
+use Rattle.bb_memory_shared_pools.specs.SharedPool.{IsSharedScene, PoolParty, SharedPool}
+use Rattle.bb_memory_shared_pools.specs.SharedPoolMeetings.{HaveMet, IsHeldByOne}
+use Rattle.bb_memory_shared_pools.specs.SharedPoolRule.{AfterMeetingLoad, IsPartySeat, NumberedLog, SeatView, numbered_of, party_in}
+use Rattle.bb_memory_shared_pools.specs.declared.shared_pool.party.Hint.{Hint}
+use Rattle.std.proofs.Common.{Bool, List, Some, [], ap, arith, inl, inr, length, refl, replicate, subst, sym, true, ℕ, ◌++◌, ◌∙◌, ◌∷◌, ◌≡◌, ◌≤◌}
+use Rattle.std.proofs.lemmas.List.{length-map, length-replicate, map-append}
+use Rattle.std.proofs.lemmas.List.Elements.{All-contains, All-from_recursion, All-nil, All-replicate}
+use Rattle.std.proofs.lemmas.Option.{same_Some}
+use Rattle.std.specs.Prelude.{All, Contains, map, slice_get}
 
 -- GATHERING
 

@@ -1,22 +1,20 @@
 -- How a search goes on: from its first probe to the step that ends it.
-use Rattle.std.proofs.Common.{◌≡◌, ℕ, zero, suc, ◌+◌, ◌-◌, ◌<◌, ◌≤◌, ◌%◌, Bool, true, false, ◌++◌, append_assoc, append-nil}
-use Rattle.std.proofs.Common.{add-one, refl, sym, ap, ◌∙◌, subst, arith, Some, None, inl, inr}
-use Rattle.std.specs.Prelude.{◌==◌, if◌then◌else◌}
-use Rattle.std.proofs.lemmas.Bool.{cases_lt}
-use Rattle.std.proofs.Math.Nat.{add-mod_left, mod-eq_of_lt}
-use borrow.Author.Count.{below_more}
 use Rattle.atomic_table.specs.Table.{Me}
-use Rattle.bb_memory_pool_machine.specs.PoolMachine.{PoolScene}
-use Rattle.bb_memory_pool_machine.specs.PoolLogs.{PoolLog, IsHeldAfter}
-use Rattle.bb_memory_seats.specs.Seats.{number_of, view_log}
-use Rattle.bb_memory_shared_pools.specs.SharedPoolNextFit.{probed, miss_at, misses, start_of, refused_search, taking_at}
-use Rattle.bb_memory_shared_pools.specs.SharedPoolNextFit.{taking_search}
-use Rattle.bb_memory_shared_pools.specs.SharedPoolRule.{IsSeatOfIdle, SeatView}
-use Rattle.bb_memory_shared_pools.specs.SharedPoolRule.{AfterMiss, AfterRefusal, AfterGain, AfterSearchWin, IsInSearch}
-use Rattle.bb_memory_shared_pools.proofs.SharedPoolRequests.{HasAsked}
 use Rattle.bb_memory_pool_machine.proofs.PoolHolders.{held_through}
-use Rattle.bb_memory_shared_pools.specs.declared.shared_pool.party.Hint.{Hint}
+use Rattle.bb_memory_pool_machine.specs.PoolLogs.{IsHeldAfter, PoolLog}
+use Rattle.bb_memory_pool_machine.specs.PoolMachine.{PoolScene}
+use Rattle.bb_memory_pool_machine.specs.declared.steps.pool.PoolOutcome.TheVariants.{Takes}
+use Rattle.bb_memory_seats.specs.Seats.{number_of, view_log}
+use Rattle.bb_memory_shared_pools.proofs.SharedPoolRequests.{HasAsked}
 use Rattle.bb_memory_shared_pools.proofs.SharedPoolTries.{held-append, hint-append, hint_through, test_below, test_not_below}
+use Rattle.bb_memory_shared_pools.specs.SharedPoolNextFit.{hint_after, miss_at, misses, probed, refused_search, start_of, taking_at, taking_search}
+use Rattle.bb_memory_shared_pools.specs.SharedPoolRule.{AfterGain, AfterMiss, AfterRefusal, AfterSearchWin, IsInSearch, IsSeatOfIdle, SeatView}
+use Rattle.bb_memory_shared_pools.specs.declared.shared_pool.party.Hint.{Hint}
+use Rattle.std.proofs.Common.{Bool, None, Some, add-one, ap, append-nil, append_assoc, arith, false, inl, inr, refl, subst, suc, sym, true, zero, ℕ, ◌%◌, ◌++◌, ◌+◌, ◌-◌, ◌<◌, ◌∙◌, ◌≡◌, ◌≤◌}
+use Rattle.std.proofs.Math.Nat.{add-mod_left, mod-eq_of_lt}
+use Rattle.std.proofs.lemmas.Bool.{cases_lt}
+use Rattle.std.specs.Prelude.{if◌then◌else◌, ◌==◌}
+use borrow.Author.Count.{below_more}
 
 -- PROBES
 
@@ -111,9 +109,9 @@ hint-misses buckets party first (suc probe) hint = hint-misses buckets party fir
     ∙ sym (hint-append hint (misses buckets party first probe) (miss_at party (probed buckets first probe)))
 
 pub hint_by_search : (buckets party first probe taken : ℕ) (hint : Hint) → probed buckets first probe ≡ taken →
-    record { bucket = taken + 1; came_back = false } ≡ hint_through hint (taking_search buckets party first probe)
-hint_by_search buckets party first probe taken hint there =
-    ap (λ (n : ℕ). record { bucket = n + 1; came_back = false }) (sym there)
+    hint_after hint (Takes taken) ≡ hint_through hint (taking_search buckets party first probe)
+hint_by_search buckets party first probe taken hint there = ap (λ (n : ℕ). hint_after hint (Takes n)) (sym there)
+    ∙ ap (λ (h : Hint). hint_after h (Takes (probed buckets first probe))) (hint-misses buckets party first probe hint)
     ∙ sym (hint-append hint (misses buckets party first probe) (taking_at party (probed buckets first probe)))
 
 -- a search that takes a bucket leaves that one held, and the others as they were

@@ -1,16 +1,16 @@
 -- From the effect of a pass or a return to the party after it.
-use Rattle.std.proofs.Common.{◌≡◌, ℕ, ◌<◌, [], ◌++◌, refl, sym, ap, ◌∙◌, subst}
-use Rattle.std.proofs.lemmas.List.Elements.{All-nil}
 use Rattle.atomic_table.specs.Seated.{TableId}
 use Rattle.atomic_table.specs.Table.{Me}
+use Rattle.bb_memory_pool_machine.specs.PoolLogs.{IsAllowed, PoolEntry, PoolLog}
 use Rattle.bb_memory_pool_machine.specs.PoolMachine.{PoolScene}
-use Rattle.bb_memory_pool_machine.specs.PoolLogs.{PoolEntry, PoolLog, IsAllowed}
 use Rattle.bb_memory_seats.specs.Seats.{alone, number_of, view_log}
-use Rattle.bb_memory_shared_pools.specs.SharedPool.{IsParty, IsSharedScene, SharedPool}
-use Rattle.bb_memory_shared_pools.specs.declared.shared_pool.party.Hint.{Hint}
-use Rattle.bb_memory_shared_pools.specs.SharedPoolNextFit.{first_hint, hint_in}
-use Rattle.bb_memory_shared_pools.specs.SharedPoolRule.{IsPartySeat, IsSeatOfIdle, SeatView, party_in, AfterCall}
 use Rattle.bb_memory_shared_pools.proofs.SharedPoolTries.{hint-append, hint_through}
+use Rattle.bb_memory_shared_pools.specs.SharedPool.{IsParty, IsSharedScene, SharedPool}
+use Rattle.bb_memory_shared_pools.specs.SharedPoolNextFit.{first_hint, hint_in}
+use Rattle.bb_memory_shared_pools.specs.SharedPoolRule.{AfterCall, IsPartySeat, IsSeatOfIdle, SeatView, party_in}
+use Rattle.bb_memory_shared_pools.specs.declared.shared_pool.party.Hint.{Hint}
+use Rattle.std.proofs.Common.{[], ap, refl, subst, sym, ℕ, ◌++◌, ◌<◌, ◌∙◌, ◌≡◌}
+use Rattle.std.proofs.lemmas.List.Elements.{All-nil}
 
 pub party_seat : (scene : PoolScene) (number : ℕ) (hint : Hint) (log : PoolLog) (me : Me ℕ SeatView) →
     IsSeatOfIdle scene number log me → number < scene.parties → IsSharedScene scene → hint ≡ hint_in scene number log →

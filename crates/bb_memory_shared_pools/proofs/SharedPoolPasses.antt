@@ -1,17 +1,16 @@
 -- How a pass goes on: from its first exchange to the step that ends it.
-use Rattle.std.proofs.Common.{◌≡◌, ℕ, ◌+◌, ◌<◌, [], ◌∷◌, ◌++◌, append_assoc, append-nil, add-one, sym, ap, ◌∙◌, subst}
-use Rattle.std.proofs.Common.{arith, Some, None}
-use borrow.Author.Count.{below_more}
 use Rattle.atomic_table.specs.Table.{Me}
+use Rattle.bb_memory_pool_machine.specs.PoolLogs.{IsHeldAfter, PoolEntry, PoolLog, entry_of, loss_at, pass_in}
 use Rattle.bb_memory_pool_machine.specs.PoolMachine.{PoolScene}
-use Rattle.bb_memory_pool_machine.specs.PoolLogs.{PoolEntry, PoolLog, entry_of, IsHeldAfter, loss_at, pass_in}
-use Rattle.bb_memory_pool_machine.specs.declared.steps.pool.PoolStep.TheVariants.{Try}
 use Rattle.bb_memory_pool_machine.specs.declared.steps.pool.PoolOutcome.TheVariants.{Takes}
+use Rattle.bb_memory_pool_machine.specs.declared.steps.pool.PoolStep.TheVariants.{Try}
 use Rattle.bb_memory_seats.specs.Seats.{number_of, view_log}
-use Rattle.bb_memory_shared_pools.specs.SharedPool.{AreAllHeldAfter, losses, refused_pass, taking_pass}
-use Rattle.bb_memory_shared_pools.specs.SharedPoolRule.{IsSeatOf, SeatView, AfterRefusal, AfterPassWin, AfterTryLoss, AfterTryWin}
 use Rattle.bb_memory_shared_pools.proofs.SharedPoolRequests.{HasAsked}
 use Rattle.bb_memory_shared_pools.proofs.SharedPoolTries.{held-taking, idle_after_refusal, idle_after_taking, same_held}
+use Rattle.bb_memory_shared_pools.specs.SharedPool.{AreAllHeldAfter, losses, refused_pass, taking_pass}
+use Rattle.bb_memory_shared_pools.specs.SharedPoolRule.{AfterPassWin, AfterRefusal, AfterTryLoss, AfterTryWin, IsSeatOf, SeatView}
+use Rattle.std.proofs.Common.{None, Some, [], add-one, ap, append-nil, append_assoc, arith, subst, sym, ℕ, ◌++◌, ◌+◌, ◌<◌, ◌∙◌, ◌∷◌, ◌≡◌}
+use borrow.Author.Count.{below_more}
 
 -- a pass under way: since it began, the seat's party has lost at the buckets below this one
 pub record IsPassing (scene : PoolScene) (number : ℕ) (log : PoolLog) (bucket : ℕ) (me : Me ℕ SeatView) : Type 0 where

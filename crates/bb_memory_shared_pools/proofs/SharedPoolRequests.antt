@@ -1,28 +1,25 @@
 -- A party whose request's tries have ended, whichever buckets they tried.
-use Rattle.std.proofs.Common.{◌≡◌, ◌≢◌, ℕ, ◌<◌, ◌≤◌, ◌++◌, Bool, true, false, refl, sym, ap, ◌∙◌, subst, arith, Option, Some}
-use Rattle.std.proofs.Common.{None}
-use Rattle.std.specs.Prelude.{MatchOption, Ok, Err, ◌==◌, ◌%◌, if◌then◌else◌}
-use Rattle.std.proofs.lemmas.Bool.Decides.{nat_tests}
 use Rattle.atomic_table.specs.Seated.{TableId}
 use Rattle.atomic_table.specs.Table.{Me}
-use Rattle.bb_memory_traits.specs.Chunk.{IsInside}
-use Rattle.bb_memory_traits.specs.PoolObject.{IsPoolGeometry, IsWithin}
-use Rattle.bb_memory_pool_machine.specs.PoolMachine.{PoolScene}
-use Rattle.bb_memory_pool_machine.specs.PoolLogs.{PoolLog, IsHeldAfter}
-use Rattle.bb_memory_traits.specs.declared.layout.Layout.{Layout}
-use Rattle.bb_memory_traits.specs.declared.allocator.AllocationError.{AllocationError}
-use Rattle.bb_memory_traits.specs.declared.allocator.AllocationError.TheVariants.{SizeIsZero, SizeTooLarge, AlignmentFailure}
-use Rattle.bb_memory_traits.specs.declared.allocator.AllocationError.TheVariants.{OutOfMemory}
-use Rattle.bb_memory_traits.specs.Geometry.{Admits}
 use Rattle.bb_memory_pool_machine.proofs.PoolHolders.{held_through}
 use Rattle.bb_memory_pool_machine.proofs.PoolSteps.{test_apart}
+use Rattle.bb_memory_pool_machine.specs.PoolLogs.{IsHeldAfter, PoolLog}
+use Rattle.bb_memory_pool_machine.specs.PoolMachine.{PoolScene}
 use Rattle.bb_memory_seats.specs.Seats.{number_of, view_log}
-use Rattle.bb_memory_traits.proofs.Measures.{bucket-inside, bucket_place-multiple}
-use Rattle.bb_memory_shared_pools.specs.declared.shared_pool.party.Hint.{Hint}
-use Rattle.bb_memory_shared_pools.specs.SharedPool.{AreAllHeldAfter, IsParty, MayRefuse, PoolParty, ServesAlone, SharedPool}
-use Rattle.bb_memory_shared_pools.specs.SharedPool.{chunk_of, taken_bucket}
-use Rattle.bb_memory_shared_pools.specs.SharedPoolRule.{IsPartySeat, SeatView, party_in, pool_in, AfterCall}
 use Rattle.bb_memory_shared_pools.proofs.SharedPoolParties.{is_party}
+use Rattle.bb_memory_shared_pools.specs.SharedPool.{AreAllHeldAfter, IsParty, MayRefuse, PoolParty, ServesAlone, SharedPool, chunk_of, taken_bucket}
+use Rattle.bb_memory_shared_pools.specs.SharedPoolRule.{AfterCall, IsPartySeat, SeatView, party_in, pool_in}
+use Rattle.bb_memory_shared_pools.specs.declared.shared_pool.party.Hint.{Hint}
+use Rattle.bb_memory_traits.proofs.Measures.{bucket-inside, bucket_place-multiple}
+use Rattle.bb_memory_traits.specs.Chunk.{IsInside}
+use Rattle.bb_memory_traits.specs.Geometry.{Admits}
+use Rattle.bb_memory_traits.specs.PoolObject.{IsPoolGeometry, IsWithin}
+use Rattle.bb_memory_traits.specs.declared.allocator.AllocationError.{AllocationError}
+use Rattle.bb_memory_traits.specs.declared.allocator.AllocationError.TheVariants.{AlignmentFailure, OutOfMemory, SizeIsZero, SizeTooLarge}
+use Rattle.bb_memory_traits.specs.declared.layout.Layout.{Layout}
+use Rattle.std.proofs.Common.{Bool, None, Option, Some, ap, arith, false, refl, subst, sym, true, ℕ, ◌++◌, ◌<◌, ◌∙◌, ◌≡◌, ◌≢◌, ◌≤◌}
+use Rattle.std.proofs.lemmas.Bool.Decides.{nat_tests}
+use Rattle.std.specs.Prelude.{Err, MatchOption, Ok, if◌then◌else◌, ◌%◌, ◌==◌}
 
 -- whether a bucket is held behind tries that took this one, or none
 abbrev pub held_with : Option ℕ → ℕ → Bool → Bool

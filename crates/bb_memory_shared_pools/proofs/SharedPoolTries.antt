@@ -1,15 +1,14 @@
 -- Logs after a pass, after a step of an idle party, and after a return.
-use Rattle.std.proofs.Common.{◌≡◌, ℕ, zero, suc, ◌+◌, ◌<◌, ◌≤◌, Bool, true, false, [], ◌∷◌, ◌++◌, refl, sym, ap, ◌∙◌, arith}
-use Rattle.std.proofs.Common.{Option, None}
-use Rattle.std.specs.Prelude.{fold, nat_lt, ◌==◌, if◌then◌else◌}
-use Rattle.std.proofs.lemmas.Bool.Decides.{nat_tests}
-use Rattle.bb_memory_pool_machine.specs.PoolLogs.{PoolEntry, PoolLog, entry_of, held_after, pass_after, pass_in, loss_at}
-use Rattle.bb_memory_pool_machine.specs.declared.steps.pool.PoolStep.TheVariants.{Try}
-use Rattle.bb_memory_pool_machine.specs.declared.steps.pool.PoolOutcome.TheVariants.{Takes, Loses, RefusedAtLoss}
 use Rattle.bb_memory_pool_machine.proofs.PoolHolders.{held_through}
-use Rattle.bb_memory_shared_pools.specs.declared.shared_pool.party.Hint.{Hint}
+use Rattle.bb_memory_pool_machine.specs.PoolLogs.{PoolEntry, PoolLog, entry_of, held_after, loss_at, pass_after, pass_in}
+use Rattle.bb_memory_pool_machine.specs.declared.steps.pool.PoolOutcome.TheVariants.{Loses, RefusedAtLoss, Takes}
+use Rattle.bb_memory_pool_machine.specs.declared.steps.pool.PoolStep.TheVariants.{Try}
+use Rattle.bb_memory_shared_pools.specs.SharedPool.{losses, refused_pass, taking_pass}
 use Rattle.bb_memory_shared_pools.specs.SharedPoolNextFit.{hint_after}
-use Rattle.bb_memory_shared_pools.specs.SharedPool.{losses, taking_pass, refused_pass}
+use Rattle.bb_memory_shared_pools.specs.declared.shared_pool.party.Hint.{Hint}
+use Rattle.std.proofs.Common.{Bool, None, Option, [], ap, arith, false, refl, suc, sym, true, zero, ℕ, ◌++◌, ◌+◌, ◌<◌, ◌∙◌, ◌∷◌, ◌≡◌, ◌≤◌}
+use Rattle.std.proofs.lemmas.Bool.Decides.{nat_tests}
+use Rattle.std.specs.Prelude.{fold, if◌then◌else◌, nat_lt, ◌==◌}
 
 abbrev pass_through : Option ℕ → PoolLog → Option ℕ
 pass_through pass log = fold (λ pass entry. pass_after pass entry.outcome) pass log
@@ -58,9 +57,9 @@ hint-losses buckets party (suc lost) hint =
     ∙ hint-loss lost before (nat_lt (lost + 1) buckets))
 
 pub hint-taking : (buckets party taken : ℕ) (hint : Hint) →
-    record { bucket = taken + 1; came_back = false } ≡ hint_through hint (taking_pass buckets party taken)
-hint-taking buckets party taken hint =
-    sym (hint-append hint (losses buckets party taken) (entry_of (Try party) (Takes taken) ∷ []))
+    hint_after hint (Takes taken) ≡ hint_through hint (taking_pass buckets party taken)
+hint-taking buckets party taken hint = ap (λ (h : Hint). hint_after h (Takes taken)) (hint-losses buckets party taken hint)
+    ∙ sym (hint-append hint (losses buckets party taken) (entry_of (Try party) (Takes taken) ∷ []))
 
 -- so a log holds what it held before them
 pub same_held : (buckets party lost bucket : ℕ) (log : PoolLog) →

@@ -1,31 +1,28 @@
 -- All parties of a pool, when they have met.
-use Rattle.std.proofs.Common.{◌≡◌, ◌≢◌, ℕ, zero, suc, ◌≤◌, ◌+◌, ◌<◌, List, [], ◌∷◌, length, refl, sym, ap, ◌∙◌, subst, arith}
-use Rattle.std.proofs.Common.{Some, true}
-use Rattle.std.specs.Prelude.{◌↔◌, Any, Contains, map, nat_lt, slice_get, Bool, false, if◌then◌else◌}
-use Rattle.std.specs.List.{All}
-use Rattle.std.proofs.lemmas.Option.{slice_get_within}
-use Rattle.std.proofs.lemmas.List.Elements.{All-append, All-cons, All-contains, All-contains_itself, All-nil, All-weaker}
-use Rattle.bb_memory_traits.specs.Chunk.{Chunk}
-use Rattle.bb_memory_traits.specs.PoolObject.{IsHeld}
-use Rattle.bb_memory_pool_machine.specs.PoolMachine.{IsDetached, PoolScene, left_by, opening_state, pool_step}
-use Rattle.bb_memory_pool_machine.specs.declared.steps.pool.Flag.{Flag}
-use Rattle.bb_memory_pool_machine.specs.PoolLogs.{IsPoolRun, PoolEntry, PoolLog, entry_of, history_of, is_by, log_of}
-use Rattle.bb_memory_pool_machine.specs.PoolLogs.{pool_history, AllAllowed, HasLog, IsHeldAfter, is_taken, loss_at}
-use Rattle.bb_memory_traits.specs.declared.layout.Layout.{Layout}
-use Rattle.bb_memory_pool_machine.specs.declared.steps.pool.PoolStep.{PoolStep}
-use Rattle.bb_memory_pool_machine.specs.declared.steps.pool.PoolStep.TheVariants.{Try, GiveBack, TryAt, Detach, Attach}
-use Rattle.bb_memory_pool_machine.specs.declared.steps.pool.PoolStep.TheVariants.{GiveBackDetached}
-use Rattle.bb_memory_pool_machine.specs.declared.steps.pool.PoolOutcome.{PoolOutcome}
-use Rattle.bb_memory_pool_machine.specs.declared.steps.pool.PoolOutcome.TheVariants.{Loses, RefusedAtLoss, Detaches}
+use Rattle.bb_memory_lists.proofs.ListEntries.{any_contained, contains-first, contains_at, stands_in_log}
+use Rattle.bb_memory_pool_machine.proofs.PoolDetached.{sender_detached, was_detached_before}
+use Rattle.bb_memory_pool_machine.proofs.PoolFlags.{flag_from_taken, taken_from_flag}
+use Rattle.bb_memory_pool_machine.proofs.PoolHolders.{detached_unheld}
 use Rattle.bb_memory_pool_machine.proofs.PoolLogFacts.{first_takes, logs_apart, nobody_else}
 use Rattle.bb_memory_pool_machine.proofs.PoolRuns.{taken_is_held}
-use Rattle.bb_memory_pool_machine.proofs.PoolFlags.{taken_from_flag, flag_from_taken}
-use Rattle.bb_memory_pool_machine.proofs.PoolHolders.{detached_unheld}
 use Rattle.bb_memory_pool_machine.proofs.PoolSteps.{test_same}
-use Rattle.bb_memory_pool_machine.proofs.PoolDetached.{was_detached_before}
-use Rattle.bb_memory_shared_pools.specs.SharedPool.{HasTaker, HaveMet, WasDetachedByOne, IsHeldByOne, IsHeldOrDetached}
-use Rattle.bb_memory_shared_pools.specs.SharedPool.{IsSharedScene, IsTaking, PoolParty, TookOne, losses, refused_pass}
-use Rattle.bb_memory_lists.proofs.ListEntries.{any_contained, contains-first, contains_at, stands_in_log}
+use Rattle.bb_memory_pool_machine.specs.PoolLogs.{AllAllowed, HasLog, IsHeldAfter, IsPoolRun, PoolEntry, PoolLog, WasAttachedFrom, WasDetached, entry_of, history_of, is_by, is_taken, log_of, loss_at, party_of, pool_history}
+use Rattle.bb_memory_pool_machine.specs.PoolMachine.{IsDetached, PoolScene, left_by, opening_state, pool_step}
+use Rattle.bb_memory_pool_machine.specs.declared.steps.pool.Flag.{Flag}
+use Rattle.bb_memory_pool_machine.specs.declared.steps.pool.PoolOutcome.{PoolOutcome}
+use Rattle.bb_memory_pool_machine.specs.declared.steps.pool.PoolOutcome.TheVariants.{Detaches, Loses, RefusedAtLoss}
+use Rattle.bb_memory_pool_machine.specs.declared.steps.pool.PoolStep.{PoolStep}
+use Rattle.bb_memory_pool_machine.specs.declared.steps.pool.PoolStep.TheVariants.{Try}
+use Rattle.bb_memory_shared_pools.specs.SharedPool.{IsSharedScene, PoolParty, losses, refused_pass}
+use Rattle.bb_memory_shared_pools.specs.SharedPoolMeetings.{HasTaker, HaveMet, IsHeldByOne, IsHeldOrDetached, IsTaking, TookOne, WasDetachedByOne}
+use Rattle.bb_memory_traits.specs.Chunk.{Chunk}
+use Rattle.bb_memory_traits.specs.PoolObject.{IsHeld}
+use Rattle.bb_memory_traits.specs.declared.layout.Layout.{Layout}
+use Rattle.std.proofs.Common.{List, Some, [], ap, arith, length, refl, subst, suc, sym, true, zero, ℕ, ◌+◌, ◌<◌, ◌∙◌, ◌∷◌, ◌≡◌, ◌≢◌, ◌≤◌}
+use Rattle.std.proofs.lemmas.List.Elements.{All-append, All-cons, All-contains, All-contains_itself, All-nil, All-weaker}
+use Rattle.std.proofs.lemmas.Option.{slice_get_within}
+use Rattle.std.specs.List.{All}
+use Rattle.std.specs.Prelude.{Any, Bool, Contains, false, if◌then◌else◌, map, nat_lt, slice_get, ◌↔◌}
 
 module _ (scene : PoolScene) (parties : List PoolParty) (met : HaveMet scene parties) where
   abbrev steps : List PoolStep
@@ -78,17 +75,8 @@ module _ (scene : PoolScene) (parties : List PoolParty) (met : HaveMet scene par
 
   owned : (step : PoolStep) (outcome : PoolOutcome) → length parties ≡ scene.parties →
       Contains history (entry_of step outcome) → Any (λ party. Contains party.log (entry_of step outcome)) parties
-  owned (Try party) outcome all there = numbered (entry_of (Try party) outcome) party all there (test_same party party refl)
-  owned (GiveBack party bucket) outcome all there =
-      numbered (entry_of (GiveBack party bucket) outcome) party all there (test_same party party refl)
-  owned (TryAt party bucket) outcome all there =
-      numbered (entry_of (TryAt party bucket) outcome) party all there (test_same party party refl)
-  owned (Detach party bucket) outcome all there =
-      numbered (entry_of (Detach party bucket) outcome) party all there (test_same party party refl)
-  owned (Attach party bucket) outcome all there =
-      numbered (entry_of (Attach party bucket) outcome) party all there (test_same party party refl)
-  owned (GiveBackDetached party bucket) outcome all there =
-      numbered (entry_of (GiveBackDetached party bucket) outcome) party all there (test_same party party refl)
+  owned step outcome all there =
+      numbered (entry_of step outcome) (party_of step) all there (test_same (party_of step) (party_of step) refl)
 
   -- each step is in the log of one that met
   pub met_nobody_else : length parties ≡ scene.parties → All (λ entry. Any (λ party. Contains party.log entry) parties) history
@@ -118,6 +106,17 @@ module _ (scene : PoolScene) (parties : List PoolParty) (met : HaveMet scene par
         any_contained (λ (entry : PoolEntry). entry.outcome ≡ Detaches bucket) one.1.log step.1
             one.4 step.4,
       )
+
+  log_there : (party : PoolParty) → Contains parties party → log_of scene steps party.number ≡ party.log
+  log_there party = All-contains (λ (p : PoolParty). log_of scene steps p.number ≡ p.log) parties party met_logged
+
+  -- one of them attached a bucket from another one only if this one detached it
+  pub met_sent : (receiver sender : PoolParty) (bucket : ℕ) → Contains parties receiver → Contains parties sender →
+      WasAttachedFrom receiver.log bucket sender.number → WasDetached sender.log bucket
+  met_sent receiver sender bucket there sender_there attached =
+      subst (λ (l : PoolLog). WasDetached l bucket) (log_there sender sender_there)
+      (sender_detached scene steps receiver.number bucket sender.number
+      (subst (λ (l : PoolLog). WasAttachedFrom l bucket sender.number) (sym (log_there receiver there)) attached))
 
 -- WHO TOOK A BUCKET
 

@@ -1,25 +1,27 @@
--- Parties of a shared pool that cache buckets: which they cache for their next requests, and which are out.
-use Rattle.std.specs.Prelude.{◌≡◌, ◌≢◌, ◌<◌, ◌≤◌, ℕ, List, [], ◌∷◌, ◌++◌, All, AllPairs, Contains, Err, IfErr, IfOk, Ok, Result}
-use Rattle.std.specs.Prelude.{length}
+-- Parties of a shared pool that cache buckets: which buckets they cache for their next requests, and which are out.
+use Rattle.bb_memory_pool_machine.specs.PoolLogs.{IsHeldAfter, PoolLog}
+use Rattle.bb_memory_shared_pools.specs.SharedPool.{HasAttachedFrom, PoolParty, Serves, ServesAlone, TakenBucket, attach_from_entry, return_entry, taken_bucket, with_entries}
+use Rattle.bb_memory_shared_pools.specs.SharedPoolNextFit.{MayTakeFrom, hint_of}
 use Rattle.bb_memory_traits.specs.PoolObject.{IsWithin}
-use Rattle.bb_memory_pool_machine.specs.PoolLogs.{PoolLog, IsHeldAfter}
-use Rattle.bb_memory_traits.specs.declared.layout.Layout.{Layout}
 use Rattle.bb_memory_traits.specs.declared.allocator.AllocationError.{AllocationError}
 use Rattle.bb_memory_traits.specs.declared.allocator.AllocationError.TheVariants.{OutOfMemory}
-use Rattle.bb_memory_shared_pools.specs.SharedPool.{PoolParty, Serves, ServesAlone, TakenBucket, return_entry, taken_bucket}
-use Rattle.bb_memory_shared_pools.specs.SharedPool.{with_entries}
-use Rattle.bb_memory_shared_pools.specs.SharedPoolNextFit.{MayTakeFrom, hint_of}
+use Rattle.bb_memory_traits.specs.declared.layout.Layout.{Layout}
+use Rattle.std.specs.Prelude.{All, AllPairs, Contains, Err, IfErr, IfOk, IsErr, List, Ok, Result, [], length, ℕ, ◌++◌, ◌<◌, ◌↔◌, ◌∷◌, ◌≡◌, ◌≢◌, ◌≤◌}
 
--- A caching party: the pool's party, the numbers of the buckets that it caches, and how many it caches at most. The bucket that
--- was cached last has the last number.
+-- A caching party: the pool's party, the numbers of the buckets that it caches, in the order in which it cached them, and how
+-- many it caches at most.
 pub record CachingParty : Type 0 where
   pub party : PoolParty
   pub cached : List ℕ
   pub most : ℕ
 
--- a bucket that is out: the party holds the bucket, and doesn't cache it
+-- the bucket is out: the party holds the bucket, and doesn't cache it
 unfoldable pub IsOut : CachingParty → ℕ → Type 0
 IsOut caching bucket = IsHeldAfter caching.party.log bucket × (¬ Contains caching.cached bucket)
+
+-- each bucket of the party's pool is out
+abbrev pub AreAllOut : CachingParty → Type 0
+AreAllOut caching = (bucket : ℕ) → bucket < caching.party.allocator.scene.geometry.buckets → IsOut caching bucket
 
 -- the party holds each of these buckets, and no two are the same
 pub record AreCached (party : PoolParty) (cached : List ℕ) : Type 0 where
@@ -33,14 +35,14 @@ pub record SearchesPool (old : CachingParty) (layout : Layout) (result : Result 
   pub serves : ServesAlone old.party.allocator old.party layout result new.party
   pub unchanged : new ≡ record old { party = new.party }
 
--- a refused request: none is cached where the search found none
+-- a refused request: a search of the pool refused it, and if with OutOfMemory, no bucket was cached
 pub record RefusesCaching (old : CachingParty) (layout : Layout) (error : AllocationError) (new : CachingParty) : Type 0 where
   pub answer : MayTakeFrom (hint_of old.party) old.party layout (Err error) new.party
   pub unchanged : new ≡ record old { party = new.party }
   pub none_cached : error ≡ OutOfMemory → old.cached ≡ []
 
--- A request takes the bucket that was cached last, without a step. Where none is cached, it searches the pool from the party's
--- hint on, and is answered what the search found, or why it took none.
+-- A request takes the bucket that was cached last, without a step. If none is cached, it searches the pool from the party's hint
+-- on, and its answer is that of the search.
 pub record TakesCaching (old : CachingParty) (layout : Layout) (result : Result TakenBucket AllocationError) (new : CachingParty)
     : Type 0 where
   pub cached : (before : List ℕ) (last : ℕ) → IsWithin old.party.allocator.scene.geometry.bucket layout
@@ -50,8 +52,9 @@ pub record TakesCaching (old : CachingParty) (layout : Layout) (result : Result 
   pub refused : IfErr result (λ error. RefusesCaching old layout error new)
   pub within : IfOk result (λ bucket. IsWithin old.party.allocator.scene.geometry.bucket layout)
 
--- All that a caching party promises of a request. The bucket that it takes is out then, and wasn't before; each other bucket is
--- out where it was.
+-- All promises of a caching party's request. The bucket that it takes is out then, and wasn't before; each other bucket is out if
+-- it was before. In a pool with one party, a request within the bucket's size and alignment is refused exactly if each bucket is
+-- out.
 pub record ServesCaching (old : CachingParty) (layout : Layout) (result : Result TakenBucket AllocationError) (new : CachingParty)
     : Type 0 where
   pub answer : TakesCaching old layout result new
@@ -60,16 +63,28 @@ pub record ServesCaching (old : CachingParty) (layout : Layout) (result : Result
   pub fresh : IfOk result (λ bucket. (other : ℕ) → IsOut old other → other ≢ bucket.number)
   pub others_kept : (other : ℕ) → IsOut old other → IsOut new other
   pub others : (other : ℕ) → IfOk result (λ bucket. other ≢ bucket.number) → IsOut new other → IsOut old other
+  pub alone : old.party.allocator.scene.parties ≡ 1 → IsWithin old.party.allocator.scene.geometry.bucket layout →
+      (IsErr result ↔ AreAllOut old)
   pub party : new.party.allocator ≡ old.party.allocator
   pub most : new.most ≡ old.most
 
--- a return: the bucket is cached while fewer than the most are, and else goes back to the pool by one step
+-- a return: the bucket is cached if the party caches fewer than it may, and otherwise goes back to the pool by one step
 pub record ReturnsCaching (old : CachingParty) (number : ℕ) (new : CachingParty) : Type 0 where
   pub cached : length old.cached < old.most → new ≡ record old { cached = old.cached ++ number ∷ [] }
   pub returned : old.most ≤ length old.cached
       → new ≡ record old { party = with_entries old.party (return_entry old.party.number number) }
 
--- the returns of these buckets, one by one, from the last to the first
+-- The party has attached the bucket of this number from the party `from`, as its log says. The bucket is out then, and wasn't
+-- before; each other bucket is out if it was before.
+pub record AttachesCaching (old : CachingParty) (number from : ℕ) (new : CachingParty) : Type 0 where
+  pub logged : new ≡ record old { party = with_entries old.party (attach_from_entry old.party.number number from) }
+  pub party : HasAttachedFrom old.party.allocator old.party number from new.party
+  pub attached : IsOut new number
+  pub not_out : ¬ IsOut old number
+  pub others_kept : (other : ℕ) → IsOut old other → IsOut new other
+  pub others : (other : ℕ) → other ≢ number → IsOut new other → IsOut old other
+
+-- the party's returns of these buckets, from the last to the first
 abbrev pub returns_of : ℕ → List ℕ → PoolLog
 returns_of party [] = []
 returns_of party (bucket ∷ others) = returns_of party others ++ return_entry party bucket

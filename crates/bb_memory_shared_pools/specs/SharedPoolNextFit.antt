@@ -1,17 +1,15 @@
 -- Next fit: requests of a shared pool's party that probe each bucket from the party's hint on, what they add to the party's log,
 -- and what they may be answered.
-use Rattle.std.specs.Prelude.{◌≡◌, ℕ, zero, suc, ◌+◌, ◌*◌, ◌/◌, ◌%◌, ◌<◌, nat_lt, if◌then◌else◌, [], ◌∷◌, ◌++◌, Result, take}
-use Rattle.std.specs.Prelude.{Err, Ok, fold, true, false, ◌&&◌}
+use Rattle.bb_memory_pool_machine.specs.PoolLogs.{IsHeldInRun, MissesAt, PoolLog, entries_by, entry_of, history_of}
 use Rattle.bb_memory_pool_machine.specs.PoolMachine.{PoolScene}
-use Rattle.bb_memory_pool_machine.specs.PoolLogs.{PoolLog, entries_by, entry_of, history_of, IsHeldInRun, MissesAt}
-use Rattle.bb_memory_traits.specs.declared.layout.Layout.{Layout}
-use Rattle.bb_memory_traits.specs.declared.allocator.AllocationError.{AllocationError}
-use Rattle.bb_memory_pool_machine.specs.declared.steps.pool.PoolStep.TheVariants.{TryAt}
 use Rattle.bb_memory_pool_machine.specs.declared.steps.pool.PoolOutcome.{PoolOutcome}
-use Rattle.bb_memory_pool_machine.specs.declared.steps.pool.PoolOutcome.TheVariants.{Takes, Misses, Gives}
+use Rattle.bb_memory_pool_machine.specs.declared.steps.pool.PoolOutcome.TheVariants.{Gives, Misses, Takes}
+use Rattle.bb_memory_pool_machine.specs.declared.steps.pool.PoolStep.TheVariants.{TryAt}
+use Rattle.bb_memory_shared_pools.specs.SharedPool.{IsParty, MayRefuse, MayTakeBucket, PoolParty, TakenBucket, taken_bucket, with_entries}
 use Rattle.bb_memory_shared_pools.specs.declared.shared_pool.party.Hint.{Hint}
-use Rattle.bb_memory_shared_pools.specs.SharedPool.{IsParty, MayRefuse, MayTakeBucket, PoolParty, TakenBucket}
-use Rattle.bb_memory_shared_pools.specs.SharedPool.{taken_bucket, with_entries}
+use Rattle.bb_memory_traits.specs.declared.allocator.AllocationError.{AllocationError}
+use Rattle.bb_memory_traits.specs.declared.layout.Layout.{Layout}
+use Rattle.std.specs.Prelude.{Err, Ok, Result, [], fold, if◌then◌else◌, nat_lt, not, suc, take, zero, ℕ, ◌%◌, ◌&&◌, ◌*◌, ◌++◌, ◌+◌, ◌/◌, ◌<◌, ◌==◌, ◌||◌, ◌∷◌, ◌≡◌}
 
 -- WHERE A SEARCH BEGINS
 
@@ -19,44 +17,53 @@ use Rattle.bb_memory_shared_pools.specs.SharedPool.{taken_bucket, with_entries}
 abbrev pub part_of : PoolScene → ℕ → ℕ
 part_of scene number = number * scene.geometry.buckets / scene.parties
 
--- a hint after one more step: behind the bucket that the party took, and from its next return on at the least bucket that it
--- gave back since
+-- The rover after the taking of a bucket: at the bucket after it. The rover stays if the search began at that bucket, and not
+-- at the rover.
+abbrev pub rover_on : Hint → ℕ → ℕ
+rover_on hint bucket = if bucket == hint.bucket && not (bucket == hint.rover) then hint.rover else bucket + 1
+
+-- The rover after a return: at the bucket where the next search would have begun. The rover stays if that bucket is at most 128
+-- ahead of it.
+abbrev pub rover_back : Hint → ℕ
+rover_back hint = if nat_lt hint.bucket hint.rover || nat_lt (hint.rover + 128) hint.bucket then hint.bucket else hint.rover
+
+-- the hint after one more step: at the bucket that the party gave back, and after a taking at the rover
 abbrev pub hint_after : Hint → PoolOutcome → Hint
-hint_after hint (Takes bucket) = record { bucket = bucket + 1; came_back = false }
-hint_after hint (Gives bucket) = record {
-  bucket = if hint.came_back && nat_lt hint.bucket bucket then hint.bucket else bucket;
-  came_back = true;
-}
+hint_after hint (Takes bucket) = record { bucket = rover_on hint bucket; rover = rover_on hint bucket }
+hint_after hint (Gives bucket) = record { bucket = bucket; rover = rover_back hint }
 hint_after hint _ = hint
 
 -- the hint of a party that has made no step: the first bucket of its own part
 abbrev pub first_hint : PoolScene → ℕ → Hint
-first_hint scene number = record { bucket = part_of scene number; came_back = false }
+first_hint scene number = record { bucket = part_of scene number; rover = part_of scene number }
 
+-- the hint of the party of this number with this log
 abbrev pub hint_in : PoolScene → ℕ → PoolLog → Hint
 hint_in scene number log = fold (λ hint entry. hint_after hint entry.outcome) (first_hint scene number) log
 
--- Next fit: the bucket at which the party's next search begins
+-- the bucket at which the party's next search begins
 abbrev pub hint_of : PoolParty → ℕ
 hint_of party = (hint_in party.allocator.scene party.number party.log).bucket
 
 -- ENTRIES OF CALLS
 
+-- a step by which an idle party takes this bucket
 abbrev pub taking_at : ℕ → ℕ → PoolLog
 taking_at party bucket = entry_of (TryAt party bucket) (Takes bucket) ∷ []
 
+-- a step by which an idle party misses this bucket
 abbrev pub miss_at : ℕ → ℕ → PoolLog
 miss_at party bucket = entry_of (TryAt party bucket) (Misses bucket) ∷ []
 
--- where a search over `buckets` buckets begins: at this one, or at bucket 0 where there is none of this number
+-- where a search over `buckets` buckets begins: at bucket `first`, or at bucket 0 if there is no such bucket
 abbrev pub start_of : ℕ → ℕ → ℕ
 start_of buckets first = if nat_lt first buckets then first else 0
 
--- the bucket that a probe tries, counted from 0: behind the last bucket comes bucket 0
+-- the bucket that a probe tries, where probes are counted from 0: after the last bucket comes bucket 0
 abbrev pub probed : ℕ → ℕ → ℕ → ℕ
 probed buckets first probe = (start_of buckets first + probe) % buckets
 
--- a party's misses at the first probes of a search
+-- the party's misses at the first probes of a search
 abbrev pub misses : ℕ → ℕ → ℕ → ℕ → PoolLog
 misses buckets party first zero = []
 misses buckets party first (suc probe) = misses buckets party first probe ++ miss_at party (probed buckets first probe)
@@ -71,7 +78,7 @@ refused_search buckets party first = misses buckets party first buckets
 
 -- ANSWERS TO REQUESTS
 
--- a search of the party's took this bucket at some probe, and left the party so
+-- a search that began at `first` took this bucket at some probe, and the party is then `new`
 pub record TakesBySearch (party : PoolParty) (first bucket : ℕ) (new : PoolParty) : Type 0 where
   pub probe : ℕ
   pub before_end : probe < party.allocator.scene.geometry.buckets
@@ -79,8 +86,8 @@ pub record TakesBySearch (party : PoolParty) (first bucket : ℕ) (new : PoolPar
   pub adds : let buckets = party.allocator.scene.geometry.buckets in
       new ≡ with_entries party (taking_search buckets party.number first probe)
 
--- Answers that a request may have, by a search that begins at this bucket, which took some bucket or missed each, and the party
--- after it.
+-- A party's request may have this answer, and the party is then `new`: a search that began at `first` took some bucket, or missed
+-- each of them.
 abbrev pub MayTakeFrom : ℕ → PoolParty → Layout → Result TakenBucket AllocationError → PoolParty → Type 0
 MayTakeFrom first party layout (Ok bucket) new =
     MayTakeBucket party layout bucket.number × (bucket ≡ taken_bucket party.allocator bucket.number layout.size)
@@ -90,8 +97,8 @@ MayTakeFrom first party layout (Err error) new =
 
 -- REFUSED SEARCHES
 
--- In the party's interleaving there is this step of the search that follows these entries: at some probe of it, the party missed
--- the bucket, which was held then in the run.
+-- In the party's interleaving a search follows the entries `before`. At some probe of it the party missed the bucket, which was
+-- then held in the run.
 pub record MissesInSearch (party : PoolParty) (is : IsParty party) (before : PoolLog) (first bucket : ℕ) : Type 0 where
   pub probe : ℕ
   pub step : ℕ
@@ -101,7 +108,7 @@ pub record MissesInSearch (party : PoolParty) (is : IsParty party) (before : Poo
   pub missed : let history = history_of party.allocator.scene is.interleaved.steps in MissesAt history party.number bucket step
   pub held : IsHeldInRun party.allocator.scene (take step is.interleaved.steps) bucket
 
--- the search has found each bucket held in the run, each at a step of its own, as a miss is of one bucket
+-- The search has found each bucket held in the run, each at a step of its own, since a miss is of one bucket.
 abbrev pub HasMissedAll : (party : PoolParty) → IsParty party → PoolLog → ℕ → Type 0
 HasMissedAll party is before first = (bucket : ℕ)
     → bucket < party.allocator.scene.geometry.buckets → MissesInSearch party is before first bucket

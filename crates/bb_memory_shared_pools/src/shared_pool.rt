@@ -1,13 +1,13 @@
 //! Pools that threads share: each call takes its pool by `&`, and steps on one atomic flag for each bucket.
-ghost use Rattle.std.specs.Prelude.{◌≡◌, ◌≢◌, ◌<◌, ◌≤◌, ℕ, List, IfOk, IfErr, ◌++◌, ◌⊎◌};
-ghost use Rattle.bb_memory_traits.specs.Chunk.{region_at, AreApart, Chunk, IsSound, first_place};
-ghost use Rattle.bb_memory_traits.specs.PoolObject.{IsCut, IsHeld};
-ghost use Rattle.bb_memory_pool_machine.specs.PoolLogs.{AreAsked, IsPoolRun, PoolLog, IsHeldAfter};
-ghost use Rattle.bb_memory_traits.specs.declared.layout.Layout.{Layout};
-ghost use Rattle.bb_memory_traits.specs.Geometry.{AreAStrideApart, MayBeCut};
-ghost use Rattle.bb_memory_shared_pools.specs.SharedPool.{AreFresh, AreInterleaved, HasFoundAllHeld, IsHistoryRun};
-ghost use Rattle.bb_memory_shared_pools.specs.SharedPool.{IsParty, PoolParty, TakenBucket, chunk_of, refused_pass};
+ghost use Rattle.bb_memory_pool_machine.specs.PoolLogs.{AreAsked, IsHeldAfter, IsPoolRun, PoolLog};
+ghost use Rattle.bb_memory_shared_pools.specs.SharedPool.{AreFresh, HasFoundAllHeld, IsHistoryRun, IsParty, PoolParty, TakenBucket, chunk_of, refused_pass};
+ghost use Rattle.bb_memory_shared_pools.specs.SharedPoolMeetings.{AreInterleaved};
 ghost use Rattle.bb_memory_shared_pools.specs.SharedPoolNextFit.{HasMissedAll, refused_search};
+ghost use Rattle.bb_memory_traits.specs.Chunk.{AreApart, Chunk, IsSound, first_place, region_at};
+ghost use Rattle.bb_memory_traits.specs.Geometry.{AreAStrideApart, MayBeCut};
+ghost use Rattle.bb_memory_traits.specs.PoolObject.{IsCut, IsHeld};
+ghost use Rattle.bb_memory_traits.specs.declared.layout.Layout.{Layout};
+ghost use Rattle.std.specs.Prelude.{IfErr, IfOk, List, ℕ, ◌++◌, ◌<◌, ◌≡◌, ◌≢◌, ◌≤◌, ◌⊎◌};
 
 mod all_parties;
 mod bucket;
@@ -55,7 +55,7 @@ impl SharedPoolAllocator {
     /// Makes a pool over the region of `size` bytes at `start`, cut into buckets of this layout, with no bucket held, and its
     /// parties, numbered from 0. The start has to be greater than 0; start plus size, and the start rounded up to the bucket's
     /// alignment, at most `usize::MAX`; the bucket's size greater than 0; the buckets fewer than `u32::MAX`, and the parties at
-    /// least 1. [`PoolAllocator::can_make`](crate::pool_allocator::PoolAllocator::can_make) tests all but the parties. Its only
+    /// least 1. `PoolAllocator::can_make` of `bb_memory_owned` tests all but the parties. Its only
     /// refusal is `OutOfMemory`, where a request for memory was refused.
     pub fn new(
         alloc: Global,

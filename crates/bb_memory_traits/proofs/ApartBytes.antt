@@ -1,10 +1,10 @@
 -- The bytes of a chunk: of one that is apart from the one that is written over, and in two parts.
-use Rattle.std.proofs.Common.{arith, ◌≡◌, ℕ, ◌+◌, ◌-◌, ◌≤◌, ◌⊎◌, inl, inr, List, ◌++◌, take, drop, sym, ap, ◌∙◌, ⊎_elim}
+use Rattle.bb_memory_traits.specs.Chunk.{AreApart, Chunk, IsInside, chunk_end}
+use Rattle.bb_memory_traits.specs.HeldBytes.{ChangesOnly, HeldBytes, bytes_in, held_region}
+use Rattle.std.proofs.Common.{List, ap, arith, drop, inl, inr, sym, take, ℕ, ⊎_elim, ◌++◌, ◌+◌, ◌-◌, ◌∙◌, ◌≡◌, ◌≤◌, ◌⊎◌}
 use Rattle.std.proofs.Math.Seq.{take-add}
 use Rattle.std.proofs.lemmas.Bool.{cases_lt}
-use Rattle.std.proofs.lemmas.List.{take-take, drop-take, drop-drop, take-append-drop}
-use Rattle.bb_memory_traits.specs.Chunk.{Chunk, chunk_end, IsInside, AreApart}
-use Rattle.bb_memory_traits.specs.HeldBytes.{HeldBytes, held_region, bytes_in, ChangesOnly}
+use Rattle.std.proofs.lemmas.List.{drop-drop, drop-take, take-append-drop, take-take}
 
 -- a part that ends at or before m is a part of the first m
 part-before : (xs : List ℕ) (i n m : ℕ) → i + n ≤ m → take n (drop i xs) ≡ take n (drop i (take m xs))

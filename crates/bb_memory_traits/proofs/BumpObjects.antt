@@ -1,17 +1,15 @@
 -- Answers of the bump object, and the lists that it goes on to.
-use Rattle.std.proofs.Common.{◌≡◌, ℕ, ◌-◌, ◌≤◌, ◌%◌, List, [], ◌∷◌, ◌++◌, Result, Ok, Err, sym, ◌∙◌, ap, subst, refl, inl, inr}
-use Rattle.std.proofs.Common.{arith}
-use Rattle.std.specs.List.{All}
-use Rattle.std.proofs.lemmas.Bool.{cases_lt}
-use Rattle.bb_memory_traits.specs.Chunk.{Region, region_end, Chunk, chunk_end, IsInside, Layout, AllocationError, SizeIsZero}
-use Rattle.bb_memory_traits.specs.Chunk.{SizeTooLarge, AlignmentFailure, OutOfMemory}
-use Rattle.bb_memory_traits.specs.Object.{Step, IsRun, Command, Reply}
-use Rattle.bb_memory_traits.specs.BumpObject.{end_of_last, next_chunk, MayAllocate, bump_object, IsInOrder, StandsFor}
-use Rattle.bb_memory_traits.specs.declared.allocator.Command.TheVariants.{Allocate, Release, Grow, Shrink}
 use Rattle.bb_memory_traits.proofs.LeastPlaces.{least_place-is, least_place-multiple}
-use Rattle.bb_memory_traits.proofs.LiveLists.{all_end_by, StandsFor-push, StandsFor-empty, end_of_last-above}
+use Rattle.bb_memory_traits.proofs.LiveLists.{StandsFor-empty, StandsFor-push, all_end_by, end_of_last-above}
 use Rattle.bb_memory_traits.proofs.Runs.{IsRun-keeps}
+use Rattle.bb_memory_traits.specs.BumpObject.{IsInOrder, MayAllocate, StandsFor, bump_object, end_of_last, next_chunk}
+use Rattle.bb_memory_traits.specs.Chunk.{AlignmentFailure, AllocationError, Chunk, IsInside, Layout, OutOfMemory, Region, SizeIsZero, SizeTooLarge, chunk_end, region_end}
+use Rattle.bb_memory_traits.specs.Object.{Command, IsRun, Reply, Step}
+use Rattle.bb_memory_traits.specs.declared.allocator.Command.TheVariants.{Allocate, Grow, Release, Shrink}
 use Rattle.bb_memory_traits.specs.declared.allocator.Reply.TheVariants as reply
+use Rattle.std.proofs.Common.{Err, List, Ok, Result, [], ap, arith, inl, inr, refl, subst, sym, ℕ, ◌%◌, ◌++◌, ◌-◌, ◌∙◌, ◌∷◌, ◌≡◌, ◌≤◌}
+use Rattle.std.proofs.lemmas.Bool.{cases_lt}
+use Rattle.std.specs.List.{All}
 
 -- there is an answer to each request
 pub some_answer : (region : Region) (live : List Chunk) (layout : Layout) →

@@ -1,22 +1,19 @@
 -- Regions that are cut into buckets: how many there are, and where each one is.
-use Rattle.std.proofs.Common.{◌≡◌, ℕ, ◌+◌, ◌-◌, ◌*◌, ◌/◌, ◌%◌, ◌<◌, ◌≤◌, ◌^◌, IsTrue, w64, pow_pos, Option, Some, None, IsSome}
-use Rattle.std.proofs.Common.{refl, arith, ap, sym, subst, ◌∙◌, ◌≢◌, inl, inr, rules}
+use Rattle.bb_memory_traits.proofs.PoolGeometries.{first_place-above, room-quotient, stride-above}
+use Rattle.bb_memory_traits.proofs.PowersOfTwo.{power_of_two-from_test}
+use Rattle.bb_memory_traits.specs.Chunk.{IsRegion, Region, first_place, region_end}
+use Rattle.bb_memory_traits.specs.Geometry.{MayBeCut, Shifts}
+use Rattle.bb_memory_traits.specs.LeastPlace.{least_place}
+use Rattle.bb_memory_traits.specs.PoolObject.{FillsRegion, IsCut, IsPoolGeometry, PoolGeometry, bucket_place, pool_geometry, stride}
+use Rattle.bb_memory_traits.specs.declared.layout.Layout.{Layout}
+use Rattle.std.proofs.Common.{IsSome, IsTrue, None, Option, Some, ap, arith, inl, inr, pow_pos, refl, rules, subst, sym, w64, ℕ, ◌%◌, ◌*◌, ◌+◌, ◌-◌, ◌/◌, ◌<◌, ◌^◌, ◌∙◌, ◌≡◌, ◌≢◌, ◌≤◌}
+use Rattle.std.proofs.Math.Nat.{add-mul, div-one, le-mul_of_pos_right, mod-eq_of_lt, mod-lt, mul-div_cancel, mul-le-mul_left, mul-lt-mul_of_pos_right, mul-mod_left, mul-one, mul_assoc, mul_comm, zero-mul}
+use Rattle.std.proofs.lemmas.Bool.{cases_eq, cases_lt}
+use Rattle.std.proofs.lemmas.Nat.{le-div, le_or_r, mod-mul-add, pow-add, shr_split}
+use Rattle.std.proofs.lemmas.Nat.Bits.{bit_at-pow_other, bit_at-trailing_zeros, bit_at_or, same_from_bits}
 use Rattle.std.specs.Int.{is_power_of_two, rotate_right, trailing_zeros}
 use Rattle.std.specs.Int.Bits.{bit_or, or_zero_r}
 use Rattle.std.specs.Option.{SomeIff}
-use Rattle.std.proofs.Math.Nat.{add-mul, le-mul_of_pos_right, mod-eq_of_lt, mod-lt, mul-div_cancel, mul-le-mul_left, mul-mod_left}
-use Rattle.std.proofs.Math.Nat.{mul-lt-mul_of_pos_right, mul_assoc, mul_comm, mul-one, div-one, zero-mul}
-use Rattle.std.proofs.lemmas.Bool.{cases_eq, cases_lt}
-use Rattle.std.proofs.lemmas.Nat.{le-div, le_or_r, mod-mul-add, pow-add, shr_split}
-use Rattle.std.proofs.lemmas.Nat.Bits.{bit_at-trailing_zeros, bit_at-pow_other, bit_at_or, same_from_bits}
-use Rattle.bb_memory_traits.specs.Chunk.{Region, IsRegion, region_end, first_place}
-use Rattle.bb_memory_traits.specs.PoolObject.{PoolGeometry, pool_geometry, bucket_place, stride, FillsRegion, IsCut}
-use Rattle.bb_memory_traits.specs.PoolObject.{IsPoolGeometry}
-use Rattle.bb_memory_traits.specs.declared.layout.Layout.{Layout}
-use Rattle.bb_memory_traits.specs.LeastPlace.{least_place}
-use Rattle.bb_memory_traits.proofs.PowersOfTwo.{power_of_two-from_test}
-use Rattle.bb_memory_traits.proofs.PoolGeometries.{stride-above, first_place-above, room-quotient}
-use Rattle.bb_memory_traits.specs.Geometry.{MayBeCut, Shifts}
 
 -- STRIDES
 

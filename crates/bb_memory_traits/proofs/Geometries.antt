@@ -1,9 +1,9 @@
 -- Cuts of a region: there is one, and a pool can be over it or a part of it.
-use Rattle.std.proofs.Common.{◌≡◌, ℕ, ◌<◌, sym, ◌∙◌, ap, subst, arith}
+use Rattle.bb_memory_traits.proofs.Cuts.{cut-fills, fills-once, room-cut, room_for}
 use Rattle.bb_memory_traits.specs.Chunk.{Region}
-use Rattle.bb_memory_traits.specs.PoolObject.{PoolGeometry, pool_geometry, IsCut, IsPoolGeometry, at_most}
+use Rattle.bb_memory_traits.specs.PoolObject.{IsCut, IsPoolGeometry, PoolGeometry, at_most, pool_geometry}
 use Rattle.bb_memory_traits.specs.declared.layout.Layout.{Layout}
-use Rattle.bb_memory_traits.proofs.Cuts.{fills-once, cut-fills, room-cut, room_for}
+use Rattle.std.proofs.Common.{ap, arith, subst, sym, ℕ, ◌<◌, ◌∙◌, ◌≡◌}
 
 -- each region can be cut into buckets of at least one byte
 pub some_cut : (region : Region) (bucket : Layout) → 0 < bucket.size →

@@ -1,17 +1,16 @@
 -- Which layouts there are.
-use Rattle.std.proofs.Common.{◌≡◌, ℕ, zero, suc, ◌+◌, ◌-◌, ◌*◌, ◌/◌, ◌%◌, ◌^◌, ◌<◌, ◌≤◌, ◌↔◌, IsTrue, ◌⊎◌, arith, refl, sym, ap}
-use Rattle.std.proofs.Common.{◌∙◌, inl, inr, div-add-mod', mul-le-mul_right, pow_pos, pow_mono, pow-add, pow-suc}
+use Rattle.bb_memory_traits.proofs.LeastPlaces.{least_place-is}
+use Rattle.bb_memory_traits.proofs.PowersOfTwo.{power_of_two-from_test, power_of_two-positive, power_of_two-test}
+use Rattle.bb_memory_traits.specs.Chunk.{Layout}
+use Rattle.bb_memory_traits.specs.LeastPlace.{IsUsual, least_place}
+use Rattle.std.proofs.Common.{IsTrue, ap, arith, div-add-mod', inl, inr, mul-le-mul_right, pow-add, pow-suc, pow_mono, pow_pos, refl, suc, sym, zero, ℕ, ◌%◌, ◌*◌, ◌+◌, ◌-◌, ◌/◌, ◌<◌, ◌^◌, ◌↔◌, ◌∙◌, ◌≡◌, ◌≤◌, ◌⊎◌}
 use Rattle.std.proofs.Math.Nat.{mul_assoc}
+use Rattle.std.proofs.Props.{props}
 use Rattle.std.proofs.lemmas.Bool.{cases_lt}
 use Rattle.std.proofs.lemmas.Nat.{mod-mul-add}
-use Rattle.std.proofs.Props.{props}
 use Rattle.std.specs.Align.{IsLayout}
 use Rattle.std.specs.Int.{IsPowerOfTwo, is_power_of_two}
 use mathlib.Core.HLevel.{is_prop→PathP}
-use Rattle.bb_memory_traits.specs.LeastPlace.{least_place, IsUsual}
-use Rattle.bb_memory_traits.specs.Chunk.{Layout}
-use Rattle.bb_memory_traits.proofs.LeastPlaces.{least_place-is}
-use Rattle.bb_memory_traits.proofs.PowersOfTwo.{power_of_two-from_test, power_of_two-test, power_of_two-positive}
 
 -- a layout is a power of two, and a size that is small enough once it is rounded up to that
 pub layout-plain : (size align : ℕ) → IsLayout size align ↔ (IsPowerOfTwo align × (least_place size align < 2 ^ 63))

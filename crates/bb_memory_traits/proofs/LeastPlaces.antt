@@ -1,13 +1,12 @@
 -- The least place is what its name says, and a mask computes it.
-use Rattle.std.proofs.Common.{◌≡◌, ℕ, ◌+◌, ◌-◌, ◌*◌, ◌/◌, ◌%◌, ◌^◌, ◌<◌, ◌≤◌, bit_and, bit_or, pow_pos}
-use Rattle.std.proofs.Common.{arith, ap, sym, ◌∙◌, inl, inr, mul-le-mul_right, div-add-mod'}
+use Rattle.bb_memory_traits.proofs.PowersOfTwo.{power_of_two-clears, power_of_two-divides, power_of_two-positive}
+use Rattle.bb_memory_traits.specs.LeastPlace.{IsLeastPlace, least_place}
+use Rattle.std.proofs.Common.{ap, arith, bit_and, bit_or, div-add-mod', inl, inr, mul-le-mul_right, pow_pos, sym, ℕ, ◌%◌, ◌*◌, ◌+◌, ◌-◌, ◌/◌, ◌<◌, ◌^◌, ◌∙◌, ◌≡◌, ◌≤◌}
 use Rattle.std.proofs.Math.Nat.{add-mod_right, mod-le}
 use Rattle.std.proofs.lemmas.Bool.{cases_lt}
-use Rattle.std.proofs.lemmas.Nat.{and_mask, mod-mul-add, le-div}
+use Rattle.std.proofs.lemmas.Nat.{and_mask, le-div, mod-mul-add}
 use Rattle.std.specs.Int.{IsPowerOfTwo}
 use Rattle.std.specs.Int.Bits.{or_add_and}
-use Rattle.bb_memory_traits.specs.LeastPlace.{least_place, IsLeastPlace}
-use Rattle.bb_memory_traits.proofs.PowersOfTwo.{power_of_two-positive, power_of_two-divides, power_of_two-clears}
 
 -- a multiple stays where it is
 least_place-stays : (v align : ℕ) → 0 < align → v % align ≡ 0 → least_place v align ≡ v

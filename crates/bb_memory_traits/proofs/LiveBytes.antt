@@ -1,14 +1,13 @@
 -- The bytes of the chunks of a sound list, while one of them is written over.
-use Rattle.std.proofs.Common.{arith, ◌≡◌, ◌≢◌, ℕ, ◌+◌, zero, suc, ◌<◌, Some, List, [], ◌∷◌, ◌++◌, length, get_or, ap, ◌∙◌, subst}
-use Rattle.std.proofs.Common.{refl, sym, ⊎_elim}
-use Rattle.std.specs.Prelude.{All, map, slice_get, slice_set}
+use Rattle.bb_memory_traits.proofs.ApartBytes.{apart-kept}
+use Rattle.bb_memory_traits.specs.Chunk.{AreApart, Chunk, IsInside, IsSound, Region}
+use Rattle.bb_memory_traits.specs.HeldBytes.{ChangesOnly, HeldBytes, bytes_in, held_region}
+use Rattle.std.proofs.Common.{List, Some, [], ap, arith, get_or, length, refl, subst, suc, sym, zero, ℕ, ⊎_elim, ◌++◌, ◌+◌, ◌<◌, ◌∙◌, ◌∷◌, ◌≡◌, ◌≢◌}
 use Rattle.std.proofs.Math.Seq.{set-append_seam}
 use Rattle.std.proofs.lemmas.Bool.{cases_lt}
-use Rattle.std.proofs.lemmas.List.{map-append, length-map, get_or_append_left, get_or_push, length_push}
-use Rattle.std.proofs.lemmas.Option.{slice_get_within, slice_get-get_or, slice_get_read, get_or_from_slice_get}
-use Rattle.bb_memory_traits.specs.Chunk.{Region, Chunk, IsInside, AreApart, IsSound}
-use Rattle.bb_memory_traits.specs.HeldBytes.{HeldBytes, held_region, bytes_in, ChangesOnly}
-use Rattle.bb_memory_traits.proofs.ApartBytes.{apart-kept}
+use Rattle.std.proofs.lemmas.List.{get_or_append_left, get_or_push, length-map, length_push, map-append}
+use Rattle.std.proofs.lemmas.Option.{get_or_from_slice_get, slice_get-get_or, slice_get_read, slice_get_within}
+use Rattle.std.specs.Prelude.{All, map, slice_get, slice_set}
 
 pub inside_at : (region : Region) (live : List Chunk) (i : ℕ) (chunk : Chunk) → IsSound region live →
     slice_get live i ≡ Some chunk → IsInside region chunk

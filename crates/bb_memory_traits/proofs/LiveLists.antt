@@ -1,10 +1,10 @@
 -- Chunks in order, and the live lists that a bump stands for.
-use Rattle.std.proofs.Common.{◌≡◌, ℕ, ◌+◌, ◌-◌, ◌≤◌, List, [], ◌∷◌, ◌++◌, refl, arith, ap, sym}
-use Rattle.std.specs.List.{All, AllPairs, AllByRecursion}
+use Rattle.bb_memory_traits.specs.BumpObject.{IsInOrder, StandsFor, end_of_last}
+use Rattle.bb_memory_traits.specs.Chunk.{AreApart, Chunk, IsInside, IsSound, Region, chunk_end, region_end}
+use Rattle.std.proofs.Common.{List, [], ap, arith, refl, sym, ℕ, ◌++◌, ◌+◌, ◌-◌, ◌∷◌, ◌≡◌, ◌≤◌}
 use Rattle.std.proofs.lemmas.List.Elements.{All-from_recursion, recursion_from_All}
 use Rattle.std.proofs.lemmas.List.Kept.{AllPairs-cons}
-use Rattle.bb_memory_traits.specs.Chunk.{Region, region_end, Chunk, chunk_end, IsInside, AreApart, IsSound}
-use Rattle.bb_memory_traits.specs.BumpObject.{end_of_last, IsInOrder, StandsFor}
+use Rattle.std.specs.List.{All, AllByRecursion, AllPairs}
 
 -- chunks in order end no earlier than where they begin
 pub end_of_last-above : (v : ℕ) (live : List Chunk) → IsInOrder v live → v ≤ end_of_last v live

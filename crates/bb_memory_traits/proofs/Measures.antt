@@ -1,16 +1,15 @@
 -- The buckets of a region, as it is measured.
-use Rattle.std.proofs.Common.{◌≡◌, ℕ, suc, ◌+◌, ◌-◌, ◌*◌, ◌/◌, ◌%◌, ◌^◌, ◌<◌, ◌≤◌, Option, arith, ap, sym, ◌∙◌, inl, inr}
-use Rattle.std.proofs.Common.{div-add-mod', pow_pos, pow_mono, pow-add, pow-suc}
-use Rattle.std.specs.Int.{IsPowerOfTwo}
+use Rattle.bb_memory_traits.proofs.Layouts.{layout-plain}
+use Rattle.bb_memory_traits.proofs.PoolGeometries.{bucket_place-aligned, first_place-above, stride-above}
+use Rattle.bb_memory_traits.specs.Chunk.{Chunk, IsChunk, IsInside}
+use Rattle.bb_memory_traits.specs.Geometry.{IsMeasured, IsPlaceOfBucket}
+use Rattle.bb_memory_traits.specs.PoolObject.{IsPoolGeometry, PoolGeometry, bucket_place}
+use Rattle.bb_memory_traits.specs.declared.layout.Layout.{Layout}
+use Rattle.std.proofs.Common.{Option, ap, arith, div-add-mod', inl, inr, pow-add, pow-suc, pow_mono, pow_pos, suc, sym, ℕ, ◌%◌, ◌*◌, ◌+◌, ◌-◌, ◌/◌, ◌<◌, ◌^◌, ◌∙◌, ◌≡◌, ◌≤◌}
 use Rattle.std.proofs.Math.Nat.{mul_assoc}
 use Rattle.std.proofs.lemmas.Bool.{cases_lt}
 use Rattle.std.proofs.lemmas.Nat.{mod-mul-add}
-use Rattle.bb_memory_traits.specs.Chunk.{Chunk, IsChunk, IsInside}
-use Rattle.bb_memory_traits.specs.PoolObject.{PoolGeometry, IsPoolGeometry, bucket_place}
-use Rattle.bb_memory_traits.specs.declared.layout.Layout.{Layout}
-use Rattle.bb_memory_traits.proofs.Layouts.{layout-plain}
-use Rattle.bb_memory_traits.proofs.PoolGeometries.{bucket_place-aligned, stride-above, first_place-above}
-use Rattle.bb_memory_traits.specs.Geometry.{IsMeasured, IsPlaceOfBucket}
+use Rattle.std.specs.Int.{IsPowerOfTwo}
 
 -- the first bytes of a bucket
 abbrev pub chunk_at : PoolGeometry → ℕ → ℕ → Chunk

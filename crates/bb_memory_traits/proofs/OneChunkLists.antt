@@ -1,10 +1,10 @@
 -- Laws of the live lists that a one chunk stands for.
-use Rattle.std.specs.Prelude.{◌≡◌, ℕ, ◌≤◌, List, [], ◌∷◌, Option, Some, None, zero, suc, length, slice_get}
-use Rattle.std.proofs.Common.{arith, ap, refl, subst, ◌∙◌}
-use Rattle.std.proofs.lemmas.Option.{get_or_from_slice_get, slice_get_within}
 use Rattle.bb_memory_traits.specs.Chunk.{Chunk, IsInside}
 use Rattle.bb_memory_traits.specs.Object.{PlacesDiffer}
 use Rattle.bb_memory_traits.specs.OneChunkObject.{IsKept, OneChunk, StandsFor, reserved_at}
+use Rattle.std.proofs.Common.{ap, arith, refl, subst, ◌∙◌}
+use Rattle.std.proofs.lemmas.Option.{get_or_from_slice_get, slice_get_within}
+use Rattle.std.specs.Prelude.{List, None, Option, Some, [], length, slice_get, suc, zero, ℕ, ◌∷◌, ◌≡◌, ◌≤◌}
 
 -- a chunk at a position of the list is all of it, and has the place that is kept
 pub only_chunk : (kept : Option ℕ) (live : List Chunk) (position : ℕ) (chunk : Chunk) →

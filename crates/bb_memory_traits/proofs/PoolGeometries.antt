@@ -1,11 +1,11 @@
 -- Where the buckets of a pool are.
-use Rattle.std.proofs.Common.{◌≡◌, ◌≢◌, ℕ, ◌+◌, ◌-◌, ◌*◌, ◌/◌, ◌%◌, ◌<◌, ◌≤◌, ap, sym, ◌∙◌, arith, mul-le-mul_right}
-use Rattle.std.proofs.lemmas.Bool.{cases_lt}
-use Rattle.std.proofs.lemmas.Nat.{le-div, div-add-mod', mod-mul-add}
-use Rattle.std.proofs.Math.Nat.{mul_assoc, mul-add-mod_self_right}
-use Rattle.bb_memory_traits.specs.Chunk.{Region, region_end, Layout, first_place}
-use Rattle.bb_memory_traits.specs.PoolObject.{PoolGeometry, pool_geometry, stride, bucket_place, FillsRegion, IsPoolGeometry}
 use Rattle.bb_memory_traits.proofs.LeastPlaces.{least_place-is}
+use Rattle.bb_memory_traits.specs.Chunk.{Layout, Region, first_place, region_end}
+use Rattle.bb_memory_traits.specs.PoolObject.{FillsRegion, IsPoolGeometry, PoolGeometry, bucket_place, pool_geometry, stride}
+use Rattle.std.proofs.Common.{ap, arith, mul-le-mul_right, sym, ℕ, ◌%◌, ◌*◌, ◌+◌, ◌-◌, ◌/◌, ◌<◌, ◌∙◌, ◌≡◌, ◌≢◌, ◌≤◌}
+use Rattle.std.proofs.Math.Nat.{mul-add-mod_self_right, mul_assoc}
+use Rattle.std.proofs.lemmas.Bool.{cases_lt}
+use Rattle.std.proofs.lemmas.Nat.{div-add-mod', le-div, mod-mul-add}
 
 -- a stride is at least the bucket's size
 pub stride-above : (bucket : Layout) → bucket.size ≤ stride bucket

@@ -1,17 +1,16 @@
 -- Live lists of chunks in buckets.
-use Rattle.std.proofs.Common.{◌≡◌, ◌≢◌, ℕ, zero, suc, ◌+◌, ◌<◌, ◌≤◌, List, [], ◌∷◌, ◌++◌, length, get_or, refl, sym, ap, ◌∙◌}
-use Rattle.std.proofs.Common.{arith, inl, inr, Bool}
-use Rattle.std.specs.Prelude.{remove, All, AllPairs, ◌==◌, if◌then◌else◌}
-use Rattle.std.specs.List.{AllByRecursion}
+use Rattle.bb_memory_traits.proofs.PoolGeometries.{bucket_place-after, first_place-above, stride-above}
+use Rattle.bb_memory_traits.specs.Chunk.{AreApart, Chunk, IsInside, IsSound, Layout}
+use Rattle.bb_memory_traits.specs.Object.{PlacesDiffer}
+use Rattle.bb_memory_traits.specs.PoolObject.{IsAt, IsPoolGeometry, MayGive, PoolGeometry, bucket_place, chunk_in}
+use Rattle.std.proofs.Common.{Bool, List, [], ap, arith, get_or, inl, inr, length, refl, suc, sym, zero, ℕ, ◌++◌, ◌+◌, ◌<◌, ◌∙◌, ◌∷◌, ◌≡◌, ◌≢◌, ◌≤◌}
 use Rattle.std.proofs.lemmas.Bool.{cases_eq, cases_lt}
 use Rattle.std.proofs.lemmas.Bool.Decides.{nat_tests}
-use Rattle.std.proofs.lemmas.Option.{same_Some, slice_get-get_or}
-use Rattle.std.proofs.lemmas.List.Elements.{All-push, All-from_recursion, recursion_from_All}
+use Rattle.std.proofs.lemmas.List.Elements.{All-from_recursion, All-push, recursion_from_All}
 use Rattle.std.proofs.lemmas.List.Quantifiers.{all_pairs_push, all_pairs_remove}
-use Rattle.bb_memory_traits.specs.Chunk.{Chunk, IsInside, AreApart, Layout, IsSound}
-use Rattle.bb_memory_traits.specs.Object.{PlacesDiffer}
-use Rattle.bb_memory_traits.specs.PoolObject.{PoolGeometry, bucket_place, IsPoolGeometry, IsAt, MayGive, chunk_in}
-use Rattle.bb_memory_traits.proofs.PoolGeometries.{stride-above, first_place-above, bucket_place-after}
+use Rattle.std.proofs.lemmas.Option.{same_Some, slice_get-get_or}
+use Rattle.std.specs.List.{AllByRecursion}
+use Rattle.std.specs.Prelude.{All, AllPairs, if◌then◌else◌, remove, ◌==◌}
 
 -- CHUNKS IN BUCKETS
 

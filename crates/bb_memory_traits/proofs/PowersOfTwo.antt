@@ -1,9 +1,8 @@
 -- Powers of two, and the masks that they make.
-use Rattle.std.proofs.Common.{◌≡◌, ℕ, zero, suc, ◌+◌, ◌-◌, ◌*◌, ◌/◌, ◌%◌, ◌^◌, ◌<◌, ◌≤◌, IsTrue, count_ones, bit_and}
-use Rattle.std.proofs.Common.{arith, ap, subst, sym, ◌∙◌, inl, inr, pow_pos, pow_mono, pow-add, pow-suc, eq-eqb, eqb-true}
+use Rattle.std.proofs.Common.{IsTrue, ap, arith, bit_and, count_ones, eq-eqb, eqb-true, inl, inr, pow-add, pow-suc, pow_mono, pow_pos, subst, suc, sym, zero, ℕ, ◌%◌, ◌*◌, ◌+◌, ◌-◌, ◌/◌, ◌<◌, ◌^◌, ◌∙◌, ◌≡◌, ◌≤◌}
 use Rattle.std.proofs.lemmas.Bool.{cases_lt}
-use Rattle.std.proofs.lemmas.Nat.{zero_from_ones, ones-le, and_mask, and-not, and_comm}
-use Rattle.std.specs.Int.{is_power_of_two, IsPowerOfTwo}
+use Rattle.std.proofs.lemmas.Nat.{and-not, and_comm, and_mask, ones-le, zero_from_ones}
+use Rattle.std.specs.Int.{IsPowerOfTwo, is_power_of_two}
 use Rattle.std.specs.Int.Count.{ones_step}
 
 -- a number with one bit set is a power of two, by halves: an odd one is 1

@@ -1,10 +1,10 @@
 -- Answers to resizes of a chunk at its place: there is exactly one.
-use Rattle.std.proofs.Common.{◌≡◌, ℕ, Result, Ok, Err, refl, sym, ◌∙◌, ap, inl, inr, arith}
-use Rattle.std.proofs.lemmas.Bool.{cases_lt}
 use Rattle.bb_memory_traits.specs.Chunk.{Chunk, Layout}
 use Rattle.bb_memory_traits.specs.Object.{AllocationGrowError, AllocationShrinkError, MayGrowAt, MayShrinkAt}
 use Rattle.bb_memory_traits.specs.declared.allocator.AllocationGrowError.TheVariants as grow
 use Rattle.bb_memory_traits.specs.declared.allocator.AllocationShrinkError.TheVariants as shrink
+use Rattle.std.proofs.Common.{Err, Ok, Result, ap, arith, inl, inr, refl, sym, ℕ, ◌∙◌, ◌≡◌}
+use Rattle.std.proofs.lemmas.Bool.{cases_lt}
 
 pub some_grow : (reserved most len place : ℕ) (old new : Layout) →
     (answer : Result Chunk AllocationGrowError) × MayGrowAt reserved most len place old new answer

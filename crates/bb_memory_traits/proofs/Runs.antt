@@ -1,6 +1,6 @@
 -- Runs, one step longer, and what each step of one keeps.
-use Rattle.std.proofs.Common.{List, [], ◌∷◌, ◌++◌, refl, sym, subst}
 use Rattle.bb_memory_traits.specs.Object.{IsRun}
+use Rattle.std.proofs.Common.{List, [], refl, subst, sym, ◌++◌, ◌∷◌}
 
 -- a run goes on by one step
 pub IsRun-push : {S C R : Type 0} (step : S → C → R → S → Type 0) (old mid new : S)

@@ -1,11 +1,11 @@
 -- A region in which one chunk is written over.
-use Rattle.std.proofs.lemmas.Grind.{common_steps}
-use Rattle.std.proofs.Common.{arith, ◌≡◌, ℕ, ◌+◌, ◌≤◌, List, ◌++◌, length, take, drop, sym, ap, ◌∙◌}
-use Rattle.std.proofs.Math.Seq.{take-length, take-append_seam, drop-append_seam, drop-append-add}
-use Rattle.std.proofs.lemmas.List.{length-take-le, length-append, length-drop}
 use Rattle.bb_memory_traits.specs.Chunk.{Chunk, IsInside}
-use Rattle.bb_memory_traits.specs.HeldBytes.{HeldBytes, held_region, ChangesOnly}
+use Rattle.bb_memory_traits.specs.HeldBytes.{ChangesOnly, HeldBytes, held_region}
 use Rattle.bb_memory_traits.specs.Lending.{written}
+use Rattle.std.proofs.Common.{List, ap, arith, drop, length, sym, take, ℕ, ◌++◌, ◌+◌, ◌∙◌, ◌≡◌, ◌≤◌}
+use Rattle.std.proofs.Math.Seq.{drop-append-add, drop-append_seam, take-append_seam, take-length}
+use Rattle.std.proofs.lemmas.Grind.{common_steps}
+use Rattle.std.proofs.lemmas.List.{length-append, length-drop, length-take-le}
 
 -- a list with its part from i on written over, before it is cut to the old length
 abbrev pub over : List ℕ → ℕ → List ℕ → List ℕ

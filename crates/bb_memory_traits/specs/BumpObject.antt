@@ -1,9 +1,8 @@
 -- The bump object: chunks one after another, all given back at once.
-use Rattle.std.specs.Prelude.{◌≡◌, ℕ, ◌-◌, ◌≤◌, ◌<◌, true, List, [], ◌∷◌, Result, Ok, Err}
-use Rattle.bb_memory_traits.specs.Chunk.{Region, region_end, Chunk, chunk_end, Layout, AllocationError, SizeIsZero, SizeTooLarge}
-use Rattle.bb_memory_traits.specs.Chunk.{AlignmentFailure, OutOfMemory, IsSound}
+use Rattle.bb_memory_traits.specs.Chunk.{AlignmentFailure, AllocationError, Chunk, IsSound, Layout, OutOfMemory, Region, SizeIsZero, SizeTooLarge, chunk_end, region_end}
 use Rattle.bb_memory_traits.specs.LeastPlace.{least_place}
 use Rattle.bb_memory_traits.specs.Object.{Object, object_of}
+use Rattle.std.specs.Prelude.{Err, List, Ok, Result, [], true, ℕ, ◌-◌, ◌<◌, ◌∷◌, ◌≡◌, ◌≤◌}
 
 -- the end of the last chunk, or v where the list is empty
 abbrev pub end_of_last : ℕ → List Chunk → ℕ

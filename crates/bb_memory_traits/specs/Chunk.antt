@@ -1,12 +1,11 @@
 -- Regions, chunks and lists of live chunks. Passed on with them are layouts and the causes of a refused request.
-use Rattle.std.specs.Prelude.{ℕ, ◌+◌, ◌<◌, ◌^◌, ◌≤◌, List, All, AllPairs, ◌≡◌, ◌%◌}
 use Rattle.bb_memory_traits.specs.LeastPlace.{least_place}
 pub use Rattle.bb_memory_traits.specs.declared.allocator.AllocationError.{AllocationError}
-pub use Rattle.bb_memory_traits.specs.declared.allocator.AllocationError.TheVariants.{AlignmentFailure, OutOfMemory, SizeIsZero}
-pub use Rattle.bb_memory_traits.specs.declared.allocator.AllocationError.TheVariants.{SizeTooLarge}
+pub use Rattle.bb_memory_traits.specs.declared.allocator.AllocationError.TheVariants.{AlignmentFailure, OutOfMemory, SizeIsZero, SizeTooLarge}
 pub use Rattle.bb_memory_traits.specs.declared.layout.Layout.{Layout}
+use Rattle.std.specs.Prelude.{All, AllPairs, List, ℕ, ◌%◌, ◌+◌, ◌<◌, ◌^◌, ◌≡◌, ◌≤◌}
 
--- Regions: the memory that is handed in. All sizes, lengths and positions are in bytes, and numbers here have no
+-- Regions: the memory that an allocator is given. All sizes, lengths and positions are in bytes, and numbers here have no
 -- greatest one.
 
 -- the start of a region, and how many bytes it has
@@ -14,9 +13,11 @@ pub record Region : Type 0 where
   pub start : ℕ
   pub size : ℕ
 
+-- the region that starts here and has this many bytes
 abbrev pub region_at : ℕ → ℕ → Region
 region_at start size = record { start = start; size = size }
 
+-- the end of a region: the first number after its last byte
 abbrev pub region_end : Region → ℕ
 region_end region = region.start + region.size
 
@@ -30,6 +31,7 @@ pub record Chunk : Type 0 where
   pub place : ℕ
   pub len : ℕ
 
+-- the end of a chunk: the first number after its last one
 abbrev pub chunk_end : Chunk → ℕ
 chunk_end chunk = chunk.place + chunk.len
 
@@ -50,9 +52,11 @@ IsPart part whole = (whole.place ≤ part.place) × (chunk_end part ≤ chunk_en
 abbrev pub Overlap : Chunk → Chunk → Type 0
 Overlap one other = (n : ℕ) × Covers one n × Covers other n
 
+-- no number is in both chunks
 abbrev pub AreApart : Chunk → Chunk → Type 0
 AreApart one other = ¬ Overlap one other
 
+-- the chunk begins and ends inside the region
 pub record IsInside (region : Region) (chunk : Chunk) : Type 0 where
   pub above : region.start ≤ chunk.place
   pub below : chunk_end chunk ≤ region_end region

@@ -1,10 +1,10 @@
 -- Where the buckets of a region are, and which regions can be cut into buckets.
-use Rattle.std.specs.Prelude.{◌≡◌, ℕ, ◌-◌, ◌+◌, ◌≤◌, ◌<◌, ◌^◌, ◌⊎◌, Option, IfSome, IfNone, Result, Ok, Err}
-use Rattle.bb_memory_traits.specs.Chunk.{Region, IsRegion, first_place}
-use Rattle.bb_memory_traits.specs.PoolObject.{PoolGeometry, IsPoolGeometry, IsCut, IsWithin, at_most, bucket_place, stride}
-use Rattle.bb_memory_traits.specs.declared.layout.Layout.{Layout}
+use Rattle.bb_memory_traits.specs.Chunk.{IsRegion, Region, first_place}
+use Rattle.bb_memory_traits.specs.PoolObject.{IsCut, IsPoolGeometry, IsWithin, PoolGeometry, at_most, bucket_place, stride}
 use Rattle.bb_memory_traits.specs.declared.allocator.AllocationError.{AllocationError}
-use Rattle.bb_memory_traits.specs.declared.allocator.AllocationError.TheVariants.{SizeTooLarge, AlignmentFailure}
+use Rattle.bb_memory_traits.specs.declared.allocator.AllocationError.TheVariants.{AlignmentFailure, SizeTooLarge}
+use Rattle.bb_memory_traits.specs.declared.layout.Layout.{Layout}
+use Rattle.std.specs.Prelude.{Err, IfNone, IfSome, Ok, Option, Result, ℕ, ◌+◌, ◌-◌, ◌<◌, ◌^◌, ◌≡◌, ◌≤◌, ◌⊎◌}
 
 -- CUTS OF A REGION
 
@@ -43,6 +43,7 @@ pub record IsMeasured (geometry : PoolGeometry) (first step : ℕ) (shift : Opti
   pub strides : step ≡ stride geometry.bucket
   pub shifts : Shifts step shift
 
+-- some bucket begins at the place
 abbrev pub IsPlaceOfBucket : PoolGeometry → ℕ → Type 0
 IsPlaceOfBucket geometry place = (i : ℕ) × (i < geometry.buckets) × (place ≡ bucket_place geometry i)
 

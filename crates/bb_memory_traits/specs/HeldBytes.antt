@@ -1,22 +1,25 @@
 -- The bytes of a region.
-use Rattle.std.specs.Prelude.{ℕ, ◌≡◌, ◌+◌, ◌-◌, List, length, take, drop, slice_range, replicate, Result, IfOk, OnErr}
-use Rattle.bb_memory_traits.specs.Chunk.{Region, Chunk}
+use Rattle.bb_memory_traits.specs.Chunk.{Chunk, Region}
+use Rattle.std.specs.Prelude.{IfOk, List, OnErr, Result, drop, length, replicate, slice_range, take, ℕ, ◌+◌, ◌-◌, ◌≡◌}
 
 -- bytes from a place on
 pub record HeldBytes : Type 0 where
   pub start : ℕ
   pub bytes : List ℕ
 
+-- the region that these bytes fill
 abbrev pub held_region : HeldBytes → Region
 held_region held = record { start = held.start; size = length held.bytes }
 
--- the bytes before a chunk, its own, and those behind it
+-- the bytes before a chunk
 abbrev pub bytes_before : HeldBytes → Chunk → List ℕ
 bytes_before held chunk = take (chunk.place - held.start) held.bytes
 
+-- the bytes of a chunk
 abbrev pub bytes_in : HeldBytes → Chunk → List ℕ
 bytes_in held chunk = slice_range held.bytes (chunk.place - held.start) (chunk.place - held.start + chunk.len)
 
+-- the bytes after a chunk
 abbrev pub bytes_behind : HeldBytes → Chunk → List ℕ
 bytes_behind held chunk = drop (chunk.place - held.start + chunk.len) held.bytes
 

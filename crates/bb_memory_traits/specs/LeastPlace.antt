@@ -1,10 +1,12 @@
 -- The least place: the least multiple of an alignment that isn't below a number; and layouts whose test computes on numerals.
-use Rattle.std.specs.Prelude.{ℕ, ◌≡◌, ◌*◌, ◌≤◌, ◌⊎◌, ◌^◌}
 use Rattle.std.specs.Int.{next_multiple_of}
+use Rattle.std.specs.Prelude.{ℕ, ◌*◌, ◌^◌, ◌≡◌, ◌≤◌, ◌⊎◌}
 
+-- the least multiple of `align` that is at least `v`
 unfoldable pub least_place : ℕ → ℕ → ℕ
 least_place v align = next_multiple_of v align
 
+-- the place is a multiple of `align` and at least `v`, and no smaller multiple is
 pub record IsLeastPlace (v align place : ℕ) : Type 0 where
   pub multiple : (k : ℕ) × (place ≡ k * align)
   pub above : v ≤ place

@@ -1,9 +1,9 @@
 -- The bytes of a region after one of its chunks was lent.
-use Rattle.std.specs.Prelude.{ℕ, ◌+◌, ◌-◌, List, ◌++◌, take, drop, length}
-use Rattle.std.specs.Borrow.{Lends, MutBor, Fml, u8, Array}
 use Rattle.bb_memory_traits.specs.Chunk.{Chunk}
 use Rattle.bb_memory_traits.specs.HeldBytes.{HeldBytes, bytes_before}
 use Rattle.bb_memory_traits.specs.contracts.region.Region.{the_row}
+use Rattle.std.specs.Borrow.{Array, Fml, Lends, MutBor, u8}
+use Rattle.std.specs.Prelude.{List, drop, length, take, ℕ, ◌++◌, ◌+◌, ◌-◌}
 
 -- the bytes before the chunk, those that were written in it, and those behind it, cut to the old length, since a
 -- borrower writes as many bytes as it was lent

@@ -1,22 +1,23 @@
 -- Objects that hold live chunks and nothing else: what they may answer, what that makes of the live list, and their runs.
-use Rattle.std.specs.Prelude.{◌≡◌, ℕ, ◌<◌, Bool, true, false, List, [], ◌∷◌, ◌++◌, length, remove, Result, Ok, Err, ◌≤◌}
-use Rattle.std.specs.Prelude.{fold, Some, slice_get, ◌≢◌, ◌%◌, AllPairs, slice_set}
-use Rattle.bb_memory_traits.specs.Chunk.{Chunk, Layout, AllocationError}
-use Rattle.bb_memory_traits.specs.declared.allocator.Command.TheVariants.{Allocate, Release, Grow, Shrink}
+use Rattle.bb_memory_traits.specs.Chunk.{AllocationError, Chunk, Layout}
+pub use Rattle.bb_memory_traits.specs.declared.allocator.AllocationGrowError.{AllocationGrowError}
+use Rattle.bb_memory_traits.specs.declared.allocator.AllocationGrowError.TheVariants as grow
+pub use Rattle.bb_memory_traits.specs.declared.allocator.AllocationShrinkError.{AllocationShrinkError}
+use Rattle.bb_memory_traits.specs.declared.allocator.AllocationShrinkError.TheVariants as shrink
 pub use Rattle.bb_memory_traits.specs.declared.allocator.Command.{Command}
+use Rattle.bb_memory_traits.specs.declared.allocator.Command.TheVariants.{Allocate, Grow, Release, Shrink}
 pub use Rattle.bb_memory_traits.specs.declared.allocator.Reply.{Reply}
 use Rattle.bb_memory_traits.specs.declared.allocator.Reply.TheVariants as reply
-use Rattle.bb_memory_traits.specs.declared.allocator.AllocationGrowError.TheVariants as grow
-use Rattle.bb_memory_traits.specs.declared.allocator.AllocationShrinkError.TheVariants as shrink
-pub use Rattle.bb_memory_traits.specs.declared.allocator.AllocationGrowError.{AllocationGrowError}
-pub use Rattle.bb_memory_traits.specs.declared.allocator.AllocationShrinkError.{AllocationShrinkError}
+use Rattle.std.specs.Prelude.{AllPairs, Bool, Err, List, Ok, Result, Some, [], false, fold, length, remove, slice_get, slice_set, true, ℕ, ◌%◌, ◌++◌, ◌<◌, ◌∷◌, ◌≡◌, ◌≢◌, ◌≤◌}
 
+-- an object on live lists: which answers it may give to a request, and what a release takes out
 pub record Object : Type 1 where
   -- a release gives back all chunks at once, or one
   pub release_empties : Bool
   -- answers that the object may give to a request for a layout on a live list
   pub may_allocate : List Chunk → Layout → Result Chunk AllocationError → Type 0
 
+-- the object with these releases and these answers
 abbrev pub object_of : Bool → (List Chunk → Layout → Result Chunk AllocationError → Type 0) → Object
 object_of release_empties may_allocate = record { release_empties = release_empties; may_allocate = may_allocate }
 
@@ -85,6 +86,7 @@ abbrev pub note_after_command : {Note : Type 0} → (Layout → Note → Note) �
 note_after_command after note (Allocate layout) = after layout note
 note_after_command after note other = note
 
+-- an allocator's note after these commands, one after another
 abbrev pub note_after_run : {Note : Type 0} → (Layout → Note → Note) → Note → List Command → Note
 note_after_run after note commands = fold (note_after_command after) note commands
 
@@ -94,6 +96,7 @@ note_after_run after note commands = fold (note_after_command after) note comman
 abbrev pub PlacesDiffer : List Chunk → Type 0
 PlacesDiffer live = AllPairs (λ one other. one.place ≢ other.place) live
 
+-- an object whose chunks can be resized: which answers it may give to a resize, too
 pub record ResizableObject : Type 1 where
   pub base : Object
   -- how much is reserved for the chunk at a place, in bytes
@@ -102,6 +105,7 @@ pub record ResizableObject : Type 1 where
   pub may_grow : List Chunk → ℕ → Layout → Layout → Result Chunk AllocationGrowError → Type 0
   pub may_shrink : List Chunk → ℕ → Layout → Layout → Result Chunk AllocationShrinkError → Type 0
 
+-- the object with these answers to requests and resizes, whose release takes out one chunk
 abbrev pub resizable_object_of :
     (List Chunk → Layout → Result Chunk AllocationError → Type 0) → (ℕ → ℕ) →
     (List Chunk → ℕ → Layout → Layout → Result Chunk AllocationGrowError → Type 0) →

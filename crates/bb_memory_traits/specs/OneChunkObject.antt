@@ -1,10 +1,8 @@
 -- The one-chunk object: one chunk at a time, which is all of the region from its place on.
-use Rattle.std.specs.Prelude.{◌≡◌, ◌≢◌, ℕ, ◌+◌, ◌-◌, ◌≤◌, ◌<◌, ◌⊎◌, List, [], ◌∷◌, Option, Some, None, Result, Ok, Err}
+use Rattle.bb_memory_traits.specs.Chunk.{AlignmentFailure, AllocationError, Chunk, IsRegion, IsSound, Layout, OutOfMemory, Region, SizeIsZero, SizeTooLarge, first_place, region_at, region_end}
+use Rattle.bb_memory_traits.specs.Object.{AllocationGrowError, AllocationShrinkError, MayGrowAt, MayShrinkAt, ResizableObject, resizable_object_of}
 use Rattle.std.specs.Option.{ForSome}
-use Rattle.bb_memory_traits.specs.Chunk.{Region, region_end, Chunk, Layout, AllocationError, SizeIsZero, SizeTooLarge}
-use Rattle.bb_memory_traits.specs.Chunk.{AlignmentFailure, IsRegion, IsSound, OutOfMemory, first_place, region_at}
-use Rattle.bb_memory_traits.specs.Object.{ResizableObject, resizable_object_of, AllocationGrowError, AllocationShrinkError}
-use Rattle.bb_memory_traits.specs.Object.{MayGrowAt, MayShrinkAt}
+use Rattle.std.specs.Prelude.{Err, List, None, Ok, Option, Result, Some, [], ℕ, ◌+◌, ◌-◌, ◌<◌, ◌∷◌, ◌≡◌, ◌≢◌, ◌≤◌, ◌⊎◌}
 
 -- how much there is from a place to the region's end
 abbrev pub reserved_at : Region → ℕ → ℕ
@@ -38,6 +36,7 @@ MayAllocate region live layout (Err AlignmentFailure) = ⊥
 abbrev pub MayGrow : Region → ℕ → Layout → Layout → Result Chunk AllocationGrowError → Type 0
 MayGrow region place old = MayGrowAt (reserved_at region place) old.align (reserved_at region place) place old
 
+-- A chunk that shrinks has the new size. No resize makes the alignment greater.
 abbrev pub MayShrink : ℕ → Layout → Layout → Result Chunk AllocationShrinkError → Type 0
 MayShrink place old = MayShrinkAt old.align place old
 
@@ -53,6 +52,7 @@ pub record OneChunk : Type 0 where
   pub region : Region
   pub kept : Option ℕ
 
+-- the one chunk over the region that starts here and has this many bytes, with the place that it keeps
 abbrev pub one_chunk_of : ℕ → ℕ → Option ℕ → OneChunk
 one_chunk_of start size kept = record { region = region_at start size; kept = kept }
 
@@ -71,6 +71,7 @@ abbrev pub IsKept : Option ℕ → List Chunk → Type 0
 IsKept None live = live ≡ []
 IsKept (Some place) live = (chunk : Chunk) × (live ≡ chunk ∷ []) × (chunk.place ≡ place)
 
+-- the live list may be what the one chunk has out
 pub record StandsFor (one : OneChunk) (live : List Chunk) : Type 0 where
   pub sound : IsSound one.region live
   pub keeps : IsKept one.kept live

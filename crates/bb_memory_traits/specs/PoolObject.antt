@@ -1,10 +1,8 @@
 -- The geometry of a pool, and the pool object: chunks in buckets, each resized in its bucket and given back alone.
-use Rattle.std.specs.Prelude.{ℕ, ◌≡◌, ◌+◌, ◌*◌, ◌<◌, ◌≤◌, ◌↔◌, min, List, Some, Result, Ok, Err, slice_get}
-use Rattle.bb_memory_traits.specs.Chunk.{Region, region_end, Layout, first_place, Chunk, AllocationError, SizeIsZero}
-use Rattle.bb_memory_traits.specs.Chunk.{SizeTooLarge, AlignmentFailure, OutOfMemory}
+use Rattle.bb_memory_traits.specs.Chunk.{AlignmentFailure, AllocationError, Chunk, Layout, OutOfMemory, Region, SizeIsZero, SizeTooLarge, first_place, region_end}
 use Rattle.bb_memory_traits.specs.LeastPlace.{least_place}
-use Rattle.bb_memory_traits.specs.Object.{ResizableObject, resizable_object_of, AllocationGrowError, AllocationShrinkError}
-use Rattle.bb_memory_traits.specs.Object.{MayGrowAt, MayShrinkAt}
+use Rattle.bb_memory_traits.specs.Object.{AllocationGrowError, AllocationShrinkError, MayGrowAt, MayShrinkAt, ResizableObject, resizable_object_of}
+use Rattle.std.specs.Prelude.{Err, List, Ok, Result, Some, min, slice_get, ℕ, ◌*◌, ◌+◌, ◌<◌, ◌↔◌, ◌≡◌, ◌≤◌}
 
 -- Where the buckets of a region lie. Buckets are numbered from 0.
 
@@ -14,6 +12,7 @@ pub record PoolGeometry : Type 0 where
   pub bucket : Layout
   pub buckets : ℕ
 
+-- the geometry of this region, bucket layout and number of buckets
 abbrev pub pool_geometry : Region → Layout → ℕ → PoolGeometry
 pool_geometry region bucket buckets = record { region = region; bucket = bucket; buckets = buckets }
 
@@ -89,6 +88,7 @@ MayAllocate geometry live layout (Err SizeIsZero) = ⊥
 abbrev pub MayGrow : Layout → ℕ → Layout → Layout → Result Chunk AllocationGrowError → Type 0
 MayGrow bucket place old new = MayGrowAt bucket.size bucket.align new.size place old new
 
+-- a chunk that shrinks has exactly the new size, and no alignment is greater than the bucket's
 abbrev pub MayShrink : Layout → ℕ → Layout → Layout → Result Chunk AllocationShrinkError → Type 0
 MayShrink bucket = MayShrinkAt bucket.align
 

@@ -1,10 +1,9 @@
 //! The promises of allocators over a region, and commands to any of them.
-ghost use Rattle.std.specs.Prelude.{◌≡◌, ◌∷◌, ◌++◌, ◌≤◌, ◌%◌, ℕ, Some, [], List, Result, Ok, Bool, IfOk, OnErr, slice_get, ◌<◌};
-ghost use Rattle.std.specs.Prelude.{false, slice_set};
-ghost use Rattle.bb_memory_traits.specs.Chunk.{Region, Chunk, IsInside, Layout, AllocationError, IsSound};
-ghost use Rattle.bb_memory_traits.specs.Object.{released, PlacesDiffer, AllocationGrowError, AllocationShrinkError};
-ghost use Rattle.bb_memory_traits.specs.Request.{Requested, Grown};
-ghost use Rattle.bb_memory_traits.specs.HeldBytes.{held_region, ZeroesAnswered, part_behind};
+ghost use Rattle.bb_memory_traits.specs.Chunk.{AllocationError, Chunk, IsInside, IsSound, Layout, Region};
+ghost use Rattle.bb_memory_traits.specs.HeldBytes.{ZeroesAnswered, held_region, part_behind};
+ghost use Rattle.bb_memory_traits.specs.Object.{AllocationGrowError, AllocationShrinkError, PlacesDiffer, released};
+ghost use Rattle.bb_memory_traits.specs.Request.{Grown, Requested};
+ghost use Rattle.std.specs.Prelude.{Bool, IfOk, List, Ok, OnErr, Result, Some, [], false, slice_get, slice_set, ℕ, ◌%◌, ◌++◌, ◌<◌, ◌∷◌, ◌≡◌, ◌≤◌};
 
 use crate::layout::{Chunk, Layout};
 use crate::region::Region;
@@ -171,8 +170,16 @@ pub trait BaseAllocator {
         region: &mut Region,
     ) -> Result<Chunk, AllocationError>
         requires same_region { held_region region.old ≡ region_of (geometry self.old) }
-        ensures requested { Requested stands_for may_release geometry region_of may_allocate note
-            note_after takes self.old layout result self.new }
+        ensures requested { Requested (record {
+          stands_for = stands_for;
+          may_release = may_release;
+          geometry = geometry;
+          region_of = region_of;
+          may_allocate = may_allocate;
+          note = note;
+          note_after = note_after;
+          takes = takes;
+        }) self.old layout result self.new }
         ensures bytes { ZeroesAnswered (λ chunk. chunk) region.old region.new result }
     {
         let chunk = self.allocate(layout)?;
@@ -299,9 +306,13 @@ pub trait Allocator: BaseAllocator {
         requires live { Self.may_release self.old place }
         requires aligned { place % old.align ≡ 0 }
         requires same_region { held_region region.old ≡ Self.region_of (Self.geometry self.old) }
-        ensures grown { Grown Self.stands_for (Self.region_of (Self.geometry self.old))
-            (reserved_at (resize_key self.old) place) (may_grow (resize_key self.old)) grows
-            self.old place old new result self.new }
+        ensures grown { Grown (record {
+          stands_for = Self.stands_for;
+          region = Self.region_of (Self.geometry self.old);
+          reserved_at = reserved_at (resize_key self.old);
+          may_grow = may_grow (resize_key self.old);
+          grows = grows;
+        }) self.old place old new result self.new }
         ensures bytes { ZeroesAnswered (part_behind old.size) region.old region.new result }
     {
         let grown = self.grow(place, old, new)?;

@@ -1,9 +1,8 @@
 //! Where the buckets of a region are.
-ghost use Rattle.std.specs.Prelude.{◌≡◌, ◌≢◌, ℕ, ◌<◌, ◌≤◌, ◌/◌, ◌%◌, IfOk, IfSome, IfNone};
-ghost use Rattle.bb_memory_traits.specs.Chunk.{IsRegion, region_at, Chunk, IsInside, first_place};
-ghost use Rattle.bb_memory_traits.specs.PoolObject.{IsCut, IsPoolGeometry, bucket_place, pool_geometry, stride};
-ghost use Rattle.bb_memory_traits.specs.PoolObject.{MayGrow, MayShrink};
-ghost use Rattle.bb_memory_traits.specs.Geometry.{Admits, IsPlaceOfBucket, Shifts, TellsPlace, IsCutAtMost, MayBeCut};
+ghost use Rattle.bb_memory_traits.specs.Chunk.{Chunk, IsInside, IsRegion, first_place, region_at};
+ghost use Rattle.bb_memory_traits.specs.Geometry.{Admits, IsCutAtMost, IsPlaceOfBucket, MayBeCut, Shifts, TellsPlace};
+ghost use Rattle.bb_memory_traits.specs.PoolObject.{IsCut, IsPoolGeometry, MayGrow, MayShrink, bucket_place, pool_geometry, stride};
+ghost use Rattle.std.specs.Prelude.{IfNone, IfOk, IfSome, ℕ, ◌%◌, ◌/◌, ◌<◌, ◌≡◌, ◌≢◌, ◌≤◌};
 
 use crate::allocator::{AllocationError, AllocationGrowError, AllocationShrinkError};
 use crate::layout::{Chunk, Layout, round_up};
@@ -41,8 +40,8 @@ pub struct Geometry {
 
 impl Model for Geometry {
     ghost use Rattle.bb_memory_traits.specs.Chunk.{IsRegion, region_at};
-    ghost use Rattle.bb_memory_traits.specs.PoolObject.{PoolGeometry, pool_geometry};
     ghost use Rattle.bb_memory_traits.specs.Geometry.{IsMeasured};
+    ghost use Rattle.bb_memory_traits.specs.PoolObject.{PoolGeometry, pool_geometry};
 
     ghost Value = { PoolGeometry };
 

@@ -1,9 +1,9 @@
 //! Layouts, which are what is asked for, and chunks, which are what is given. Sizes and lengths are in bytes.
-ghost use Rattle.std.specs.Prelude.{◌≡◌, ◌^◌, ◌%◌, ◌<◌, ◌≤◌, ◌↔◌, ℕ, IsOk, IsSome, IfOk, IfSome};
+ghost use Rattle.bb_memory_traits.specs.LeastPlace.{IsLeastPlace, IsUsual, least_place};
 ghost use Rattle.std.specs.Align.{IsLayout};
 ghost use Rattle.std.specs.Int.{IsPowerOfTwo};
 ghost use Rattle.std.specs.Option.{SomeIff};
-ghost use Rattle.bb_memory_traits.specs.LeastPlace.{least_place, IsLeastPlace, IsUsual};
+ghost use Rattle.std.specs.Prelude.{IfOk, IfSome, IsOk, IsSome, ℕ, ◌%◌, ◌<◌, ◌^◌, ◌↔◌, ◌≡◌, ◌≤◌};
 
 mod chunk;
 

@@ -1,10 +1,9 @@
 //! The bytes of a region, lent chunk by chunk.
-ghost use Rattle.std.specs.Prelude.{◌≡◌, ◌≢◌, ◌+◌, ◌∷◌, ◌++◌, [], ◌<◌, ◌≤◌, ◌↔◌, ℕ, List};
-ghost use Rattle.std.specs.Prelude.{Some, IsTrue, length, map, slice_get, slice_set, vec_len};
-ghost use Rattle.std.specs.Borrow.{sem};
-ghost use Rattle.bb_memory_traits.specs.Chunk.{IsRegion, region_at, Chunk, IsInside, AreApart, IsSound};
-ghost use Rattle.bb_memory_traits.specs.HeldBytes.{HeldBytes, held_region, bytes_in, ChangesOnly, ZeroesOnly};
+ghost use Rattle.bb_memory_traits.specs.Chunk.{AreApart, Chunk, IsInside, IsRegion, IsSound, region_at};
+ghost use Rattle.bb_memory_traits.specs.HeldBytes.{ChangesOnly, HeldBytes, ZeroesOnly, bytes_in, held_region};
 ghost use Rattle.bb_memory_traits.specs.Lending.{LendsChunk, written};
+ghost use Rattle.std.specs.Borrow.{sem};
+ghost use Rattle.std.specs.Prelude.{IsTrue, List, Some, [], length, map, slice_get, slice_set, vec_len, ℕ, ◌++◌, ◌+◌, ◌<◌, ◌↔◌, ◌∷◌, ◌≡◌, ◌≢◌, ◌≤◌};
 
 use crate::layout::Chunk;
 use std::marker::Model;
@@ -19,9 +18,9 @@ pub struct Region {
 }
 
 impl Model for Region {
-    ghost use Rattle.std.specs.Prelude.{vec_len};
     ghost use Rattle.bb_memory_traits.specs.Chunk.{IsRegion, region_at};
     ghost use Rattle.bb_memory_traits.specs.HeldBytes.{HeldBytes};
+    ghost use Rattle.std.specs.Prelude.{vec_len};
 
     ghost Value = { HeldBytes };
 
@@ -123,11 +122,19 @@ impl Region {
         self.chunk_mut(c).copy_from_slice(bytes);
     }
 
-    /// Makes the bytes of a chunk zero, which has to lie inside. Every other byte stays.
+    /// Makes the bytes of a chunk zero, which has to lie inside. Every other byte stays, and so do the bytes of every chunk that is
+    /// apart from it.
     #[inline]
     pub fn zero(&mut self, c: Chunk)
         requires { IsInside (held_region self.old) c }
-        ensures { ZeroesOnly self.old self.new c }
+        ensures changes { ZeroesOnly self.old self.new c }
+        ensures apart { (other : Chunk) → IsInside (held_region self.old) other → AreApart c other
+            → bytes_in self.new other ≡ bytes_in self.old other }
+        ensures region { held_region self.new ≡ held_region self.old }
+        ensures others { (live : List Chunk) (i k : ℕ) (other : Chunk)
+            → IsSound (held_region self.old) live → slice_get live i ≡ Some c
+            → i ≢ k → slice_get live k ≡ Some other
+            → bytes_in self.new other ≡ bytes_in self.old other }
     {
         self.chunk_mut(c).fill(0);
     }

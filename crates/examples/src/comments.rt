@@ -1,11 +1,14 @@
 //! The examples that the doc comments of the libraries name. Contracts alone decide each `prove!`.
 #![tactic(auto, unfolding(bb_memory_traits::specs::LeastPlace::least_place))]
 
-ghost use Rattle.std.specs.Prelude.{◌≡◌, ◌<◌, ◌≤◌, ℕ, []};
 ghost use Rattle.bb_memory.specs.Chunk.{region_at};
 ghost use Rattle.bb_memory.specs.Geometry.{IsCutAtMost, MayBeCut};
 ghost use Rattle.bb_memory.specs.OneChunk.{StandsFor};
+ghost use Rattle.bb_memory.specs.PoolLogs.{IsHeldAfter};
 ghost use Rattle.bb_memory.specs.PoolObject.{IsCut, PoolGeometry};
+ghost use Rattle.bb_memory.specs.SharedPoolLeaving.{GivesAllBack, HoldsSome};
+ghost use Rattle.bb_memory.specs.SharedPoolMeetings.{AreBothOf};
+ghost use Rattle.std.specs.Prelude.{IfOk, [], ℕ, ◌<◌, ◌≡◌, ◌≤◌};
 
 use super::bump::forty_eight;
 use bb_memory::allocator::{
@@ -18,7 +21,7 @@ use bb_memory::one_chunk_allocator::OneChunkAllocator;
 use bb_memory::pool_allocator::{FixedSizePoolAllocator, PoolAllocator, pool_count_law};
 use bb_memory::region::Region;
 use bb_memory::shared_pool::{
-    CachingParty, PoolParty, SharedFixedSizePoolAllocator, SharedPoolAllocator, by_number,
+    Bucket, CachingParty, PoolParty, SharedFixedSizePoolAllocator, SharedPoolAllocator, by_number,
 };
 use bb_memory::steps::{BumpOutcome, BumpStep, BumpWorld, PoolOutcome, PoolStep, PoolWorld};
 use loan_book::{LoanBook, LoanError};
@@ -95,7 +98,7 @@ pub fn one_chunk_held() -> Result<(), AllocationError> {
 }
 
 /// A bucket of 128 bytes at multiples of 8. The region of 1024 bytes at 4096 has room for eight.
-fn bucket_128() -> Layout
+pub(super) fn bucket_128() -> Layout
     ensures cut { MayBeCut (region_at 4096 1024) result }
     ensures eight { (geometry : PoolGeometry) → IsCut (region_at 4096 1024) result geometry
         → geometry.buckets ≡ 8 }
@@ -168,6 +171,32 @@ pub fn shared_pool(alloc: Global) -> Result<(), AllocationError> {
     Ok(())
 }
 
+/// Gives back a bucket that a caller holds, and takes another one. The caller has to show what `deallocate_bucket` asks for.
+pub fn shared_pool_exchanged<'p>(
+    pool: &'p SharedPoolAllocator,
+    party: &mut PoolParty,
+    bucket: Bucket<'p>,
+) -> Result<Bucket<'p>, AllocationError>
+    requires party { party.old.allocator ≡ pool.now }
+    requires bucket { bucket.allocator ≡ pool.now }
+    requires held { IsHeldAfter party.old.log bucket.number }
+    ensures held { IfOk result (λ taken. IsHeldAfter party.new.log taken.number) }
+{
+    pool.deallocate_bucket(party, bucket);
+    pool.allocate_next_fit(party, forty_eight())
+}
+
+/// Two parties meet, and one of them gives back all that it holds.
+pub fn shared_pool_left(pool: &SharedPoolAllocator, party: &mut PoolParty, other: &mut PoolParty)
+    requires { AreBothOf pool.now party.old other.old }
+    ensures returned { GivesAllBack party.old party.new }
+    ensures idle { ¬ HoldsSome party.new }
+{
+    pool.meet(party, other);
+    prove!(party.number() != other.number());
+    pool.give_all_back(party);
+}
+
 pub fn shared_pool_by_number(
     pool: &SharedPoolAllocator,
     party: &mut PoolParty,
@@ -196,6 +225,26 @@ pub fn shared_pool_detached(
     prove!(received.number() == number && received.chunk().len() == len && len == 48);
     pool.deallocate_bucket(receiver, received);
     Ok(())
+}
+
+pub fn shared_pool_sent_by_number(
+    pool: &SharedPoolAllocator,
+    sender: &mut PoolParty,
+    receiver: &mut PoolParty,
+) -> Result<bool, AllocationError>
+    requires { (1 < pool.now.scene.parties) × (sender.old.allocator ≡ pool.now)
+        × (receiver.old.allocator ≡ pool.now) }
+{
+    let taken = pool.allocate(sender, forty_eight())?;
+    let from = sender.number();
+    let number = pool.detach_number(sender, taken);
+    let won = pool.attach_number(receiver, number, from);
+    if won {
+        let received = by_number::bucket(pool, receiver, number, 48);
+        prove!(received.number() == number && received.chunk().len() == 48);
+        pool.deallocate_bucket(receiver, received);
+    }
+    Ok(won)
 }
 
 pub fn shared_pool_holder(

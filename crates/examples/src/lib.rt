@@ -1,7 +1,7 @@
 //! Examples of the documents, proved: straight-line calls with literals. Contracts alone decide each `prove!`, and this crate has
 //! no proof files.
 //!
-//! The modules: `first`, `bump`, `one_chunk` and `pools`, and `comments`, the examples of the libraries' comments.
+//! The modules: `first`, `bump`, `one_chunk`, `pools` and `tenants_and_vectors`, and `comments`, the examples of the libraries' comments.
 #![tactic(auto)]
 
 pub mod bump;
@@ -9,3 +9,4 @@ pub mod comments;
 pub mod first;
 pub mod one_chunk;
 pub mod pools;
+pub mod tenants_and_vectors;

@@ -1,10 +1,13 @@
 //! The pools with one owner.
 
-ghost use Rattle.std.specs.Prelude.{◌≢◌, IfOk};
 ghost use Rattle.bb_memory.specs.Pool.{HoldsPlace};
+ghost use Rattle.std.specs.Prelude.{IfOk, ◌≢◌};
 
 use bb_memory::layout::{Chunk, Layout};
-use bb_memory::pool_allocator::{AllocationError, BaseAllocator, FixedSizePoolAllocator};
+use bb_memory::pool_allocator::{
+    AllocationError, BaseAllocator, FixedSizePoolAllocator, PoolAllocator,
+};
+use std::alloc::Global;
 
 /// A pool over a region that is known at run time alone.
 pub fn tested(bucket: Layout, start: usize, size: usize) -> Option<FixedSizePoolAllocator<16>> {
@@ -61,6 +64,32 @@ pub fn held_counted(
     prove!(pool.held_buckets() - before == 1);
     pool.deallocate(chunk.place(), layout);
     prove!(pool.held_buckets() == before);
+    Ok(())
+}
+
+/// A return by the place of the bucket leaves one held bucket less.
+pub fn counted_by_bucket(
+    pool: &mut PoolAllocator<Global>,
+    layout: Layout,
+) -> Result<(), AllocationError> {
+    let before = pool.held_buckets();
+    let chunk = pool.allocate(layout)?;
+    pool.deallocate_bucket(chunk.place());
+    prove!(pool.held_buckets() == before);
+    Ok(())
+}
+
+/// A return of one bucket leaves each other place free at which no bucket was held.
+pub fn free_stays_free(
+    pool: &mut PoolAllocator<Global>,
+    layout: Layout,
+    place: usize,
+) -> Result<(), AllocationError> {
+    let chunk = pool.allocate(layout)?;
+    let before = pool.holds(place);
+    pool.deallocate_bucket(chunk.place());
+    let after = pool.holds(place);
+    prove!(before || !after);
     Ok(())
 }
 

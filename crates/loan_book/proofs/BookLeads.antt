@@ -1,14 +1,13 @@
 -- The change that a call makes of a book, and what each change keeps.
-use Rattle.std.proofs.Common.{◌≡◌, ℕ, ◌-◌, ◌<◌, refl, sym, subst, arith, None}
 use Rattle.bb_memory_traits.specs.Chunk.{Chunk}
-use Rattle.loan_book.specs.declared.error.LoanError.TheVariants.{Size, IdsExhausted, Memory, Allocation}
-use Rattle.loan_book.specs.declared.error.LoanError.TheVariants.{UnknownSample, AlreadyPublished, NoReaders}
-use Rattle.loan_book.specs.Calls.{LoanCall, LoanReply, Answers, with_sample, with_returns, without, BookStep, id_of}
-use Rattle.loan_book.specs.Book.{Sample, returns_to_come, Book, IsBook, IsAt, IsOut}
-use Rattle.loan_book.proofs.Books.{IsBook-push, IsBook-set, IsBook-remove}
-use Rattle.std.proofs.lemmas.Option.{slice_get_within}
+use Rattle.loan_book.proofs.Books.{IsBook-push, IsBook-remove, IsBook-set}
+use Rattle.loan_book.specs.Book.{Book, IsAt, IsBook, IsOut, Sample, returns_to_come}
+use Rattle.loan_book.specs.Calls.{Answers, BookStep, LoanCall, LoanReply, id_of, with_returns, with_sample, without}
+use Rattle.loan_book.specs.declared.error.LoanError.TheVariants.{Allocation, AlreadyPublished, IdsExhausted, Memory, NoReaders, Size, UnknownSample}
 use Rattle.loan_book.specs.declared.run.LoanCall.TheVariants as call
 use Rattle.loan_book.specs.declared.run.LoanReply.TheVariants as reply
+use Rattle.std.proofs.Common.{None, arith, refl, subst, sym, ℕ, ◌-◌, ◌<◌, ◌≡◌}
+use Rattle.std.proofs.lemmas.Option.{slice_get_within}
 
 -- a call that gives back a sample that is out
 abbrev pub Returns : Book → LoanCall → Type 0

@@ -1,20 +1,17 @@
 -- One sample that is out, after a run of calls, and one that a call of the run loans or publishes.
-use Rattle.std.proofs.Common.{◌≡◌, ◌≢◌, ℕ, zero, suc, ◌+◌, ◌-◌, ◌<◌, Bool, true, false, cond, List, [], ◌∷◌, drop, slice_get}
-use Rattle.std.proofs.Common.{refl, ap, sym, ◌∙◌, subst, arith, Option, None, Some}
-use Rattle.std.specs.Prelude.{◌↔◌}
-use Rattle.std.proofs.lemmas.Bool.Decides.{nat_tests}
-use Rattle.std.proofs.lemmas.List.Sums.{sum_by-cons}
 use Rattle.bb_memory_traits.specs.Chunk.{Chunk}
 use Rattle.bb_memory_traits.specs.Object.{IsRun}
-use Rattle.loan_book.specs.Calls.{LoanCall, LoanReply, Answers, with_returns, without, BookStep, is_return_of, returns_in}
-use Rattle.loan_book.specs.Calls.{is_publish_of, publishes_in}
-use Rattle.loan_book.specs.Book.{returns_to_come, Book, IsBook, IsAt, IsOut, HasReturns, IsUnpublished}
+use Rattle.loan_book.proofs.BookLeads.{Change, change_of, last_one, no_change, one_less, one_loan, one_publish, step-sound}
+use Rattle.loan_book.proofs.BookSteps.{HasOrIsGone, one_returns, own-push, own-remove, own-set, push-keeps, remove-keeps, set-keeps}
 use Rattle.loan_book.proofs.Books.{sample-waits}
-use Rattle.loan_book.proofs.BookLeads.{Change, no_change, one_loan, one_publish, one_less, last_one, change_of, step-sound}
-use Rattle.loan_book.proofs.BookSteps.{HasOrIsGone, push-keeps, set-keeps, own-set, own-push, own-remove, remove-keeps}
-use Rattle.loan_book.proofs.BookSteps.{one_returns}
+use Rattle.loan_book.specs.Book.{Book, HasReturns, IsAt, IsBook, IsOut, IsUnpublished, returns_to_come}
+use Rattle.loan_book.specs.Calls.{Answers, BookStep, LoanCall, LoanReply, is_publish_of, is_return_of, publishes_in, returns_in, with_returns, without}
 use Rattle.loan_book.specs.declared.run.LoanCall.TheVariants as call
 use Rattle.loan_book.specs.declared.run.LoanReply.TheVariants as reply
+use Rattle.std.proofs.Common.{Bool, List, None, Option, Some, [], ap, arith, cond, drop, false, refl, slice_get, subst, suc, sym, true, zero, ℕ, ◌+◌, ◌-◌, ◌<◌, ◌∙◌, ◌∷◌, ◌≡◌, ◌≢◌}
+use Rattle.std.proofs.lemmas.Bool.Decides.{nat_tests}
+use Rattle.std.proofs.lemmas.List.Sums.{sum_by-cons}
+use Rattle.std.specs.Prelude.{◌↔◌}
 
 -- how often a call counts
 abbrev once : Bool → ℕ

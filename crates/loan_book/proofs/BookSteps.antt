@@ -1,13 +1,12 @@
 -- A book after a step, and one sample of it.
-use Rattle.std.proofs.Common.{◌≡◌, ◌≢◌, ℕ, ◌<◌, length, refl, ap, sym, ◌∙◌, subst, arith, Some, None, Option}
-use Rattle.std.specs.Prelude.{slice_get}
-use Rattle.std.proofs.lemmas.Option.{slice_get_within, get_or_from_slice_get}
-use Rattle.bb_memory_traits.specs.Chunk.{Chunk}
-use Rattle.bb_memory_lists.proofs.SliceGets.{slice_get-set, slice_get-set_other, slice_get-set_same}
-use Rattle.bb_memory_lists.proofs.SliceGets.{slice_get-last, slice_get-push, slice_get-pushed}
-use Rattle.loan_book.specs.Book.{Sample, Book, IsBook, IsAt, IsOut, HasReturns, IsPublished, IsUnpublished}
-use Rattle.loan_book.specs.Calls.{with_sample, with_returns, without}
 use Rattle.bb_memory_lists.proofs.Positions.{slice_get-removed, slice_get-unremoved}
+use Rattle.bb_memory_lists.proofs.SliceGets.{slice_get-last, slice_get-push, slice_get-pushed, slice_get-set, slice_get-set_other, slice_get-set_same}
+use Rattle.bb_memory_traits.specs.Chunk.{Chunk}
+use Rattle.loan_book.specs.Book.{Book, HasReturns, IsAt, IsBook, IsOut, IsPublished, IsUnpublished, Sample}
+use Rattle.loan_book.specs.Calls.{with_returns, with_sample, without}
+use Rattle.std.proofs.Common.{None, Option, Some, ap, arith, length, refl, subst, sym, ℕ, ◌<◌, ◌∙◌, ◌≡◌, ◌≢◌}
+use Rattle.std.proofs.lemmas.Option.{get_or_from_slice_get, slice_get_within}
+use Rattle.std.specs.Prelude.{slice_get}
 
 -- a sample of one id is before no other sample of that id
 not_before : (book : Book) (id i j : ℕ) (one other : Sample) → IsBook book → IsAt book id i one → IsAt book id j other → ¬ (i < j)

@@ -1,19 +1,18 @@
 -- Books: the chunks of their samples, what each change keeps, and that the allocator stands for the chunks that are out.
-use Rattle.std.proofs.lemmas.Grind.{common_steps}
-use Rattle.std.proofs.Common.{◌≡◌, ℕ, suc, ◌+◌, ◌<◌, ◌^◌, true, false, List, [], ◌∷◌, ◌++◌, length, get_or, take, drop}
-use Rattle.std.proofs.Common.{refl, ap, sym, subst, ◌∙◌, arith, Option, Some, None}
-use Rattle.std.specs.Prelude.{slice_get, slice_set, map, remove}
-use Rattle.std.specs.Option.{option_map, SomeIff, ForSome, is_some}
+use Rattle.bb_memory_lists.proofs.SliceGets.{length-set_at}
+use Rattle.bb_memory_traits.specs.Chunk.{Chunk}
+use Rattle.loan_book.specs.Book.{Book, IsBook, IsLoanBook, Sample, book_of, chunks_of, loaned_before, returns_to_come}
+use Rattle.loan_book.specs.Calls.{with_returns, with_sample, without}
+use Rattle.std.proofs.Common.{List, None, Option, Some, [], ap, arith, drop, false, get_or, length, refl, subst, suc, sym, take, true, ℕ, ◌++◌, ◌+◌, ◌<◌, ◌^◌, ◌∙◌, ◌∷◌, ◌≡◌}
 use Rattle.std.proofs.Math.ListN.{get_or-map}
 use Rattle.std.proofs.Math.Seq.{map-set_same}
-use Rattle.std.proofs.lemmas.List.{map-append, take-map, drop-map}
-use Rattle.std.proofs.lemmas.List.Elements.{All-push, All-append, All-set, All-take, All-drop, All-weaker}
+use Rattle.std.proofs.lemmas.Grind.{common_steps}
+use Rattle.std.proofs.lemmas.List.{drop-map, map-append, take-map}
+use Rattle.std.proofs.lemmas.List.Elements.{All-append, All-drop, All-push, All-set, All-take, All-weaker}
 use Rattle.std.proofs.lemmas.List.Quantifiers.{all_pairs_push, all_pairs_remove}
-use Rattle.std.proofs.lemmas.Option.{slice_get_within, get_or_from_slice_get, slice_get-map}
-use Rattle.bb_memory_traits.specs.Chunk.{Chunk}
-use Rattle.bb_memory_lists.proofs.SliceGets.{length-set_at}
-use Rattle.loan_book.specs.Book.{Sample, returns_to_come, Book, IsBook, chunks_of, IsLoanBook, book_of, loaned_before}
-use Rattle.loan_book.specs.Calls.{with_sample, with_returns, without}
+use Rattle.std.proofs.lemmas.Option.{get_or_from_slice_get, slice_get-map, slice_get_within}
+use Rattle.std.specs.Option.{ForSome, SomeIff, is_some, option_map}
+use Rattle.std.specs.Prelude.{map, remove, slice_get, slice_set}
 
 -- the chunks after each change
 

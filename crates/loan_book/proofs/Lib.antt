@@ -3,5 +3,6 @@ mod BookRuns
 mod BookSteps
 mod Books
 mod LoanedIds
+mod LongLoans
 mod OneAnswers
 mod Searches

@@ -1,12 +1,11 @@
 -- Which ids a run of calls gives, and how many.
-use Rattle.std.proofs.Common.{◌≡◌, ℕ, suc, ◌+◌, List, [], ◌∷◌, length, refl, ap, sym, subst, ◌∙◌, arith, add-zero, Option, None}
-use Rattle.std.proofs.Common.{Some}
-use Rattle.std.specs.List.{range_with_len, cons_option}
-use Rattle.std.proofs.lemmas.List.FromFn.{length-range_with_len}
 use Rattle.bb_memory_traits.specs.Object.{IsRun}
-use Rattle.loan_book.specs.Calls.{LoanCall, LoanReply, Answers, BookStep, id_of, ids_in}
+use Rattle.loan_book.proofs.BookLeads.{Change, change_of, no_change, one_loan}
 use Rattle.loan_book.specs.Book.{Book}
-use Rattle.loan_book.proofs.BookLeads.{Change, no_change, one_loan, change_of}
+use Rattle.loan_book.specs.Calls.{Answers, BookStep, LoanCall, LoanReply, id_of, ids_in}
+use Rattle.std.proofs.Common.{List, None, Option, Some, [], add-zero, ap, arith, length, refl, subst, suc, sym, ℕ, ◌+◌, ◌∙◌, ◌∷◌, ◌≡◌}
+use Rattle.std.proofs.lemmas.List.FromFn.{length-range_with_len}
+use Rattle.std.specs.List.{cons_option, range_with_len}
 
 -- a call that gives an id gives the number of loans, and counts one; another leaves the number
 abbrev Counts : ℕ → ℕ → Option ℕ → Type 0

@@ -1,11 +1,11 @@
 -- Each call has one answer alone, or leads to one book at least.
-use Rattle.std.proofs.Common.{◌≡◌, ℕ, ◌<◌, Bool, true, false, refl, ap, sym, ◌∙◌, subst, arith, Result, Ok, Err}
-use Rattle.std.specs.Prelude.{◌↔◌}
 use Rattle.bb_memory_traits.specs.Chunk.{Chunk}
-use Rattle.loan_book.specs.Book.{LoanError, Sample, returns_to_come, Book, IsBook, IsAt, IsOut, IsPublished, IsUnpublished}
-use Rattle.loan_book.specs.declared.error.LoanError.TheVariants.{UnknownSample, AlreadyPublished, NoReaders}
-use Rattle.loan_book.specs.Calls.{Answers, Loans, Publishes, GivesBack, with_returns, without}
 use Rattle.loan_book.proofs.BookSteps.{one_position, one_sample, unpublished-nowhere}
+use Rattle.loan_book.specs.Book.{Book, IsAt, IsBook, IsOut, IsPublished, IsUnpublished, LoanError, Sample, returns_to_come}
+use Rattle.loan_book.specs.Calls.{Answers, GivesBack, Loans, Publishes, with_returns, without}
+use Rattle.loan_book.specs.declared.error.LoanError.TheVariants.{AlreadyPublished, NoReaders, UnknownSample}
+use Rattle.std.proofs.Common.{Bool, Err, Ok, Result, ap, arith, false, refl, subst, sym, true, ℕ, ◌<◌, ◌∙◌, ◌≡◌}
+use Rattle.std.specs.Prelude.{◌↔◌}
 
 pub loan-one_book : (may_allocate : Answers) (old : Book) (size : ℕ) (answer : Result (ℕ × Chunk) LoanError) (new next : Book) →
     Loans may_allocate old size answer new → Loans may_allocate old size answer next → new ≡ next

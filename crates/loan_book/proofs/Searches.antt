@@ -1,13 +1,13 @@
 -- Searches among samples whose ids rise.
-use Rattle.std.proofs.Common.{◌≡◌, ℕ, ◌<◌, ◌≤◌, get_or, Some, Ok, Err, inl, inr, sym, ap, arith}
-use Rattle.std.specs.Prelude.{slice_get}
-use Rattle.std.specs.List.Sorted.{IsBinarySearchResult, IsNonDecreasingBy}
-use Rattle.std.specs.Ordering.{nat_cmp, ordering_index}
+use Rattle.loan_book.specs.Book.{Book, IsAt, IsBook, IsOut, Sample}
+use Rattle.std.proofs.Common.{Err, Ok, Some, ap, arith, get_or, inl, inr, sym, ℕ, ◌<◌, ◌≡◌, ◌≤◌}
 use Rattle.std.proofs.lemmas.Bool.{cases_lt}
 use Rattle.std.proofs.lemmas.Bool.Decides.{nat_tests}
 use Rattle.std.proofs.lemmas.Cmp.{ranked}
-use Rattle.std.proofs.lemmas.Option.{slice_get_within, get_or_from_slice_get}
-use Rattle.loan_book.specs.Book.{Sample, Book, IsBook, IsAt, IsOut}
+use Rattle.std.proofs.lemmas.Option.{get_or_from_slice_get, slice_get_within}
+use Rattle.std.specs.List.Sorted.{IsBinarySearchResult, IsNonDecreasingBy}
+use Rattle.std.specs.Ordering.{nat_cmp, ordering_index}
+use Rattle.std.specs.Prelude.{slice_get}
 
 module _ (book : Book) (id : ℕ) where
   pub search-found : (position : ℕ) (sample : Sample) → slice_get book.out position ≡ Some sample →

@@ -1,11 +1,8 @@
 //! Loan books.
-ghost use Rattle.std.specs.Prelude.{◌≡◌, ◌↔◌, ◌<◌, ◌≤◌, ◌^◌, ℕ, false, [], List, Result};
-ghost use Rattle.std.specs.Prelude.{length, slice_get, Some, IfErr, IfOk, OnOk, OnErr, IfSome, IfNone, IsTrue};
 ghost use Rattle.bb_memory_traits.specs.Chunk.{Chunk, IsSound};
-ghost use Rattle.loan_book.specs.Book.{LoanError, Sample, returns_to_come, Book, IsBook, chunks_out, IsAt, IsOut, HasReturns};
-ghost use Rattle.loan_book.specs.Book.{IsPublished, IsUnpublished, IsAllocators, IsAskedOnce, StillStands, LoanBook, IsLoanBook};
-ghost use Rattle.loan_book.specs.Book.{book_of};
-ghost use Rattle.loan_book.specs.Calls.{Loans, Publishes, GivesBack, with_returns, without};
+ghost use Rattle.loan_book.specs.Book.{Book, HasReturns, IsAllocators, IsAskedOnce, IsAt, IsBook, IsLoanBook, IsOut, IsPublished, IsUnpublished, LoanBook, LoanError, Sample, StillStands, book_of, chunks_out, returns_to_come};
+ghost use Rattle.loan_book.specs.Calls.{GivesBack, Loans, Publishes, with_returns, without};
+ghost use Rattle.std.specs.Prelude.{IfErr, IfNone, IfOk, IfSome, IsTrue, List, OnErr, OnOk, Result, Some, [], false, length, slice_get, ℕ, ◌<◌, ◌^◌, ◌↔◌, ◌≡◌, ◌≤◌};
 
 use crate::error::LoanError;
 use bb_memory_traits::allocator::Allocator;

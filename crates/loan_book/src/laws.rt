@@ -1,7 +1,7 @@
 //! Laws of every book and every answer. Nothing here does anything: each contract is a law.
-ghost use Rattle.std.specs.Prelude.{◌≡◌, ◌↔◌, ℕ, Bool, Result, IsTrue};
-ghost use Rattle.loan_book.specs.Book.{LoanError, Book, IsBook};
-ghost use Rattle.loan_book.specs.Calls.{LoanCall, LoanReply, Publishes, GivesBack};
+ghost use Rattle.loan_book.specs.Book.{Book, IsBook, LoanError};
+ghost use Rattle.loan_book.specs.Calls.{GivesBack, LoanCall, LoanReply, Publishes};
+ghost use Rattle.std.specs.Prelude.{Bool, IsTrue, Result, ℕ, ◌↔◌, ◌≡◌};
 
 use crate::error::LoanError;
 use crate::run::{LoanCall, LoanReply};

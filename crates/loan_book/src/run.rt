@@ -1,12 +1,12 @@
 //! Calls of a loan book one after the other.
-ghost use Rattle.std.specs.Prelude.{◌≡◌, ◌+◌, ◌<◌, ◌↔◌, ℕ, Some, drop, length, slice_get, IfOk, OnOk, OnErr};
-ghost use Rattle.std.specs.List.{range_with_len};
+ghost use Rattle.bb_memory_traits.specs.Chunk.{Chunk as GivenChunk, IsSound};
 ghost use Rattle.bb_memory_traits.specs.Object.{IsRun};
-ghost use Rattle.bb_memory_traits.specs.Chunk.{IsSound, Chunk as GivenChunk};
-ghost use Rattle.loan_book.specs.Book.{chunks_out, IsBook, IsOut, HasReturns, IsUnpublished};
-ghost use Rattle.loan_book.specs.Calls.{BookStep, ids_in, returns_in, publishes_in};
-ghost use Rattle.loan_book.specs.declared.run.LoanCall.TheVariants.{Publish};
+ghost use Rattle.loan_book.specs.Book.{HasReturns, IsBook, IsOut, IsUnpublished, chunks_out};
+ghost use Rattle.loan_book.specs.Calls.{AreLongEnough, BookStep, NotedStep, NotesCall, ids_in, publishes_in, returns_in};
+ghost use Rattle.loan_book.specs.declared.run.LoanCall.TheVariants.{Loan, Publish};
 ghost use Rattle.loan_book.specs.declared.run.LoanReply.TheVariants.{Loaned, Published};
+ghost use Rattle.std.specs.List.{range_with_len};
+ghost use Rattle.std.specs.Prelude.{IfOk, OnErr, OnOk, Some, drop, length, slice_get, ℕ, ◌+◌, ◌<◌, ◌↔◌, ◌≡◌, ◌≤◌};
 
 use crate::book::LoanBook;
 use crate::error::LoanError;
@@ -47,6 +47,10 @@ pub enum LoanReply {
 fn apply<A: Allocator>(book: &mut LoanBook<A>, call: LoanCall) -> LoanReply
     ensures step { BookStep (A.may_allocate (A.geometry book.old.allocator))
         book.old.book call result book.new.book }
+    ensures noted { NotesCall (A.note_after (A.geometry book.old.allocator)) call result
+        (A.note book.old.allocator) (A.note book.new.allocator) }
+    ensures long_enough { (size id : ℕ) (chunk : GivenChunk)
+        → call ≡ Loan size → result ≡ Loaned id chunk → size ≤ chunk.len }
     ensures geometry { A.geometry book.new.allocator ≡ A.geometry book.old.allocator }
 {
     match call {
@@ -68,7 +72,7 @@ fn apply<A: Allocator>(book: &mut LoanBook<A>, call: LoanCall) -> LoanReply
 }
 
 /// Makes the calls in order, and answers one reply a call. Afterwards the allocator stands for exactly the chunks of the
-/// samples that are out. The ids that are given count up from the number of samples that were loaned before. A published
+/// samples that are out. The allocator is asked once for each loan that it answers, and for nothing by any other call. The ids that are given count up from the number of samples that were loaned before. A published
 /// sample that waited for returns is still out exactly where fewer of the calls return it. So one that a call publishes
 /// for r readers goes back at the r-th return behind that call, and not before; one that a call loans, and none publishes, at
 /// its first return.
@@ -82,6 +86,12 @@ pub fn run_loans<A: Allocator>(
     ensures run { IfOk result (λ replies.
         IsRun (BookStep (A.may_allocate (A.geometry book.old.allocator)))
         book.old.book calls.now replies.items book.new.book) }
+    ensures asked { IfOk result (λ replies.
+        IsRun (NotedStep (A.may_allocate (A.geometry book.old.allocator))
+        (A.note_after (A.geometry book.old.allocator)))
+        (book.old.book, A.note book.old.allocator) calls.now replies.items
+        (book.new.book, A.note book.new.allocator)) }
+    ensures long_enough { IfOk result (λ replies. AreLongEnough calls.now replies.items) }
     ensures counted { IfOk result (λ replies.
         book.new.book.loaned ≡ book.old.book.loaned + length (ids_in replies.items)) }
     ensures ids { IfOk result (λ replies. ids_in replies.items

@@ -1,9 +1,9 @@
 //! Reads a script from standard input, drives an allocator, a machine of steps or a loan book by it, and writes a line for
-//! each reply. What a script is and how it is answered, the library `script_runner` has; here are the standard streams and the
+//! each reply. What a script is and how it is answered, the library `script_kinds` has; here are the standard streams and the
 //! exit status.
 #![tactic(auto)]
 
-use script_runner::run;
+use script_kinds::run;
 use std::io;
 use std::process::ExitCode;
 

@@ -1,4 +1,5 @@
-//! Tests of the allocators of one owner, of loan books, and of layers over the traits: what they answer, with memory and without.
+//! Tests of the allocators of one owner, of heap blocks, of loan books, and of layers over the traits: what they answer, with memory
+//! and without.
 #![tactic(auto)]
 
 #[cfg(test)]

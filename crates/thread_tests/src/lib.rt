@@ -1,4 +1,4 @@
-//! Tests of what threads share, and of heap blocks: what the calls answer, with memory and without.
+//! Tests of what threads share: what the calls answer, with memory and without.
 #![tactic(auto)]
 
 #[cfg(test)]

@@ -1,11 +1,10 @@
 //! The law of parties of a shared bump that met.
-ghost use Rattle.std.specs.Prelude.{◌≡◌, ◌≢◌, ◌++◌, ℕ, All, Any, Contains, List, Some, length, slice_get};
-ghost use Rattle.bb_memory_traits.specs.Chunk.{Chunk};
-ghost use Rattle.bb_memory_traits.specs.BumpObject.{StandsFor};
-ghost use Rattle.bb_memory_bump_machine.specs.BumpMachine.{BumpScene};
-ghost use Rattle.bb_memory_bump_machine.specs.BumpLogs.{chunks_won, history_of, log_of, IsCallRun, OpensWith, calls_of};
-ghost use Rattle.bb_memory_bump_machine.specs.BumpLogs.{live_after};
 ghost use Rattle.bb_memory_bump.specs.SharedBump.{AgreeAt, BumpParty, HaveChunksApart, IsSharedScene};
+ghost use Rattle.bb_memory_bump_machine.specs.BumpLogs.{IsCallRun, OpensWith, calls_of, chunks_won, history_of, live_after, log_of};
+ghost use Rattle.bb_memory_bump_machine.specs.BumpMachine.{BumpScene};
+ghost use Rattle.bb_memory_traits.specs.BumpObject.{StandsFor};
+ghost use Rattle.bb_memory_traits.specs.Chunk.{Chunk};
+ghost use Rattle.std.specs.Prelude.{All, Any, Contains, List, Some, length, slice_get, ℕ, ◌++◌, ◌≡◌, ◌≢◌};
 
 /// Says what follows for parties of a shared bump that met ([`meet_all`](super::SharedBumpAllocator::meet_all)), and above all of
 /// all its parties, whatever the threads did. It does nothing: its contract is the law.

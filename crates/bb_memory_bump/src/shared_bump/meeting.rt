@@ -1,8 +1,8 @@
 //! Any number of parties at one seat.
-ghost use Rattle.std.specs.Prelude.{◌≡◌, ◌≤◌, ◌++◌, [], All, map};
-ghost use Rattle.bb_memory_seats.specs.Seats.{HasNow, Stays, standing_for};
 ghost use Rattle.bb_memory_bump.specs.SharedBump.{meeting_at};
-ghost use Rattle.bb_memory_bump.specs.SharedBumpRule.{StandsAt, AfterMeetingLoad, meeting_of, met_by, numbered_of, sight};
+ghost use Rattle.bb_memory_bump.specs.SharedBumpRule.{AfterMeetingLoad, StandsAt, meeting_of, met_by, numbered_of, sight};
+ghost use Rattle.bb_memory_seats.specs.Seats.{HasNow, Stays, standing_for};
+ghost use Rattle.std.specs.Prelude.{All, [], map, ◌++◌, ◌≡◌, ◌≤◌};
 
 use super::rule::View;
 use super::{BumpParty, SharedBumpAllocator};

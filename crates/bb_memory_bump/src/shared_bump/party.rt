@@ -1,7 +1,7 @@
 //! Parties: each is one user's right to step on a shared bump.
-ghost use Rattle.std.specs.Prelude.{◌≡◌};
-ghost use Rattle.bb_memory_bump.specs.SharedBump.{IsParty, BumpParty};
+ghost use Rattle.bb_memory_bump.specs.SharedBump.{BumpParty, IsParty};
 ghost use Rattle.bb_memory_bump.specs.SharedBumpRule.{IsPartySeat, party_in};
+ghost use Rattle.std.specs.Prelude.{◌≡◌};
 
 use super::rule::View;
 use atomic_table::Seat;

@@ -3,15 +3,13 @@
 //! `read`, `exchange` and `load` make one atomic step each, by the seat of the party whose step it is. That party's log then
 //! ends with the step and what it found. `split_first`, `merge`, `load_for_meeting` and `meet` only load the word, and are in no
 //! log; `open` and `close` are before and after all sharing.
-ghost use Rattle.std.specs.Prelude.{◌≡◌, ◌≤◌, [], IfOk, Option, None, Some};
-ghost use Rattle.bb_memory_bump_machine.specs.BumpMachine.{chunk_at, position_behind};
-ghost use Rattle.bb_memory_bump_machine.specs.BumpLogs.{call_in};
-ghost use Rattle.bb_memory_seats.specs.Seats.{IsSplit, MayMerge, Stays, first_of, number_of, others_of, view_log};
-ghost use Rattle.bb_memory_bump.specs.SharedBumpRule.{IsIdleAt, IsSeatAt, StandsAt, all_parties, merged, meeting_of, met_by};
-ghost use Rattle.bb_memory_bump.specs.SharedBumpRule.{scene_of, MayAsk, AfterExchange, AfterLoad, AfterMeetingLoad, AfterRead};
-ghost use Rattle.bb_memory_bump.specs.SharedBumpRule.{AfterMeeting, HasOneWord, exchanges, loads, meets, nobody, reads};
 ghost use Rattle.bb_memory_bump.specs.Bump.{Layout};
 ghost use Rattle.bb_memory_bump.specs.SharedBump.{SharedBump};
+ghost use Rattle.bb_memory_bump.specs.SharedBumpRule.{AfterExchange, AfterLoad, AfterMeeting, AfterMeetingLoad, AfterRead, HasOneWord, IsIdleAt, IsSeatAt, MayAsk, StandsAt, all_parties, exchanges, loads, meeting_of, meets, merged, met_by, nobody, reads, scene_of};
+ghost use Rattle.bb_memory_bump_machine.specs.BumpLogs.{call_in};
+ghost use Rattle.bb_memory_bump_machine.specs.BumpMachine.{chunk_at, position_behind};
+ghost use Rattle.bb_memory_seats.specs.Seats.{IsSplit, MayMerge, Stays, first_of, number_of, others_of, view_log};
+ghost use Rattle.std.specs.Prelude.{IfOk, None, Option, Some, [], ◌≡◌, ◌≤◌};
 
 use super::rule::{Agreement, Scene, View};
 use atomic_table::{Join, Play, Seat, Split, Table};

@@ -1,9 +1,9 @@
 //! Requests: a read, and exchanges until one wins or the layout no longer fits.
-ghost use Rattle.std.specs.Prelude.{◌≡◌, ◌≤◌, ◌%◌, false, IfSome, MatchOption};
-ghost use Rattle.bb_memory_traits.specs.Chunk.{IsInside};
+ghost use Rattle.bb_memory_bump.specs.SharedBumpRule.{AfterRefusal, AfterWin, IsFor, MayAsk, met_by};
 ghost use Rattle.bb_memory_bump_machine.specs.BumpMachine.{fits};
 ghost use Rattle.bb_memory_seats.specs.Seats.{Stays, number_of, view_log};
-ghost use Rattle.bb_memory_bump.specs.SharedBumpRule.{met_by, AfterRefusal, AfterWin, IsFor, MayAsk};
+ghost use Rattle.bb_memory_traits.specs.Chunk.{IsInside};
+ghost use Rattle.std.specs.Prelude.{IfSome, MatchOption, false, ◌%◌, ◌≡◌, ◌≤◌};
 
 use super::SharedBumpAllocator;
 use super::position::Asked;

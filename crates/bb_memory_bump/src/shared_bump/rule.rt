@@ -1,8 +1,8 @@
 //! The rule of a shared bump's word: it agrees with the logs of the parties.
-ghost use Rattle.bb_memory_traits.specs.Chunk.{region_at};
-ghost use Rattle.bb_memory_bump_machine.specs.BumpMachine.{BumpScene};
 ghost use Rattle.bb_memory_bump.specs.SharedBump.{scene_at};
-ghost use Rattle.bb_memory_bump.specs.SharedBumpRule.{SeatView, nobody, WordsAndLogsAgree, all_parties};
+ghost use Rattle.bb_memory_bump.specs.SharedBumpRule.{SeatView, WordsAndLogsAgree, all_parties, nobody};
+ghost use Rattle.bb_memory_bump_machine.specs.BumpMachine.{BumpScene};
+ghost use Rattle.bb_memory_traits.specs.Chunk.{region_at};
 
 use atomic_table::TableRule;
 use std::marker::Model;

@@ -1,12 +1,9 @@
 //! The bump machine's steps, and what holds of every list of them.
-ghost use Rattle.std.specs.Prelude.{◌≡◌, ◌+◌, ◌≤◌, ◌<◌, ◌++◌, ℕ, List};
-ghost use Rattle.bb_memory_traits.specs.Chunk.{Chunk, IsSound};
-ghost use Rattle.bb_memory_bump_machine.specs.BumpMachine.{Layout, BumpScene, OngoingCall, IsIdle, IsInCall, left_by, BumpStep};
-ghost use Rattle.bb_memory_bump_machine.specs.BumpMachine.{Read, Exchange, Load, Loaded};
+ghost use Rattle.bb_memory_bump_machine.specs.BumpLogs.{HasNoClear, IsCallRun, IsLossAt, OpensWith, calls_after, calls_begun_in, calls_of, chunks_won, entries_by, history_of, live_after, losses_in, outcome_after, stretch_after};
+ghost use Rattle.bb_memory_bump_machine.specs.BumpMachine.{BumpScene, BumpStep, Exchange, IsIdle, IsInCall, Layout, Load, Loaded, OngoingCall, Read, left_by};
 ghost use Rattle.bb_memory_traits.specs.BumpObject.{StandsFor, used_space};
-ghost use Rattle.bb_memory_bump_machine.specs.BumpLogs.{HasNoClear, IsLossAt, chunks_won, calls_begun_in, entries_by};
-ghost use Rattle.bb_memory_bump_machine.specs.BumpLogs.{history_of, losses_in, outcome_after, stretch_after};
-ghost use Rattle.bb_memory_bump_machine.specs.BumpLogs.{IsCallRun, OpensWith, calls_after, calls_of, live_after};
+ghost use Rattle.bb_memory_traits.specs.Chunk.{Chunk, IsSound};
+ghost use Rattle.std.specs.Prelude.{List, ℕ, ◌++◌, ◌+◌, ◌<◌, ◌≡◌, ◌≤◌};
 
 use bb_memory_traits::layout::{Chunk, Layout};
 

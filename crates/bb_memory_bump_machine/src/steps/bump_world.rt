@@ -1,10 +1,8 @@
 //! A bump machine that can be run: a region, a position, and of each party the call that it is in.
-ghost use Rattle.std.specs.Prelude.{◌≡◌, ◌<◌, IfOk, IsSome, Some, slice_get, length};
-ghost use Rattle.bb_memory_traits.specs.Chunk.{Region, IsRegion};
-ghost use Rattle.bb_memory_bump_machine.specs.BumpMachine.{OngoingCall, IsFitting, PartyMove, ending, seeing, read_move};
-ghost use Rattle.bb_memory_bump_machine.specs.BumpMachine.{exchange_move, Exchange, Load, Read};
-ghost use Rattle.bb_memory_bump_machine.specs.BumpWorld.{IsMove, IsPositionIn, Replays, Steps, opened, BumpWorld, IsBumpWorld};
-ghost use Rattle.bb_memory_bump_machine.specs.BumpWorld.{world_of};
+ghost use Rattle.bb_memory_bump_machine.specs.BumpMachine.{Exchange, IsFitting, Load, OngoingCall, PartyMove, Read, ending, exchange_move, read_move, seeing};
+ghost use Rattle.bb_memory_bump_machine.specs.BumpWorld.{BumpWorld, IsBumpWorld, IsMove, IsPositionIn, Replays, Steps, opened, world_of};
+ghost use Rattle.bb_memory_traits.specs.Chunk.{IsRegion, Region};
+ghost use Rattle.std.specs.Prelude.{IfOk, IsSome, Some, length, slice_get, ◌<◌, ◌≡◌};
 
 use super::{BumpOutcome, BumpStep};
 use bb_memory_traits::layout::{Chunk, Layout};

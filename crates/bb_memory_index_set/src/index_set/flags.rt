@@ -1,6 +1,6 @@
 //! A set of numbers as an array of flags, with an array of the numbers that aren't in it, which takes no memory.
-ghost use Rattle.std.specs.Prelude.{◌≡◌, ◌≤◌, min, ◌-◌, take};
-ghost use Rattle.bb_memory_index_set.specs.IndexSets.{fresh_set, AreFlags, IsTally, NumberSet, number_set};
+ghost use Rattle.bb_memory_index_set.specs.IndexSets.{AreFlags, IsTally, NumberSet, fresh_set, number_set};
+ghost use Rattle.std.specs.Prelude.{min, take, ◌-◌, ◌≡◌, ◌≤◌};
 
 use crate::index_set::{Counter, IndexSet};
 use std::marker::Model;

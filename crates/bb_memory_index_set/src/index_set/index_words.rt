@@ -2,9 +2,8 @@
 //!
 //! The calls that hand out a word and count a read stand in one module: no other code can raise a counter, though any code may
 //! make a new one.
-ghost use Rattle.std.specs.Prelude.{◌≡◌, ◌≢◌, ℕ, ◌+◌, ◌-◌, ◌/◌, ◌^◌, ◌<◌, ◌≤◌, false, IsTrue};
-ghost use Rattle.std.specs.Prelude.{IsFalse, length, replicate, slice_index, slice_set, IfOk};
-ghost use Rattle.bb_memory_index_set.specs.IndexSets.{SetsBit, PutsAt, has_bit, Slots, slots_of};
+ghost use Rattle.bb_memory_index_set.specs.IndexSets.{PutsAt, SetsBit, Slots, has_bit, slots_of};
+ghost use Rattle.std.specs.Prelude.{IfOk, IsFalse, IsTrue, false, length, replicate, slice_index, slice_set, ℕ, ◌+◌, ◌-◌, ◌/◌, ◌<◌, ◌^◌, ◌≡◌, ◌≢◌, ◌≤◌};
 
 use std::alloc::{AllocError, Allocator};
 use std::marker::Model;

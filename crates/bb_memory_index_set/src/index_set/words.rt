@@ -1,7 +1,6 @@
 //! A set of numbers as words of 64 bits.
-ghost use Rattle.std.specs.Prelude.{◌≡◌, false, slice_set, IfOk};
-ghost use Rattle.bb_memory_index_set.specs.IndexSets.{Has, fresh_set, NumberSet, number_set, less_last_freed, numbers_of};
-ghost use Rattle.bb_memory_index_set.specs.IndexSets.{IsLastFreed, IsTally, IsWordSet, index_words};
+ghost use Rattle.bb_memory_index_set.specs.IndexSets.{Has, IsLastFreed, IsTally, IsWordSet, NumberSet, fresh_set, index_words, less_last_freed, number_set, numbers_of};
+ghost use Rattle.std.specs.Prelude.{IfOk, false, slice_set, ◌≡◌};
 
 use crate::index_set::index_words::IndexWords;
 use crate::index_set::{Counter, IndexSet};

@@ -1,12 +1,10 @@
 //! Pools over a set of held buckets: what the pools of this crate have in common.
-ghost use Rattle.std.specs.Prelude.{◌≡◌, ◌≢◌, ◌↔◌, ◌≤◌, ℕ, false, true, List, Some};
-ghost use Rattle.std.specs.Prelude.{IfErr, IfSome, IsSome, IsTrue, length, max, remove, slice_get};
-ghost use Rattle.bb_memory_traits.specs.Chunk.{Chunk};
-ghost use Rattle.bb_memory_traits.specs.PoolObject.{bucket_place};
-ghost use Rattle.bb_memory_traits.specs.Geometry.{TellsNumber, TellsPlace};
-ghost use Rattle.bb_memory_owned.specs.Pool.{held_count, Allocates, FreesBucket, HoldsPlace, IsPool, StandsFor, TakesBucket};
 ghost use Rattle.bb_memory_index_set.specs.IndexSets.{Has, Lacks, member_count};
-ghost use Rattle.bb_memory_owned.specs.Pool.{Takes, pool_of, reads_of};
+ghost use Rattle.bb_memory_owned.specs.Pool.{Allocates, FreesBucket, HoldsPlace, IsPool, StandsFor, Takes, TakesBucket, held_count, pool_of, reads_of};
+ghost use Rattle.bb_memory_traits.specs.Chunk.{Chunk};
+ghost use Rattle.bb_memory_traits.specs.Geometry.{TellsNumber, TellsPlace};
+ghost use Rattle.bb_memory_traits.specs.PoolObject.{bucket_place};
+ghost use Rattle.std.specs.Prelude.{IfErr, IfSome, IsSome, IsTrue, List, Some, false, length, max, remove, slice_get, true, ℕ, ◌↔◌, ◌≡◌, ◌≢◌, ◌≤◌};
 
 use bb_memory_index_set::index_set::{Counter, IndexSet};
 use bb_memory_traits::allocator::{
@@ -27,8 +25,8 @@ pub struct BucketPool<S: IndexSet> {
 }
 
 impl<S: IndexSet> Model for BucketPool<S> {
-    ghost use Rattle.std.specs.Prelude.{◌≤◌};
     ghost use Rattle.bb_memory_owned.specs.Pool.{CountedPool, IsPool, counted, held_count, pool_of};
+    ghost use Rattle.std.specs.Prelude.{◌≤◌};
 
     ghost Value = { CountedPool };
 
@@ -225,9 +223,9 @@ fn take<S: IndexSet>(
 }
 
 impl<S: IndexSet> BaseAllocator for BucketPool<S> {
-    ghost use Rattle.std.specs.Prelude.{ℕ, false};
-    ghost use Rattle.bb_memory_traits.specs.PoolObject.{PoolGeometry, MayAllocate};
-    ghost use Rattle.bb_memory_owned.specs.Pool.{StandsFor, HoldsPlace, TakesBucket, FreesBucket, reads_of, held_place};
+    ghost use Rattle.bb_memory_owned.specs.Pool.{FreesBucket, HoldsPlace, StandsFor, TakesBucket, held_place, reads_of};
+    ghost use Rattle.bb_memory_traits.specs.PoolObject.{MayAllocate, PoolGeometry};
+    ghost use Rattle.std.specs.Prelude.{false, ℕ};
 
     const RELEASE_EMPTIES: bool = false;
 
@@ -292,8 +290,8 @@ impl<S: IndexSet> BaseAllocator for BucketPool<S> {
 
 impl<S: IndexSet> Allocator for BucketPool<S> {
     ghost use Rattle.bb_memory_owned.specs.Pool.{covered, held_is_live};
+    ghost use Rattle.bb_memory_traits.specs.PoolObject.{MayGrow, MayShrink, PoolGeometry};
     ghost use Rattle.std.specs.Prelude.{refl};
-    ghost use Rattle.bb_memory_traits.specs.PoolObject.{PoolGeometry, MayGrow, MayShrink};
 
     ghost ResizeKey = { PoolGeometry };
 

@@ -1,9 +1,9 @@
 //! A pool that keeps which of its buckets are held in an array of its own.
-ghost use Rattle.std.specs.Prelude.{◌≡◌, [], ◌-◌, ◌<◌, ◌^◌, ◌↔◌, IsTrue};
-ghost use Rattle.bb_memory_traits.specs.Chunk.{region_at};
-ghost use Rattle.bb_memory_traits.specs.PoolObject.{PoolGeometry, IsCut, at_most};
 ghost use Rattle.bb_memory_owned.specs.Pool.{StandsFor, counted, fresh_pool};
+ghost use Rattle.bb_memory_traits.specs.Chunk.{region_at};
 ghost use Rattle.bb_memory_traits.specs.Geometry.{MayBeCut};
+ghost use Rattle.bb_memory_traits.specs.PoolObject.{IsCut, PoolGeometry, at_most};
+ghost use Rattle.std.specs.Prelude.{IsTrue, [], ◌-◌, ◌<◌, ◌^◌, ◌↔◌, ◌≡◌};
 
 use crate::pool_allocator::PoolAllocator;
 use crate::pool_allocator::bucket_pool::BucketPool;

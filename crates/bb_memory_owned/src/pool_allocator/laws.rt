@@ -1,19 +1,17 @@
 //! Laws that say in plain words what the definitions of the pool object and of its geometry come to.
-ghost use Rattle.std.specs.Prelude.{◌≡◌, ◌≢◌, ◌+◌, ◌-◌, ◌/◌, ◌^◌, ◌<◌, ◌≤◌, ◌%◌, [], List, All};
-ghost use Rattle.std.specs.Prelude.{AllPairs, ℕ, Result, Ok, Err, Some, IsOk, length, remove, slice_get};
-ghost use Rattle.bb_memory_traits.specs.Chunk.{Region, IsRegion, region_end, Chunk, IsInside, first_place};
-ghost use Rattle.bb_memory_traits.specs.Object.{AnswersAll, GivesOnly, IsRun, Step, ResizableStep};
-ghost use Rattle.bb_memory_traits.specs.PoolObject.{PoolGeometry, IsCut, IsPoolGeometry, at_most, bucket_place, stride};
-ghost use Rattle.bb_memory_traits.specs.PoolObject.{IsWithin, MayAllocate, MayGrow, MayShrink, pool_object};
-ghost use Rattle.bb_memory_traits.specs.declared.layout.Layout.{Layout};
+ghost use Rattle.bb_memory_index_set.specs.IndexSets.{Has};
+ghost use Rattle.bb_memory_owned.specs.Pool.{HoldsPlace, IsPool, Pool, StandsFor, fresh_pool};
+ghost use Rattle.bb_memory_traits.specs.Chunk.{Chunk, IsInside, IsRegion, Region, first_place, region_end};
+ghost use Rattle.bb_memory_traits.specs.Geometry.{AreAStrideApart, MayBeCut};
+ghost use Rattle.bb_memory_traits.specs.Object.{AnswersAll, GivesOnly, IsRun, ResizableStep, Step};
+ghost use Rattle.bb_memory_traits.specs.PoolObject.{IsCut, IsPoolGeometry, IsWithin, MayAllocate, MayGrow, MayShrink, PoolGeometry, at_most, bucket_place, pool_object, stride};
 ghost use Rattle.bb_memory_traits.specs.declared.allocator.AllocationError.{AllocationError};
 ghost use Rattle.bb_memory_traits.specs.declared.allocator.AllocationGrowError.{AllocationGrowError};
 ghost use Rattle.bb_memory_traits.specs.declared.allocator.AllocationShrinkError.{AllocationShrinkError};
 ghost use Rattle.bb_memory_traits.specs.declared.allocator.Command.{Command};
 ghost use Rattle.bb_memory_traits.specs.declared.allocator.Reply.{Reply};
-ghost use Rattle.bb_memory_index_set.specs.IndexSets.{Has};
-ghost use Rattle.bb_memory_owned.specs.Pool.{HoldsPlace, IsPool, Pool, StandsFor, fresh_pool};
-ghost use Rattle.bb_memory_traits.specs.Geometry.{AreAStrideApart, MayBeCut};
+ghost use Rattle.bb_memory_traits.specs.declared.layout.Layout.{Layout};
+ghost use Rattle.std.specs.Prelude.{All, AllPairs, Err, IsOk, List, Ok, Result, Some, [], length, remove, slice_get, ℕ, ◌%◌, ◌+◌, ◌-◌, ◌/◌, ◌<◌, ◌^◌, ◌≡◌, ◌≢◌, ◌≤◌};
 
 /// Says what the definition of a pool's geometry says of every region and every layout of a bucket. A region is cut in one way
 /// alone, and into buckets of at least one byte it can always be cut. Each bucket begins at a multiple of its alignment, and

@@ -1,12 +1,9 @@
 //! The pool machine's steps, and what holds of every list of them.
-ghost use Rattle.std.specs.Prelude.{◌≡◌, ◌<◌, ◌↔◌, ℕ, List, drop, take};
-ghost use Rattle.bb_memory_traits.specs.Chunk.{Region, Chunk, IsSound};
-ghost use Rattle.bb_memory_pool_machine.specs.PoolLogs.{Layout, history_of, log_of, IsRefusedAt, LosesAt, MissesAt, AreAsked};
-ghost use Rattle.bb_memory_pool_machine.specs.PoolLogs.{FoundHeld, IsCallRun, IsHeldInRun, IsPoolRun, WasDetached, IsHeldAfter};
-ghost use Rattle.bb_memory_traits.specs.PoolObject.{PoolGeometry, pool_geometry, FillsRegion, IsPoolGeometry, at_most, IsHeld};
-ghost use Rattle.bb_memory_pool_machine.specs.PoolMachine.{PoolScene, IsHolder, IsDetached, IsTaken, left_by};
-ghost use Rattle.bb_memory_pool_machine.specs.PoolMachine.{PoolStep, Try, GiveBack, TryAt, Detach, Attach, Takes, Gives, Misses};
-ghost use Rattle.bb_memory_pool_machine.specs.PoolMachine.{Detaches, Attaches};
+ghost use Rattle.bb_memory_pool_machine.specs.PoolLogs.{AreAsked, AttachesFromAt, FoundHeld, IsCallRun, IsHeldAfter, IsHeldInRun, IsPoolRun, IsRefusedAt, Layout, LosesAt, MissesAt, WasDetached, history_of, log_of};
+ghost use Rattle.bb_memory_pool_machine.specs.PoolMachine.{Attach, Attaches, Detach, DetachedBy, Detaches, GiveBack, Gives, IsDetached, IsFlag, IsHolder, IsTaken, Misses, PoolScene, PoolStep, Takes, Try, TryAt, left_by};
+ghost use Rattle.bb_memory_traits.specs.Chunk.{Chunk, IsSound, Region};
+ghost use Rattle.bb_memory_traits.specs.PoolObject.{FillsRegion, IsHeld, IsPoolGeometry, PoolGeometry, at_most, pool_geometry};
+ghost use Rattle.std.specs.Prelude.{List, drop, take, ℕ, ◌<◌, ◌↔◌, ◌≡◌};
 
 /// The state of a bucket's flag. A flag is taken where it isn't free.
 #[derive(Debug, Clone, Copy, PartialEq, Eq)]
@@ -34,6 +31,8 @@ pub enum PoolStep {
     Detach { party: u32, bucket: u32 },
     /// The party, which is in no pass, attaches a detached bucket, and holds it then.
     Attach { party: u32, bucket: u32 },
+    /// The party, which is in no pass, attaches a bucket that the party `from` has detached, and holds it then.
+    AttachFrom { party: u32, bucket: u32, from: u32 },
     /// The party, which is in no pass, gives back a detached bucket.
     GiveBackDetached { party: u32, bucket: u32 },
 }
@@ -137,4 +136,10 @@ pub fn pool_theorem()
     // Some step has detached a detached bucket.
     ensures was_detached { (scene : PoolScene) (steps : List PoolStep) (bucket : ℕ)
         → IsDetached (left_by scene steps) bucket → WasDetached (history_of scene steps) bucket }
+
+    // A bucket that is attached from a sender is then detached by that sender, whose log says so.
+    ensures attached_from { (scene : PoolScene) (steps : List PoolStep) (party bucket from k : ℕ)
+        → AttachesFromAt (history_of scene steps) party bucket from k
+        → IsFlag (left_by scene (take k steps)) bucket (DetachedBy from)
+        × WasDetached (log_of scene (take k steps) from) bucket }
 {}

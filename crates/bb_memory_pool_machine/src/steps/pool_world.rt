@@ -1,8 +1,7 @@
 //! A pool machine that can be run: of each bucket its flag, and of each party the bucket that its pass tries next.
-ghost use Rattle.std.specs.Prelude.{◌≡◌, ◌<◌, IsSome, IfOk, length, slice_get};
-ghost use Rattle.bb_memory_pool_machine.specs.PoolMachine.{Attach, Detach, GiveBack, GiveBackDetached, Try, TryAt};
-ghost use Rattle.bb_memory_pool_machine.specs.PoolMachine.{all_free, holder_of};
-ghost use Rattle.bb_memory_pool_machine.specs.PoolWorld.{Replays, Steps, PoolWorld, IsPoolWorld, world_of};
+ghost use Rattle.bb_memory_pool_machine.specs.PoolMachine.{Attach, AttachFrom, Detach, GiveBack, GiveBackDetached, Try, TryAt, all_free, holder_of};
+ghost use Rattle.bb_memory_pool_machine.specs.PoolWorld.{IsPoolWorld, PoolWorld, Replays, Steps, world_of};
+ghost use Rattle.std.specs.Prelude.{IfOk, IsSome, length, slice_get, ◌<◌, ◌≡◌};
 
 use super::{Flag, PoolOutcome, PoolStep};
 use std::alloc::{AllocError, Global};
@@ -51,6 +50,11 @@ impl PoolWorld {
             PoolStep::TryAt { party, bucket } => self.try_at(party, bucket),
             PoolStep::Detach { party, bucket } => self.detach(party, bucket),
             PoolStep::Attach { party, bucket } => self.attach(party, bucket),
+            PoolStep::AttachFrom {
+                party,
+                bucket,
+                from,
+            } => self.attach_from(party, bucket, from),
             PoolStep::GiveBackDetached { party, bucket } => self.give_detached(party, bucket),
         }
     }
@@ -166,6 +170,22 @@ impl PoolWorld {
         };
         match found_at(&self.flags, bucket as usize) {
             Some(Flag::DetachedBy(_)) => {
+                self.flags[bucket as usize] = Flag::HeldBy(party);
+                PoolOutcome::Attaches(bucket)
+            }
+            _ => PoolOutcome::Passed,
+        }
+    }
+
+    /// A party attaches a bucket that the party `from` has detached, as it may if it is in no pass.
+    fn attach_from(&mut self, party: u32, bucket: u32, from: u32) -> PoolOutcome
+        ensures { Steps self.old (AttachFrom party bucket from) result self.new }
+    {
+        let Some(None) = found_at(&self.calls, party as usize) else {
+            return PoolOutcome::Passed;
+        };
+        match found_at(&self.flags, bucket as usize) {
+            Some(Flag::DetachedBy(sender)) if sender == from => {
                 self.flags[bucket as usize] = Flag::HeldBy(party);
                 PoolOutcome::Attaches(bucket)
             }

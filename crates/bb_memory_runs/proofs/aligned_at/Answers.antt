@@ -1,6 +1,6 @@
+use Rattle.bb_memory_runs.proofs.aligned_at.Goals as goal
 use Rattle.std.proofs.Common.{arith}
 use Rattle.std.proofs.lemmas.Grind.{elements}
-use Rattle.bb_memory_runs.proofs.aligned_at.Goals as goal
 
 pub returns-in_err-chunk-clause-nowhere : goal.returns-in_err-chunk-clause-nowhere
 returns-in_err-chunk-clause-nowhere c = grind (arith, elements)

@@ -1,6 +1,6 @@
+use Rattle.bb_memory_runs.proofs.apply_shrink.Goals as goal
 use Rattle.std.proofs.Common.{arith}
 use Rattle.std.proofs.lemmas.Grind.{elements}
-use Rattle.bb_memory_runs.proofs.apply_shrink.Goals as goal
 
 pub index_mut-requires : goal.index_mut-requires
 index_mut-requires g c = grind (arith, elements)

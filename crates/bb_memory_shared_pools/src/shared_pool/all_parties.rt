@@ -1,12 +1,12 @@
 //! The law of parties of a shared pool that met.
-ghost use Rattle.std.specs.Prelude.{◌≡◌, ◌≢◌, ◌↔◌, ◌<◌, ℕ, All, Any, Contains, List, Some, [], length, slice_get, true};
+ghost use Rattle.bb_memory_pool_machine.specs.PoolLogs.{AreAsked, IsPoolRun, WasAttachedFrom, WasDetached, history_of, log_of};
+ghost use Rattle.bb_memory_pool_machine.specs.PoolMachine.{IsDetached, PoolScene, left_by};
+ghost use Rattle.bb_memory_shared_pools.specs.SharedPool.{IsSharedScene, PoolParty, refused_pass};
+ghost use Rattle.bb_memory_shared_pools.specs.SharedPoolMeetings.{HasTaker, HaveMet, HoldApart, IsHeldByOne, IsHeldOrDetached, TookOne, WasDetachedByOne};
 ghost use Rattle.bb_memory_traits.specs.Chunk.{Chunk, IsSound};
 ghost use Rattle.bb_memory_traits.specs.PoolObject.{IsHeld};
-ghost use Rattle.bb_memory_pool_machine.specs.PoolMachine.{IsDetached, PoolScene, left_by};
-ghost use Rattle.bb_memory_pool_machine.specs.PoolLogs.{AreAsked, IsPoolRun, history_of, log_of};
 ghost use Rattle.bb_memory_traits.specs.declared.layout.Layout.{Layout};
-ghost use Rattle.bb_memory_shared_pools.specs.SharedPool.{HasTaker, HaveMet, HoldApart, IsHeldByOne, IsHeldOrDetached};
-ghost use Rattle.bb_memory_shared_pools.specs.SharedPool.{IsSharedScene, PoolParty, TookOne, WasDetachedByOne, refused_pass};
+ghost use Rattle.std.specs.Prelude.{All, Any, Contains, List, Some, [], length, slice_get, true, ℕ, ◌<◌, ◌↔◌, ◌≡◌, ◌≢◌};
 
 /// Says what follows for parties of a shared pool that met ([`meet_all`](super::SharedPoolAllocator::meet_all)), and above all of
 /// all its parties, whatever the threads did. It does nothing: its contract is the law.
@@ -48,6 +48,12 @@ pub fn shared_pool_meeting_law()
     ensures was_detached { (scene : PoolScene) (parties : List PoolParty) (met : HaveMet scene parties)
         (bucket : ℕ) → length parties ≡ scene.parties
         → IsDetached (left_by scene met.1.agree.steps) bucket → WasDetachedByOne parties bucket }
+
+    // If one of them attached a bucket by its number from another one of them, then this one's log has detached the bucket.
+    ensures sent { (scene : PoolScene) (parties : List PoolParty) (met : HaveMet scene parties)
+        (receiver sender : PoolParty) (bucket : ℕ) → Contains parties receiver
+        → Contains parties sender → WasAttachedFrom receiver.log bucket sender.number
+        → WasDetached sender.log bucket }
 
     // Each party's steps in the list of steps are its log.
     ensures logged { (scene : PoolScene) (parties : List PoolParty) (met : HaveMet scene parties)

@@ -1,7 +1,7 @@
 //! Buckets that parties took.
-ghost use Rattle.std.specs.Prelude.{◌≡◌, ◌<◌, ◌≤◌};
-ghost use Rattle.bb_memory_traits.specs.Chunk.{IsInside};
 ghost use Rattle.bb_memory_shared_pools.specs.SharedPool.{chunk_of, taken_bucket};
+ghost use Rattle.bb_memory_traits.specs.Chunk.{IsInside};
+ghost use Rattle.std.specs.Prelude.{◌<◌, ◌≡◌, ◌≤◌};
 
 use super::flags::Flags;
 use bb_memory_traits::layout::Chunk;
@@ -18,8 +18,8 @@ pub struct Bucket<'a> {
 }
 
 impl<'a> Model for Bucket<'a> {
-    ghost use Rattle.std.specs.Prelude.{◌<◌, ◌≤◌};
     ghost use Rattle.bb_memory_shared_pools.specs.SharedPool.{TakenBucket, taken_bucket};
+    ghost use Rattle.std.specs.Prelude.{◌<◌, ◌≤◌};
 
     ghost Value = { TakenBucket };
 

@@ -1,13 +1,12 @@
 //! The shared pools: buckets with a flag each, on which any number of threads step.
-ghost use Rattle.std.specs.Prelude.{◌≡◌, ◌≢◌, ℕ, ◌<◌, ◌≤◌, ◌%◌, ◌^◌, [], All, IfErr, IfOk, ◌+◌, IfSome, MatchOption, length};
-ghost use Rattle.bb_memory_traits.specs.Chunk.{IsRegion, Chunk};
-ghost use Rattle.bb_memory_traits.specs.PoolObject.{MayGrow, MayShrink};
 ghost use Rattle.bb_memory_pool_machine.specs.PoolLogs.{IsHeldAfter};
 ghost use Rattle.bb_memory_seats.specs.Seats.{HasRoomFor, Stays, number_of, view_log};
-ghost use Rattle.bb_memory_shared_pools.specs.SharedPool.{AreBothOf, AreFresh, AreInterleaved, HasTaker, HaveMet, HoldApart};
-ghost use Rattle.bb_memory_shared_pools.specs.SharedPool.{IsAlignedTo, IsResizedTo, IsSameParty, IsSharedScene, MayTake};
-ghost use Rattle.bb_memory_shared_pools.specs.SharedPool.{ServesAlone, chunk_of, refused_pass, return_entry, with_entries};
-ghost use Rattle.bb_memory_shared_pools.specs.SharedPoolRule.{IsIdleAt, all_parties, AfterRefusal, AfterPassWin};
+ghost use Rattle.bb_memory_shared_pools.specs.SharedPool.{AreFresh, IsAlignedTo, IsResizedTo, IsSameParty, IsSharedScene, MayTake, ServesAlone, chunk_of, refused_pass, return_entry, with_entries};
+ghost use Rattle.bb_memory_shared_pools.specs.SharedPoolMeetings.{AreBothOf, AreInterleaved, HasTaker, HaveMet, HoldApart};
+ghost use Rattle.bb_memory_shared_pools.specs.SharedPoolRule.{AfterPassWin, AfterRefusal, IsIdleAt, all_parties};
+ghost use Rattle.bb_memory_traits.specs.Chunk.{Chunk, IsRegion};
+ghost use Rattle.bb_memory_traits.specs.PoolObject.{MayGrow, MayShrink};
+ghost use Rattle.std.specs.Prelude.{All, IfErr, IfOk, IfSome, MatchOption, [], length, ℕ, ◌%◌, ◌+◌, ◌<◌, ◌^◌, ◌≡◌, ◌≢◌, ◌≤◌};
 
 use super::bucket::Bucket;
 use super::flags::Flags;
@@ -80,7 +79,7 @@ impl<const CAPPED: usize, const MOST: usize> SharedBucketPool<CAPPED, MOST> {
             let bucket = self.part_of(number);
             let hint = Hint {
                 bucket,
-                came_back: false,
+                rover: bucket,
             };
             all.push_reserved(PoolParty { number, seat, hint });
         }
@@ -155,6 +154,8 @@ impl<const CAPPED: usize, const MOST: usize> SharedBucketPool<CAPPED, MOST> {
 
     /// Gives back a bucket by one store, which makes its flag free. The party and the bucket have to be this pool's, and the
     /// party's log has to hold the bucket: this party took or attached it, and hasn't given it back or detached it since.
+    ///
+    /// Example: `comments::shared_pool_exchanged` of `crates/examples`.
     pub fn deallocate_bucket(&self, party: &mut PoolParty, bucket: Bucket<'_>)
         requires party { party.old.allocator ≡ self.now }
         requires bucket { bucket.allocator ≡ self.now }
@@ -173,8 +174,10 @@ impl<const CAPPED: usize, const MOST: usize> SharedBucketPool<CAPPED, MOST> {
         party.hint.follow_return(bucket.number);
     }
 
-    /// Two parties meet: no bucket is held by both. It loads a word four times, which is in no log, and changes nothing. The
-    /// parties have to be this pool's.
+    /// Two parties meet: no bucket is held by both. A meeting loads words, which is in no log, and changes nothing. The parties
+    /// have to be this pool's.
+    ///
+    /// Example: `comments::shared_pool_left` of `crates/examples`.
     pub fn meet(&self, a: &mut PoolParty, b: &mut PoolParty)
         requires parties { AreBothOf self.now a.old b.old }
         ensures kept { (a.new ≡ a.old) × (b.new ≡ b.old) }
@@ -190,8 +193,8 @@ impl<const CAPPED: usize, const MOST: usize> SharedBucketPool<CAPPED, MOST> {
     /// All these parties meet: no bucket is held by two of them. One interleaving has all their logs. Where these are all the
     /// pool's parties, it has no other steps, and a flag is taken exactly where one of them holds the bucket, or it is detached.
     /// Where each of them has made a step, too, one of them has taken a bucket: not all were refused by what somebody else held,
-    /// as there is nobody else. The meeting loads a word once, and two times more for each party but one, which is in no log,
-    /// and changes nothing. The parties have to be this pool's.
+    /// as there is nobody else. A meeting loads words, which is in no log, and changes nothing. The parties have to be this
+    /// pool's.
     pub fn meet_all(&self, parties: &mut Vec<PoolParty>)
         requires parties { All (λ party. party.allocator ≡ self.now) parties.old.items }
         ensures kept { parties.new.items ≡ parties.old.items }

@@ -1,9 +1,10 @@
 //! Buckets by their numbers and places, for a user that keeps numbers where it can't keep a [`Bucket`], which borrows its pool.
-ghost use Rattle.std.specs.Prelude.{◌≡◌, ℕ, ◌<◌, ◌≤◌, ◌↔◌, ◌%◌, IfSome, IfNone, true};
-ghost use Rattle.bb_memory_traits.specs.PoolObject.{bucket_place};
 ghost use Rattle.bb_memory_pool_machine.specs.PoolLogs.{IsHeldAfter, MayBeFound};
-ghost use Rattle.bb_memory_traits.specs.Geometry.{IsPlaceOfBucket, TellsPlace};
 ghost use Rattle.bb_memory_shared_pools.specs.SharedPool.{chunk_of, taken_bucket};
+ghost use Rattle.bb_memory_shared_pools.specs.SharedPoolLeaving.{GivesAllBack};
+ghost use Rattle.bb_memory_traits.specs.Geometry.{IsPlaceOfBucket, TellsPlace};
+ghost use Rattle.bb_memory_traits.specs.PoolObject.{bucket_place};
+ghost use Rattle.std.specs.Prelude.{IfNone, IfSome, true, ℕ, ◌%◌, ◌<◌, ◌↔◌, ◌≡◌, ◌≤◌};
 
 use super::bucket::Bucket;
 use super::buckets::SharedBucketPool;
@@ -51,6 +52,23 @@ impl<const CAPPED: usize, const MOST: usize> SharedBucketPool<CAPPED, MOST> {
     {
         self.flags.found(number)
     }
+
+    /// Gives back each bucket that the party holds, as its flag says, in order of their numbers: by one load of each flag, and one
+    /// store where it is the party's. The party has to be this pool's.
+    pub fn give_all_back(&self, party: &mut PoolParty)
+        requires { party.old.allocator ≡ self.now }
+        ensures { GivesAllBack party.old party.new }
+    {
+        // Proof hint: brings the party's invariant into scope.
+        let _ = party.number();
+        for number in 0..self.number_of_buckets() {
+            let is_held = self.is_held_by(party, number);
+            if is_held {
+                let bucket = bucket(self, party, number, 0);
+                self.deallocate_bucket(party, bucket);
+            }
+        }
+    }
 }
 
 /// Returns the bucket of this number again, with a chunk of `len` bytes, without a step. It is for a user that can keep no
@@ -58,6 +76,9 @@ impl<const CAPPED: usize, const MOST: usize> SharedBucketPool<CAPPED, MOST> {
 /// pool: it has to be imported. The party has to be this pool's, and its log has to hold the bucket: this party took it, and it
 /// wasn't given back since. The length has to be at most the bucket's size. Tokens that there are already stay: a return by one
 /// leaves the others stale, which still answer the bucket's number and chunk when another party has taken it.
+///
+/// A caching party also holds the buckets that it caches, and its next requests take those. So of a caching party's buckets only
+/// one that is out may be passed. No condition requires this, and a caching party lends none that it caches by a call of its own.
 ///
 /// Example: `comments::shared_pool_by_number` of `crates/examples`.
 pub fn bucket<'a, const CAPPED: usize, const MOST: usize>(

@@ -1,9 +1,10 @@
 //! Parties that cache the buckets that they gave back last: a layer over the shared pools.
-ghost use Rattle.std.specs.Prelude.{◌≡◌, ◌≢◌, ◌<◌, ◌≤◌, ◌↔◌, [], ℕ, Contains, IfErr, IfOk, Ok, length, true, vec_capacity};
 ghost use Rattle.bb_memory_pool_machine.specs.PoolLogs.{IsHeldAfter};
-ghost use Rattle.bb_memory_shared_pools.specs.SharedPool.{AreBothOf, AreInterleaved, IsSameParty, attach_entry, detach_entry};
-ghost use Rattle.bb_memory_shared_pools.specs.SharedPool.{return_detached_entry, taken_bucket, with_entries};
-ghost use Rattle.bb_memory_shared_pools.specs.SharedPoolCaching.{AreCached, IsOut, ReturnsCaching, ServesCaching, returns_of};
+ghost use Rattle.bb_memory_shared_pools.specs.SharedPool.{HasAttached, HasDetached, HasReturned, IsSameParty, attach_entry, detach_entry, return_detached_entry, taken_bucket, with_entries};
+ghost use Rattle.bb_memory_shared_pools.specs.SharedPoolCaching.{AreCached, AttachesCaching, IsOut, ReturnsCaching, ServesCaching, returns_of};
+ghost use Rattle.bb_memory_shared_pools.specs.SharedPoolLeaving.{GivesAllBack};
+ghost use Rattle.bb_memory_shared_pools.specs.SharedPoolMeetings.{AreBothOf, AreInterleaved};
+ghost use Rattle.std.specs.Prelude.{Contains, IfErr, IfOk, IsFalse, IsTrue, Ok, [], length, true, vec_capacity, ℕ, ◌<◌, ◌↔◌, ◌≡◌, ◌≢◌, ◌≤◌};
 
 use super::bucket::Bucket;
 use super::buckets::SharedBucketPool;
@@ -44,8 +45,8 @@ pub struct CachingParty {
 }
 
 impl Model for CachingParty {
-    ghost use Rattle.std.specs.Prelude.{◌<◌, ◌≤◌, ◌^◌, length, vec_capacity};
     ghost use Rattle.bb_memory_shared_pools.specs.SharedPoolCaching.{AreCached, CachingParty};
+    ghost use Rattle.std.specs.Prelude.{length, vec_capacity, ◌<◌, ◌^◌, ◌≤◌};
 
     ghost Value = { CachingParty };
 
@@ -188,8 +189,11 @@ impl CachingParty {
             → IsOut self.old other → IsOut self.new other }
         ensures others { (other : ℕ) → IsOut self.new other → IsOut self.old other }
         ensures party { self.new.party.allocator ≡ self.old.party.allocator }
+        ensures is_party { IsSameParty self.old.party self.new.party }
         ensures most { self.new.most ≡ self.old.most }
     {
+        // Proof hint: brings the party's invariant into scope where the bucket is cached.
+        let _ = self.party.number();
         if self.cached.len() < self.most as usize {
             self.cached.push_reserved(bucket.number());
         } else {
@@ -214,6 +218,7 @@ impl CachingParty {
           party = with_entries self.old.party
               (detach_entry self.old.party.number bucket.entry.number);
         } }
+        ensures party { HasDetached pool.now self.old.party bucket.entry self.new.party }
         ensures was_detached { ¬ IsOut self.new bucket.entry.number }
         ensures others_kept { (other : ℕ) → other ≢ bucket.entry.number
             → IsOut self.old other → IsOut self.new other }
@@ -237,6 +242,7 @@ impl CachingParty {
           party = with_entries self.old.party
               (attach_entry self.old.party.number detached.number);
         } }
+        ensures party { HasAttached pool.now self.old.party detached self.new.party }
         ensures attached { IsOut self.new detached.number }
         ensures not_out { ¬ IsOut self.old detached.number }
         ensures others_kept { (other : ℕ) → IsOut self.old other → IsOut self.new other }
@@ -244,6 +250,51 @@ impl CachingParty {
             → IsOut self.new other → IsOut self.old other }
     {
         pool.attach(&mut self.party, detached)
+    }
+
+    /// Detaches a bucket that is out, and returns its number, as
+    /// [`SharedPoolAllocator::detach_number`](super::SharedPoolAllocator::detach_number) does. The pool needs two parties at
+    /// least. The party and the bucket have to be this pool's.
+    #[tactic(auto, unfolding(crate::specs::SharedPoolCaching::IsOut))]
+    pub fn detach_number<const CAPPED: usize, const MOST: usize>(
+        &mut self,
+        pool: &SharedBucketPool<CAPPED, MOST>,
+        bucket: Bucket<'_>,
+    ) -> u32
+        requires others { 1 < pool.now.scene.parties }
+        requires party { self.old.party.allocator ≡ pool.now }
+        requires bucket { bucket.allocator ≡ pool.now }
+        requires out { IsOut self.old bucket.number }
+        ensures number { result ≡ bucket.entry.number }
+        ensures logged { self.new ≡ record self.old {
+          party = with_entries self.old.party
+              (detach_entry self.old.party.number bucket.entry.number);
+        } }
+        ensures party { HasDetached pool.now self.old.party bucket.entry self.new.party }
+        ensures was_detached { ¬ IsOut self.new bucket.entry.number }
+        ensures others_kept { (other : ℕ) → other ≢ bucket.entry.number
+            → IsOut self.old other → IsOut self.new other }
+        ensures others { (other : ℕ) → IsOut self.new other → IsOut self.old other }
+    {
+        pool.detach_number(&mut self.party, bucket)
+    }
+
+    /// Attaches the bucket of this number where the party of number `from` has detached it by `detach_number`, and returns
+    /// whether that won, as [`SharedPoolAllocator::attach_number`](super::SharedPoolAllocator::attach_number) does. It is out
+    /// then. A loss changes nothing. The party has to be this pool's.
+    #[tactic(auto, unfolding(crate::specs::SharedPoolCaching::IsOut))]
+    pub fn attach_number<const CAPPED: usize, const MOST: usize>(
+        &mut self,
+        pool: &SharedBucketPool<CAPPED, MOST>,
+        number: u32,
+        from: u32,
+    ) -> bool
+        requires party { self.old.party.allocator ≡ pool.now }
+        requires below { number < pool.now.scene.geometry.buckets }
+        ensures won { IsTrue result → AttachesCaching self.old number from self.new }
+        ensures lost { IsFalse result → self.new ≡ self.old }
+    {
+        pool.attach_number(&mut self.party, number, from)
     }
 
     /// Gives back a detached bucket to the pool by one store, as
@@ -261,6 +312,7 @@ impl CachingParty {
           party = with_entries self.old.party
               (return_detached_entry self.old.party.number detached.number);
         } }
+        ensures party { HasReturned pool.now self.old.party detached self.new.party }
         ensures not_out { ¬ IsOut self.old detached.number }
         ensures others_kept { (other : ℕ) → IsOut self.old other → IsOut self.new other }
         ensures others { (other : ℕ) → IsOut self.new other → IsOut self.old other }
@@ -285,6 +337,10 @@ impl CachingParty {
           party = with_entries self.old.party
               (return_detached_entry self.old.party.number number);
         } }
+        ensures party { HasReturned pool.now self.old.party lost self.new.party }
+        ensures not_out { ¬ IsOut self.old number }
+        ensures others_kept { (other : ℕ) → IsOut self.old other → IsOut self.new other }
+        ensures others { (other : ℕ) → IsOut self.new other → IsOut self.old other }
     {
         pool.recover(&mut self.party, number, lost)
     }
@@ -341,6 +397,22 @@ impl CachingParty {
         return_all(pool, &mut self.party, &mut self.cached);
     }
 
+    /// Gives back each bucket that the party holds, out or cached, as
+    /// [`SharedPoolAllocator::give_all_back`](super::SharedPoolAllocator::give_all_back) does. None is cached then. The party has
+    /// to be this pool's.
+    pub fn give_all_back<const CAPPED: usize, const MOST: usize>(
+        &mut self,
+        pool: &SharedBucketPool<CAPPED, MOST>,
+    )
+        requires party { self.old.party.allocator ≡ pool.now }
+        ensures party { GivesAllBack self.old.party self.new.party }
+        ensures empty { self.new.cached ≡ [] }
+        ensures most { self.new.most ≡ self.old.most }
+    {
+        self.cached.clear();
+        pool.give_all_back(&mut self.party);
+    }
+
     /// Two parties meet, as [`SharedPoolAllocator::meet`](super::SharedPoolAllocator::meet) has it: no bucket is held by both. So
     /// none that is out at one of them is out or cached at the other. Nothing changes. The parties have to be this pool's.
     #[tactic(auto, unfolding(crate::specs::SharedPoolCaching::IsOut))]
@@ -351,6 +423,7 @@ impl CachingParty {
     )
         requires parties { AreBothOf pool.now self.old.party other.old.party }
         ensures kept { (self.new ≡ self.old) × (other.new ≡ other.old) }
+        ensures parties { AreBothOf pool.now self.new.party other.new.party }
         ensures differ { self.old.party.number ≢ other.old.party.number }
         ensures apart { (bucket : ℕ) → IsHeldAfter self.old.party.log bucket
             → ¬ IsHeldAfter other.old.party.log bucket }

@@ -1,6 +1,6 @@
 //! Buckets on their way from one party of a shared pool to another.
-ghost use Rattle.std.specs.Prelude.{◌≡◌, ◌<◌, ◌≤◌, true};
-ghost use Rattle.bb_memory_shared_pools.specs.SharedPool.{AreOf, HasDetached, HasAttached, HasReturned, MayDetach};
+ghost use Rattle.bb_memory_shared_pools.specs.SharedPool.{AreOf, HasAttached, HasAttachedFrom, HasDetached, HasReturned, MayDetach};
+ghost use Rattle.std.specs.Prelude.{IsFalse, IsTrue, true, ◌<◌, ◌≡◌, ◌≤◌};
 
 use super::bucket::Bucket;
 use super::buckets::SharedBucketPool;
@@ -21,9 +21,9 @@ pub struct DetachedBucket {
 }
 
 impl Model for DetachedBucket {
-    ghost use Rattle.std.specs.Prelude.{true};
     ghost use Rattle.bb_memory_shared_pools.specs.SharedPool.{TakenBucket, taken_bucket};
     ghost use Rattle.bb_memory_shared_pools.specs.SharedPoolRule.{IsDetachedSeat, pool_in};
+    ghost use Rattle.std.specs.Prelude.{true};
 
     ghost Value = { TakenBucket };
 
@@ -124,8 +124,37 @@ impl<const CAPPED: usize, const MOST: usize> SharedBucketPool<CAPPED, MOST> {
         party.hint.follow_return(number);
     }
 
+    /// Detaches a bucket as `detach` does, but makes no token: the bucket's number, which is returned, goes to the other party by
+    /// any way, as a file that processes share, and that party attaches it by `attach_number`. The conditions are those of
+    /// `detach`.
+    pub fn detach_number(&self, party: &mut PoolParty, bucket: Bucket<'_>) -> u32
+        requires allowed { MayDetach self.now party.old bucket }
+        ensures number { result ≡ bucket.entry.number }
+        ensures party { HasDetached self.now party.old bucket.entry party.new }
+    {
+        let number = bucket.number;
+        self.flags
+            .detach_number(party.number, &mut party.seat, number);
+        number
+    }
+
+    /// Attaches the bucket of this number where the party of number `from` has detached it by `detach_number`, by one exchange
+    /// of its flag, and returns whether that won. It wins only where the flag says at the exchange that exactly this party has
+    /// detached the bucket, without a token: so of any number of callers at most one wins. A loss changes nothing, and is no
+    /// step of the log. [`by_number::bucket`](super::by_number::bucket) makes the token of a bucket that was won. The party has
+    /// to be this pool's. `from` may be any number.
+    pub fn attach_number(&self, party: &mut PoolParty, number: u32, from: u32) -> bool
+        requires party { party.old.allocator ≡ self.now }
+        requires below { number < self.now.scene.geometry.buckets }
+        ensures won { IsTrue result → HasAttachedFrom self.now party.old number from party.new }
+        ensures lost { IsFalse result → party.new ≡ party.old }
+    {
+        self.flags
+            .attach_number(party.number, &mut party.seat, number, from)
+    }
+
     /// Gives back the detached bucket of this number, whose token was lost, by one store. It is refused where the bucket's flag
-    /// doesn't say that it is detached, which the token rules out. The party and the token have to be this pool's.
+    /// doesn't say that it is detached with a token, which the token rules out. The party and the token have to be this pool's.
     pub fn recover(&self, party: &mut PoolParty, number: u32, lost: LostBucket) -> bool
         requires same_pool { AreOf self.now party.old lost }
         requires number { lost.number ≡ number }

@@ -1,8 +1,8 @@
 //! A shared pool of at most a constant of buckets.
-ghost use Rattle.std.specs.Prelude.{◌≡◌, ◌-◌, ◌<◌, ◌≤◌, ◌^◌, IfOk, IfErr};
+ghost use Rattle.bb_memory_shared_pools.specs.SharedPool.{AreFresh};
 ghost use Rattle.bb_memory_traits.specs.Chunk.{region_at};
 ghost use Rattle.bb_memory_traits.specs.Geometry.{IsCutAtMost, MayBeCut};
-ghost use Rattle.bb_memory_shared_pools.specs.SharedPool.{AreFresh};
+ghost use Rattle.std.specs.Prelude.{IfErr, IfOk, ◌-◌, ◌<◌, ◌^◌, ◌≡◌, ◌≤◌};
 
 use super::buckets::SharedBucketPool;
 use super::party::PoolParty;
@@ -25,7 +25,7 @@ impl<const MAX_NUMBER_OF_BUCKETS: usize> SharedFixedSizePoolAllocator<MAX_NUMBER
     /// parties, numbered from 0. The start has to be greater than 0; start plus size, and the start rounded up to the bucket's
     /// alignment, at most `usize::MAX`; the bucket's size greater than 0; the buckets that there is room for fewer than
     /// `u32::MAX`, as the constant, and the parties at least 1.
-    /// [`FixedSizePoolAllocator::can_make`](crate::pool_allocator::FixedSizePoolAllocator::can_make) tests all but the parties.
+    /// `FixedSizePoolAllocator::can_make` of `bb_memory_owned` tests all but the parties.
     /// Its only refusal is `OutOfMemory`, where a request for memory was refused.
     pub fn new(
         alloc: Global,

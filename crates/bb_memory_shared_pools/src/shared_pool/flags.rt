@@ -1,22 +1,21 @@
 //! The flags that threads share, one a bucket: their words, and the only calls that touch them.
 //!
-//! `try_flag`, `try_at`, `probe` and `give_back` make one logged step each, by the seat of the party whose step it is. That
-//! party's log then ends with the step and what it found. So do `detach`, `attach` and `return_detached`, each of which loads a
-//! word more for the seat of what is detached. `split_first`, `merge`, `load_for_meeting`, `meet`, `is_held`, `is_detached` and
+//! `try_flag`, `try_at`, `probe`, `give_back` and `detach_number` make one logged step each, by the seat of the party whose step
+//! it is. That party's log then ends with the step and what it found. So does `attach_number` where it wins, and so do `detach`,
+//! `attach` and `return_detached`, each of which loads a word more for the seat of what is detached. `split_first`, `merge`, `load_for_meeting`, `meet`, `is_held`, `is_detached` and
 //! `found` only load words, and are in no log; nor is the load with which `probe` begins, where it finds the flag free. `open` is
 //! before all sharing, and `geometry` touches no word.
-ghost use Rattle.std.specs.Prelude.{◌≡◌, ◌<◌, ◌≤◌, ◌↔◌, ◌^◌, [], IfOk, MatchBool, true};
-ghost use Rattle.bb_memory_traits.specs.Chunk.{IsRegion};
-ghost use Rattle.bb_memory_shared_pools.specs.SharedPool.{attach_entry, return_detached_entry};
-ghost use Rattle.bb_memory_traits.specs.PoolObject.{IsPoolGeometry};
+ghost use Rattle.bb_memory_pool_machine.specs.PoolLogs.{IsHeldAfter, MayBeFound, next_bucket};
 ghost use Rattle.bb_memory_pool_machine.specs.PoolMachine.{NamesMade};
 ghost use Rattle.bb_memory_pool_machine.specs.declared.steps.pool.Flag.{Flag};
 ghost use Rattle.bb_memory_pool_machine.specs.declared.steps.pool.Flag.TheVariants.{DetachedBy, HeldBy};
-ghost use Rattle.bb_memory_pool_machine.specs.PoolLogs.{IsHeldAfter, MayBeFound, next_bucket};
-ghost use Rattle.bb_memory_shared_pools.specs.SharedPoolRule.{word_of, StandsAt, IsHeldAt, IsIdleAt, IsDetachedAt, all_parties};
-ghost use Rattle.bb_memory_shared_pools.specs.SharedPoolRule.{IsSeatAt, AfterDetachSplit, AfterGain, AfterProbe, AfterMeeting};
-ghost use Rattle.bb_memory_shared_pools.specs.SharedPoolRule.{AfterTryLoss, AfterMeetingLoad, AfterReturn, AfterTryWin, as_word};
-ghost use Rattle.bb_memory_seats.specs.Seats.{IsSplit, MayMerge, Stays, both_of, number_of, view_log};
+ghost use Rattle.bb_memory_seats.specs.Seats.{IsSplit, MayMerge, Stays, alone_with, both_of, number_of, view_log};
+ghost use Rattle.bb_memory_shared_pools.specs.FlagWords.{as_word, flag_in, with_token, word_of};
+ghost use Rattle.bb_memory_shared_pools.specs.SharedPool.{attach_entry, attach_from_entry, return_detached_entry};
+ghost use Rattle.bb_memory_shared_pools.specs.SharedPoolRule.{AfterDetachSplit, AfterGain, AfterMeeting, AfterMeetingLoad, AfterProbe, AfterReturn, AfterTryLoss, AfterTryWin, IsDetachedAt, IsHeldAt, IsIdleAt, IsSeatAt, IsSeatOfIdle, StandsAt, all_parties};
+ghost use Rattle.bb_memory_traits.specs.Chunk.{IsRegion};
+ghost use Rattle.bb_memory_traits.specs.PoolObject.{IsPoolGeometry};
+ghost use Rattle.std.specs.Prelude.{IfOk, MatchBool, [], true, ◌<◌, ◌^◌, ◌↔◌, ◌≡◌, ◌≤◌};
 
 use super::rule::{Agreement, Scene, View};
 use atomic_table::{Join, Play, Seat, Split, Table};
@@ -36,22 +35,33 @@ fn held_by(party: u32) -> u64
     2 * party as u64 + 1
 }
 
-/// Returns the word of the flag of a bucket that this party has detached.
+/// Returns the word of the flag of a bucket that this party has detached without a token.
 fn detached_by(party: u32) -> u64
     ensures { result ≡ as_word (DetachedBy party) }
 {
     2 * party as u64 + 2
 }
 
+/// The number in the word of a bucket that was detached with a token is this much greater than its sender's.
+const WITH_TOKEN: u64 = 0x1_0000_0000;
+
+/// Returns the word of the flag of a bucket that this party has detached with a token. An exchange from the word of a bucket
+/// without one never takes it.
+fn detached_with_token(party: u32) -> u64
+    ensures { result ≡ as_word (with_token party) }
+{
+    2 * (WITH_TOKEN + party as u64) + 2
+}
+
 /// Returns the flag of this word.
 fn flag_of(word: u64) -> Flag
-    requires { (flag : Flag) × (word ≡ as_word flag) × NamesMade (2 ^ 32) flag }
-    ensures { word ≡ as_word result }
+    requires { (mark : Flag) × (word ≡ as_word mark) × NamesMade (2 ^ 32) (flag_in mark) }
+    ensures { (mark : Flag) → word ≡ as_word mark → NamesMade (2 ^ 32) (flag_in mark) → result ≡ flag_in mark }
 {
     if word == FREE {
         return Flag::Free;
     }
-    let party = ((word - 1) / 2) as u32;
+    let party = ((word - 1) / 2 % WITH_TOKEN) as u32;
     if word % 2 == 1 {
         Flag::HeldBy(party)
     } else {
@@ -151,6 +161,24 @@ impl Play<u8, View> for Detaches {
     ghost then = { detaches };
 }
 
+/// A store by a party after whose log the bucket is held, which detaches it without a token.
+struct DetachesNumber;
+
+impl Play<u8, View> for DetachesNumber {
+    ghost use Rattle.bb_memory_shared_pools.specs.SharedPoolRule.{detaches_number};
+
+    ghost then = { detaches_number };
+}
+
+/// An exchange by an idle party from detached by some party without a token to the party's number.
+struct AttachesNumber;
+
+impl Play<u8, View> for AttachesNumber {
+    ghost use Rattle.bb_memory_shared_pools.specs.SharedPoolRule.{attaches_number};
+
+    ghost then = { attaches_number };
+}
+
 /// A store by a party at whose seat the bucket is detached, which attaches it.
 struct Attaches;
 
@@ -226,9 +254,9 @@ pub(super) struct Flags {
 }
 
 impl Model for Flags {
-    ghost use Rattle.std.specs.Prelude.{◌≡◌};
     ghost use Rattle.bb_memory_shared_pools.specs.SharedPool.{SharedPool};
     ghost use Rattle.bb_memory_shared_pools.specs.SharedPoolRule.{HasWords};
+    ghost use Rattle.std.specs.Prelude.{◌≡◌};
 
     ghost Value = { SharedPool };
 
@@ -356,7 +384,8 @@ impl Flags {
         flag_of(word)
     }
 
-    /// Loads the flag of `bucket` by a seat at which the bucket is detached. Returns whether the flag says so.
+    /// Loads the flag of `bucket` by a seat at which the bucket is detached. Returns whether the flag says so: a bucket that was
+    /// detached without a token isn't taken for one that has it.
     pub(super) fn is_detached(&self, seat: &mut Seat<u8, View>, bucket: u32) -> bool
         requires { IsDetachedAt self.now seat.old.table_id seat.old.me bucket }
         ensures seat { Stays seat.old.table_id seat.new.table_id (seat.new.me ≡ seat.old.me) }
@@ -364,7 +393,7 @@ impl Flags {
     {
         let shared = &self.table.shared;
         let found = shared.load::<SeesDetached>(seat, word_of(bucket));
-        found != FREE && found % 2 == 0
+        found > 2 * WITH_TOKEN && found % 2 == 0
     }
 
     /// A store by the party after whose log this bucket is held, and which isn't the only one. What is returned has the bucket
@@ -384,11 +413,25 @@ impl Flags {
         ensures detached { IsDetachedAt self.now result.table_id result.me bucket }
     {
         let shared = &self.table.shared;
-        shared.store::<Detaches>(seat, word_of(bucket), detached_by(party));
+        shared.store::<Detaches>(seat, word_of(bucket), detached_with_token(party));
         shared.split_seat::<GiveDetached>(seat)
     }
 
-    /// A store by an idle party, to whose seat this bucket detached comes, and which holds it then.
+    /// The seat of a detached bucket joins that of an idle party.
+    fn take_in(&self, seat: &mut Seat<u8, View>, detached: Seat<u8, View>, bucket: u32)
+        requires seat { IsIdleAt self.now seat.old.table_id seat.old.me }
+        requires detached { IsDetachedAt self.now detached.table_id detached.me bucket }
+        ensures { Stays seat.old.table_id seat.new.table_id
+            (seat.new.me ≡ (
+              alone_with self.now.scene
+                  (number_of seat.old.me.0) (view_log seat.old.me.0) bucket,
+              [],
+            )) }
+    {
+        self.table.shared.join_seat::<TakeIn>(seat, detached);
+    }
+
+    /// A store by an idle party, to whose seat this detached bucket comes, and which then holds the bucket.
     pub(super) fn attach(
         &self,
         party: u32,
@@ -403,12 +446,12 @@ impl Flags {
             (number_of seat.old.me.0) (view_log seat.old.me.0)
             (attach_entry (number_of seat.old.me.0) bucket) bucket seat.new.me) }
     {
+        self.take_in(seat, detached, bucket);
         let shared = &self.table.shared;
-        shared.join_seat::<TakeIn>(seat, detached);
         shared.store::<Attaches>(seat, word_of(bucket), held_by(party));
     }
 
-    /// A store of free by an idle party, to whose seat this bucket detached comes.
+    /// A store of free by an idle party, to whose seat this detached bucket comes.
     pub(super) fn return_detached(
         &self,
         seat: &mut Seat<u8, View>,
@@ -421,9 +464,48 @@ impl Flags {
             (number_of seat.old.me.0) (view_log seat.old.me.0)
             (return_detached_entry (number_of seat.old.me.0) bucket) bucket seat.new.me) }
     {
+        self.take_in(seat, detached, bucket);
         let shared = &self.table.shared;
-        shared.join_seat::<TakeIn>(seat, detached);
         shared.store::<ReturnsDetached>(seat, word_of(bucket), FREE);
+    }
+
+    /// A store by the party after whose log this bucket is held, and which isn't the only one. The bucket is detached then, and
+    /// no seat has it.
+    pub(super) fn detach_number(&self, party: u32, seat: &mut Seat<u8, View>, bucket: u32)
+        requires party { number_of seat.old.me.0 ≡ party }
+        requires others { 1 < self.now.scene.parties }
+        requires seat { IsSeatAt self.now seat.old.table_id seat.old.me }
+        requires held { IsHeldAt self.now seat.old.me bucket }
+        ensures { Stays seat.old.table_id seat.new.table_id (AfterDetachSplit self.now.scene
+            (number_of seat.old.me.0) (view_log seat.old.me.0) bucket seat.new.me) }
+    {
+        let shared = &self.table.shared;
+        shared.store::<DetachesNumber>(seat, word_of(bucket), detached_by(party));
+    }
+
+    /// Exchanges the flag of `bucket` from detached by `from`, without a token, to held, by an idle party. Returns whether that
+    /// attached the bucket. A loss is in no log.
+    pub(super) fn attach_number(
+        &self,
+        party: u32,
+        seat: &mut Seat<u8, View>,
+        bucket: u32,
+        from: u32,
+    ) -> bool
+        requires party { number_of seat.old.me.0 ≡ party }
+        requires seat { IsIdleAt self.now seat.old.table_id seat.old.me }
+        requires below { bucket < self.now.scene.geometry.buckets }
+        ensures { Stays seat.old.table_id seat.new.table_id (MatchBool result
+            (AfterGain self.now.scene (number_of seat.old.me.0) (view_log seat.old.me.0)
+            (attach_from_entry (number_of seat.old.me.0) bucket from) bucket seat.new.me)
+            (IsSeatOfIdle self.now.scene (number_of seat.old.me.0) (view_log seat.old.me.0)
+            seat.new.me)) }
+    {
+        let shared = &self.table.shared;
+        let sent = detached_by(from);
+        let word = word_of(bucket);
+        let found = shared.compare_exchange::<AttachesNumber>(seat, word, sent, held_by(party));
+        found == sent
     }
 
     /// A guest's parties go to this seat, before its own.

@@ -1,7 +1,7 @@
 //! Any number of parties at one seat.
-ghost use Rattle.std.specs.Prelude.{◌≡◌, ◌++◌, All, map};
 ghost use Rattle.bb_memory_seats.specs.Seats.{HasNow};
-ghost use Rattle.bb_memory_shared_pools.specs.SharedPoolRule.{StandsAt, AfterMeetingLoad, numbered_of};
+ghost use Rattle.bb_memory_shared_pools.specs.SharedPoolRule.{AfterMeetingLoad, StandsAt, numbered_of};
+ghost use Rattle.std.specs.Prelude.{All, map, ◌++◌, ◌≡◌};
 
 use super::flags::Flags;
 use super::party::PoolParty;

@@ -1,10 +1,10 @@
 //! Next fit: requests whose search begins at the party's hint.
-ghost use Rattle.std.specs.Prelude.{◌≡◌, ℕ, ◌+◌, ◌<◌, ◌^◌, IfErr, IfSome, MatchOption};
 ghost use Rattle.bb_memory_pool_machine.specs.PoolLogs.{PoolLog};
 ghost use Rattle.bb_memory_seats.specs.Seats.{Stays, number_of, view_log};
 ghost use Rattle.bb_memory_shared_pools.specs.SharedPool.{ServesAlone};
-ghost use Rattle.bb_memory_shared_pools.specs.SharedPoolNextFit.{MayTakeFrom, probed, hint_of, part_of, refused_search};
-ghost use Rattle.bb_memory_shared_pools.specs.SharedPoolRule.{IsIdleAt, AfterRefusal, AfterSearchWin, IsInSearch};
+ghost use Rattle.bb_memory_shared_pools.specs.SharedPoolNextFit.{MayTakeFrom, hint_of, part_of, probed, refused_search};
+ghost use Rattle.bb_memory_shared_pools.specs.SharedPoolRule.{AfterRefusal, AfterSearchWin, IsIdleAt, IsInSearch};
+ghost use Rattle.std.specs.Prelude.{IfSome, MatchOption, ℕ, ◌+◌, ◌<◌, ◌^◌, ◌≡◌};
 
 use super::bucket::Bucket;
 use super::buckets::SharedBucketPool;
@@ -90,12 +90,11 @@ impl<const CAPPED: usize, const MOST: usize> SharedBucketPool<CAPPED, MOST> {
     }
 
     /// Takes a bucket for the party, as `allocate` does, but tries the buckets in another order: after the same tests of size and
-    /// alignment it probes each bucket once, until one is taken. The first probe is an exchange. Each later one loads the flag,
-    /// and makes an exchange only where the flag is free. The search begins at the party's hint: at the least bucket that it gave
-    /// back since it took its last one, or else behind that one; before both, at the first bucket of a part of the pool of its
-    /// own. The search goes on to the last bucket, and then from bucket 0 up. It is refused with `OutOfMemory` where each probe
-    /// misses. Where other parties step meanwhile, that doesn't mean that all buckets were held at one moment. The party has to
-    /// be this pool's.
+    /// alignment it probes each bucket once, until one is taken. The search begins at the party's hint: at the bucket that it
+    /// gave back last, or else at its rover; before its first step, at the first bucket of a part of the pool of its own. The
+    /// rover is behind the bucket that the party took last, or at one that it gave back before its last one. The search goes on
+    /// to the last bucket, and then from bucket 0 up. It is refused with `OutOfMemory` where each probe misses. Where other
+    /// parties step meanwhile, that doesn't mean that all buckets were held at one moment. The party has to be this pool's.
     #[inline(always)]
     pub fn allocate_next_fit(
         &self,
@@ -120,20 +119,5 @@ impl<const CAPPED: usize, const MOST: usize> SharedBucketPool<CAPPED, MOST> {
             number,
             len: layout.size(),
         })
-    }
-
-    /// Takes a whole bucket for the party, as `take` does, by the search of `allocate_next_fit`. The party has to be this pool's.
-    #[inline(always)]
-    pub fn take_next_fit(&self, party: &mut PoolParty) -> Result<Bucket<'_>, AllocationError>
-        requires party { party.old.allocator ≡ self.now }
-        ensures answer { MayTakeFrom (hint_of party.old) party.old self.now.scene.geometry.bucket
-            result party.new }
-        ensures party { party.new.allocator ≡ self.now }
-        ensures serves { ServesAlone self.now party.old self.now.scene.geometry.bucket
-            result party.new }
-        ensures refused { IfErr result (λ error. error ≡ AllocationError.OutOfMemory) }
-    {
-        let bucket = self.bucket_layout();
-        self.allocate_next_fit(party, bucket)
     }
 }

@@ -1,38 +1,43 @@
 //! Parties: each is one user's right to step on a shared pool.
-ghost use Rattle.std.specs.Prelude.{◌≡◌, ◌+◌, ◌<◌, ◌^◌};
 ghost use Rattle.bb_memory_pool_machine.specs.declared.steps.pool.PoolOutcome.TheVariants.{Gives, Takes};
 ghost use Rattle.bb_memory_shared_pools.specs.SharedPool.{IsParty};
 ghost use Rattle.bb_memory_shared_pools.specs.SharedPoolNextFit.{hint_after};
+ghost use Rattle.std.specs.Prelude.{◌+◌, ◌<◌, ◌^◌, ◌≡◌};
 
 use super::rule::View;
 use atomic_table::Seat;
 use std::marker::Model;
 
-/// A party's hint: the bucket at which its next search begins, and whether it gave back a bucket since it took its last one.
+/// A party's hint: the bucket at which its next search begins, and its rover, where a search begins that follows a taking. The
+/// two differ only where the party gave back a bucket since it took its last one.
 #[derive(Clone, Copy)]
 pub(super) struct Hint {
     pub(super) bucket: u32,
-    pub(super) came_back: bool,
+    pub(super) rover: u32,
 }
 
 impl Hint {
-    /// Follows the taking of this bucket: the next search begins behind it.
+    /// Follows the taking of this bucket: the rover goes behind it, but stays where the bucket is the one that came back last, and
+    /// the rover is elsewhere. The next search begins at the rover.
     pub(super) fn follow_taking(&mut self, bucket: u32)
         requires { bucket + 1 < 2 ^ 32 }
         ensures { self.new ≡ hint_after self.old (Takes bucket) }
     {
-        self.bucket = bucket + 1;
-        self.came_back = false;
+        if bucket == self.rover || bucket != self.bucket {
+            self.rover = bucket + 1;
+        }
+        self.bucket = self.rover;
     }
 
-    /// Follows a return of this bucket: the hint is the least of those that came back since the last taking.
+    /// Follows a return of this bucket: the next search begins there. The rover goes to the bucket where it would have begun, but
+    /// stays where that lies at most 128 ahead of it.
     pub(super) fn follow_return(&mut self, bucket: u32)
         ensures { self.new ≡ hint_after self.old (Gives bucket) }
     {
-        if !self.came_back || bucket <= self.bucket {
-            self.bucket = bucket;
+        if self.bucket < self.rover || self.bucket - self.rover > 128 {
+            self.rover = self.bucket;
         }
-        self.came_back = true;
+        self.bucket = bucket;
     }
 }
 

@@ -1,9 +1,9 @@
 //! Chunks, which are what is given.
-ghost use Rattle.std.specs.Prelude.{◌≡◌, ◌∷◌, ◌++◌, ◌<◌, ◌≤◌, ◌%◌, ◌↔◌, ℕ, [], List, All, IsTrue, IfSome};
-ghost use Rattle.std.specs.Option.{SomeIff};
-ghost use Rattle.bb_memory_traits.specs.Chunk.{Chunk, IsChunk, IsInside, IsPart, AreApart, chunk_end, Region, IsSound};
 ghost use Rattle.bb_memory_traits.specs.BumpObject.{chunk_at_or_after};
+ghost use Rattle.bb_memory_traits.specs.Chunk.{AreApart, Chunk, IsChunk, IsInside, IsPart, IsSound, Region, chunk_end};
 ghost use Rattle.bb_memory_traits.specs.HeldBytes.{first_part, part_behind};
+ghost use Rattle.std.specs.Option.{SomeIff};
+ghost use Rattle.std.specs.Prelude.{All, IfSome, IsTrue, List, [], ℕ, ◌%◌, ◌++◌, ◌<◌, ◌↔◌, ◌∷◌, ◌≡◌, ◌≤◌};
 
 use super::Layout;
 use std::marker::Model;

@@ -1,8 +1,8 @@
 //! The allocators of one owner, and how a test makes each. Calls of an allocator stand in functions over all kinds: a proof at a
 //! pool's own type takes seconds for each of them.
-ghost use Rattle.std.specs.Prelude.{◌≡◌, [], IfSome};
-ghost use Rattle.bb_memory_traits.specs.Chunk.{region_at};
 ghost use Rattle.bb_memory_owned.specs.Pool.{StandsFor};
+ghost use Rattle.bb_memory_traits.specs.Chunk.{region_at};
+ghost use Rattle.std.specs.Prelude.{IfSome, [], ◌≡◌};
 
 use super::checks::refused;
 use super::owner::Owner;

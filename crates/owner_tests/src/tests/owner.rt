@@ -1,7 +1,7 @@
 //! An owner of an allocator and its region. Its calls have no clause.
-ghost use Rattle.std.specs.Prelude.{◌≡◌, ◌%◌, [], Some, IfSome, slice_get};
 ghost use Rattle.bb_memory_traits.specs.Chunk.{region_at};
 ghost use Rattle.bb_memory_traits.specs.HeldBytes.{held_region};
+ghost use Rattle.std.specs.Prelude.{IfSome, Some, [], slice_get, ◌%◌, ◌≡◌};
 
 use bb_memory_runs::{run_base, run_full};
 use bb_memory_traits::allocator::{Allocator, BaseAllocator, Command, Reply};
@@ -30,8 +30,8 @@ pub(super) struct Owner<A: BaseAllocator + Drop> {
 }
 
 impl<A: BaseAllocator + Drop> Model for Owner<A> {
-    ghost use Rattle.std.specs.Prelude.{◌≡◌};
     ghost use Rattle.bb_memory_traits.specs.HeldBytes.{held_region};
+    ghost use Rattle.std.specs.Prelude.{◌≡◌};
 
     // An owner promises nothing.
     ghost Value = { Unit {0} };

@@ -1,8 +1,8 @@
 //! Readers and writers that fail at each of their calls in turn, and a script that is cut at every byte.
 use super::checks::check_at;
 use super::table::ends;
-use script_runner::Status::{self, Done, Unreadable};
-use script_runner::run;
+use script_kinds::Status::{self, Done, Unreadable};
+use script_kinds::run;
 use std::io;
 use std::io::{ErrorKind, Read, Write};
 use std::process::Abort;

@@ -2,8 +2,8 @@
 use super::checks::check_at;
 use super::table::{check_rows, ends};
 use bb_memory_base::steps::{bump_theorem, pool_theorem};
-use script_runner::Status::{self, Done, Unreadable};
-use script_runner::{equality_law, lines_law};
+use script_kinds::Status::{self, Done, Unreadable};
+use script_kinds::lines_law;
 
 const BUMP: &str = "\
 bump-odd-start-refused | bump 4097 8; alloc 8 8; show | \
@@ -120,7 +120,6 @@ fn scripts_of_other_bytes(rt: HostRuntime) {
 #[test]
 fn the_laws_do_nothing(_rt: HostRuntime) {
     lines_law();
-    equality_law();
     bump_theorem();
     pool_theorem();
     bb_memory_base::equality::equality_law();

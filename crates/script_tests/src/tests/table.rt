@@ -1,6 +1,6 @@
 //! Tables of scripts. Each line is a row: `NAME | SCRIPT | OUTPUT`, where `; ` stands for a line feed.
 use super::checks::check_at;
-use script_runner::{Status, run};
+use script_kinds::{Status, run};
 use std::alloc::{AllocError, Global};
 use std::process::Abort;
 

@@ -6,7 +6,7 @@ use super::checks::{chunk, layout, same};
 use bb_memory_bump::bump_allocator::AllocationError::{self, OutOfMemory, SizeIsZero};
 use bb_memory_bump::shared_bump::{BumpParty, SharedBumpAllocator};
 use std::process::Abort;
-use thread_uses::thread_arena::{ThreadArena, meet};
+use thread_layers::thread_arena::{ThreadArena, meet};
 
 /// Makes an arena for a party.
 fn arena(

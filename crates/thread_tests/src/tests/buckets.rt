@@ -1,6 +1,6 @@
 //! Shared pools of buckets of 128 bytes at 4096, and calls that promise no more than a further call needs.
-ghost use Rattle.std.specs.Prelude.{◌≡◌, ◌<◌, ℕ, All, IfOk, IfSome};
 ghost use Rattle.bb_memory_pool_machine.specs.PoolLogs.{IsHeldAfter};
+ghost use Rattle.std.specs.Prelude.{All, IfOk, IfSome, ℕ, ◌<◌, ◌≡◌};
 
 use super::checks::refused;
 use bb_memory_owned::pool_allocator::PoolAllocator;
@@ -15,8 +15,8 @@ use test_marks::refuse_memory;
 /// A bucket's number, and its chunk's place and length.
 pub(super) type Found = (u32, usize, usize);
 
-/// Makes a pool over `size` bytes, or fails where there is no such pool, or memory was refused.
-fn pool_of(
+/// Makes a pool over `size` bytes, or fails if there is no such pool, or memory was refused.
+pub(super) fn pool_of(
     alloc: Global,
     size: usize,
     parties: u32,
@@ -63,6 +63,23 @@ pub(super) fn last_of(
 {
     let _ = pool;
     parties.pop().expect(rt, "there is a party")
+}
+
+/// Adds a party to these.
+pub(super) fn add(
+    rt: &impl Abort,
+    pool: &SharedPoolAllocator,
+    parties: &mut Vec<PoolParty>,
+    party: PoolParty,
+)
+    requires others { All (λ party. party.allocator ≡ pool.now) parties.old.items }
+    requires own { party.allocator ≡ pool.now }
+    ensures { All (λ party. party.allocator ≡ pool.now) parties.new.items }
+{
+    let _ = pool;
+    parties
+        .push(party)
+        .expect(rt, "there is memory for a party");
 }
 
 /// Makes a pool over `size` bytes, with its two parties.

@@ -1,5 +1,5 @@
 //! Shared bumps, and calls that promise no more than a further call needs.
-ghost use Rattle.std.specs.Prelude.{◌≡◌, All, IfOk};
+ghost use Rattle.std.specs.Prelude.{All, IfOk, ◌≡◌};
 
 use super::checks::{check, refused, same};
 use bb_memory_bump::bump_allocator::{AllocationError, BaseAllocator, BumpAllocator};
@@ -87,6 +87,23 @@ pub(super) fn last_of(
 {
     let _ = shared;
     parties.pop().expect(rt, "there is a party")
+}
+
+/// Adds a party to these.
+pub(super) fn add(
+    rt: &impl Abort,
+    shared: &SharedBumpAllocator,
+    parties: &mut Vec<BumpParty>,
+    party: BumpParty,
+)
+    requires others { All (λ party. party.allocator ≡ shared.now) parties.old.items }
+    requires own { party.allocator ≡ shared.now }
+    ensures { All (λ party. party.allocator ≡ shared.now) parties.new.items }
+{
+    let _ = shared;
+    parties
+        .push(party)
+        .expect(rt, "there is memory for a party");
 }
 
 /// Shares a bump between two parties.

@@ -1,10 +1,10 @@
-use Rattle.std.proofs.Common.{◌≡◌, ◌↔◌, ℕ, Bool, true, false, eqb, refl, IsTrue, ap, arith, rules}
-use Rattle.std.proofs.lemmas.Grind.{common_steps}
-use Rattle.std.specs.Prelude.{◌&&◌}
+use Rattle.bb_memory_base.proofs.equality.equality_law.Goals as goal
+use Rattle.bb_memory_bump_machine.specs.declared.steps.bump.BumpStep.TheVariants as step
 use Rattle.bb_memory_traits.proofs.Layouts.{same_layout}
 use Rattle.bb_memory_traits.specs.declared.allocator.Command.TheVariants as command
-use Rattle.bb_memory_bump_machine.specs.declared.steps.bump.BumpStep.TheVariants as step
-use Rattle.bb_memory_base.proofs.equality.equality_law.Goals as goal
+use Rattle.std.proofs.Common.{Bool, IsTrue, ap, arith, eqb, false, refl, rules, true, ℕ, ◌↔◌, ◌≡◌}
+use Rattle.std.proofs.lemmas.Grind.{common_steps}
+use Rattle.std.specs.Prelude.{◌&&◌}
 
 pub returns-clause-layout : goal.returns-clause-layout
 returns-clause-layout c = grind (arith, common_steps, same_layout)

@@ -1,6 +1,5 @@
-use Rattle.bb_memory_traits.proofs.BumpObjects.{some_answer, one_answer, answer-aligned}
-use Rattle.bb_memory_traits.proofs.BumpObjects.{answer-inside, answer-after_all, answer-len, run-keeps}
 use Rattle.bb_memory_bump.proofs.bump_allocator.bump_object_law.Goals as goal
+use Rattle.bb_memory_traits.proofs.BumpObjects.{answer-after_all, answer-aligned, answer-inside, answer-len, one_answer, run-keeps, some_answer}
 
 pub returns : goal.returns
 returns c = record {

@@ -1,16 +1,16 @@
-use Rattle.std.proofs.Common.{arith}
-use Rattle.std.specs.Prelude.{All}
-use Rattle.bb_memory_traits.specs.Chunk.{AreApart}
-use Rattle.bb_memory_bump_machine.specs.BumpLogs.{chunks_won}
+use Rattle.bb_memory_bump.proofs.SharedBumpHistories.{held_in_list}
+use Rattle.bb_memory_bump.proofs.shared_bump.shared_bump_law.Goals as goal
+use Rattle.bb_memory_bump.specs.SharedBump.{seen_by}
 use Rattle.bb_memory_bump_machine.proofs.BumpMeetings.{common_apart}
 use Rattle.bb_memory_bump_machine.proofs.BumpPositions.{interleaving_stands}
 use Rattle.bb_memory_bump_machine.proofs.BumpRuns.{calls_run}
 use Rattle.bb_memory_bump_machine.proofs.BumpWholes.{ends_by}
-use Rattle.bb_memory_lists.proofs.Positions.{All-at}
 use Rattle.bb_memory_bump_machine.proofs.OwnChunks.{interleaved_older, interleaved_own, interleaved_since}
-use Rattle.bb_memory_bump.specs.SharedBump.{seen_by}
-use Rattle.bb_memory_bump.proofs.SharedBumpHistories.{held_in_list}
-use Rattle.bb_memory_bump.proofs.shared_bump.shared_bump_law.Goals as goal
+use Rattle.bb_memory_bump_machine.specs.BumpLogs.{chunks_won}
+use Rattle.bb_memory_lists.proofs.Positions.{All-at}
+use Rattle.bb_memory_traits.specs.Chunk.{AreApart}
+use Rattle.std.proofs.Common.{arith}
+use Rattle.std.specs.Prelude.{All}
 
 pub returns : goal.returns
 returns c = record {

@@ -1,10 +1,10 @@
-use Rattle.std.proofs.Common.{◌≡◌, Option, refl, sym, subst}
-use Rattle.std.specs.Prelude.{MatchOption}
-use Rattle.bb_memory_shared_pools.specs.SharedPool.{TakenBucket}
-use Rattle.bb_handles.specs.declared.code.TheConstants.{UNINITIALIZED as uninitialized}
-use Rattle.bb_memory_c.specs.SharedPools.{TellsRecover}
-use Rattle.bb_handles.proofs.OpenHandles.{answers}
 use Rattle.bb_memory_c.proofs.detached.bb_pool_party_recover.Goals as goal
+use Rattle.bb_memory_c.specs.SharedPools.{TellsRecover}
+use Rattle.bb_memory_c_calls.proofs.OpenHandles.{answers}
+use Rattle.bb_memory_c_calls.specs.declared.code.TheConstants.{UNINITIALIZED as uninitialized}
+use Rattle.bb_memory_shared_pools.specs.SharedPool.{TakenBucket}
+use Rattle.std.proofs.Common.{Option, refl, subst, sym, ◌≡◌}
+use Rattle.std.specs.Prelude.{MatchOption}
 
 pub returns-in_default-take : goal.returns-in_default-take
 returns-in_default-take c =

@@ -1,5 +1,5 @@
-use Rattle.bb_handles.proofs.OpenHandles.{answers, told_of}
 use Rattle.bb_memory_c.proofs.one_chunk.bb_one_chunk_grow.Goals as goal
+use Rattle.bb_memory_c_calls.proofs.OpenHandles.{answers, told_of}
 
 pub returns-in-Some : goal.returns-in-Some
 returns-in-Some c = let layouts = c.layouts_of.ensures in

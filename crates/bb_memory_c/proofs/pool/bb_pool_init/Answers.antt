@@ -1,8 +1,8 @@
-use Rattle.std.proofs.Common.{◌∙◌, Some, ap, refl, sym}
-use Rattle.bb_memory_traits.specs.Chunk.{region_at}
-use Rattle.bb_handles.proofs.Layouts.{either_way, fails_alone, lacks_alone}
-use Rattle.bb_handles.proofs.Makers.{not-cut, tried}
 use Rattle.bb_memory_c.proofs.pool.bb_pool_init.Goals as goal
+use Rattle.bb_memory_c_calls.proofs.Layouts.{either_way, fails_alone, lacks_alone}
+use Rattle.bb_memory_c_calls.proofs.Makers.{not-cut, tried}
+use Rattle.bb_memory_traits.specs.Chunk.{region_at}
+use Rattle.std.proofs.Common.{Some, ap, refl, sym, ◌∙◌}
 
 pub returns-in-Err : goal.returns-in-Err
 returns-in-Err c = let cut = c.cut_into.ensures in let region = region_at c.args.start c.args.size in

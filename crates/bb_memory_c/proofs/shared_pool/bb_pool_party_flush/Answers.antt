@@ -1,7 +1,7 @@
-use Rattle.std.proofs.Common.{rules}
 use Rattle.bb_memory_c.proofs.Cached.{joined-emptied}
-use Rattle.bb_handles.proofs.OpenHandles.{answers}
 use Rattle.bb_memory_c.proofs.shared_pool.bb_pool_party_flush.Goals as goal
+use Rattle.bb_memory_c_calls.proofs.OpenHandles.{answers}
+use Rattle.std.proofs.Common.{rules}
 
 pub invariant_of-joined : goal.invariant_of-joined
 invariant_of-joined c = let joined = c.joined.inside.party in

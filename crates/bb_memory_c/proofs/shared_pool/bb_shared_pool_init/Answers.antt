@@ -1,7 +1,7 @@
-use Rattle.std.proofs.Common.{◌∙◌, arith, rules, sym}
-use Rattle.bb_handles.proofs.Makers.{not-cut, tried}
 use Rattle.bb_memory_c.proofs.Unjoined.{unjoined-fresh}
 use Rattle.bb_memory_c.proofs.shared_pool.bb_shared_pool_init.Goals as goal
+use Rattle.bb_memory_c_calls.proofs.Makers.{not-cut, tried}
+use Rattle.std.proofs.Common.{arith, rules, sym, ◌∙◌}
 
 pub invariant_of-keep : goal.invariant_of-keep
 invariant_of-keep c = unjoined-fresh c.in-Ok-new.ensures.parties c.in-Ok-new-2.ensures.ok (omega arith)

@@ -1,6 +1,6 @@
+use Rattle.bb_memory_c.proofs.shared_pool.note.Goals as goal
 use Rattle.std.proofs.Common.{arith}
 use Rattle.std.proofs.lemmas.Grind.{elements}
-use Rattle.bb_memory_c.proofs.shared_pool.note.Goals as goal
 
 pub returns-in_default-clause-cached : goal.returns-in_default-clause-cached
 returns-in_default-clause-cached c = grind (arith, elements)

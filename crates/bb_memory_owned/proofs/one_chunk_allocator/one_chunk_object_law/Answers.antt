@@ -1,8 +1,7 @@
-use Rattle.bb_memory_traits.specs.OneChunkObject.{reserved_at}
-use Rattle.bb_memory_traits.proofs.Resizes.{some_grow, one_grow, some_shrink, one_shrink}
-use Rattle.bb_memory_owned.proofs.OneChunks.{some_answer, one_answer}
-use Rattle.bb_memory_owned.proofs.OneChunks.{answer-aligned, answer-inside, answer-long, answer-whole, run-keeps, base_run-keeps}
+use Rattle.bb_memory_owned.proofs.OneChunks.{answer-aligned, answer-inside, answer-long, answer-whole, base_run-keeps, one_answer, run-keeps, some_answer}
 use Rattle.bb_memory_owned.proofs.one_chunk_allocator.one_chunk_object_law.Goals as goal
+use Rattle.bb_memory_traits.proofs.Resizes.{one_grow, one_shrink, some_grow, some_shrink}
+use Rattle.bb_memory_traits.specs.OneChunkObject.{reserved_at}
 
 pub returns : goal.returns
 returns c = record {

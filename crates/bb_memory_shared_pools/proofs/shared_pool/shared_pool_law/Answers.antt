@@ -1,6 +1,5 @@
 use Rattle.bb_memory_pool_machine.proofs.PoolRuns.{pool_run, run_is_sound}
-use Rattle.bb_memory_shared_pools.proofs.SharedPoolLaws.{history_held, history_missed, history_refused}
-use Rattle.bb_memory_shared_pools.proofs.SharedPoolLaws.{both_held, both_apart, buckets_apart, no_overlap}
+use Rattle.bb_memory_shared_pools.proofs.SharedPoolLaws.{both_apart, both_held, buckets_apart, history_held, history_missed, history_refused, no_overlap}
 use Rattle.bb_memory_shared_pools.proofs.shared_pool.shared_pool_law.Goals as goal
 
 pub returns : goal.returns

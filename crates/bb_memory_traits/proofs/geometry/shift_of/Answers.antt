@@ -1,6 +1,6 @@
-use Rattle.std.proofs.Common.{sym, ◌∙◌}
 use Rattle.bb_memory_traits.proofs.Cuts.{shifts-zeros}
 use Rattle.bb_memory_traits.proofs.geometry.shift_of.Goals as goal
+use Rattle.std.proofs.Common.{sym, ◌∙◌}
 
 pub returns : goal.returns
 returns c =

@@ -1,7 +1,7 @@
-use Rattle.std.proofs.Common.{◌≡◌, ◌<◌, ◌^◌, arith}
-use Rattle.bb_memory_traits.specs.LeastPlace.{least_place}
-use Rattle.bb_memory_traits.proofs.Cuts.{stride-small, some-if}
+use Rattle.bb_memory_traits.proofs.Cuts.{some-if, stride-small}
 use Rattle.bb_memory_traits.proofs.geometry.stride.Goals as goal
+use Rattle.bb_memory_traits.specs.LeastPlace.{least_place}
+use Rattle.std.proofs.Common.{arith, ◌<◌, ◌^◌, ◌≡◌}
 
 pub unwrap-requires : goal.unwrap-requires
 unwrap-requires c =

@@ -1,7 +1,7 @@
-use Rattle.std.proofs.Common.{◌%◌, bit_and, ap, ◌∙◌, arith}
+use Rattle.bb_memory_traits.proofs.LeastPlaces.{least_place-is, least_place-masked, least_place-multiple, least_place-too_far}
 use Rattle.bb_memory_traits.proofs.PowersOfTwo.{power_of_two-positive}
-use Rattle.bb_memory_traits.proofs.LeastPlaces.{least_place-is, least_place-multiple, least_place-masked, least_place-too_far}
 use Rattle.bb_memory_traits.proofs.layout.round_up.Goals as goal
+use Rattle.std.proofs.Common.{ap, arith, bit_and, ◌%◌, ◌∙◌}
 
 pub returns-in_err-checked_add-clause-value : goal.returns-in_err-checked_add-clause-value
 returns-in_err-checked_add-clause-value c = grind (arith, least_place-too_far)

@@ -1,6 +1,6 @@
-use Rattle.bb_memory_traits.specs.HeldBytes.{held_region}
-use Rattle.bb_memory_traits.proofs.LiveBytes.{inside_at, apart_at, others_kept, contents_set}
+use Rattle.bb_memory_traits.proofs.LiveBytes.{apart_at, contents_set, inside_at, others_kept}
 use Rattle.bb_memory_traits.proofs.region.live_bytes_law.Goals as goal
+use Rattle.bb_memory_traits.specs.HeldBytes.{held_region}
 
 pub returns : goal.returns
 returns c = record {

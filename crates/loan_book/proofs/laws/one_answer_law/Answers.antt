@@ -1,4 +1,4 @@
-use Rattle.loan_book.proofs.OneAnswers.{publish-one, give-one}
+use Rattle.loan_book.proofs.OneAnswers.{give-one, publish-one}
 use Rattle.loan_book.proofs.laws.one_answer_law.Goals as goal
 
 pub returns-clause-publish : goal.returns-clause-publish

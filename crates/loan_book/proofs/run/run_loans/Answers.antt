@@ -1,13 +1,14 @@
-use Rattle.std.proofs.lemmas.Grind.{common_steps}
-use Rattle.std.proofs.Common.{rules, ◌≡◌, take, take_all, get_or, arith}
-use Rattle.std.proofs.lemmas.List.{take_more}
 use Rattle.bb_memory_traits.proofs.Runs.{IsRun-push}
-use Rattle.loan_book.proofs.BookRuns.{run-returns, run-unpublished, run-published, run-loaned}
+use Rattle.loan_book.proofs.BookRuns.{run-loaned, run-published, run-returns, run-unpublished}
 use Rattle.loan_book.proofs.LoanedIds.{run-ids}
+use Rattle.loan_book.proofs.LongLoans.{AreLongEnough-push}
 use Rattle.loan_book.proofs.run.run_loans.Goals as goal
+use Rattle.std.proofs.Common.{arith, get_or, rules, take, take_all, ◌≡◌}
+use Rattle.std.proofs.lemmas.Grind.{common_steps}
+use Rattle.std.proofs.lemmas.List.{take_more}
 
 pub loop-call-preserved : goal.loop-call-preserved
-loop-call-preserved g c = grind (arith, common_steps, get_or, take_more, IsRun-push)
+loop-call-preserved g c = grind (arith, common_steps, get_or, take_more, IsRun-push, AreLongEnough-push)
 
 pub returns : goal.returns
 returns g c =
@@ -22,6 +23,8 @@ returns g c =
     let run = rw all at c.loop-call.invariant.run in
     record {
       run = run;
+      asked = rw all at c.loop-call.invariant.noted;
+      long_enough = rw all at c.loop-call.invariant.long_enough;
       counted = (run-ids may old new calls replies run).0;
       ids = (run-ids may old new calls replies run).1;
       returned = λ id returns waits. run-returns may new id old calls replies returns is waits run;

@@ -6,7 +6,7 @@ use crate::tests::owner::Owner;
 use bb_memory_bump::bump_allocator::BumpAllocator;
 use bb_memory_owned::one_chunk_allocator::OneChunkAllocator;
 use bb_memory_owned::pool_allocator::{FixedSizePoolAllocator, PoolAllocator};
-use bb_memory_traits::allocator::AllocationError::OutOfMemory;
+use bb_memory_traits::allocator::AllocationError::{self, OutOfMemory, SizeTooLarge};
 use bb_memory_traits::allocator::AllocationGrowError::{self, AlignmentFailure, GrowWouldShrink};
 use bb_memory_traits::allocator::Allocator;
 use bb_memory_traits::allocator::Command::{self, Allocate, Grow, Release, Shrink};
@@ -124,9 +124,78 @@ fn fills<A: Buckets>(rt: &(impl Abort + AllocGlobal), of: Of) {
 }
 
 /// The fixed pool's region has room for eight buckets.
-// row: fixed-constant-four, refused-run
+// row: refused-run
 #[test]
 fn pools_of_four_buckets(rt: HostRuntime) {
     fills::<PoolAllocator<Global>>(&rt, [4096, 64, 16, 8]);
     fills::<FixedSizePoolAllocator<4>>(&rt, [4096, 1024, 128, 8]);
+}
+
+// row: fixed-constant-four, refused-run
+#[test]
+fn a_fixed_pool_has_its_constant(rt: HostRuntime) {
+    let mut pool = made::<FixedSizePoolAllocator<4>>(&rt, [4096, 1024, 128, 8]);
+    same(&rt, pool.allocator().number_of_buckets(), 4);
+    let commands = [Allocate(layout(&rt, 0, 1)); 5];
+    let told = replies(&rt, &mut pool, &commands);
+    same(&rt, (told.len(), chunks_of(&told, 0)), (5, 4));
+    same(&rt, told.last().copied(), Some(Refused(OutOfMemory)));
+}
+
+/// Returns how many of these replies are chunks of this length.
+fn chunks_of(replies: &[Reply], len: usize) -> usize {
+    let mut found: usize = 0;
+    for reply in replies {
+        if let Reply::Chunk(chunk) = reply {
+            if chunk.len() == len {
+                found = found.saturating_add(1);
+            }
+        }
+    }
+    found
+}
+
+/// Returns the reply to the command at a position.
+fn reply_at(replies: &[Reply], position: usize) -> Option<Reply> {
+    replies.get(position).copied()
+}
+
+/// The commands of a pool of eight buckets of 128 bytes: each refusal, each bucket once, and the first one again.
+fn commands_of_eight(rt: &impl Abort) -> [Command; 14] {
+    let take = Allocate(layout(rt, 48, 4));
+    [
+        Allocate(layout(rt, 129, 8)),
+        Allocate(layout(rt, 129, 16)),
+        Allocate(layout(rt, 48, 16)),
+        take,
+        take,
+        take,
+        take,
+        take,
+        take,
+        take,
+        take,
+        take,
+        Release(0),
+        take,
+    ]
+}
+
+// row: pool-eight-buckets, refused-run
+#[test]
+fn a_pool_of_eight_buckets(rt: HostRuntime) {
+    let mut pool = made::<PoolAllocator<Global>>(&rt, [4096, 1024, 128, 8]);
+    let told = replies(&rt, &mut pool, &commands_of_eight(&rt));
+    same(&rt, (told.len(), chunks_of(&told, 48)), (14, 9));
+    same(&rt, reply_at(&told, 0), Some(Refused(SizeTooLarge)));
+    same(&rt, reply_at(&told, 1), Some(Refused(SizeTooLarge)));
+    let misaligned = AllocationError::AlignmentFailure;
+    same(&rt, reply_at(&told, 2), Some(Refused(misaligned)));
+    for place in [4096, 4224, 4352, 4480, 4608, 4736, 4864, 4992] {
+        let wanted = given(&rt, place, 48);
+        check(&rt, told.iter().any(|reply| *reply == wanted));
+    }
+    same(&rt, reply_at(&told, 11), Some(Refused(OutOfMemory)));
+    same(&rt, reply_at(&told, 12), Some(Reply::Released));
+    same(&rt, reply_at(&told, 13), reply_at(&told, 3));
 }

@@ -2,8 +2,10 @@
 use super::worlds::made;
 use crate::tests::checks::{chunk, layout, none_asked, same};
 use bb_memory_base::steps::PoolOutcome::{Attaches, Detaches, Gives, Misses, Passed, Takes};
-use bb_memory_base::steps::PoolStep::{Attach, Detach, GiveBack, Try, TryAt};
-use bb_memory_base::steps::{BumpOutcome, BumpStep, BumpWorld, PoolWorld};
+use bb_memory_base::steps::PoolStep::{Attach, AttachFrom, Detach, GiveBack, Try, TryAt};
+use bb_memory_base::steps::{
+    BumpOutcome, BumpStep, BumpWorld, PoolWorld, bump_theorem, pool_theorem,
+};
 use test_marks::refuse_memory;
 
 /// The last of 1,000 parties takes a chunk.
@@ -45,5 +47,51 @@ fn a_bucket_is_detached_and_attached(rt: HostRuntime) {
     same(&rt, world.step(Attach { party, bucket }), Passed);
     same(&rt, world.step(GiveBack { party, bucket }), Gives(1));
     same(&rt, world.step(Try { party: 1000 }), Passed);
+    none_asked(&rt);
+}
+
+/// A bucket is attached only from the party that has detached it.
+#[test]
+fn a_bucket_is_attached_from_its_sender(rt: HostRuntime) {
+    let Some(mut world) = made(&rt, PoolWorld::new(rt.alloc(), 2, 3)) else {
+        return;
+    };
+    refuse_memory(rt.alloc());
+    let (bucket, sender, party) = (1, 2, 0);
+    let from_sender = AttachFrom {
+        party,
+        bucket,
+        from: sender,
+    };
+    let taken = world.step(TryAt {
+        party: sender,
+        bucket,
+    });
+    same(&rt, taken, Takes(1));
+    same(&rt, world.step(from_sender), Passed);
+    let detached = world.step(Detach {
+        party: sender,
+        bucket,
+    });
+    same(&rt, detached, Detaches(1));
+    let from_another = world.step(AttachFrom {
+        party,
+        bucket,
+        from: 1,
+    });
+    same(&rt, from_another, Passed);
+    same(&rt, world.holder(1), None);
+    same(&rt, world.step(from_sender), Attaches(1));
+    same(&rt, world.holder(1), Some(0));
+    same(&rt, world.step(from_sender), Passed);
+    none_asked(&rt);
+}
+
+/// The theorems do nothing.
+#[test]
+fn the_theorems_do_nothing(rt: HostRuntime) {
+    refuse_memory(rt.alloc());
+    bump_theorem();
+    pool_theorem();
     none_asked(&rt);
 }

@@ -33,7 +33,7 @@ fn fills(
     check(rt, pool.allocate(other, small).is_err());
     caching.flush(pool);
     check(rt, caching.number_of_cached() == 0);
-    check(rt, pool.take_next_fit(other)?.number() == cached);
+    check(rt, pool.allocate_next_fit(other, small)?.number() == cached);
     Ok(())
 }
 

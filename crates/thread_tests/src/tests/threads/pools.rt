@@ -1,15 +1,19 @@
 //! Threads over one shared pool of at most eight buckets.
-ghost use Rattle.std.specs.Prelude.{◌≡◌, All};
+ghost use Rattle.std.specs.Arc.{arc_value};
+ghost use Rattle.std.specs.Prelude.{All, IfOk, ◌≡◌};
 
-use crate::tests::buckets::{ask, last_of, pool_at_last, take as found};
+use crate::tests::buckets::{add, ask, last_of, pool_at_last, take as found};
 use crate::tests::checks::{check, layout, same};
 use crate::tests::slots::Slots;
 use bb_memory_shared_pools::shared_pool::AllocationError::OutOfMemory;
 use bb_memory_shared_pools::shared_pool::{PoolParty, SharedPoolAllocator};
 use bb_memory_traits::layout::Layout;
+use std::alloc::AllocError;
 use std::process::Abort;
+use std::snapshot::Snapshot;
+use std::sync::Arc;
 use std::thread;
-use std::thread::Threads;
+use std::thread::{Promise, PromisedHandle, Threads};
 
 /// The work of each thread: it takes a bucket so many times, by a next-fit search or by a pass, and goes on where it is refused.
 #[derive(Drop)]
@@ -23,70 +27,167 @@ struct Work {
     returns: bool,
 }
 
-/// Takes a bucket, which is nobody else's until it is given back.
-fn take_one(rt: &impl Abort, pool: &SharedPoolAllocator, work: &Work, party: &mut PoolParty)
+/// Takes a bucket. Returns whether it is nobody else's until it is given back.
+fn take_one(pool: &SharedPoolAllocator, work: &Work, party: &mut PoolParty) -> bool
     requires { party.old.allocator ≡ pool.now }
     ensures { party.new.allocator ≡ pool.now }
 {
-    if let Ok(bucket) = ask(pool, party, work.layout, work.next_fit) {
-        let at = bucket.number() as usize;
-        check(rt, work.buckets.mark(at));
-        if work.returns {
-            check(rt, work.buckets.unmark(at));
-            pool.deallocate_bucket(party, bucket);
-        }
+    let Ok(bucket) = ask(pool, party, work.layout, work.next_fit) else {
+        return true;
+    };
+    let at = bucket.number() as usize;
+    let marked = work.buckets.mark(at);
+    if !work.returns {
+        return marked;
     }
+    let unmarked = work.buckets.unmark(at);
+    pool.deallocate_bucket(party, bucket);
+    marked && unmarked
 }
 
-/// Does the work of a thread.
-fn take(rt: &impl Abort, pool: &SharedPoolAllocator, work: &Work, mut party: PoolParty) -> PoolParty
+/// Does the work of a thread. Returns its party, and whether each bucket was nobody else's.
+fn take(pool: &SharedPoolAllocator, work: &Work, mut party: PoolParty) -> (PoolParty, bool)
     requires { party.allocator ≡ pool.now }
-    ensures { result.allocator ≡ pool.entry.now }
+    ensures { result.0.allocator ≡ pool.entry.now }
 {
+    let mut well = true;
     for _ in 0..work.times {
-        take_one(rt, pool, work, &mut party);
+        well = take_one(pool, work, &mut party) && well;
     }
+    (party, well)
+}
+
+/// The promise that the party that a thread returns is one of this pool.
+#[derive(Drop)]
+struct PartyOf(Snapshot<Arc<SharedPoolAllocator>>);
+
+impl Promise<(PoolParty, bool)> for PartyOf {
+    ghost kept_by = { λ promise back. back.0.allocator ≡ arc_value promise.0.value };
+}
+
+/// A thread, which returns a party of a pool.
+type Thread = PromisedHandle<(PoolParty, bool), PartyOf>;
+
+/// Starts a thread that owns this party, and shares the pool.
+fn start(
+    rt: &impl Threads,
+    pool: &Arc<SharedPoolAllocator>,
+    work: &Arc<Work>,
+    party: PoolParty,
+) -> Result<Thread, AllocError>
+    requires { party.allocator ≡ arc_value pool.now }
+    ensures { IfOk result (λ thread. arc_value thread.promise.0.value ≡ arc_value pool.now) }
+{
+    let pool = Arc::try_clone(pool)?;
+    let work = Arc::try_clone(work)?;
+    let promise = PartyOf(Snapshot::of(&pool));
+    Ok(thread::spawn_with(rt, promise, move || take(&pool, &work, party))?)
+}
+
+/// Starts a thread for the last of these parties.
+fn start_last(
+    rt: &(impl Threads + Abort),
+    pool: &Arc<SharedPoolAllocator>,
+    work: &Arc<Work>,
+    parties: &mut Vec<PoolParty>,
+) -> Thread
+    requires { All (λ party. party.allocator ≡ arc_value pool.now) parties.old.items }
+    ensures others { All (λ party. party.allocator ≡ arc_value pool.now) parties.new.items }
+    ensures own { arc_value result.promise.0.value ≡ arc_value pool.now }
+{
+    let party = last_of(rt, pool, parties);
+    start(rt, pool, work, party).expect(rt, "there is memory for a thread")
+}
+
+/// Joins the last of these threads. Returns its party.
+fn join_last(
+    rt: &(impl Threads + Abort),
+    pool: &Arc<SharedPoolAllocator>,
+    threads: &mut Vec<Thread>,
+) -> PoolParty
+    requires { All (λ thread. arc_value thread.promise.0.value ≡ arc_value pool.now) threads.old.items }
+    ensures others { All (λ thread. arc_value thread.promise.0.value ≡ arc_value pool.now) threads.new.items }
+    ensures own { result.allocator ≡ arc_value pool.now }
+{
+    let _ = pool;
+    let thread = threads.pop().expect(rt, "there is a thread");
+    let (party, well) = thread.join(rt);
+    check(rt, well);
     party
 }
 
-/// Takes in a thread for each party, all at once.
+/// Starts a thread for each party, joins them all, and returns their parties.
 fn in_threads(
-    rt: &(impl Threads + Sync + Abort),
-    pool: &SharedPoolAllocator,
-    work: &Work,
-    parties: Vec<PoolParty>,
+    rt: &(impl Threads + Abort + AllocGlobal),
+    pool: &Arc<SharedPoolAllocator>,
+    work: &Arc<Work>,
+    mut parties: Vec<PoolParty>,
 ) -> Vec<PoolParty>
-    requires { All (λ party. party.allocator ≡ pool.now) parties.items }
-    ensures { All (λ party. party.allocator ≡ pool.entry.now) result.items }
+    requires { All (λ party. party.allocator ≡ arc_value pool.now) parties.items }
+    ensures { All (λ party. party.allocator ≡ arc_value pool.entry.now) result.items }
 {
-    match thread::map_vec(rt, parties, &|party| take(rt, pool, work, party)) {
-        Ok(back) => back,
-        Err(_) => panic!(rt; "there is memory for threads"),
+    let mut threads = Vec::new(rt.alloc());
+    for _ in 0..parties.len() {
+        let thread = start_last(rt, pool, work, &mut parties);
+        threads
+            .push(thread)
+            .expect(rt, "there is memory for its handle");
+    }
+    for _ in 0..threads.len() {
+        let party = join_last(rt, pool, &mut threads);
+        add(rt, pool, &mut parties, party);
+    }
+    parties
+}
+
+/// Moves the last `count` of these parties to others.
+fn move_parties(
+    rt: &impl Abort,
+    pool: &SharedPoolAllocator,
+    count: usize,
+    from: &mut Vec<PoolParty>,
+    to: &mut Vec<PoolParty>,
+)
+    requires from { All (λ party. party.allocator ≡ pool.now) from.old.items }
+    requires to { All (λ party. party.allocator ≡ pool.now) to.old.items }
+    ensures from { All (λ party. party.allocator ≡ pool.now) from.new.items }
+    ensures to { All (λ party. party.allocator ≡ pool.now) to.new.items }
+{
+    for _ in 0..count {
+        let party = last_of(rt, pool, from);
+        add(rt, pool, to, party);
     }
 }
 
-/// Makes a pool of this size for so many parties. Threads do the work, and then all parties meet, and one takes all buckets that
-/// are left: those from `left` on.
+/// Makes a pool of this size for four parties, of which `threads` do the work, each in a thread. Then all four meet, and one
+/// takes all buckets that are left: those from `left` on. Returns how many buckets are marked.
 fn all_take(
-    rt: &(impl Threads + Sync + Abort + AllocGlobal),
-    (size, parties): (usize, u32),
-    work: &Work,
+    rt: &(impl Threads + Abort + AllocGlobal),
+    size: usize,
+    threads: usize,
+    work: Work,
     left: u32,
-) {
-    let (pool, parties) = pool_at_last(rt, size, parties);
-    let mut back = in_threads(rt, &pool, work, parties);
-    pool.meet_all(&mut back);
-    let mut party = last_of(rt, &pool, &mut back);
+) -> usize {
+    let (pool, mut parties) = pool_at_last(rt, size, 4);
+    let pool = Arc::new(rt.alloc(), pool).expect(rt, "there is memory for a pool");
+    let work = Arc::new(rt.alloc(), work).expect(rt, "there is memory for the work");
+    let mut busy = Vec::new(rt.alloc());
+    move_parties(rt, &pool, threads, &mut parties, &mut busy);
+    let mut back = in_threads(rt, &pool, &work, busy);
+    move_parties(rt, &pool, threads, &mut back, &mut parties);
+    pool.meet_all(&mut parties);
+    let mut party = last_of(rt, &pool, &mut parties);
     for number in left..pool.number_of_buckets() {
         let place = (number as usize).saturating_mul(128).saturating_add(4096);
         let told = found(&pool, &mut party, work.layout);
         same(rt, told, Ok((number, place, 48)));
     }
     same(rt, found(&pool, &mut party, work.layout), Err(OutOfMemory));
+    work.buckets.count()
 }
 
 /// Takes a bucket 1,000 times and gives it back, in each of four threads.
-fn take_and_return(rt: &(impl Threads + Sync + Abort + AllocGlobal), size: usize, next_fit: bool) {
+fn take_and_return(rt: &(impl Threads + Abort + AllocGlobal), size: usize, next_fit: bool) {
     let work = Work {
         buckets: Slots::new(rt, 8),
         next_fit,
@@ -94,8 +195,7 @@ fn take_and_return(rt: &(impl Threads + Sync + Abort + AllocGlobal), size: usize
         times: 1000,
         returns: true,
     };
-    all_take(rt, (size, 4), &work, 0);
-    same(rt, work.buckets.count(), 0);
+    same(rt, all_take(rt, size, 4, work, 0), 0);
 }
 
 /// The searches go by next fit, too: over as many buckets as threads or fewer, so that they meet at each.
@@ -118,6 +218,5 @@ fn two_drop_their_tokens(rt: HostRuntime) {
         times: 1,
         returns: false,
     };
-    all_take(&rt, (1024, 2), &work, 2);
-    same(&rt, work.buckets.count(), 2);
+    same(&rt, all_take(&rt, 1024, 2, work, 2), 2);
 }

@@ -1,5 +1,5 @@
 //! A queue from one thread to another, each of whose messages is a bucket of one shared pool: the receiver gives it back.
-ghost use Rattle.std.specs.Prelude.{◌≡◌, ◌<◌, IfOk, Some};
+ghost use Rattle.std.specs.Prelude.{IfOk, Some, ◌<◌, ◌≡◌};
 
 use crate::tests::buckets::{take, two};
 use crate::tests::checks::{layout, same};
@@ -12,7 +12,7 @@ use std::alloc::{AllocError, Global};
 use std::marker::{Brand, PhantomData};
 use std::thread;
 use std::thread::Threads;
-use thread_uses::pool_messages::{receive, send};
+use thread_layers::pool_messages::{receive, send};
 
 /// The number of messages that are sent.
 const MESSAGES: u32 = 1000;
@@ -22,8 +22,8 @@ const TRIES: u32 = 10_000_000;
 
 /// The pool of a queue's messages, which a type names so.
 trait MessagePool {
-    ghost use Rattle.std.specs.Prelude.{Option};
     ghost use Rattle.bb_memory_shared_pools.specs.SharedPool.{SharedPool};
+    ghost use Rattle.std.specs.Prelude.{Option};
 
     ghost pool: { Option SharedPool };
 }
@@ -40,7 +40,7 @@ struct OfPool<P: MessagePool> {
 }
 
 impl<P: MessagePool> Protocol<DetachedBucket> for OfPool<P> {
-    ghost use Rattle.std.specs.Prelude.{◌≡◌, Some};
+    ghost use Rattle.std.specs.Prelude.{Some, ◌≡◌};
 
     ghost allows = { λ before message. P.pool ≡ Some message.allocator };
 }

@@ -1,12 +1,12 @@
-//! The workers of `thread_uses`, and the room that is left when all of them are back.
+//! The workers of `thread_layers`, and the room that is left when all of them are back.
 use crate::tests::checks::same;
 use bb_memory_bump::bump_allocator::BumpAllocator;
 use bb_memory_traits::layout::Layout;
 use std::alloc::Global;
 use std::test::Fail;
 use std::thread::Threads;
-use thread_uses::bump_workers::carved_by_four;
-use thread_uses::pool_workers::four_workers;
+use thread_layers::bump_workers::carved_by_four;
+use thread_layers::pool_workers::four_workers;
 
 /// Returns how much of 1024 bytes is used when four threads have asked for so many each, or none where memory was refused.
 fn used_by_four<R: Threads + Sync>(rt: &R, alloc: Global, size: usize) -> Option<usize> {

@@ -1,9 +1,9 @@
-use Rattle.std.proofs.Common.{◌≡◌, ◌+◌, ◌-◌, ◌++◌, ◌∷◌, [], arith, ap, sym, ◌∙◌, subst}
-use Rattle.bb_memory_traits.specs.Chunk.{Chunk, chunk_end}
-use Rattle.bb_memory_traits.specs.BumpObject.{StandsFor}
-use Rattle.bb_memory_traits.proofs.LiveLists.{StandsFor-end, StandsFor-push}
-use Rattle.bb_memory_bump.specs.Bump.{Bump, bump_of}
 use Rattle.bb_memory_bump.proofs.bump_allocator.BumpAllocatorBaseAllocator.allocate.Goals as goal
+use Rattle.bb_memory_bump.specs.Bump.{Bump, bump_of}
+use Rattle.bb_memory_traits.proofs.LiveLists.{StandsFor-end, StandsFor-push}
+use Rattle.bb_memory_traits.specs.BumpObject.{StandsFor}
+use Rattle.bb_memory_traits.specs.Chunk.{Chunk, chunk_end}
+use Rattle.std.proofs.Common.{[], ap, arith, subst, sym, ◌++◌, ◌+◌, ◌-◌, ◌∙◌, ◌∷◌, ◌≡◌}
 
 pub returns-in_default-clause-answer : goal.returns-in_default-clause-answer
 returns-in_default-clause-answer c = grind (arith, StandsFor-end)

@@ -1,5 +1,5 @@
-use Rattle.bb_memory_traits.proofs.BumpObjects.{answer-aligned, answer-inside}
 use Rattle.bb_memory_bump.proofs.bump_allocator.BumpAllocatorBaseAllocator.answers_fit.Goals as goal
+use Rattle.bb_memory_traits.proofs.BumpObjects.{answer-aligned, answer-inside}
 
 pub returns-clause-inside : goal.returns-clause-inside
 returns-clause-inside c = λ live layout chunk stands may.

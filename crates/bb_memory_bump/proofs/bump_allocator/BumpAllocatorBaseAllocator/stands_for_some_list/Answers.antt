@@ -1,9 +1,9 @@
-use Rattle.std.proofs.Common.{◌+◌, ◌-◌, subst, List}
-use Rattle.bb_memory_traits.specs.Chunk.{Chunk}
-use Rattle.bb_memory_traits.specs.BumpObject.{StandsFor}
-use Rattle.bb_memory_traits.proofs.LiveLists.{stands_for_some}
-use Rattle.bb_memory_bump.specs.Bump.{Bump, bump_of}
 use Rattle.bb_memory_bump.proofs.bump_allocator.BumpAllocatorBaseAllocator.stands_for_some_list.Goals as goal
+use Rattle.bb_memory_bump.specs.Bump.{Bump, bump_of}
+use Rattle.bb_memory_traits.proofs.LiveLists.{stands_for_some}
+use Rattle.bb_memory_traits.specs.BumpObject.{StandsFor}
+use Rattle.bb_memory_traits.specs.Chunk.{Chunk}
+use Rattle.std.proofs.Common.{List, subst, ◌+◌, ◌-◌}
 
 pub returns : goal.returns
 returns c =

@@ -1,12 +1,12 @@
-use Rattle.std.proofs.Common.{[], arith, rules, ◌≡◌, ◌∷◌, ◌++◌, Some, sym, ap, ◌∙◌}
-use Rattle.std.specs.Prelude.{map}
-use Rattle.std.proofs.lemmas.List.{map-append}
-use Rattle.std.proofs.lemmas.List.Elements.{All-pop}
-use Rattle.bb_memory_seats.specs.Seats.{alone, view_log}
-use Rattle.bb_memory_bump.specs.SharedBump.{BumpParty, meeting_at}
-use Rattle.bb_memory_bump.specs.SharedBumpRule.{AfterMeetingLoad, met_by, numbered_of, party_in, scene_of, sight}
 use Rattle.bb_memory_bump.proofs.SharedBumpMerges.{met_seat}
 use Rattle.bb_memory_bump.proofs.shared_bump.SharedBumpAllocator.+meet_rest.Goals as goal
+use Rattle.bb_memory_bump.specs.SharedBump.{BumpParty, meeting_at}
+use Rattle.bb_memory_bump.specs.SharedBumpRule.{AfterMeetingLoad, met_by, numbered_of, party_in, scene_of, sight}
+use Rattle.bb_memory_seats.specs.Seats.{alone, view_log}
+use Rattle.std.proofs.Common.{Some, [], ap, arith, rules, sym, ◌++◌, ◌∙◌, ◌∷◌, ◌≡◌}
+use Rattle.std.proofs.lemmas.List.{map-append}
+use Rattle.std.proofs.lemmas.List.Elements.{All-pop}
+use Rattle.std.specs.Prelude.{map}
 
 pub invariant_of-push_reserved : goal.invariant_of-push_reserved
 invariant_of-push_reserved t c =

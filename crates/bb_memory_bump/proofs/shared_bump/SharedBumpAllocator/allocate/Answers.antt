@@ -1,12 +1,12 @@
-use Rattle.std.proofs.Common.{◌<◌, ◌∙◌, ℕ, arith, rules, ap}
 use Rattle.atomic_table.specs.Table.{Me}
-use Rattle.bb_memory_seats.specs.Seats.{number_of}
+use Rattle.bb_memory_bump.proofs.SharedBumpAnswers.{Says, nothing_found, nothing_lost, says_refused, says_won}
+use Rattle.bb_memory_bump.proofs.SharedBumpParties.{party_kept}
+use Rattle.bb_memory_bump.proofs.shared_bump.SharedBumpAllocator.allocate.Goals.{in-None, in-Some}
+use Rattle.bb_memory_bump.proofs.shared_bump.SharedBumpAllocator.allocate.Goals as goal
 use Rattle.bb_memory_bump.specs.SharedBump.{BumpParty}
 use Rattle.bb_memory_bump.specs.SharedBumpRule.{IsPartySeat, SeatView, party_in}
-use Rattle.bb_memory_bump.proofs.SharedBumpParties.{party_kept}
-use Rattle.bb_memory_bump.proofs.SharedBumpAnswers.{Says, nothing_found, nothing_lost, says_refused, says_won}
-use Rattle.bb_memory_bump.proofs.shared_bump.SharedBumpAllocator.allocate.Goals.{in-Some, in-None}
-use Rattle.bb_memory_bump.proofs.shared_bump.SharedBumpAllocator.allocate.Goals as goal
+use Rattle.bb_memory_seats.specs.Seats.{number_of}
+use Rattle.std.proofs.Common.{ap, arith, rules, ℕ, ◌<◌, ◌∙◌}
 
 pub returns-then-size-eq0-clause-found : goal.returns-then-size-eq0-clause-found
 returns-then-size-eq0-clause-found c = nothing_found c.args.party.now

@@ -1,8 +1,8 @@
-use Rattle.std.proofs.Common.{◌∙◌, arith}
-use Rattle.bb_memory_seats.specs.Seats.{number_of, view_log}
-use Rattle.bb_memory_bump.specs.SharedBumpRule.{met_by}
 use Rattle.bb_memory_bump.proofs.SharedBumpRequests.{begins, goes_on, raises, refused_at_once, refused_later, wins}
 use Rattle.bb_memory_bump.proofs.shared_bump.SharedBumpAllocator.claim.Goals as goal
+use Rattle.bb_memory_bump.specs.SharedBumpRule.{met_by}
+use Rattle.bb_memory_seats.specs.Seats.{number_of, view_log}
+use Rattle.std.proofs.Common.{arith, ◌∙◌}
 
 pub returns-in-None-clause-call : goal.returns-in-None-clause-call
 returns-in-None-clause-call g c = grind (arith, refused_at_once)

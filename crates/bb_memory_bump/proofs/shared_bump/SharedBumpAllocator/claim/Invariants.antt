@@ -1,10 +1,10 @@
-use Rattle.std.proofs.Common.{◌≡◌, ◌-◌, ◌%◌}
-use Rattle.bb_memory_traits.specs.Chunk.{IsInside}
-use Rattle.bb_memory_bump_machine.specs.BumpMachine.{chunk_at}
-use Rattle.bb_memory_seats.specs.Seats.{number_of, view_log}
-use Rattle.bb_memory_bump.specs.SharedBumpRule.{met_by}
 use Rattle.bb_memory_bump.proofs.SharedBumpRequests.{IsTrying}
 use Rattle.bb_memory_bump.proofs.shared_bump.SharedBumpAllocator.claim.Given as goal
+use Rattle.bb_memory_bump.specs.SharedBumpRule.{met_by}
+use Rattle.bb_memory_bump_machine.specs.BumpMachine.{chunk_at}
+use Rattle.bb_memory_seats.specs.Seats.{number_of, view_log}
+use Rattle.bb_memory_traits.specs.Chunk.{IsInside}
+use Rattle.std.proofs.Common.{◌%◌, ◌-◌, ◌≡◌}
 
 abbrev pub invariant-loop-seen : goal.invariant-loop-seen
 invariant-loop-seen g l = record {

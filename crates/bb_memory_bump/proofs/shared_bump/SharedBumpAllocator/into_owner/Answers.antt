@@ -1,7 +1,7 @@
-use Rattle.std.proofs.Common.{ap, sym, subst, ◌∙◌, arith}
-use Rattle.bb_memory_bump_machine.specs.BumpLogs.{seen_in}
 use Rattle.bb_memory_bump.proofs.SharedBumpClosings.{AfterLast, last_of}
 use Rattle.bb_memory_bump.proofs.shared_bump.SharedBumpAllocator.into_owner.Goals as goal
+use Rattle.bb_memory_bump_machine.specs.BumpLogs.{seen_in}
+use Rattle.std.proofs.Common.{ap, arith, subst, sym, ◌∙◌}
 
 last : (c : goal.After-at_position) →
     AfterLast c.args.self.scene c.args.party.number c.args.party.log c.args.party.met c.at_position.result.used

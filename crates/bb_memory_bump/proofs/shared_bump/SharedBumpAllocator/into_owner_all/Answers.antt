@@ -1,13 +1,12 @@
-use Rattle.std.proofs.lemmas.Grind.{elements}
-use Rattle.std.proofs.lemmas.Grind.{common_steps}
-use Rattle.std.proofs.Common.{[], rules, ◌≡◌, ◌∷◌, ◌++◌, ◌≤◌, sym, subst, arith}
-use Rattle.std.specs.Prelude.{All, map}
-use Rattle.std.proofs.lemmas.List.Elements.{All-push, All-weaker}
-use Rattle.bb_memory_bump.specs.SharedBump.{BumpParty}
-use Rattle.bb_memory_bump.specs.SharedBumpRule.{met_by, numbered_of, AfterMeetingLoad}
-use Rattle.bb_memory_bump_machine.proofs.OwnChunks.{agreed_stands}
 use Rattle.bb_memory_bump.proofs.SharedBumpMerges.{agrees, floors_below}
 use Rattle.bb_memory_bump.proofs.shared_bump.SharedBumpAllocator.into_owner_all.Goals as goal
+use Rattle.bb_memory_bump.specs.SharedBump.{BumpParty}
+use Rattle.bb_memory_bump.specs.SharedBumpRule.{AfterMeetingLoad, met_by, numbered_of}
+use Rattle.bb_memory_bump_machine.proofs.OwnChunks.{agreed_stands}
+use Rattle.std.proofs.Common.{[], arith, rules, subst, sym, ◌++◌, ◌∷◌, ◌≡◌, ◌≤◌}
+use Rattle.std.proofs.lemmas.Grind.{common_steps, elements}
+use Rattle.std.proofs.lemmas.List.Elements.{All-push, All-weaker}
+use Rattle.std.specs.Prelude.{All, map}
 
 -- all parties have come to the last one's seat
 told : (c : goal.After-at_position) → AfterMeetingLoad c.args.self.scene (map numbered_of c.args.parties.items)

@@ -1,7 +1,7 @@
-use Rattle.std.proofs.Common.{ap, subst}
-use Rattle.bb_memory_bump_machine.specs.BumpLogs.{BumpLog}
-use Rattle.bb_memory_bump.specs.SharedBump.{HaveChunksApart}
 use Rattle.bb_memory_bump.proofs.shared_bump.SharedBumpAllocator.meet.Goals as goal
+use Rattle.bb_memory_bump.specs.SharedBump.{HaveChunksApart}
+use Rattle.bb_memory_bump_machine.specs.BumpLogs.{BumpLog}
+use Rattle.std.proofs.Common.{ap, subst}
 
 pub returns-clause-apart : goal.returns-clause-apart
 returns-clause-apart c =

@@ -1,13 +1,13 @@
-use Rattle.std.proofs.Common.{[], rules, ◌∷◌, ◌++◌, ◌≡◌, ◌≤◌, ap, sym, subst, ◌∙◌, arith}
-use Rattle.std.specs.Prelude.{All, map}
-use Rattle.std.proofs.lemmas.List.{map-append}
-use Rattle.std.proofs.lemmas.List.Elements.{All-map, All-push}
-use Rattle.bb_memory_bump.specs.SharedBump.{BumpParty, IsSharedScene, meeting_at}
-use Rattle.bb_memory_seats.specs.Seats.{alone, view_log}
-use Rattle.bb_memory_bump.specs.SharedBumpRule.{met_by, numbered_of, party_in, scene_of, sight, AfterMeetingLoad}
 use Rattle.bb_memory_bump.proofs.SharedBumpMerges.{all_merged, have_met, met_seat, none_met}
 use Rattle.bb_memory_bump.proofs.SharedBumpWholes.{met_apart}
 use Rattle.bb_memory_bump.proofs.shared_bump.SharedBumpAllocator.meet_all.Goals as goal
+use Rattle.bb_memory_bump.specs.SharedBump.{BumpParty, IsSharedScene, meeting_at}
+use Rattle.bb_memory_bump.specs.SharedBumpRule.{AfterMeetingLoad, met_by, numbered_of, party_in, scene_of, sight}
+use Rattle.bb_memory_seats.specs.Seats.{alone, view_log}
+use Rattle.std.proofs.Common.{[], ap, arith, rules, subst, sym, ◌++◌, ◌∙◌, ◌∷◌, ◌≡◌, ◌≤◌}
+use Rattle.std.proofs.lemmas.List.{map-append}
+use Rattle.std.proofs.lemmas.List.Elements.{All-map, All-push}
+use Rattle.std.specs.Prelude.{All, map}
 
 pub invariant_of-push_reserved : goal.invariant_of-push_reserved
 invariant_of-push_reserved c =

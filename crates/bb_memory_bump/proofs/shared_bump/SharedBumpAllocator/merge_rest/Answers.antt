@@ -1,11 +1,11 @@
-use Rattle.std.proofs.Common.{rules, ◌≡◌, ◌++◌, ◌≤◌, ◌∙◌, ℕ, ap, subst, sym, arith}
-use Rattle.std.specs.Prelude.{All, map}
-use Rattle.std.proofs.lemmas.List.Elements.{All-pop, All-push}
 use Rattle.atomic_table.specs.Table.{Me}
-use Rattle.bb_memory_bump.specs.SharedBump.{BumpParty}
-use Rattle.bb_memory_bump.specs.SharedBumpRule.{SeatView, met_by, numbered_of}
 use Rattle.bb_memory_bump.proofs.SharedBumpMerges.{one_merged}
 use Rattle.bb_memory_bump.proofs.shared_bump.SharedBumpAllocator.merge_rest.Goals as goal
+use Rattle.bb_memory_bump.specs.SharedBump.{BumpParty}
+use Rattle.bb_memory_bump.specs.SharedBumpRule.{SeatView, met_by, numbered_of}
+use Rattle.std.proofs.Common.{ap, arith, rules, subst, sym, ℕ, ◌++◌, ◌∙◌, ◌≡◌, ◌≤◌}
+use Rattle.std.proofs.lemmas.List.Elements.{All-pop, All-push}
+use Rattle.std.specs.Prelude.{All, map}
 
 pub loop-party-preserved : goal.loop-party-preserved
 loop-party-preserved c =

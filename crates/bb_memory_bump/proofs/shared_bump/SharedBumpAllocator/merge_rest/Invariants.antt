@@ -1,8 +1,8 @@
-use Rattle.std.proofs.Common.{[], ◌≡◌, ◌≤◌, ◌++◌, All, map, ℕ, length}
-use Rattle.bb_memory_seats.specs.Seats.{standing_for}
+use Rattle.bb_memory_bump.proofs.shared_bump.SharedBumpAllocator.merge_rest.Given as goal
 use Rattle.bb_memory_bump.specs.SharedBump.{BumpParty}
 use Rattle.bb_memory_bump.specs.SharedBumpRule.{met_by, numbered_of, sight}
-use Rattle.bb_memory_bump.proofs.shared_bump.SharedBumpAllocator.merge_rest.Given as goal
+use Rattle.bb_memory_seats.specs.Seats.{standing_for}
+use Rattle.std.proofs.Common.{All, [], length, map, ℕ, ◌++◌, ◌≡◌, ◌≤◌}
 
 abbrev pub invariant-loop-party : goal.invariant-loop-party
 invariant-loop-party l = record {

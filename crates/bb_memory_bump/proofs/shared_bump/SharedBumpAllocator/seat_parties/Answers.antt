@@ -1,10 +1,10 @@
-use Rattle.std.proofs.Common.{rules, ◌≡◌, arith, sym, ap, ◌∙◌}
-use Rattle.std.proofs.lemmas.Grind.{common_steps}
+use Rattle.bb_memory_bump.proofs.shared_bump.SharedBumpAllocator.seat_parties.Goals as goal
 use Rattle.bb_memory_bump.specs.SharedBump.{BumpParty, fresh_party}
 use Rattle.bb_memory_bump.specs.SharedBumpRule.{party_in}
 use Rattle.bb_memory_bump_machine.specs.BumpLogs.{BumpEntry}
 use Rattle.bb_memory_seats.proofs.Seatings.{fresh_more, given_more}
-use Rattle.bb_memory_bump.proofs.shared_bump.SharedBumpAllocator.seat_parties.Goals as goal
+use Rattle.std.proofs.Common.{ap, arith, rules, sym, ◌∙◌, ◌≡◌}
+use Rattle.std.proofs.lemmas.Grind.{common_steps}
 
 pub invariant_of-push_reserved : goal.invariant_of-push_reserved
 invariant_of-push_reserved c = grind (arith, fresh_more)

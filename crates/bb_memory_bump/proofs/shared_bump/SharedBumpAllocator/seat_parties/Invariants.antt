@@ -1,9 +1,9 @@
-use Rattle.std.proofs.Common.{[], ◌≡◌, ◌-◌, ◌<◌, ◌≤◌, ℕ, All, Some, length, vec_len, vec_capacity}
-use Rattle.std.specs.Prelude.{slice_get}
-use Rattle.bb_memory_bump.specs.SharedBump.{fresh_party}
-use Rattle.bb_memory_seats.specs.Seats.{fresh_from, standing_for}
-use Rattle.bb_memory_bump.specs.SharedBumpRule.{sight}
 use Rattle.bb_memory_bump.proofs.shared_bump.SharedBumpAllocator.seat_parties.Given as goal
+use Rattle.bb_memory_bump.specs.SharedBump.{fresh_party}
+use Rattle.bb_memory_bump.specs.SharedBumpRule.{sight}
+use Rattle.bb_memory_seats.specs.Seats.{fresh_from, standing_for}
+use Rattle.std.proofs.Common.{All, Some, [], length, vec_capacity, vec_len, ℕ, ◌-◌, ◌<◌, ◌≡◌, ◌≤◌}
+use Rattle.std.specs.Prelude.{slice_get}
 
 abbrev pub invariant-loop-number : goal.invariant-loop-number
 invariant-loop-number l = record {

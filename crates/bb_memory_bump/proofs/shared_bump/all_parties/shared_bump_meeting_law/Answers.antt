@@ -1,7 +1,7 @@
-use Rattle.bb_memory_bump_machine.proofs.BumpRuns.{calls_run}
-use Rattle.bb_memory_bump_machine.proofs.OwnChunks.{agreed_since}
 use Rattle.bb_memory_bump.proofs.SharedBumpWholes.{met_apart, met_held, met_logged, met_nobody_else, met_stands}
 use Rattle.bb_memory_bump.proofs.shared_bump.all_parties.shared_bump_meeting_law.Goals as goal
+use Rattle.bb_memory_bump_machine.proofs.BumpRuns.{calls_run}
+use Rattle.bb_memory_bump_machine.proofs.OwnChunks.{agreed_since}
 
 pub returns : goal.returns
 returns c = record {

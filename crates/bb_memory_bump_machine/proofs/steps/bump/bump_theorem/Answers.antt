@@ -1,11 +1,11 @@
-use Rattle.std.proofs.Common.{ap, ◌∙◌}
-use Rattle.bb_memory_bump_machine.specs.BumpMachine.{Loaded, load, left_by, opening_state}
-use Rattle.bb_memory_traits.proofs.LiveLists.{stands_for_some}
-use Rattle.bb_memory_bump_machine.proofs.BumpRuns.{calls_run, calls_beginning, run_at_step, calls_stand, position_used}
-use Rattle.bb_memory_bump_machine.proofs.BumpStretches.{position_in_size, stretch_grows, sound_from, healthy_after}
-use Rattle.bb_memory_bump_machine.proofs.BumpLosses.{losses_raise, losses_few}
 use Rattle.bb_memory_bump_machine.proofs.BumpBounds.{seen_in_size}
+use Rattle.bb_memory_bump_machine.proofs.BumpLosses.{losses_few, losses_raise}
+use Rattle.bb_memory_bump_machine.proofs.BumpRuns.{calls_beginning, calls_run, calls_stand, position_used, run_at_step}
+use Rattle.bb_memory_bump_machine.proofs.BumpStretches.{healthy_after, position_in_size, sound_from, stretch_grows}
 use Rattle.bb_memory_bump_machine.proofs.steps.bump.bump_theorem.Goals as goal
+use Rattle.bb_memory_bump_machine.specs.BumpMachine.{Loaded, left_by, load, opening_state}
+use Rattle.bb_memory_traits.proofs.LiveLists.{stands_for_some}
+use Rattle.std.proofs.Common.{ap, ◌∙◌}
 
 pub returns : goal.returns
 returns c = record {

@@ -1,5 +1,5 @@
-use Rattle.bb_memory_c.proofs.shared_bump.JoinedBump.TheSendSync.{the_send}
 use Rattle.bb_memory_c.proofs.SentHandles.{IsSend, owned, owning_send, two_send}
+use Rattle.bb_memory_c.proofs.shared_bump.JoinedBump.TheSendSync.{the_send}
 use Rattle.bb_memory_c.specs.contracts.handle.BumpPartyHandle.{the_row, the_type}
 
 pub send : IsSend the_row

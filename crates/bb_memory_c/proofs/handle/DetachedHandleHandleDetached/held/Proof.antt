@@ -1,8 +1,8 @@
+use Rattle.bb_memory_c.proofs.handle.DetachedHandleHandleDetached.held.Code as code
+use Rattle.bb_memory_c.proofs.handle.DetachedHandleHandleDetached.held.Statement.{statement}
 use Rattle.bb_memory_c.specs.contracts.detached.Detached.{the_row as made}
 use Rattle.bb_memory_c.specs.contracts.handle.DetachedHandle.{the_row as handle}
-use Rattle.bb_handles.proofs.LentHandles.{lends, part_of, refl}
-use Rattle.bb_memory_c.proofs.handle.DetachedHandleHandleDetached.held.Statement.{statement}
-use Rattle.bb_memory_c.proofs.handle.DetachedHandleHandleDetached.held.Code as code
+use Rattle.bb_memory_c_calls.proofs.LentHandles.{lends, part_of, refl}
 
 pub held_spec : {M : Type 1} → statement M
 unfolding part_of

@@ -1,8 +1,8 @@
-use Rattle.bb_memory_shared_pools.specs.contracts.shared_pool.detached.LostBucket.{the_row as made}
-use Rattle.bb_memory_c.specs.contracts.handle.LostHandle.{the_row as handle}
-use Rattle.bb_handles.proofs.LentHandles.{lends, part_of, refl}
-use Rattle.bb_memory_c.proofs.handle.LostHandleHandleLostBucket.held.Statement.{statement}
 use Rattle.bb_memory_c.proofs.handle.LostHandleHandleLostBucket.held.Code as code
+use Rattle.bb_memory_c.proofs.handle.LostHandleHandleLostBucket.held.Statement.{statement}
+use Rattle.bb_memory_c.specs.contracts.handle.LostHandle.{the_row as handle}
+use Rattle.bb_memory_c_calls.proofs.LentHandles.{lends, part_of, refl}
+use Rattle.bb_memory_shared_pools.specs.contracts.shared_pool.detached.LostBucket.{the_row as made}
 
 pub held_spec : {M : Type 1} → statement M
 unfolding part_of

@@ -1,6 +1,6 @@
-use Rattle.bb_memory_owned.proofs.one_chunk_allocator.OneChunkAllocator.TheSendSync.{the_send}
 use Rattle.bb_memory_c.proofs.SentHandles.{IsSend, owned, owning_send, two_send}
 use Rattle.bb_memory_c.specs.contracts.handle.OneChunkHandle.{the_row, the_type}
+use Rattle.bb_memory_owned.proofs.one_chunk_allocator.OneChunkAllocator.TheSendSync.{the_send}
 
 pub send : IsSend the_row
 send = owning_send the_type two_send (λ d. owned _ the_send d.made d.at d.value) (λ k x w. tt)

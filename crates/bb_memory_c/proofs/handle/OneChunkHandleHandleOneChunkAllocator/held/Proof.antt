@@ -1,8 +1,8 @@
-use Rattle.bb_memory_owned.specs.contracts.one_chunk_allocator.OneChunkAllocator.{the_row as made}
-use Rattle.bb_memory_c.specs.contracts.handle.OneChunkHandle.{the_row as handle}
-use Rattle.bb_handles.proofs.LentHandles.{lends, part_of, refl}
-use Rattle.bb_memory_c.proofs.handle.OneChunkHandleHandleOneChunkAllocator.held.Statement.{statement}
 use Rattle.bb_memory_c.proofs.handle.OneChunkHandleHandleOneChunkAllocator.held.Code as code
+use Rattle.bb_memory_c.proofs.handle.OneChunkHandleHandleOneChunkAllocator.held.Statement.{statement}
+use Rattle.bb_memory_c.specs.contracts.handle.OneChunkHandle.{the_row as handle}
+use Rattle.bb_memory_c_calls.proofs.LentHandles.{lends, part_of, refl}
+use Rattle.bb_memory_owned.specs.contracts.one_chunk_allocator.OneChunkAllocator.{the_row as made}
 
 pub held_spec : {M : Type 1} → statement M
 unfolding part_of

@@ -1,10 +1,10 @@
-use Rattle.std.proofs.lemmas.Grind.{common_steps}
-use Rattle.std.proofs.Common.{◌≡◌, ◌+◌, ◌∙◌, ℕ, ap, arith, subst, sym}
-use Rattle.bb_memory_shared_pools.specs.SharedPool.{IsParty, SharedPool}
-use Rattle.bb_memory_shared_pools.specs.SharedPoolCaching.{CachingParty, IsOut}
 use Rattle.bb_memory_c.proofs.Counting.{CountsBelow, counts-all, counts-no-more, counts-one}
+use Rattle.bb_memory_c.proofs.shared_pool.JoinedPool.count_out.Goals.{else-is_out, then-is_out}
 use Rattle.bb_memory_c.proofs.shared_pool.JoinedPool.count_out.Goals as goal
-use Rattle.bb_memory_c.proofs.shared_pool.JoinedPool.count_out.Goals.{then-is_out, else-is_out}
+use Rattle.bb_memory_shared_pools.specs.SharedPool.{SharedPool}
+use Rattle.bb_memory_shared_pools.specs.SharedPoolCaching.{CachingParty, IsOut}
+use Rattle.std.proofs.Common.{ap, arith, subst, sym, ℕ, ◌+◌, ◌∙◌, ◌≡◌}
+use Rattle.std.proofs.lemmas.Grind.{common_steps}
 
 pub loop-number-preserved : goal.loop-number-preserved
 loop-number-preserved c =
@@ -30,14 +30,13 @@ loop-number-preserved c =
 pub returns-clause-count : goal.returns-clause-count
 returns-clause-count c =
     let joined = c.args.self.now in
-    let is_party = subst IsParty (c.party.ensures ∙ ap (λ (p : CachingParty). p.party) c.self.view_is) c.number.ensures.party in
     let pool = sym (ap (λ (p : CachingParty). p.party.allocator) c.self.view_is) ∙ c.self.invariant.theirs
     ∙ sym c.deref.ensures in
     let end : c.loop-number.number ≡ c.number_of_buckets-number-end.result =
     omega (arith, c.loop-number.auto.number-end, c.loop-number-test.false) in
     let buckets = end ∙ c.number_of_buckets-number-end.ensures.value
     ∙ ap (λ (p : SharedPool). p.scene.geometry.buckets) (sym pool) in
-    counts-all joined c.loop-number.count is_party
+    counts-all joined c.loop-number.count c.invariant.ensures
     (subst (λ (n : ℕ). CountsBelow joined n c.loop-number.count) buckets c.loop-number.invariant.counted)
 
 pub overflow_add-count : goal.overflow_add-count

@@ -1,12 +1,12 @@
-use Rattle.std.proofs.Common.{◌∙◌, ◌<◌, List, ap, set, subst, sym, ℕ}
+use Rattle.bb_memory_c.proofs.Cached.{joined-noted, joined-returns}
+use Rattle.bb_memory_c.proofs.shared_pool.JoinedPool.give_back_if_out.Goals as goal
+use Rattle.bb_memory_c.specs.SharedPools.{IsJoinedAt}
+use Rattle.bb_memory_shared_pools.specs.SharedPool.{SharedPool, TakenBucket}
+use Rattle.bb_memory_shared_pools.specs.SharedPoolCaching.{CachingParty, ReturnsCaching}
+use Rattle.std.proofs.Common.{List, ap, set, subst, sym, ℕ, ◌<◌, ◌∙◌}
 use Rattle.std.proofs.lemmas.Bool.{false≢true}
 use Rattle.std.specs.Arc.{arc_value}
 use Rattle.std.specs.Prelude.{Contains}
-use Rattle.bb_memory_shared_pools.specs.SharedPool.{SharedPool, TakenBucket}
-use Rattle.bb_memory_shared_pools.specs.SharedPoolCaching.{CachingParty, ReturnsCaching}
-use Rattle.bb_memory_c.specs.SharedPools.{IsJoinedAt}
-use Rattle.bb_memory_c.proofs.Cached.{joined-noted, joined-returns}
-use Rattle.bb_memory_c.proofs.shared_pool.JoinedPool.give_back_if_out.Goals as goal
 
 pub invariant_of-self-then-not-is_held : goal.invariant_of-self-then-not-is_held
 invariant_of-self-then-not-is_held c =

@@ -1,9 +1,9 @@
-use Rattle.std.proofs.Common.{◌∙◌, List, ap, subst, sym, ℕ}
-use Rattle.std.specs.Prelude.{slice_get}
-use Rattle.bb_memory_shared_pools.specs.SharedPoolCaching.{CachingParty}
-use Rattle.bb_memory_c.specs.SharedPools.{ArePlaces}
 use Rattle.bb_memory_c.proofs.Cached.{tells-cached, tells-uncached}
 use Rattle.bb_memory_c.proofs.shared_pool.JoinedPool.is_cached.Goals as goal
+use Rattle.bb_memory_c.specs.SharedPools.{ArePlaces}
+use Rattle.bb_memory_shared_pools.specs.SharedPoolCaching.{CachingParty}
+use Rattle.std.proofs.Common.{List, ap, subst, sym, ℕ, ◌∙◌}
+use Rattle.std.specs.Prelude.{slice_get}
 
 pub returns-in_default : goal.returns-in_default
 returns-in_default c =

@@ -1,8 +1,8 @@
-use Rattle.std.proofs.Common.{◌∙◌, ap, subst, sym}
-use Rattle.std.proofs.lemmas.Bool.{false≢true}
+use Rattle.bb_memory_c.proofs.shared_pool.JoinedPool.is_out.Goals as goal
 use Rattle.bb_memory_pool_machine.specs.PoolLogs.{IsHeldAfter, PoolLog}
 use Rattle.bb_memory_shared_pools.specs.SharedPoolCaching.{CachingParty, IsOut}
-use Rattle.bb_memory_c.proofs.shared_pool.JoinedPool.is_out.Goals as goal
+use Rattle.std.proofs.Common.{ap, subst, sym, ◌∙◌}
+use Rattle.std.proofs.lemmas.Bool.{false≢true}
 
 pub returns-then-is_cached-clause-value : goal.returns-then-is_cached-clause-value
 unfolding IsOut

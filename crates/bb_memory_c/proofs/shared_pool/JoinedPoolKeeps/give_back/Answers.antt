@@ -1,6 +1,6 @@
-use Rattle.std.proofs.Common.{subst}
-use Rattle.bb_memory_shared_pools.specs.SharedPoolCaching.{IsOut}
 use Rattle.bb_memory_c.proofs.shared_pool.JoinedPoolKeeps.give_back.Goals as goal
+use Rattle.bb_memory_shared_pools.specs.SharedPoolCaching.{IsOut}
+use Rattle.std.proofs.Common.{subst}
 
 pub returns-in-Some-clause-held : goal.returns-in-Some-clause-held
 returns-in-Some-clause-held c =

@@ -1,6 +1,6 @@
+use Rattle.bb_memory_c.proofs.shared_pool.PoolPartiesSharesJoinedPool.join_last.Goals as goal
 use Rattle.std.proofs.Common.{arith}
 use Rattle.std.proofs.lemmas.Grind.{elements}
-use Rattle.bb_memory_c.proofs.shared_pool.PoolPartiesSharesJoinedPool.join_last.Goals as goal
 
 pub new-requires : goal.new-requires
 new-requires c = grind (arith, elements)

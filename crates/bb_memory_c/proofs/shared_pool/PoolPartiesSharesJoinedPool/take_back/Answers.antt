@@ -1,10 +1,11 @@
-use Rattle.std.proofs.Common.{◌<◌, ◌∙◌, ap, arith, length, rules, subst, sym}
-use Rattle.std.specs.Arc.{arc_value}
-use Rattle.bb_memory_shared_pools.specs.SharedPool.{PoolParty}
-use Rattle.bb_memory_shared_pools.specs.SharedPoolCaching.{CachingParty}
-use Rattle.bb_memory_c.specs.SharedPools.{GivesAllBack, IsIdleAt, PoolParties, as_joined}
 use Rattle.bb_memory_c.proofs.Unjoined.{one-more}
 use Rattle.bb_memory_c.proofs.shared_pool.PoolPartiesSharesJoinedPool.take_back.Goals as goal
+use Rattle.bb_memory_c.specs.SharedPools.{PoolParties, as_joined}
+use Rattle.bb_memory_shared_pools.specs.SharedPool.{PoolParty}
+use Rattle.bb_memory_shared_pools.specs.SharedPoolCaching.{CachingParty}
+use Rattle.bb_memory_shared_pools.specs.SharedPoolLeaving.{GivesAllBack}
+use Rattle.std.proofs.Common.{ap, arith, length, rules, subst, sym, ◌<◌, ◌∙◌}
+use Rattle.std.specs.Arc.{arc_value}
 
 pub invariant_of-self : goal.invariant_of-self
 invariant_of-self c =
@@ -12,14 +13,11 @@ invariant_of-self c =
     let parties = ap (λ (s : PoolParties). length s.parties) c.self.view_is in
     let scene = ap (λ (s : PoolParties). s.shared.scene.parties) c.self.view_is in
     let out : length c.self.inside.parties.items < pool.scene.parties = omega (arith, parties, scene, c.requires.out) in
-    let back : IsIdleAt pool c.give_all_back.new.party = record {
-      theirs = ap (λ (p : PoolParty). p.allocator) c.give_all_back.ensures.returned
-          ∙ ap (λ (p : PoolParty). p.allocator) c.into_inner-party.ensures
-          ∙ ap (λ (p : CachingParty). p.party.allocator) c.joined.view_is ∙ c.requires.theirs
-          ∙ ap (λ (s : PoolParties). s.shared) (sym c.self.view_is);
-      idle = c.give_all_back.ensures.idle;
-    } in
-    one-more c.push_reserved.ensures.capacity c.self.invariant out back c.push_reserved.ensures.items
+    let back = ap (λ (p : PoolParty). p.allocator) c.give_all_back.ensures.returned
+    ∙ ap (λ (p : PoolParty). p.allocator) c.into_inner-party.ensures
+    ∙ ap (λ (p : CachingParty). p.party.allocator) c.joined.view_is ∙ c.requires.theirs
+    ∙ ap (λ (s : PoolParties). s.shared) (sym c.self.view_is) in
+    one-more c.push_reserved.ensures.capacity c.give_all_back.new.party c.self.invariant out back c.push_reserved.ensures.items
 
 pub returns : goal.returns
 returns c = (

@@ -1,7 +1,7 @@
-use Rattle.std.proofs.Common.{◌%◌, ap, ◌∙◌, arith}
-use Rattle.bb_memory_traits.specs.Chunk.{Chunk}
-use Rattle.bb_memory_traits.proofs.Layouts.{multiple}
 use Rattle.bb_memory_owned.proofs.one_chunk_allocator.OneChunkAllocatorAllocator.grow.Goals as goal
+use Rattle.bb_memory_traits.proofs.Layouts.{multiple}
+use Rattle.bb_memory_traits.specs.Chunk.{Chunk}
+use Rattle.std.proofs.Common.{ap, arith, ◌%◌, ◌∙◌}
 
 pub returns-clause-value : goal.returns-clause-value
 returns-clause-value c = grind arith

@@ -1,8 +1,8 @@
-use Rattle.std.proofs.Common.{subst, List}
-use Rattle.bb_memory_traits.specs.Chunk.{Chunk}
-use Rattle.bb_memory_owned.specs.OneChunk.{OneChunk, one_chunk_of, StandsFor}
 use Rattle.bb_memory_owned.proofs.OneChunks.{stands_for_some}
 use Rattle.bb_memory_owned.proofs.one_chunk_allocator.OneChunkAllocatorBaseAllocator.stands_for_some_list.Goals as goal
+use Rattle.bb_memory_owned.specs.OneChunk.{OneChunk, StandsFor, one_chunk_of}
+use Rattle.bb_memory_traits.specs.Chunk.{Chunk}
+use Rattle.std.proofs.Common.{List, subst}
 
 pub returns : goal.returns
 returns c =

@@ -1,8 +1,8 @@
-use Rattle.std.proofs.Common.{◌≡◌, ◌/◌, arith, refl}
-use Rattle.std.proofs.lemmas.Bool.{ltb-true, lt-ltb}
-use Rattle.bb_memory_traits.specs.Chunk.{Region, IsRegion, region_at, first_place}
-use Rattle.bb_memory_traits.proofs.Cuts.{stride-positive, room_for, may-be-cut, may-be-cut-few}
 use Rattle.bb_memory_owned.proofs.pool_allocator.PoolAllocator+Global.can_make.Goals as goal
+use Rattle.bb_memory_traits.proofs.Cuts.{may-be-cut, may-be-cut-few, room_for, stride-positive}
+use Rattle.bb_memory_traits.specs.Chunk.{IsRegion, Region, first_place, region_at}
+use Rattle.std.proofs.Common.{arith, refl, ◌/◌, ◌≡◌}
+use Rattle.std.proofs.lemmas.Bool.{lt-ltb, ltb-true}
 
 pub nonzero_div-result : goal.nonzero_div-result
 nonzero_div-result c = omega (arith, stride-positive c.args.bucket_layout)

@@ -1,7 +1,7 @@
-use Rattle.std.proofs.Common.{◌≡◌, ◌*◌, ◌/◌, arith, ap}
-use Rattle.bb_memory_traits.specs.Chunk.{region_at}
-use Rattle.bb_memory_traits.proofs.Cuts.{cut-most}
 use Rattle.bb_memory_owned.proofs.pool_allocator.PoolAllocator+Global.memory_size.Goals as goal
+use Rattle.bb_memory_traits.proofs.Cuts.{cut-most}
+use Rattle.bb_memory_traits.specs.Chunk.{region_at}
+use Rattle.std.proofs.Common.{ap, arith, ◌*◌, ◌/◌, ◌≡◌}
 
 pub returns-clause-enough : goal.returns-clause-enough
 returns-clause-enough c = λ start geometry cut.

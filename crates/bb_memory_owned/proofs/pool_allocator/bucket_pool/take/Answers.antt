@@ -1,16 +1,15 @@
-use Rattle.std.proofs.Common.{rules, ◌≡◌, ℕ, ◌<◌, ◌≤◌, ◌&&◌, List, Bool, cond, leb, min, refl, sym, ap, ◌∙◌, subst, arith}
+use Rattle.bb_memory_owned.proofs.pool_allocator.bucket_pool.take.Goals as goal
+use Rattle.bb_memory_owned.specs.Pool.{Pool, Takes, pool_of, reads_of}
+use Rattle.bb_memory_traits.specs.Chunk.{Chunk}
+use Rattle.bb_memory_traits.specs.Geometry.{Admits}
+use Rattle.bb_memory_traits.specs.PoolObject.{IsWithin, PoolGeometry, bucket_place}
+use Rattle.bb_memory_traits.specs.declared.allocator.AllocationError.{AllocationError}
+use Rattle.bb_memory_traits.specs.declared.allocator.AllocationError.TheVariants.{AlignmentFailure, OutOfMemory, SizeIsZero, SizeTooLarge}
+use Rattle.bb_memory_traits.specs.declared.layout.Layout.{Layout}
+use Rattle.std.proofs.Common.{Bool, List, ap, arith, cond, leb, min, refl, rules, subst, sym, ℕ, ◌&&◌, ◌<◌, ◌∙◌, ◌≡◌, ◌≤◌}
 use Rattle.std.proofs.lemmas.Bool.{le-leb, lt-leb}
 use Rattle.std.proofs.lemmas.Option.{slice_get_within}
-use Rattle.bb_memory_traits.specs.Chunk.{Chunk}
-use Rattle.bb_memory_traits.specs.PoolObject.{PoolGeometry, bucket_place, IsWithin}
-use Rattle.bb_memory_traits.specs.declared.layout.Layout.{Layout}
-use Rattle.bb_memory_traits.specs.declared.allocator.AllocationError.{AllocationError}
-use Rattle.bb_memory_traits.specs.declared.allocator.AllocationError.TheVariants.{SizeIsZero, SizeTooLarge, AlignmentFailure}
-use Rattle.bb_memory_traits.specs.declared.allocator.AllocationError.TheVariants.{OutOfMemory}
-use Rattle.bb_memory_traits.specs.Geometry.{Admits}
 use Rattle.std.specs.Prelude.{Err}
-use Rattle.bb_memory_owned.specs.Pool.{Pool, Takes, pool_of, reads_of}
-use Rattle.bb_memory_owned.proofs.pool_allocator.bucket_pool.take.Goals as goal
 
 of_small : (bucket : Layout) (words : ℕ) (layout : Layout) → layout.size ≤ bucket.size →
     reads_of bucket words layout ≡ cond (leb layout.align bucket.align) (min words 1) 0

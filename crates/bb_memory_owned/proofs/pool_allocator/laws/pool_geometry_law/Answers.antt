@@ -1,6 +1,6 @@
-use Rattle.bb_memory_traits.proofs.PoolGeometries.{bucket_place-aligned, bucket_place-after, stride-above}
-use Rattle.bb_memory_traits.proofs.Geometries.{some_cut, one_cut, cut-geometry, at_most-geometry}
 use Rattle.bb_memory_owned.proofs.pool_allocator.laws.pool_geometry_law.Goals as goal
+use Rattle.bb_memory_traits.proofs.Geometries.{at_most-geometry, cut-geometry, one_cut, some_cut}
+use Rattle.bb_memory_traits.proofs.PoolGeometries.{bucket_place-after, bucket_place-aligned, stride-above}
 
 pub returns : goal.returns
 returns c = record {

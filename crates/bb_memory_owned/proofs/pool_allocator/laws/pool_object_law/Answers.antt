@@ -1,9 +1,8 @@
+use Rattle.bb_memory_owned.proofs.PoolAnswers.{answer-aligned, answer-bucket_aligned, answer-inside, answer-len, answer-new, given_or_refused, one_cause, some_answer}
+use Rattle.bb_memory_owned.proofs.PoolRuns.{base_run-keeps, places-a_stride_apart, places-aligned, released-room, run-keeps}
 use Rattle.bb_memory_owned.proofs.Pools.{fresh-stands}
-use Rattle.bb_memory_owned.proofs.PoolAnswers.{some_answer, one_cause, given_or_refused, answer-aligned, answer-bucket_aligned}
-use Rattle.bb_memory_owned.proofs.PoolAnswers.{answer-len, answer-new, answer-inside}
-use Rattle.bb_memory_traits.proofs.Resizes.{some_grow, one_grow, some_shrink, one_shrink}
-use Rattle.bb_memory_owned.proofs.PoolRuns.{places-aligned, places-a_stride_apart, released-room, run-keeps, base_run-keeps}
 use Rattle.bb_memory_owned.proofs.pool_allocator.laws.pool_object_law.Goals as goal
+use Rattle.bb_memory_traits.proofs.Resizes.{one_grow, one_shrink, some_grow, some_shrink}
 
 pub returns : goal.returns
 returns c = record {

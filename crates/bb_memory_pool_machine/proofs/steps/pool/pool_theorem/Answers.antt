@@ -1,10 +1,10 @@
-use Rattle.std.proofs.Common.{rules}
-use Rattle.bb_memory_traits.proofs.PoolGeometries.{some_geometry}
+use Rattle.bb_memory_pool_machine.proofs.PoolDetached.{attached_from_sender, none_detached_alone, was_detached_before}
 use Rattle.bb_memory_pool_machine.proofs.PoolHolders.{detached_unheld, holder_in_log, one_holder}
 use Rattle.bb_memory_pool_machine.proofs.PoolPasses.{missed_is_held, refused_found_held}
-use Rattle.bb_memory_pool_machine.proofs.PoolRuns.{pool_run, run_at_step, taken_is_held, run_is_sound}
-use Rattle.bb_memory_pool_machine.proofs.PoolDetached.{was_detached_before, none_detached_alone}
+use Rattle.bb_memory_pool_machine.proofs.PoolRuns.{pool_run, run_at_step, run_is_sound, taken_is_held}
 use Rattle.bb_memory_pool_machine.proofs.steps.pool.pool_theorem.Goals as goal
+use Rattle.bb_memory_traits.proofs.PoolGeometries.{some_geometry}
+use Rattle.std.proofs.Common.{rules}
 
 pub returns : goal.returns
 returns c = record {
@@ -23,4 +23,5 @@ returns c = record {
   detached_unheld = detached_unheld;
   none_detached_alone = none_detached_alone;
   was_detached = was_detached_before;
+  attached_from = attached_from_sender;
 }

@@ -1,8 +1,8 @@
-use Rattle.std.proofs.Common.{◌<◌, subst}
-use Rattle.bb_memory_traits.proofs.PoolGeometries.{bucket_place-aligned}
-use Rattle.bb_memory_shared_pools.specs.SharedPool.{SharedPool}
 use Rattle.bb_memory_shared_pools.proofs.SharedPoolLaws.{held_below}
 use Rattle.bb_memory_shared_pools.proofs.shared_pool.by_number.bucket.Goals as goal
+use Rattle.bb_memory_shared_pools.specs.SharedPool.{SharedPool}
+use Rattle.bb_memory_traits.proofs.PoolGeometries.{bucket_place-aligned}
+use Rattle.std.proofs.Common.{subst, ◌<◌}
 
 pub invariant_of-result : goal.invariant_of-result
 invariant_of-result g c = rw c.pool.view_is (

@@ -1,10 +1,8 @@
-use Rattle.std.proofs.Common.{arith}
-use Rattle.std.proofs.Common.{ℕ, subst, sym, ◌∙◌, ⊎_elim}
-use Rattle.std.specs.Prelude.{Contains}
 use Rattle.bb_memory_pool_machine.specs.PoolLogs.{IsHeldAfter}
-use Rattle.bb_memory_shared_pools.proofs.SharedPoolCaching.{cached_less, cached_while, last_apart, number_of, returns_last}
-use Rattle.bb_memory_shared_pools.proofs.SharedPoolCaching.{has_either, has_last, has_others}
+use Rattle.bb_memory_shared_pools.proofs.SharedPoolCaching.{cached_less, cached_while, has_either, has_last, has_others, last_apart, number_of, returns_last}
 use Rattle.bb_memory_shared_pools.proofs.shared_pool.caching.return_all.Goals as goal
+use Rattle.std.proofs.Common.{arith, subst, sym, ℕ, ⊎_elim, ◌∙◌}
+use Rattle.std.specs.Prelude.{Contains}
 
 pub loop-number-preserved : goal.loop-number-preserved
 loop-number-preserved g c =

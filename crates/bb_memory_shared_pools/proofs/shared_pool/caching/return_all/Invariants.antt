@@ -1,9 +1,9 @@
-use Rattle.std.proofs.Common.{◌≡◌, ℕ, vec_capacity, vec_len}
-use Rattle.std.specs.Prelude.{Contains}
 use Rattle.bb_memory_pool_machine.specs.PoolLogs.{IsHeldAfter}
+use Rattle.bb_memory_shared_pools.proofs.shared_pool.caching.return_all.Given as goal
 use Rattle.bb_memory_shared_pools.specs.SharedPool.{IsSameParty, with_entries}
 use Rattle.bb_memory_shared_pools.specs.SharedPoolCaching.{AreCached, returns_of}
-use Rattle.bb_memory_shared_pools.proofs.shared_pool.caching.return_all.Given as goal
+use Rattle.std.proofs.Common.{vec_capacity, vec_len, ℕ, ◌≡◌}
+use Rattle.std.specs.Prelude.{Contains}
 
 abbrev pub invariant-loop-number : goal.invariant-loop-number
 invariant-loop-number g l = record {

@@ -1,8 +1,8 @@
-use Rattle.std.proofs.Common.{◌≡◌, ℕ, ◌+◌, ◌-◌, sym, ◌∙◌, arith}
-use Rattle.bb_memory_shared_pools.specs.SharedPoolNextFit.{start_of}
-use Rattle.bb_memory_shared_pools.proofs.SharedPoolNextFit.{start_here, start_zero, probe_ahead, probe_behind}
-use Rattle.bb_memory_shared_pools.proofs.shared_pool.next_fit.probed.Goals.{then-first-buckets, else-first-buckets}
+use Rattle.bb_memory_shared_pools.proofs.SharedPoolNextFit.{probe_ahead, probe_behind, start_here, start_zero}
+use Rattle.bb_memory_shared_pools.proofs.shared_pool.next_fit.probed.Goals.{else-first-buckets, then-first-buckets}
 use Rattle.bb_memory_shared_pools.proofs.shared_pool.next_fit.probed.Goals as goal
+use Rattle.bb_memory_shared_pools.specs.SharedPoolNextFit.{start_of}
+use Rattle.std.proofs.Common.{arith, sym, ℕ, ◌+◌, ◌-◌, ◌∙◌, ◌≡◌}
 
 pub returns-then-probe-ahead-clause-value : goal.returns-then-probe-ahead-clause-value
 returns-then-probe-ahead-clause-value c =

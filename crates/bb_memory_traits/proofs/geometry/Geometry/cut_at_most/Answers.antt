@@ -1,7 +1,7 @@
-use Rattle.std.proofs.Common.{ap, ◌∙◌}
+use Rattle.bb_memory_traits.proofs.geometry.Geometry.cut_at_most.Goals as goal
 use Rattle.bb_memory_traits.specs.Chunk.{region_at}
 use Rattle.bb_memory_traits.specs.PoolObject.{at_most, pool_geometry}
-use Rattle.bb_memory_traits.proofs.geometry.Geometry.cut_at_most.Goals as goal
+use Rattle.std.proofs.Common.{ap, ◌∙◌}
 
 pub returns : goal.returns
 returns c =

@@ -1,6 +1,6 @@
-use Rattle.std.proofs.Common.{◌≤◌, arith}
 use Rattle.bb_memory_traits.proofs.Measures.{bucket_place-multiple, placed}
 use Rattle.bb_memory_traits.proofs.geometry.Geometry.grow.Goals as goal
+use Rattle.std.proofs.Common.{arith, ◌≤◌}
 
 pub new_unchecked-requires : goal.new_unchecked-requires
 new_unchecked-requires c =

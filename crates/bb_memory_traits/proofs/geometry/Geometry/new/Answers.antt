@@ -1,8 +1,8 @@
-use Rattle.std.proofs.Common.{◌≡◌, ◌/◌, arith, refl, subst, ℕ, sym}
-use Rattle.bb_memory_traits.specs.Chunk.{Region, region_at, first_place}
-use Rattle.bb_memory_traits.specs.PoolObject.{IsCut, pool_geometry}
-use Rattle.bb_memory_traits.proofs.Cuts.{stride-positive, room_for, room-cut, may-be-cut-few, some-value}
+use Rattle.bb_memory_traits.proofs.Cuts.{may-be-cut-few, room-cut, room_for, some-value, stride-positive}
 use Rattle.bb_memory_traits.proofs.geometry.Geometry.new.Goals as goal
+use Rattle.bb_memory_traits.specs.Chunk.{Region, first_place, region_at}
+use Rattle.bb_memory_traits.specs.PoolObject.{IsCut, pool_geometry}
+use Rattle.std.proofs.Common.{arith, refl, subst, sym, ℕ, ◌/◌, ◌≡◌}
 
 pub nonzero_div-result : goal.nonzero_div-result
 nonzero_div-result c = omega (arith, stride-positive c.args.bucket_layout)

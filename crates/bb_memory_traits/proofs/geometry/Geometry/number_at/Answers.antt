@@ -1,6 +1,6 @@
-use Rattle.std.proofs.Common.{arith}
 use Rattle.bb_memory_traits.proofs.Cuts.{number-counted}
 use Rattle.bb_memory_traits.proofs.geometry.Geometry.number_at.Goals as goal
+use Rattle.std.proofs.Common.{arith}
 
 pub returns-then-number-count-clause-none : goal.returns-then-number-count-clause-none
 returns-then-number-count-clause-none c at =

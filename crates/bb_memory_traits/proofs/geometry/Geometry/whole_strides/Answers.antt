@@ -1,10 +1,10 @@
-use Rattle.std.proofs.Common.{◌≡◌, ◌+◌, ◌*◌, ◌/◌, ◌%◌, ◌<◌, ◌^◌, ◌-◌, ℕ, Option, ap, arith, subst, sym, ◌∙◌}
-use Rattle.std.proofs.Math.Nat.{le-mul_of_pos_right, lt_of_mul-lt-mul_right}
-use Rattle.std.proofs.lemmas.Nat.{pow-add}
-use Rattle.bb_memory_traits.specs.PoolObject.{PoolGeometry, stride}
-use Rattle.bb_memory_traits.specs.Geometry.{Shifts}
 use Rattle.bb_memory_traits.proofs.Cuts.{buckets-fit, rotated-part, rotated-whole, stride-positive}
 use Rattle.bb_memory_traits.proofs.geometry.Geometry.whole_strides.Goals as goal
+use Rattle.bb_memory_traits.specs.Geometry.{Shifts}
+use Rattle.bb_memory_traits.specs.PoolObject.{PoolGeometry, stride}
+use Rattle.std.proofs.Common.{Option, ap, arith, subst, sym, ℕ, ◌%◌, ◌*◌, ◌+◌, ◌-◌, ◌/◌, ◌<◌, ◌^◌, ◌∙◌, ◌≡◌}
+use Rattle.std.proofs.Math.Nat.{le-mul_of_pos_right, lt_of_mul-lt-mul_right}
+use Rattle.std.proofs.lemmas.Nat.{pow-add}
 
 pub nonzero_rem-distance : goal.nonzero_rem-distance
 nonzero_rem-distance c =

@@ -1,7 +1,7 @@
-use Rattle.std.proofs.lemmas.Grind.{common_steps}
-use Rattle.std.proofs.Common.{sym, arith}
-use Rattle.bb_memory_traits.proofs.Layouts.{valid-up_to, usual-accepted}
+use Rattle.bb_memory_traits.proofs.Layouts.{usual-accepted, valid-up_to}
 use Rattle.bb_memory_traits.proofs.layout.Layout.from_size_align.Goals as goal
+use Rattle.std.proofs.Common.{arith, sym}
+use Rattle.std.proofs.lemmas.Grind.{common_steps}
 
 pub overflow_sub-align : goal.overflow_sub-align
 overflow_sub-align c =

@@ -1,9 +1,8 @@
-use Rattle.std.proofs.Common.{arith}
-use Rattle.std.proofs.Common.{sym}
-use Rattle.std.proofs.lemmas.Bool.{false≢true}
-use Rattle.bb_memory_traits.proofs.PowersOfTwo.{power_of_two-from_test, power_of_two-test}
 use Rattle.bb_memory_traits.proofs.Layouts.{within-valid}
+use Rattle.bb_memory_traits.proofs.PowersOfTwo.{power_of_two-from_test, power_of_two-test}
 use Rattle.bb_memory_traits.proofs.layout.Layout.within.Goals as goal
+use Rattle.std.proofs.Common.{arith, sym}
+use Rattle.std.proofs.lemmas.Bool.{false≢true}
 
 pub returns-then-not-is_power_of_two-clause-some : goal.returns-then-not-is_power_of_two-clause-some
 returns-then-not-is_power_of_two-clause-some c = grind (arith, false≢true, power_of_two-test)

@@ -1,9 +1,9 @@
+use Rattle.bb_memory_traits.proofs.ApartBytes.{apart-kept, extended-bytes}
+use Rattle.bb_memory_traits.proofs.LiveBytes.{contents_given, contents_set, others_kept}
+use Rattle.bb_memory_traits.proofs.Written.{written-changes}
+use Rattle.bb_memory_traits.proofs.region.Region.write.Goals as goal
 use Rattle.std.proofs.Common.{arith}
 use Rattle.std.proofs.lemmas.Grind.{common_steps}
-use Rattle.bb_memory_traits.proofs.Written.{written-changes}
-use Rattle.bb_memory_traits.proofs.ApartBytes.{apart-kept, extended-bytes}
-use Rattle.bb_memory_traits.proofs.LiveBytes.{others_kept, contents_set, contents_given}
-use Rattle.bb_memory_traits.proofs.region.Region.write.Goals as goal
 
 pub returns-clause-changes : goal.returns-clause-changes
 returns-clause-changes c = grind (arith, common_steps, written-changes)

@@ -1,8 +1,8 @@
-use Rattle.std.proofs.Common.{rules, length, refl}
+use Rattle.loan_book.proofs.Searches.{search-absent, search-found}
+use Rattle.loan_book.proofs.book.LoanBook.find.Goals as goal
+use Rattle.std.proofs.Common.{length, refl, rules}
 use Rattle.std.proofs.lemmas.List.Sorted.{answers_always}
 use Rattle.std.proofs.lemmas.Option.{slice_get_read}
-use Rattle.loan_book.proofs.Searches.{search-found, search-absent}
-use Rattle.loan_book.proofs.book.LoanBook.find.Goals as goal
 
 -- the closure gives a sample's id
 

@@ -1,7 +1,7 @@
-use Rattle.std.proofs.Common.{◌-◌, subst, sym, refl}
-use Rattle.loan_book.specs.Book.{Book, IsOut}
 use Rattle.loan_book.proofs.BookSteps.{own-set, removed-is-gone}
 use Rattle.loan_book.proofs.book.LoanBook.give_back.Goals as goal
+use Rattle.loan_book.specs.Book.{Book, IsOut}
+use Rattle.std.proofs.Common.{refl, subst, sym, ◌-◌}
 
 pub returns-then-left-gt0-clause-leaves : goal.returns-then-left-gt0-clause-leaves
 returns-then-left-gt0-clause-leaves g c =

@@ -1,6 +1,6 @@
-use Rattle.std.proofs.Common.{arith}
-use Rattle.loan_book.specs.Book.{chunks_of}
 use Rattle.loan_book.proofs.book.LoanBook.law.Goals as goal
+use Rattle.loan_book.specs.Book.{chunks_of}
+use Rattle.std.proofs.Common.{arith}
 
 pub returns-clause-loans_one_book : goal.returns-clause-loans_one_book
 returns-clause-loans_one_book g c size answer new next = grind arith

@@ -1,15 +1,15 @@
-use Rattle.std.proofs.Common.{◌≡◌, ℕ, ◌<◌, ◌≤◌, ◌^◌, subst, sym, refl, arith, Option, Some, None, Result, Err}
-use Rattle.std.specs.Prelude.{◌↔◌}
-use Rattle.std.specs.Align.{IsLayout}
-use Rattle.std.proofs.lemmas.Bool.{cases_lt, false≢true}
-use Rattle.bb_memory_traits.specs.Chunk.{Chunk}
-use Rattle.loan_book.specs.Book.{LoanError, chunks_of, loaned_before}
-use Rattle.loan_book.specs.declared.error.LoanError.TheVariants.{Size, IdsExhausted}
-use Rattle.loan_book.proofs.Books.{IsLoanBook-loaned, next_loaned}
-use Rattle.bb_memory_traits.specs.LeastPlace.{least_place}
 use Rattle.bb_memory_traits.proofs.Layouts.{layout-plain}
 use Rattle.bb_memory_traits.proofs.LeastPlaces.{least_place-unique}
+use Rattle.bb_memory_traits.specs.Chunk.{Chunk}
+use Rattle.bb_memory_traits.specs.LeastPlace.{least_place}
+use Rattle.loan_book.proofs.Books.{IsLoanBook-loaned, next_loaned}
 use Rattle.loan_book.proofs.book.LoanBook.loan.Goals as goal
+use Rattle.loan_book.specs.Book.{LoanError, chunks_of, loaned_before}
+use Rattle.loan_book.specs.declared.error.LoanError.TheVariants.{IdsExhausted, Size}
+use Rattle.std.proofs.Common.{Err, None, Option, Result, Some, arith, refl, subst, sym, ℕ, ◌<◌, ◌^◌, ◌≡◌, ◌≤◌}
+use Rattle.std.proofs.lemmas.Bool.{cases_lt, false≢true}
+use Rattle.std.specs.Align.{IsLayout}
+use Rattle.std.specs.Prelude.{◌↔◌}
 
 -- every number is a multiple of 1
 least_place-of_one : (size : ℕ) → size ≡ least_place size 1

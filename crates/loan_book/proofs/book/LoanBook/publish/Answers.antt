@@ -1,11 +1,11 @@
-use Rattle.std.proofs.Common.{arith, ◌∙◌, sym, subst, refl, Some, Ok, Err}
-use Rattle.loan_book.specs.declared.error.LoanError.TheVariants.{UnknownSample, AlreadyPublished, NoReaders}
-use Rattle.loan_book.specs.Book.{Book, HasReturns}
-use Rattle.loan_book.specs.Calls.{Publishes}
 use Rattle.loan_book.proofs.BookSteps.{own-set}
-use Rattle.loan_book.proofs.Books.{published_from, unpublished_from, positive}
+use Rattle.loan_book.proofs.Books.{positive, published_from, unpublished_from}
 use Rattle.loan_book.proofs.OneAnswers.{publish-refusal}
 use Rattle.loan_book.proofs.book.LoanBook.publish.Goals as goal
+use Rattle.loan_book.specs.Book.{Book, HasReturns}
+use Rattle.loan_book.specs.Calls.{Publishes}
+use Rattle.loan_book.specs.declared.error.LoanError.TheVariants.{AlreadyPublished, NoReaders, UnknownSample}
+use Rattle.std.proofs.Common.{Err, Ok, Some, arith, refl, subst, sym, ◌∙◌}
 
 pub returns-in_default : goal.returns-in_default
 returns-in_default g c = grind arith

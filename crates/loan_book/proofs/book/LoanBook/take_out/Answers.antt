@@ -1,8 +1,8 @@
-use Rattle.std.proofs.Common.{rules, ℕ, ◌<◌, refl, sym, subst, length}
-use Rattle.std.proofs.lemmas.Option.{slice_get_read}
-use Rattle.loan_book.specs.Book.{chunks_of}
-use Rattle.loan_book.proofs.Books.{chunk-at, IsLoanBook-removed}
+use Rattle.loan_book.proofs.Books.{IsLoanBook-removed, chunk-at}
 use Rattle.loan_book.proofs.book.LoanBook.take_out.Goals as goal
+use Rattle.loan_book.specs.Book.{chunks_of}
+use Rattle.std.proofs.Common.{length, refl, rules, subst, sym, ℕ, ◌<◌}
+use Rattle.std.proofs.lemmas.Option.{slice_get_read}
 
 pub deallocate-requires : goal.deallocate-requires
 deallocate-requires g c =

@@ -1,8 +1,7 @@
-use Rattle.std.proofs.Common.{arith}
-use Rattle.std.proofs.Common.{rules, ◌<◌, refl, length}
-use Rattle.std.proofs.lemmas.Option.{slice_get_read, get_or_from_slice_get}
 use Rattle.loan_book.proofs.Books.{IsLoanBook-set}
 use Rattle.loan_book.proofs.book.LoanBook.wait_for.Goals as goal
+use Rattle.std.proofs.Common.{arith, length, refl, rules, ◌<◌}
+use Rattle.std.proofs.lemmas.Option.{get_or_from_slice_get, slice_get_read}
 
 pub invariant_of-self : goal.invariant_of-self
 invariant_of-self g c =

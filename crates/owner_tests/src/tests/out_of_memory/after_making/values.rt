@@ -1,8 +1,9 @@
 //! Layouts, roundings, chunks and a region; and the laws.
 use crate::tests::checks::{check, layout, none_asked, refused, same};
-use crate::tests::kinds::pool_over;
+use crate::tests::kinds::{fixed_over, pool_over};
 use bb_memory_bump::bump_allocator::bump_object_law;
-use bb_memory_owned::one_chunk_allocator::one_chunk_object_law;
+use bb_memory_heap::heap_allocator::heap_law;
+use bb_memory_owned::one_chunk_allocator::{OneChunkAllocator, one_chunk_object_law};
 use bb_memory_owned::pool_allocator::{
     PoolAllocator, pool_count_law, pool_geometry_law, pool_held_law, pool_object_law,
 };
@@ -61,6 +62,29 @@ fn memory_sizes(rt: HostRuntime) {
     none_asked(&rt);
 }
 
+// row: pool-odd-start-getters, fixed-constant-four
+#[test]
+fn getters(rt: HostRuntime) {
+    let bucket = layout(&rt, 128, 8);
+    let Some(pool) = pool_over(rt.alloc(), bucket, 4097, 1024) else {
+        return refused(&rt);
+    };
+    let fixed = fixed_over::<4>(bucket, 4096, 1024);
+    let fixed = fixed.expect(&rt, "there is such a pool");
+    let one = OneChunkAllocator::new(4097, 1024);
+    refuse_memory(rt.alloc());
+    same(&rt, (pool.start_address(), pool.size()), (4104, 1024));
+    same(&rt, pool.number_of_buckets(), 7);
+    same(&rt, (pool.bucket_size(), pool.max_alignment()), (128, 8));
+    same(&rt, pool.bucket_layout(), bucket);
+    same(&rt, (fixed.number_of_buckets(), fixed.size()), (4, 1024));
+    same(&rt, (fixed.bucket_size(), fixed.max_alignment()), (128, 8));
+    same(&rt, fixed.bucket_layout(), bucket);
+    same(&rt, (one.start_address(), one.size()), (4097, 1024));
+    check(&rt, one.has_chunk_available());
+    none_asked(&rt);
+}
+
 /// A region of eight bytes, call by call.
 #[test]
 fn a_region(rt: HostRuntime) {
@@ -95,6 +119,7 @@ fn laws_do_nothing(rt: HostRuntime) {
     pool_count_law();
     region_law();
     live_bytes_law();
+    heap_law();
     split_bytes_law();
     loan_book::one_answer_law();
     loan_book::equality_law();

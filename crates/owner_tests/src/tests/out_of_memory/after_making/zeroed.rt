@@ -1,6 +1,6 @@
 //! Calls of the traits, and which bytes they clear. The region's bytes are all 7 at first.
-ghost use Rattle.std.specs.Prelude.{◌≡◌, []};
 ghost use Rattle.bb_memory_traits.specs.Chunk.{region_at};
+ghost use Rattle.std.specs.Prelude.{[], ◌≡◌};
 
 use crate::tests::checks::{check, chunk, layout, none_asked, refused, same};
 use crate::tests::kinds::{Kind, Of, fixed_over, fresh};
@@ -11,20 +11,20 @@ use bb_memory_owned::pool_allocator::{FixedSizePoolAllocator, PoolAllocator};
 use bb_memory_traits::allocator::{
     AllocationError, AllocationGrowError, Allocator, BaseAllocator, Reply,
 };
+use layers::chunk_budget::ChunkBudget;
 use std::alloc::Global;
 use std::process::Abort;
 use test_marks::refuse_memory;
-use uses::chunk_budget::ChunkBudget;
 
-/// Asks for a chunk, and returns where it begins.
+/// Asks for a chunk, and returns its place and its length.
 fn takes<A: BaseAllocator + Drop>(
     rt: &impl Abort,
     owner: &mut Owner<A>,
     (size, align): (usize, usize),
     zeroed: bool,
-) -> usize {
+) -> (usize, usize) {
     match owner.allocate(layout(rt, size, align), zeroed) {
-        Reply::Chunk(chunk) => chunk.place(),
+        Reply::Chunk(chunk) => (chunk.place(), chunk.len()),
         _ => panic!(rt; "no chunk is given"),
     }
 }
@@ -86,8 +86,8 @@ fn a_bump_clears_its_chunk(rt: HostRuntime) {
     let mut bump = fresh::<BumpAllocator>(&rt, [4096, 1024, 0, 0]);
     let made = bump.allocator();
     same(&rt, made.start_address(), 4096);
-    same(&rt, takes(&rt, &mut bump, (10, 1), false), 4096);
-    same(&rt, takes(&rt, &mut bump, (16, 8), true), 4112);
+    same(&rt, takes(&rt, &mut bump, (10, 1), false), (4096, 10));
+    same(&rt, takes(&rt, &mut bump, (16, 8), true), (4112, 16));
     check(&rt, bump.has_zeros(4112, 4128));
     let used = bump.allocator();
     same(&rt, (used.used_space(), used.free_space()), (32, 992));
@@ -102,7 +102,7 @@ fn a_grown_chunk_is_cleared_behind_its_old_size(rt: HostRuntime) {
     let refused = Reply::Refused(AllocationError::OutOfMemory);
     same(&rt, one.allocate(layout(&rt, 1025, 1), true), refused);
     check(&rt, one.has_zeros(0, 0));
-    same(&rt, takes(&rt, &mut one, (48, 4), false), 4096);
+    same(&rt, takes(&rt, &mut one, (48, 4), false), (4096, 1024));
     resizes(&rt, &mut one, (4096, 48, 64), 1024, true);
     check(&rt, one.has_zeros(4144, 5120));
     none_asked(&rt);
@@ -112,7 +112,7 @@ fn a_grown_chunk_is_cleared_behind_its_old_size(rt: HostRuntime) {
 #[test]
 fn one_chunk_is_shrunk_and_grown(rt: HostRuntime) {
     let mut one = fresh::<OneChunkAllocator>(&rt, [4096, 1024, 0, 0]);
-    same(&rt, takes(&rt, &mut one, (48, 4), false), 4096);
+    same(&rt, takes(&rt, &mut one, (48, 4), false), (4096, 1024));
     let held = one.allocator();
     check(&rt, held.holds(4096) && !held.holds(4097));
     resizes(&rt, &mut one, (4096, 64, 32), 32, true);
@@ -129,7 +129,8 @@ fn one_chunk_is_shrunk_and_grown(rt: HostRuntime) {
 /// are zero.
 fn is_grown_and_shrunk<A: Kind + Allocator>(rt: &(impl Abort + AllocGlobal), of: Of) {
     let mut owner = fresh::<A>(rt, of);
-    let place = takes(rt, &mut owner, (48, 4), false);
+    let (place, len) = takes(rt, &mut owner, (48, 4), false);
+    same(rt, len, 48);
     let (old, new) = (layout(rt, 48, 4), layout(rt, 129, 4));
     let refused = Reply::GrowRefused(AllocationGrowError::OutOfMemory);
     same(rt, owner.grow(0, old, new, true), refused);
@@ -156,14 +157,15 @@ fn fills<A: Kind + Allocator>(
 ) {
     let mut pool = fresh::<A>(rt, of);
     for _ in 0..count {
-        takes(rt, &mut pool, (of[2], of[3]), false);
+        same(rt, takes(rt, &mut pool, (of[2], of[3]), false).1, of[2]);
     }
     let refused = Reply::Refused(AllocationError::OutOfMemory);
     same(rt, pool.allocate(layout(rt, of[2], of[3]), false), refused);
     check(rt, pool.are_at(4096, stride, count));
     same(rt, pool.reserved(0), Some(of[2]));
     same(rt, pool.deallocate(1), Reply::Released);
-    let place = takes(rt, &mut pool, (9, 1), true);
+    let (place, len) = takes(rt, &mut pool, (9, 1), true);
+    same(rt, len, 9);
     check(rt, pool.has_zeros(place, place.saturating_add(9)));
     none_asked(rt);
 }
@@ -187,7 +189,7 @@ fn spends<A: Allocator + Drop>(rt: &(impl Abort + AllocGlobal), pool: A)
     let large = layout(rt, 129, 1);
     let too_large = Reply::Refused(AllocationError::SizeTooLarge);
     same(rt, budget.allocate(large, false), too_large);
-    let place = takes(rt, &mut budget, (10, 4), false);
+    let (place, _) = takes(rt, &mut budget, (10, 4), false);
     resizes(rt, &mut budget, (place, 10, 20), 20, true);
     same(rt, budget.allocator().out(), 1);
     let spent = Reply::Refused(AllocationError::OutOfMemory);

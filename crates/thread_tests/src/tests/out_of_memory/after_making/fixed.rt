@@ -1,5 +1,5 @@
 //! A shared pool of at most four buckets of 128 bytes.
-ghost use Rattle.std.specs.Prelude.{◌≡◌, All, IfSome};
+ghost use Rattle.std.specs.Prelude.{All, IfSome, ◌≡◌};
 
 use crate::tests::checks::{check, chunk, layout, none_asked, refused, same};
 use bb_memory_owned::pool_allocator::FixedSizePoolAllocator;
@@ -83,6 +83,9 @@ fn four_of_eight_buckets(rt: HostRuntime) {
     };
     refuse_memory(rt.alloc());
     same(&rt, (pool.number_of_buckets(), pool.size()), (4, 1024));
+    same(&rt, (pool.bucket_size(), pool.max_alignment()), (128, 8));
+    same(&rt, pool.bucket_layout(), layout(&rt, 128, 8));
+    same(&rt, pool.number_of_parties(), 1);
     fills(&rt, &pool, parties);
     none_asked(&rt);
 }

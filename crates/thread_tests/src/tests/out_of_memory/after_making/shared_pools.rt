@@ -1,5 +1,5 @@
 //! Parties of one thread that share a pool of buckets of 128 bytes. A request answers a bucket's number, place and length.
-ghost use Rattle.std.specs.Prelude.{◌≡◌, ◌<◌};
+ghost use Rattle.std.specs.Prelude.{◌<◌, ◌≡◌};
 
 use crate::tests::buckets::{counts, fit, found, hold, last_of, pool_at_last, take, two};
 use crate::tests::checks::{chunk, layout, none_asked, same};
@@ -53,6 +53,7 @@ fn as_many_parties_as_buckets(rt: HostRuntime) {
     same(rt, pool.number_of_buckets(), pool.number_of_parties());
     same(rt, (pool.size(), pool.bucket_size()), (65536, 128));
     same(rt, (pool.start_address(), pool.max_alignment()), (4096, 8));
+    same(rt, pool.bucket_layout(), layout(rt, 128, 8));
     same(
         rt,
         [pool.number_at(4097), pool.number_at(4224)],
@@ -65,6 +66,9 @@ fn as_many_parties_as_buckets(rt: HostRuntime) {
     );
     same(rt, fit(pool, &mut party, small), Ok((511, 69504, 48)));
     same(rt, fit(pool, &mut party, small), Ok((0, 4096, 48)));
+    let whole = pool.take(&mut party).ok();
+    let whole = whole.expect(rt, "a bucket is free");
+    same(rt, found(&whole), (1, 4224, 128));
     none_asked(rt);
 }
 
@@ -113,8 +117,56 @@ fn a_detached_bucket_is_nobodys(rt: HostRuntime) {
     none_asked(rt);
 }
 
-/// A search begins in the party's part. It goes on where the last one ended, or at the least bucket that came back since, and
-/// then at bucket 0.
+/// Attaches the bucket of this number that `from` may have detached, and gives it back where that won, which is told.
+fn attaches_number(
+    pool: &SharedPoolAllocator,
+    party: &mut PoolParty,
+    number: u32,
+    from: u32,
+) -> bool
+    requires party { party.old.allocator ≡ pool.now }
+    requires below { number < pool.now.scene.geometry.buckets }
+    ensures { party.new.allocator ≡ pool.now }
+{
+    let won = pool.attach_number(party, number, from);
+    if won {
+        let bucket = by_number::bucket(pool, party, number, 0);
+        pool.deallocate_bucket(party, bucket);
+    }
+    won
+}
+
+/// A bucket that was detached by its number is attached once, by the number of who detached it, and one with a token is not.
+#[test]
+fn a_number_is_attached_once(rt: HostRuntime) {
+    let (small, (pool, mut a, mut b)) = (layout(&rt, 48, 4), two(&rt, 128));
+    let (rt, pool) = (&rt, &pool);
+    let sender = a.number();
+    let held = hold(rt, pool, &mut a, small);
+    let number = pool.detach_number(&mut a, held);
+    same(rt, pool.holder(number), Flag::DetachedBy(sender));
+    same(rt, take(pool, &mut b, small), Err(OutOfMemory));
+    let own = b.number();
+    same(rt, attaches_number(pool, &mut b, number, own), false);
+    same(rt, attaches_number(pool, &mut b, number, u32::MAX), false);
+    same(rt, pool.holder(number), Flag::DetachedBy(sender));
+    same(rt, attaches_number(pool, &mut b, number, sender), true);
+    same(rt, attaches_number(pool, &mut b, number, sender), false);
+    same(rt, pool.holder(number), Flag::Free);
+    let held = hold(rt, pool, &mut a, small);
+    let number = held.number();
+    let detached = pool.detach(&mut a, held);
+    same(rt, pool.holder(number), Flag::DetachedBy(sender));
+    same(rt, attaches_number(pool, &mut b, number, sender), false);
+    let attached = pool.attach(&mut b, detached);
+    same(rt, found(&attached), (0, 4096, 48));
+    pool.give_all_back(&mut b);
+    same(rt, pool.holder(number), Flag::Free);
+    none_asked(rt);
+}
+
+/// A search begins in the party's part. It goes on where the last one ended, or at the bucket that came back last, and then at
+/// bucket 0.
 #[test]
 fn a_search_goes_on(rt: HostRuntime) {
     let (small, (pool, mut a, mut b)) = (layout(&rt, 48, 4), two(&rt, 1024));

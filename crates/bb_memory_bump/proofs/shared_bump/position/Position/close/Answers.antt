@@ -1,8 +1,8 @@
-use Rattle.std.proofs.Common.{subst}
-use Rattle.bb_memory_bump.specs.SharedBump.{SharedBump}
-use Rattle.bb_memory_bump.specs.SharedBumpRule.{met_by, AfterMeetingLoad}
 use Rattle.bb_memory_bump.proofs.SharedBumpClosings.{closes}
 use Rattle.bb_memory_bump.proofs.shared_bump.position.Position.close.Goals as goal
+use Rattle.bb_memory_bump.specs.SharedBump.{SharedBump}
+use Rattle.bb_memory_bump.specs.SharedBumpRule.{AfterMeetingLoad, met_by}
+use Rattle.std.proofs.Common.{subst}
 
 pub returns : goal.returns
 returns c =

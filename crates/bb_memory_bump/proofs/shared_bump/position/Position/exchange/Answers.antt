@@ -1,9 +1,9 @@
-use Rattle.std.proofs.Common.{[], sym, ap, ◌∙◌, arith}
-use Rattle.bb_memory_bump_machine.specs.BumpMachine.{BumpScene, chunk_at, position_behind}
-use Rattle.bb_memory_seats.specs.Seats.{alone, number_of, view_log}
-use Rattle.bb_memory_bump.specs.SharedBumpRule.{met_by, sight}
 use Rattle.bb_memory_bump.proofs.SharedBumpKeeps.{exchanges_as}
 use Rattle.bb_memory_bump.proofs.shared_bump.position.Position.exchange.Goals as goal
+use Rattle.bb_memory_bump.specs.SharedBumpRule.{met_by, sight}
+use Rattle.bb_memory_bump_machine.specs.BumpMachine.{BumpScene, chunk_at, position_behind}
+use Rattle.bb_memory_seats.specs.Seats.{alone, number_of, view_log}
+use Rattle.std.proofs.Common.{[], ap, arith, sym, ◌∙◌}
 
 pub compare_exchange-found-requires : goal.compare_exchange-found-requires
 compare_exchange-found-requires c =

@@ -1,8 +1,8 @@
-use Rattle.std.proofs.Common.{[], sym, ap, ◌∙◌, arith}
-use Rattle.bb_memory_seats.specs.Seats.{alone, number_of, view_log}
-use Rattle.bb_memory_bump.specs.SharedBumpRule.{met_by, sight}
 use Rattle.bb_memory_bump.proofs.SharedBumpKeeps.{loads_as}
 use Rattle.bb_memory_bump.proofs.shared_bump.position.Position.load.Goals as goal
+use Rattle.bb_memory_bump.specs.SharedBumpRule.{met_by, sight}
+use Rattle.bb_memory_seats.specs.Seats.{alone, number_of, view_log}
+use Rattle.std.proofs.Common.{[], ap, arith, sym, ◌∙◌}
 
 pub load-requires : goal.load-requires
 load-requires c =

@@ -1,9 +1,9 @@
-use Rattle.std.proofs.Common.{[], sym, ap, ◌∙◌, arith}
-use Rattle.bb_memory_bump_machine.specs.BumpMachine.{BumpScene}
-use Rattle.bb_memory_seats.specs.Seats.{standing_for}
-use Rattle.bb_memory_bump.specs.SharedBumpRule.{met_by, sight}
 use Rattle.bb_memory_bump.proofs.SharedBumpMeetings.{meets_as}
 use Rattle.bb_memory_bump.proofs.shared_bump.position.Position.load_for_meeting.Goals as goal
+use Rattle.bb_memory_bump.specs.SharedBumpRule.{met_by, sight}
+use Rattle.bb_memory_bump_machine.specs.BumpMachine.{BumpScene}
+use Rattle.bb_memory_seats.specs.Seats.{standing_for}
+use Rattle.std.proofs.Common.{[], ap, arith, sym, ◌∙◌}
 
 pub load-requires : goal.load-requires
 load-requires c =

@@ -1,9 +1,9 @@
-use Rattle.std.proofs.Common.{List, ℕ, ◌++◌, ap, ◌∙◌, subst}
 use Rattle.atomic_table.specs.Table.{Me}
-use Rattle.bb_memory_seats.specs.Seats.{head_of, number_of, view_log}
-use Rattle.bb_memory_bump.specs.SharedBumpRule.{NumberedLog, SeatView, met_by, AfterMeetingLoad}
 use Rattle.bb_memory_bump.proofs.SharedBumpMeetings.{two_met}
 use Rattle.bb_memory_bump.proofs.shared_bump.position.Position.meet.Goals as goal
+use Rattle.bb_memory_bump.specs.SharedBumpRule.{AfterMeetingLoad, NumberedLog, SeatView, met_by}
+use Rattle.bb_memory_seats.specs.Seats.{head_of, number_of, view_log}
+use Rattle.std.proofs.Common.{List, ap, subst, ℕ, ◌++◌, ◌∙◌}
 
 pub returns-clause-met : goal.returns-clause-met
 returns-clause-met c =

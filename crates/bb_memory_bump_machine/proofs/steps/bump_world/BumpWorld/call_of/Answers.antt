@@ -1,8 +1,8 @@
-use Rattle.std.proofs.Common.{arith, sym, ◌∙◌, subst, IsSome}
+use Rattle.bb_memory_bump_machine.proofs.steps.bump_world.BumpWorld.call_of.Goals as goal
 use Rattle.bb_memory_bump_machine.specs.BumpMachine.{AllFitting}
 use Rattle.bb_memory_bump_machine.specs.BumpWorld.{BumpWorld}
 use Rattle.bb_memory_lists.proofs.SliceGets.{slice_get-some}
-use Rattle.bb_memory_bump_machine.proofs.steps.bump_world.BumpWorld.call_of.Goals as goal
+use Rattle.std.proofs.Common.{IsSome, arith, subst, sym, ◌∙◌}
 
 pub returns-clause-value : goal.returns-clause-value
 returns-clause-value c = grind arith

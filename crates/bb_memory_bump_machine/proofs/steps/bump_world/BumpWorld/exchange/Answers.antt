@@ -1,8 +1,8 @@
-use Rattle.std.proofs.Common.{ap, subst, Some, sym}
-use Rattle.bb_memory_bump_machine.specs.BumpMachine.{IsFitting}
-use Rattle.bb_memory_bump_machine.specs.BumpWorld.{BumpWorld, world_of}
 use Rattle.bb_memory_bump_machine.proofs.BumpSteps.{each_call-set}
 use Rattle.bb_memory_bump_machine.proofs.steps.bump_world.BumpWorld.exchange.Goals as goal
+use Rattle.bb_memory_bump_machine.specs.BumpMachine.{IsFitting}
+use Rattle.bb_memory_bump_machine.specs.BumpWorld.{BumpWorld, world_of}
+use Rattle.std.proofs.Common.{Some, ap, subst, sym}
 
 pub of_exchange-turn-requires-clause-call : goal.of_exchange-turn-requires-clause-call
 of_exchange-turn-requires-clause-call c =

@@ -1,7 +1,7 @@
-use Rattle.bb_memory_bump_machine.specs.BumpMachine.{IsFitting}
-use Rattle.bb_memory_bump_machine.specs.BumpWorld.{world_of}
 use Rattle.bb_memory_bump_machine.proofs.BumpSteps.{each_call-set}
 use Rattle.bb_memory_bump_machine.proofs.steps.bump_world.BumpWorld.read.Goals as goal
+use Rattle.bb_memory_bump_machine.specs.BumpMachine.{IsFitting}
+use Rattle.bb_memory_bump_machine.specs.BumpWorld.{world_of}
 
 pub invariant_of-self : goal.invariant_of-self
 invariant_of-self c =

@@ -1,6 +1,6 @@
+use Rattle.bb_memory_bump_machine.proofs.steps.bump_world.BumpWorld.replay.Goals as goal
 use Rattle.std.proofs.Common.{arith}
 use Rattle.std.proofs.lemmas.Grind.{common_steps}
-use Rattle.bb_memory_bump_machine.proofs.steps.bump_world.BumpWorld.replay.Goals as goal
 
 pub loop-step-preserved : goal.loop-step-preserved
 loop-step-preserved c = grind (arith, common_steps)

@@ -1,6 +1,6 @@
-use Rattle.std.proofs.Common.{◌≡◌, ◌≤◌, ◌++◌, length, drop, vec_len, vec_capacity}
-use Rattle.bb_memory_bump_machine.specs.BumpWorld.{outcomes_of, after_steps}
 use Rattle.bb_memory_bump_machine.proofs.steps.bump_world.BumpWorld.replay.Given as goal
+use Rattle.bb_memory_bump_machine.specs.BumpWorld.{after_steps, outcomes_of}
+use Rattle.std.proofs.Common.{drop, length, vec_capacity, vec_len, ◌++◌, ◌≡◌, ◌≤◌}
 
 -- the answers so far and those to what is left are those to all
 abbrev pub invariant-loop-step : goal.invariant-loop-step

@@ -1,8 +1,8 @@
-use Rattle.std.proofs.Common.{arith, false}
-use Rattle.std.proofs.lemmas.List.{take-replicate}
 use Rattle.bb_memory_index_set.proofs.NumberFlags.{flags_fresh}
 use Rattle.bb_memory_index_set.proofs.Tallies.{left-fresh}
 use Rattle.bb_memory_index_set.proofs.index_set.flags.Flags.new.Goals as goal
+use Rattle.std.proofs.Common.{arith, false}
+use Rattle.std.proofs.lemmas.List.{take-replicate}
 
 pub invariant_of-result : goal.invariant_of-result
 invariant_of-result g c =

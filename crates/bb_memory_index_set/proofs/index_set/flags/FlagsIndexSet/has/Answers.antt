@@ -1,8 +1,8 @@
-use Rattle.std.proofs.lemmas.Grind.{common_steps}
-use Rattle.std.proofs.Common.{arith, ap, length, ◌<◌}
-use Rattle.bb_memory_index_set.specs.IndexSets.{NumberSet}
 use Rattle.bb_memory_index_set.proofs.NumberFlags.{has_flag, length-flags}
 use Rattle.bb_memory_index_set.proofs.index_set.flags.FlagsIndexSet.has.Goals as goal
+use Rattle.bb_memory_index_set.specs.IndexSets.{NumberSet}
+use Rattle.std.proofs.Common.{ap, arith, length, ◌<◌}
+use Rattle.std.proofs.lemmas.Grind.{common_steps}
 
 pub bounds-self-inside-number : goal.bounds-self-inside-number
 bounds-self-inside-number g c = grind (arith, common_steps)

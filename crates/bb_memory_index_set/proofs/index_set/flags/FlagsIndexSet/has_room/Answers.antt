@@ -1,8 +1,8 @@
-use Rattle.std.proofs.Common.{◌-◌, arith, inl, inr, get_or}
-use Rattle.std.proofs.lemmas.Bool.{cases_lt, lt-ltb, ltb-true}
 use Rattle.bb_memory_index_set.proofs.NumberFlags.{all_held, lacked}
 use Rattle.bb_memory_index_set.proofs.NumberSets.{full_lacks_none}
 use Rattle.bb_memory_index_set.proofs.index_set.flags.FlagsIndexSet.has_room.Goals as goal
+use Rattle.std.proofs.Common.{arith, get_or, inl, inr, ◌-◌}
+use Rattle.std.proofs.lemmas.Bool.{cases_lt, lt-ltb, ltb-true}
 
 pub returns : goal.returns
 returns g c =

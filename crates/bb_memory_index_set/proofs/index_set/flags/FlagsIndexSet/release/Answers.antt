@@ -1,9 +1,9 @@
-use Rattle.std.proofs.lemmas.Grind.{common_steps}
-use Rattle.std.proofs.Common.{arith, false}
-use Rattle.std.proofs.Math.Seq.{take-set-lt}
 use Rattle.bb_memory_index_set.proofs.NumberFlags.{put_behind}
 use Rattle.bb_memory_index_set.proofs.Tallies.{left-released}
 use Rattle.bb_memory_index_set.proofs.index_set.flags.FlagsIndexSet.release.Goals as goal
+use Rattle.std.proofs.Common.{arith, false}
+use Rattle.std.proofs.Math.Seq.{take-set-lt}
+use Rattle.std.proofs.lemmas.Grind.{common_steps}
 
 pub overflow_cast-self : goal.overflow_cast-self
 overflow_cast-self g c =

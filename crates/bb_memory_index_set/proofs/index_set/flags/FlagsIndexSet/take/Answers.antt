@@ -1,8 +1,8 @@
-use Rattle.std.proofs.Common.{◌-◌, true, arith, get_or}
-use Rattle.std.proofs.Math.Seq.{take-set-lt}
 use Rattle.bb_memory_index_set.proofs.NumberFlags.{all_held, lacked, taken_off}
 use Rattle.bb_memory_index_set.proofs.Tallies.{left-taken, most-taken}
 use Rattle.bb_memory_index_set.proofs.index_set.flags.FlagsIndexSet.take.Goals as goal
+use Rattle.std.proofs.Common.{arith, get_or, true, ◌-◌}
+use Rattle.std.proofs.Math.Seq.{take-set-lt}
 
 pub returns-then-self-eq0-clause-full : goal.returns-then-self-eq0-clause-full
 returns-then-self-eq0-clause-full g c =

@@ -1,9 +1,9 @@
-use Rattle.std.proofs.lemmas.Grind.{common_steps, elements}
-use Rattle.std.proofs.Common.{◌≡◌, ◌/◌, ◌<◌, ◌∙◌, arith, sym, length, get_or, take, get_or-set_same}
-use Rattle.std.proofs.lemmas.List.{get_or_default, get_or-take, length-take-le}
-use Rattle.std.proofs.Math.Seq.{take-set-lt}
 use Rattle.bb_memory_index_set.proofs.NumberWords.{cleared, cleared_is_open}
 use Rattle.bb_memory_index_set.proofs.index_set.index_words.IndexWords.clear.Goals as goal
+use Rattle.std.proofs.Common.{arith, get_or, get_or-set_same, length, sym, take, ◌/◌, ◌<◌, ◌∙◌, ◌≡◌}
+use Rattle.std.proofs.Math.Seq.{take-set-lt}
+use Rattle.std.proofs.lemmas.Grind.{common_steps, elements}
+use Rattle.std.proofs.lemmas.List.{get_or-take, get_or_default, length-take-le}
 
 pub returns-clause-bit : goal.returns-clause-bit
 returns-clause-bit g c =

@@ -1,10 +1,10 @@
-use Rattle.std.proofs.Common.{◌≡◌, ◌+◌, ◌-◌, ◌*◌, ◌<◌, ◌^◌, ◌∙◌, ℕ, ap, arith, inl, inr, sym, length, get_or, take, w64, eq-eqb}
-use Rattle.std.proofs.lemmas.Bool.{cases_eq, false≢true}
-use Rattle.std.proofs.lemmas.List.{get_or_default, get_or-take, length-take-le}
-use Rattle.std.specs.Prelude.{not}
-use Rattle.std.specs.Int.{trailing_ones}
 use Rattle.bb_memory_index_set.proofs.LowestBits.{lowest_set}
 use Rattle.bb_memory_index_set.proofs.index_set.index_words.IndexWords.is_open.Goals as goal
+use Rattle.std.proofs.Common.{ap, arith, eq-eqb, get_or, inl, inr, length, sym, take, w64, ℕ, ◌*◌, ◌+◌, ◌-◌, ◌<◌, ◌^◌, ◌∙◌, ◌≡◌}
+use Rattle.std.proofs.lemmas.Bool.{cases_eq, false≢true}
+use Rattle.std.proofs.lemmas.List.{get_or-take, get_or_default, length-take-le}
+use Rattle.std.specs.Int.{trailing_ones}
+use Rattle.std.specs.Prelude.{not}
 
 pub returns-clause-clear : goal.returns-clause-clear
 returns-clause-clear g c told =

@@ -1,6 +1,6 @@
+use Rattle.bb_memory_index_set.proofs.index_set.index_words.IndexWords.list.Goals as goal
 use Rattle.std.proofs.Common.{arith}
 use Rattle.std.proofs.lemmas.Grind.{elements}
-use Rattle.bb_memory_index_set.proofs.index_set.index_words.IndexWords.list.Goals as goal
 
 pub overflow_add-self-inside : goal.overflow_add-self-inside
 overflow_add-self-inside g c = grind (arith, elements)

@@ -1,6 +1,6 @@
+use Rattle.bb_memory_index_set.proofs.index_set.index_words.IndexWords.new.Goals as goal
 use Rattle.std.proofs.Common.{arith}
 use Rattle.std.proofs.lemmas.Grind.{elements}
-use Rattle.bb_memory_index_set.proofs.index_set.index_words.IndexWords.new.Goals as goal
 
 pub returns-clause-zero : goal.returns-clause-zero
 returns-clause-zero g c = grind (arith, elements)

@@ -1,12 +1,12 @@
-use Rattle.std.proofs.lemmas.Grind.{common_steps, elements}
-use Rattle.std.proofs.Common.{◌≡◌, ◌∙◌, ℕ, List, ap, refl, arith, set, ◌-◌}
-use Rattle.bb_memory_index_set.specs.IndexSets.{index_words, Slots}
 use Rattle.bb_memory_index_set.proofs.LastFreed.{less_none}
-use Rattle.bb_memory_index_set.proofs.NumberWords.{fresh_whole, fresh_part, last_word, zeros}
+use Rattle.bb_memory_index_set.proofs.NumberWords.{fresh_part, fresh_whole, last_word, zeros}
 use Rattle.bb_memory_index_set.proofs.OpenWords.{fresh_set}
 use Rattle.bb_memory_index_set.proofs.Tallies.{tally-fresh}
-use Rattle.bb_memory_index_set.proofs.index_set.words.Words.new.Goals.{then-used-ne0, else-used-ne0}
+use Rattle.bb_memory_index_set.proofs.index_set.words.Words.new.Goals.{else-used-ne0, then-used-ne0}
 use Rattle.bb_memory_index_set.proofs.index_set.words.Words.new.Goals as goal
+use Rattle.bb_memory_index_set.specs.IndexSets.{Slots, index_words}
+use Rattle.std.proofs.Common.{List, ap, arith, refl, set, ℕ, ◌-◌, ◌∙◌, ◌≡◌}
+use Rattle.std.proofs.lemmas.Grind.{common_steps, elements}
 
 pub loop-k-preserved : goal.loop-k-preserved
 loop-k-preserved g c = grind (arith, common_steps)

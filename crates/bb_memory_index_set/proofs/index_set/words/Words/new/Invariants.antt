@@ -1,6 +1,6 @@
-use Rattle.std.proofs.Common.{◌≡◌, ◌+◌, ◌-◌, ◌<◌, ℕ, length, replicate}
-use Rattle.std.specs.Prelude.{slice_index}
 use Rattle.bb_memory_index_set.proofs.index_set.words.Words.new.Given as goal
+use Rattle.std.proofs.Common.{length, replicate, ℕ, ◌+◌, ◌-◌, ◌<◌, ◌≡◌}
+use Rattle.std.specs.Prelude.{slice_index}
 
 abbrev pub invariant-loop-k : goal.invariant-loop-k
 invariant-loop-k g l = record {

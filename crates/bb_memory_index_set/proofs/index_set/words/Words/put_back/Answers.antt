@@ -1,11 +1,11 @@
-use Rattle.std.proofs.Common.{◌-◌, ◌/◌, ℕ, List, ◌∙◌, ap, set, get_or, arith, length, length-set}
 use Rattle.bb_memory_index_set.proofs.LastFreed.{others_have, put_back}
-use Rattle.bb_memory_index_set.proofs.NumberWords.{has_word}
-use Rattle.bb_memory_index_set.proofs.OpenWords.{set_opened, set_still, named_current}
 use Rattle.bb_memory_index_set.proofs.Listings.{room_left}
+use Rattle.bb_memory_index_set.proofs.NumberWords.{has_word}
+use Rattle.bb_memory_index_set.proofs.OpenWords.{named_current, set_opened, set_still}
 use Rattle.bb_memory_index_set.proofs.Tallies.{tally-some}
-use Rattle.bb_memory_index_set.proofs.index_set.words.Words.put_back.Goals.{then-self-gt0, else-self-gt0}
+use Rattle.bb_memory_index_set.proofs.index_set.words.Words.put_back.Goals.{else-self-gt0, then-self-gt0}
 use Rattle.bb_memory_index_set.proofs.index_set.words.Words.put_back.Goals as goal
+use Rattle.std.proofs.Common.{List, ap, arith, get_or, length, length-set, set, ℕ, ◌-◌, ◌/◌, ◌∙◌}
 
 pub overflow_sub-self : goal.overflow_sub-self
 overflow_sub-self g c =

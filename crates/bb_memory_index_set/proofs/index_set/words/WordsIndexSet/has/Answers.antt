@@ -1,7 +1,7 @@
-use Rattle.std.proofs.Common.{arith}
 use Rattle.bb_memory_index_set.proofs.LastFreed.{apart_in, has_bound, others_have}
 use Rattle.bb_memory_index_set.proofs.NumberWords.{bit_tells}
 use Rattle.bb_memory_index_set.proofs.index_set.words.WordsIndexSet.has.Goals as goal
+use Rattle.std.proofs.Common.{arith}
 
 pub has-requires : goal.has-requires
 has-requires g c = grind (arith, has_bound)

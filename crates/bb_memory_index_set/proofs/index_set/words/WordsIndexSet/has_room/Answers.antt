@@ -1,11 +1,11 @@
-use Rattle.std.proofs.Common.{◌/◌, ◌<◌, ap, arith, inl, inr, length, sym, ◌∙◌}
-use Rattle.std.proofs.lemmas.Bool.{cases_Bool, lt-ltb, ltb-true}
-use Rattle.bb_memory_index_set.specs.IndexSets.{NumberSet, numbers_of}
 use Rattle.bb_memory_index_set.proofs.LastFreed.{last_freed_lacks, less_none}
 use Rattle.bb_memory_index_set.proofs.NumberSets.{full_lacks_none}
 use Rattle.bb_memory_index_set.proofs.NumberWords.{lacks}
 use Rattle.bb_memory_index_set.proofs.OpenWords.{current_open, none_open}
 use Rattle.bb_memory_index_set.proofs.index_set.words.WordsIndexSet.has_room.Goals as goal
+use Rattle.bb_memory_index_set.specs.IndexSets.{NumberSet, numbers_of}
+use Rattle.std.proofs.Common.{ap, arith, inl, inr, length, sym, ◌/◌, ◌<◌, ◌∙◌}
+use Rattle.std.proofs.lemmas.Bool.{cases_Bool, lt-ltb, ltb-true}
 
 pub returns-then-self : goal.returns-then-self
 returns-then-self g c =

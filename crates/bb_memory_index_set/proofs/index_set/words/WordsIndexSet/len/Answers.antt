@@ -1,7 +1,7 @@
-use Rattle.std.proofs.Common.{arith}
 use Rattle.bb_memory_index_set.proofs.LastFreed.{less_none}
 use Rattle.bb_memory_index_set.proofs.Tallies.{member_count-released, tally-some}
 use Rattle.bb_memory_index_set.proofs.index_set.words.WordsIndexSet.len.Goals as goal
+use Rattle.std.proofs.Common.{arith}
 
 pub overflow_sub-result : goal.overflow_sub-result
 overflow_sub-result g c =

@@ -1,6 +1,6 @@
+use Rattle.bb_memory_index_set.proofs.index_set.words.WordsIndexSet.release.Goals as goal
 use Rattle.std.proofs.Common.{arith}
 use Rattle.std.proofs.lemmas.Grind.{elements}
-use Rattle.bb_memory_index_set.proofs.index_set.words.WordsIndexSet.release.Goals as goal
 
 pub invariant_of-self : goal.invariant_of-self
 invariant_of-self g c = grind (arith, elements)

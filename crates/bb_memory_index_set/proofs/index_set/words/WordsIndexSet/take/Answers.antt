@@ -1,13 +1,12 @@
-use Rattle.std.proofs.lemmas.Grind.{elements}
-use Rattle.std.proofs.Common.{◌<◌, ◌∙◌, ap, sym, arith, max}
-use Rattle.bb_memory_index_set.specs.IndexSets.{NumberSet, member_count, numbers_of}
 use Rattle.bb_memory_index_set.proofs.LastFreed.{given, less_none}
 use Rattle.bb_memory_index_set.proofs.NumberWords.{length-numbers_of}
-use Rattle.bb_memory_index_set.proofs.OpenWords.{current_open, current_taken, none_open, set_left, set_filled, of_a_taking}
+use Rattle.bb_memory_index_set.proofs.OpenWords.{current_open, current_taken, none_open, of_a_taking, set_filled, set_left}
 use Rattle.bb_memory_index_set.proofs.Tallies.{tally-room, tally-taken}
-use Rattle.bb_memory_index_set.proofs.index_set.words.WordsIndexSet.take.Goals.{then-left+then-self-gt0-2}
-use Rattle.bb_memory_index_set.proofs.index_set.words.WordsIndexSet.take.Goals.{then-left+else-self-gt0-2, else-left}
+use Rattle.bb_memory_index_set.proofs.index_set.words.WordsIndexSet.take.Goals.{else-left, then-left+else-self-gt0-2, then-left+then-self-gt0-2}
 use Rattle.bb_memory_index_set.proofs.index_set.words.WordsIndexSet.take.Goals as goal
+use Rattle.bb_memory_index_set.specs.IndexSets.{NumberSet, member_count, numbers_of}
+use Rattle.std.proofs.Common.{ap, arith, max, sym, ◌<◌, ◌∙◌}
+use Rattle.std.proofs.lemmas.Grind.{elements}
 
 pub returns-then-number-clause-taken : goal.returns-then-number-clause-taken
 returns-then-number-clause-taken g c =

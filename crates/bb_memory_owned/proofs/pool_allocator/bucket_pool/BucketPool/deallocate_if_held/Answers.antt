@@ -1,10 +1,10 @@
-use Rattle.std.proofs.Common.{arith, false, refl, subst}
-use Rattle.std.proofs.lemmas.Bool.{false≢true}
-use Rattle.bb_memory_owned.specs.Pool.{HoldsPlace, held_place}
+use Rattle.bb_memory_index_set.proofs.Tallies.{member_count-released}
 use Rattle.bb_memory_owned.proofs.PoolCalls.{FreesBucket-is, released-stands}
 use Rattle.bb_memory_owned.proofs.Pools.{IsPool-with_flag}
-use Rattle.bb_memory_index_set.proofs.Tallies.{member_count-released}
 use Rattle.bb_memory_owned.proofs.pool_allocator.bucket_pool.BucketPool.deallocate_if_held.Goals as goal
+use Rattle.bb_memory_owned.specs.Pool.{HoldsPlace, held_place}
+use Rattle.std.proofs.Common.{arith, false, refl, subst}
+use Rattle.std.proofs.lemmas.Bool.{false≢true}
 
 pub returns-in_default-clause-released : goal.returns-in_default-clause-released
 returns-in_default-clause-released g c = λ live position chunk stands at there.

@@ -1,9 +1,9 @@
-use Rattle.std.proofs.Common.{◌∙◌, rules, refl, subst, sym}
-use Rattle.std.proofs.lemmas.Bool.{false≢true}
 use Rattle.bb_memory_index_set.specs.IndexSets.{Has}
-use Rattle.bb_memory_owned.specs.Pool.{bucket_held_at, held_at_bucket}
 use Rattle.bb_memory_owned.proofs.Pools.{held_bucket_below}
 use Rattle.bb_memory_owned.proofs.pool_allocator.bucket_pool.BucketPool.held_number.Goals as goal
+use Rattle.bb_memory_owned.specs.Pool.{bucket_held_at, held_at_bucket}
+use Rattle.std.proofs.Common.{refl, rules, subst, sym, ◌∙◌}
+use Rattle.std.proofs.lemmas.Bool.{false≢true}
 
 pub returns-in_err-number-clause-held : goal.returns-in_err-number-clause-held
 returns-in_err-number-clause-held g c = rw c.from_residual.ensures (

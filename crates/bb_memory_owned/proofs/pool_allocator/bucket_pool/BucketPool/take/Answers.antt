@@ -1,7 +1,7 @@
-use Rattle.std.proofs.Common.{rules, subst}
-use Rattle.bb_memory_traits.specs.declared.layout.Layout.{Layout}
-use Rattle.bb_memory_owned.specs.Pool.{Allocates}
 use Rattle.bb_memory_owned.proofs.pool_allocator.bucket_pool.BucketPool.take.Goals as goal
+use Rattle.bb_memory_owned.specs.Pool.{Allocates}
+use Rattle.bb_memory_traits.specs.declared.layout.Layout.{Layout}
+use Rattle.std.proofs.Common.{rules, subst}
 
 pub returns-clause-answer : goal.returns-clause-answer
 returns-clause-answer g c =

@@ -1,5 +1,5 @@
-use Rattle.bb_memory_owned.proofs.Pools.{held_bucket_below}
 use Rattle.bb_memory_owned.proofs.PoolCalls.{MayShrink-fits, resized-stands}
+use Rattle.bb_memory_owned.proofs.Pools.{held_bucket_below}
 use Rattle.bb_memory_owned.proofs.pool_allocator.bucket_pool.BucketPoolAllocator.shrink.Goals as goal
 
 pub returns-clause-value : goal.returns-clause-value

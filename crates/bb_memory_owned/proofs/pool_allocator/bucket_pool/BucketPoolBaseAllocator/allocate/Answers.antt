@@ -1,5 +1,4 @@
-use Rattle.bb_memory_owned.proofs.PoolCalls.{Takes-answer, Takes-appended, Takes-inside, Takes-aligned, Takes-given}
-use Rattle.bb_memory_owned.proofs.PoolCalls.{TakesBucket-is}
+use Rattle.bb_memory_owned.proofs.PoolCalls.{Takes-aligned, Takes-answer, Takes-appended, Takes-given, Takes-inside, TakesBucket-is}
 use Rattle.bb_memory_owned.proofs.pool_allocator.bucket_pool.BucketPoolBaseAllocator.allocate.Goals as goal
 
 pub returns-clause-answer : goal.returns-clause-answer

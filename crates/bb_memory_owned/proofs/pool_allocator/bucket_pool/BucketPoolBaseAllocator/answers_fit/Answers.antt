@@ -1,6 +1,6 @@
-use Rattle.bb_memory_owned.specs.Pool.{IsPool}
 use Rattle.bb_memory_owned.proofs.PoolAnswers.{answer-aligned, answer-inside}
 use Rattle.bb_memory_owned.proofs.pool_allocator.bucket_pool.BucketPoolBaseAllocator.answers_fit.Goals as goal
+use Rattle.bb_memory_owned.specs.Pool.{IsPool}
 
 pub returns-clause-inside : goal.returns-clause-inside
 returns-clause-inside g c = λ live layout chunk stands may.

@@ -1,9 +1,9 @@
-use Rattle.std.proofs.Common.{arith, false}
-use Rattle.bb_memory_owned.specs.Pool.{bucket_held_at}
+use Rattle.bb_memory_index_set.proofs.Tallies.{member_count-released}
 use Rattle.bb_memory_owned.proofs.PoolCalls.{FreesBucket-is, number-held, released-stands}
 use Rattle.bb_memory_owned.proofs.Pools.{IsPool-with_flag}
-use Rattle.bb_memory_index_set.proofs.Tallies.{member_count-released}
 use Rattle.bb_memory_owned.proofs.pool_allocator.bucket_pool.BucketPoolBaseAllocator.deallocate.Goals as goal
+use Rattle.bb_memory_owned.specs.Pool.{bucket_held_at}
+use Rattle.std.proofs.Common.{arith, false}
 
 pub overflow_sub-place : goal.overflow_sub-place
 overflow_sub-place g c =

@@ -1,10 +1,10 @@
-use Rattle.std.proofs.Common.{[], sym, ap, subst, ◌∙◌, arith}
-use Rattle.bb_memory_traits.specs.PoolObject.{PoolGeometry, at_most}
 use Rattle.bb_memory_index_set.specs.IndexSets.{NumberSet}
-use Rattle.bb_memory_owned.specs.Pool.{CountedPool, Pool, StandsFor, counted, fresh_pool}
 use Rattle.bb_memory_owned.proofs.FreshPools.{fresh-at_least, fresh-counted, fresh-is_pool}
 use Rattle.bb_memory_owned.proofs.Pools.{fresh-stands}
 use Rattle.bb_memory_owned.proofs.pool_allocator.fixed_size.FixedSizePoolAllocator+MAX_NUMBER_OF_BUCKETS.new.Goals as goal
+use Rattle.bb_memory_owned.specs.Pool.{CountedPool, Pool, StandsFor, counted, fresh_pool}
+use Rattle.bb_memory_traits.specs.PoolObject.{PoolGeometry, at_most}
+use Rattle.std.proofs.Common.{[], ap, arith, subst, sym, ◌∙◌}
 
 pub invariant_of-result : goal.invariant_of-result
 invariant_of-result g c =

@@ -1,7 +1,7 @@
-use Rattle.std.proofs.Common.{◌≡◌, ◌≤◌, ◌++◌, length, drop, vec_len, vec_capacity}
+use Rattle.bb_memory_pool_machine.proofs.steps.pool_world.PoolWorld.replay.Given as goal
 use Rattle.bb_memory_pool_machine.specs.PoolMachine.{pool_after}
 use Rattle.bb_memory_pool_machine.specs.PoolWorld.{outcomes_of}
-use Rattle.bb_memory_pool_machine.proofs.steps.pool_world.PoolWorld.replay.Given as goal
+use Rattle.std.proofs.Common.{drop, length, vec_capacity, vec_len, ◌++◌, ◌≡◌, ◌≤◌}
 
 -- the answers so far and those to what is left are those to all
 abbrev pub invariant-loop-step : goal.invariant-loop-step

@@ -1,6 +1,6 @@
+use Rattle.bb_memory_shared_pools.proofs.shared_pool.buckets.SharedBucketPool.deallocate_bucket.Goals as goal
 use Rattle.std.proofs.Common.{arith}
 use Rattle.std.proofs.lemmas.Grind.{common_steps}
-use Rattle.bb_memory_shared_pools.proofs.shared_pool.buckets.SharedBucketPool.deallocate_bucket.Goals as goal
 
 pub invariant_of-party : goal.invariant_of-party
 invariant_of-party g c = grind (arith, common_steps)

@@ -1,11 +1,11 @@
-use Rattle.std.proofs.Common.{◌≡◌, ℕ, ◌∙◌, arith, ap, subst}
-use Rattle.bb_memory_pool_machine.specs.PoolMachine.{PoolScene}
-use Rattle.bb_memory_shared_pools.specs.SharedPoolNextFit.{probed}
 use Rattle.atomic_table.specs.Table.{Me}
+use Rattle.bb_memory_pool_machine.specs.PoolMachine.{PoolScene}
 use Rattle.bb_memory_seats.specs.Seats.{number_of}
-use Rattle.bb_memory_shared_pools.specs.SharedPoolRule.{IsInSearch, SeatView}
 use Rattle.bb_memory_shared_pools.proofs.SharedPoolNextFit.{idle_where, search_goes_on, search_refuses, search_takes}
 use Rattle.bb_memory_shared_pools.proofs.shared_pool.buckets.SharedBucketPool.later_probes.Goals as goal
+use Rattle.bb_memory_shared_pools.specs.SharedPoolNextFit.{probed}
+use Rattle.bb_memory_shared_pools.specs.SharedPoolRule.{IsInSearch, SeatView}
+use Rattle.std.proofs.Common.{ap, arith, subst, ℕ, ◌∙◌, ◌≡◌}
 
 pub returns-then-probe-clause-step : goal.returns-then-probe-clause-step
 returns-then-probe-clause-step g c =

@@ -1,9 +1,8 @@
-use Rattle.std.proofs.Common.{arith}
-use Rattle.std.proofs.lemmas.Grind.{elements}
-use Rattle.std.proofs.Common.{rules}
 use Rattle.bb_memory_shared_pools.proofs.SharedPoolMerges.{agrees, all_merged, none_met}
 use Rattle.bb_memory_shared_pools.proofs.SharedPoolWholes.{met_apart, one_served}
 use Rattle.bb_memory_shared_pools.proofs.shared_pool.buckets.SharedBucketPool.meet_all.Goals as goal
+use Rattle.std.proofs.Common.{arith, rules}
+use Rattle.std.proofs.lemmas.Grind.{elements}
 
 pub returns-in-Some-clause-met : goal.returns-in-Some-clause-met
 returns-in-Some-clause-met g c =

@@ -1,9 +1,9 @@
-use Rattle.std.proofs.Common.{ℕ, ◌∙◌, ap}
 use Rattle.bb_memory_pool_machine.specs.PoolMachine.{PoolScene}
 use Rattle.bb_memory_seats.specs.Seats.{number_of, view_log}
-use Rattle.bb_memory_shared_pools.specs.SharedPoolNextFit.{probed}
 use Rattle.bb_memory_shared_pools.proofs.SharedPoolNextFit.{search_begins, search_goes_on}
 use Rattle.bb_memory_shared_pools.proofs.shared_pool.buckets.SharedBucketPool.next_fit.Goals as goal
+use Rattle.bb_memory_shared_pools.specs.SharedPoolNextFit.{probed}
+use Rattle.std.proofs.Common.{ap, ℕ, ◌∙◌}
 
 pub returns-clause-step : goal.returns-clause-step
 returns-clause-step g c =

@@ -1,8 +1,8 @@
-use Rattle.std.proofs.lemmas.Grind.{common_steps}
-use Rattle.std.proofs.Common.{◌≡◌, ℕ, ◌∙◌, arith, subst}
 use Rattle.bb_memory_seats.specs.Seats.{number_of, view_log}
 use Rattle.bb_memory_shared_pools.proofs.SharedPoolPasses.{IsPassing, goes_on, refuses, takes}
 use Rattle.bb_memory_shared_pools.proofs.shared_pool.buckets.SharedBucketPool.pass.Goals as goal
+use Rattle.std.proofs.Common.{arith, subst, ℕ, ◌∙◌, ◌≡◌}
+use Rattle.std.proofs.lemmas.Grind.{common_steps}
 
 pub returns-then-try_flag-clause-step : goal.returns-then-try_flag-clause-step
 returns-then-try_flag-clause-step g c =

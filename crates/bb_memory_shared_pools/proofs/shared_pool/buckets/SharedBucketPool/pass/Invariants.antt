@@ -1,7 +1,7 @@
-use Rattle.std.proofs.Common.{◌≡◌}
 use Rattle.bb_memory_seats.specs.Seats.{number_of, view_log}
 use Rattle.bb_memory_shared_pools.proofs.SharedPoolPasses.{IsPassing}
 use Rattle.bb_memory_shared_pools.proofs.shared_pool.buckets.SharedBucketPool.pass.Given as goal
+use Rattle.std.proofs.Common.{◌≡◌}
 
 abbrev pub invariant-loop-bucket : goal.invariant-loop-bucket
 invariant-loop-bucket g l = record {

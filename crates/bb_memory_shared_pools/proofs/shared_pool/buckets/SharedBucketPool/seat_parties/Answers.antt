@@ -1,12 +1,12 @@
-use Rattle.std.proofs.Common.{rules, ◌≡◌, false, [], arith, sym, ap, ◌∙◌, subst}
-use Rattle.std.proofs.lemmas.Grind.{common_steps}
 use Rattle.bb_memory_pool_machine.specs.PoolLogs.{PoolEntry}
-use Rattle.bb_memory_shared_pools.specs.SharedPool.{IsSharedScene, PoolParty, SharedPool, fresh_party}
-use Rattle.bb_memory_seats.specs.Seats.{alone}
-use Rattle.bb_memory_shared_pools.specs.SharedPoolRule.{party_in}
 use Rattle.bb_memory_seats.proofs.Seatings.{fresh_more, given_more}
+use Rattle.bb_memory_seats.specs.Seats.{alone}
 use Rattle.bb_memory_shared_pools.proofs.SharedPoolParties.{no_step, party_seat}
 use Rattle.bb_memory_shared_pools.proofs.shared_pool.buckets.SharedBucketPool.seat_parties.Goals as goal
+use Rattle.bb_memory_shared_pools.specs.SharedPool.{IsSharedScene, PoolParty, SharedPool, fresh_party}
+use Rattle.bb_memory_shared_pools.specs.SharedPoolRule.{party_in}
+use Rattle.std.proofs.Common.{[], ap, arith, rules, subst, sym, ◌∙◌, ◌≡◌}
+use Rattle.std.proofs.lemmas.Grind.{common_steps}
 
 pub invariant_of-push_reserved : goal.invariant_of-push_reserved
 invariant_of-push_reserved g c =
@@ -14,11 +14,11 @@ invariant_of-push_reserved g c =
     let number = c.loop-number.number in
     let more = fresh_more {E = PoolEntry} number c.args.parties (omega arith) in
     let seated : c.split_first-seat.result.me ≡ (alone scene number [], []) = search rules in
-    party_seat scene number (record { bucket = c.part_of-bucket.result; came_back = false }) []
+    party_seat scene number (record { bucket = c.part_of-bucket.result; rover = c.part_of-bucket.result }) []
     c.split_first-seat.result.me (no_step scene number c.split_first-seat.result.me seated)
     (let made = c.requires.parties in omega arith)
     (subst (λ (p : SharedPool). IsSharedScene p.scene) c.self.view_is c.self.invariant.shared)
-    (λ i. record { bucket = c.part_of-bucket.ensures i; came_back = false })
+    (λ i. record { bucket = c.part_of-bucket.ensures i; rover = c.part_of-bucket.ensures i })
 
 pub loop-number-preserved : goal.loop-number-preserved
 loop-number-preserved g c =

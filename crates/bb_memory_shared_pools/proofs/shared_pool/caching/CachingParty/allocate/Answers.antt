@@ -1,16 +1,15 @@
-use Rattle.std.proofs.Common.{rules, ◌≡◌, [], length, append-nil, arith, refl, sym, ap, ◌∙◌, subst}
+use Rattle.bb_memory_shared_pools.proofs.SharedPoolCaching.{cached_less, found_alone, found_fresh, found_kept, found_others, found_out, last_fresh, last_held, last_not_all, last_out, out_less, out_more, searches, served_last, takes_last, unasked_answer}
+use Rattle.bb_memory_shared_pools.proofs.SharedPoolRequests.{not_within, unasked}
+use Rattle.bb_memory_shared_pools.proofs.shared_pool.caching.CachingParty.allocate.Goals as goal
+use Rattle.bb_memory_shared_pools.specs.SharedPool.{IsParty, PoolParty, ServesAlone, SharedPool, TakenBucket}
+use Rattle.bb_memory_shared_pools.specs.SharedPoolCaching.{AreCached, CachingParty}
+use Rattle.bb_memory_shared_pools.specs.SharedPoolNextFit.{MayTakeFrom, hint_of}
+use Rattle.bb_memory_traits.specs.Geometry.{Admits}
+use Rattle.bb_memory_traits.specs.PoolObject.{IsWithin, PoolGeometry}
+use Rattle.std.proofs.Common.{[], ap, append-nil, arith, length, refl, rules, subst, sym, ◌∙◌, ◌≡◌}
+use Rattle.std.proofs.lemmas.Bool.{false≢true}
 use Rattle.std.proofs.lemmas.List.{length_push}
 use Rattle.std.specs.Prelude.{Err}
-use Rattle.bb_memory_traits.specs.PoolObject.{IsWithin, PoolGeometry}
-use Rattle.bb_memory_traits.specs.Geometry.{Admits}
-use Rattle.bb_memory_shared_pools.specs.SharedPool.{IsParty, PoolParty, ServesAlone, SharedPool, TakenBucket}
-use Rattle.bb_memory_shared_pools.specs.SharedPoolNextFit.{MayTakeFrom, hint_of}
-use Rattle.bb_memory_shared_pools.specs.SharedPoolCaching.{AreCached, CachingParty}
-use Rattle.bb_memory_shared_pools.proofs.SharedPoolCaching.{cached_less, found_fresh, found_kept, found_others, found_out}
-use Rattle.bb_memory_shared_pools.proofs.SharedPoolCaching.{last_fresh, last_held, last_out, out_less, out_more, searches}
-use Rattle.bb_memory_shared_pools.proofs.SharedPoolCaching.{served_last, takes_last, unasked_answer}
-use Rattle.bb_memory_shared_pools.proofs.SharedPoolRequests.{unasked}
-use Rattle.bb_memory_shared_pools.proofs.shared_pool.caching.CachingParty.allocate.Goals as goal
 
 -- refused without a step
 pub returns-in_err-admit : goal.returns-in_err-admit
@@ -29,6 +28,7 @@ returns-in_err-admit g c =
       fresh = tt;
       others_kept = λ other out. out;
       others = λ other apart out. out;
+      alone = λ one within. absurd (not_within old.party.allocator.scene.geometry.bucket c.args.layout error refused within);
       party = refl;
       most = refl;
     }
@@ -87,6 +87,12 @@ returns-in-Some g c =
       others_kept = λ other. out_less old _ number other party (sym cached ∙ items);
       others = λ other apart out. out_more _ old number other (sym party) (sym cached ∙ items)
           (λ same. apart (same ∙ sym (ap (λ (b : TakenBucket). b.number) its))) out;
+      alone = λ one wanted. (
+        λ refused. absurd (false≢true refused),
+        λ all. absurd (last_not_all old before.cached.items rest number
+            (subst (λ (p : CachingParty). IsParty p.party) c.self.view_is c.number.ensures.party)
+            (subst (λ (p : CachingParty). AreCached p.party p.cached) c.self.view_is c.self.invariant.0) cached items all),
+      );
       party = ap (λ (p : PoolParty). p.allocator) party;
       most = most;
     }
@@ -128,6 +134,8 @@ returns-in-None g c =
       fresh = found_fresh old new layout result answer;
       others_kept = found_kept old _ layout none now result serves;
       others = found_others old _ layout none now result serves;
+      alone = found_alone old (record { party = new; cached = c.pop.new.self.items; most = old.most }) layout none now result
+          serves;
       party = asked.party ∙ sym c.requires.party;
       most = ap (λ (p : CachingParty). p.most) c.self.view_is;
     }

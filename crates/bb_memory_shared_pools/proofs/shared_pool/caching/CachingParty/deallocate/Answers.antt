@@ -1,14 +1,14 @@
-use Rattle.std.proofs.Common.{◌≡◌, ℕ, List, ◌∷◌, ◌++◌, [], length, arith, sym, ap, ◌∙◌, subst}
-use Rattle.std.proofs.lemmas.Grind.{common_steps}
-use Rattle.bb_memory_shared_pools.specs.SharedPool.{PoolParty, return_entry, with_entries}
-use Rattle.bb_memory_shared_pools.specs.SharedPoolCaching.{CachingParty, IsOut}
 use Rattle.bb_memory_shared_pools.proofs.SharedPoolCaching.{has_last, out_cached, out_less, out_more, out_returned}
 use Rattle.bb_memory_shared_pools.proofs.shared_pool.caching.CachingParty.deallocate.Goals as goal
+use Rattle.bb_memory_shared_pools.specs.SharedPool.{PoolParty, return_entry, with_entries}
+use Rattle.bb_memory_shared_pools.specs.SharedPoolCaching.{CachingParty, IsOut}
+use Rattle.std.proofs.Common.{List, [], ap, arith, length, subst, sym, ℕ, ◌++◌, ◌∙◌, ◌∷◌, ◌≡◌}
+use Rattle.std.proofs.lemmas.Grind.{common_steps}
 
 pub invariant_of-self : goal.invariant_of-self
 invariant_of-self g c = let before = c.self.inside in (
   out_cached c.args.self.now before.party before.cached.items c.push_reserved.new.self.items before.most c.args.bucket.number
-      c.number.result c.self.view_is c.number.ensures.value c.self.invariant.0 c.requires.out c.push_reserved.ensures.items,
+      c.number-then-len-self.result c.self.view_is c.number-then-len-self.ensures.value c.self.invariant.0 c.requires.out c.push_reserved.ensures.items,
   grind (arith, common_steps),
   grind (arith, common_steps),
   c.self.invariant.3,
@@ -30,8 +30,8 @@ returns-then-len-self g c =
     let before = c.self.inside in
     let now : List ℕ = c.push_reserved.new.self.items in
     let new : CachingParty = record { party = before.party; cached = now; most = before.most } in
-    let number = c.number.result in
-    let its = c.number.ensures.value in
+    let number = c.number-then-len-self.result in
+    let its = c.number-then-len-self.ensures.value in
     let party = ap (λ (p : CachingParty). p.party) c.self.view_is in
     let most = ap (λ (p : CachingParty). p.most) c.self.view_is in
     let long = ap (λ (p : CachingParty). length p.cached) c.self.view_is in
@@ -50,6 +50,7 @@ returns-then-len-self g c =
       others_kept = λ other apart. out_more old new number other party items (λ same. apart (same ∙ its));
       others = λ other. out_less new old number other (sym party) items;
       party = ap (λ (p : PoolParty). p.allocator) party;
+      is_party = record { number = ap (λ (p : PoolParty). p.number) party; is_party = c.number.ensures.party };
       most = most;
     }
 
@@ -76,5 +77,9 @@ returns-else-len-self g c =
           (party.others_kept other apart its.0, its.1);
       others = λ other out. subst (λ (p : CachingParty). IsOut p other) c.self.view_is (party.others other out.0, out.1);
       party = party.party ∙ sym c.requires.party;
+      is_party = record {
+        number = party.is_party.number ∙ ap (λ (p : CachingParty). p.party.number) c.self.view_is;
+        is_party = party.is_party.is_party;
+      };
       most = most;
     }

@@ -1,6 +1,6 @@
-use Rattle.std.proofs.Common.{subst, sym}
-use Rattle.bb_memory_shared_pools.specs.SharedPoolCaching.{CachingParty, IsOut}
 use Rattle.bb_memory_shared_pools.proofs.shared_pool.caching.CachingParty.return_detached.Goals as goal
+use Rattle.bb_memory_shared_pools.specs.SharedPoolCaching.{CachingParty, IsOut}
+use Rattle.std.proofs.Common.{subst, sym}
 
 pub returns-clause-others_kept : goal.returns-clause-others_kept
 unfolding IsOut

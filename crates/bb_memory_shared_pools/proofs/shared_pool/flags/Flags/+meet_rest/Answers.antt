@@ -1,13 +1,13 @@
-use Rattle.std.proofs.Common.{◌≡◌, ◌++◌, ℕ, List, Some, [], ◌∷◌, map, append_assoc, sym, ap, ◌∙◌, subst, arith}
+use Rattle.atomic_table.specs.Table.{Me}
+use Rattle.bb_memory_seats.specs.Seats.{first_of, others_of}
+use Rattle.bb_memory_shared_pools.proofs.SharedPoolMerges.{comes, met_party, same_seat}
+use Rattle.bb_memory_shared_pools.proofs.shared_pool.flags.Flags.+meet_rest.Goals as goal
+use Rattle.bb_memory_shared_pools.specs.SharedPool.{PoolParty}
+use Rattle.bb_memory_shared_pools.specs.SharedPoolRule.{AfterMeetingLoad, IsPartySeat, NumberedLog, SeatView, numbered_of}
+use Rattle.std.proofs.Common.{List, Some, [], ap, append_assoc, arith, map, subst, sym, ℕ, ◌++◌, ◌∙◌, ◌∷◌, ◌≡◌}
 use Rattle.std.proofs.lemmas.Grind.{common_steps}
 use Rattle.std.proofs.lemmas.List.{map-append}
 use Rattle.std.proofs.lemmas.List.Elements.{All-pop}
-use Rattle.atomic_table.specs.Table.{Me}
-use Rattle.bb_memory_seats.specs.Seats.{first_of, others_of}
-use Rattle.bb_memory_shared_pools.specs.SharedPool.{PoolParty}
-use Rattle.bb_memory_shared_pools.specs.SharedPoolRule.{IsPartySeat, NumberedLog, SeatView, numbered_of, AfterMeetingLoad}
-use Rattle.bb_memory_shared_pools.proofs.SharedPoolMerges.{comes, met_party, same_seat}
-use Rattle.bb_memory_shared_pools.proofs.shared_pool.flags.Flags.+meet_rest.Goals as goal
 
 -- the guest has come to the seat, and goes back to its own
 pub invariant_of-push_reserved : goal.invariant_of-push_reserved

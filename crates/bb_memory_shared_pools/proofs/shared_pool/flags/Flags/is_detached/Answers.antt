@@ -1,9 +1,9 @@
-use Rattle.std.proofs.Common.{[], sym, ap, ◌∙◌, arith}
 use Rattle.bb_memory_pool_machine.specs.PoolMachine.{PoolScene}
 use Rattle.bb_memory_seats.specs.Seats.{carrying}
-use Rattle.bb_memory_shared_pools.specs.SharedPool.{SharedPool}
 use Rattle.bb_memory_shared_pools.proofs.SharedPoolDetaching.{sees_detached_as}
 use Rattle.bb_memory_shared_pools.proofs.shared_pool.flags.Flags.is_detached.Goals as goal
+use Rattle.bb_memory_shared_pools.specs.SharedPool.{SharedPool}
+use Rattle.std.proofs.Common.{[], ap, arith, sym, ◌∙◌}
 
 pub load-found-requires : goal.load-found-requires
 load-found-requires c =

@@ -1,9 +1,9 @@
-use Rattle.std.proofs.Common.{◌<◌, [], sym, ap, ◌∙◌, arith, subst}
 use Rattle.bb_memory_pool_machine.specs.PoolMachine.{PoolScene}
 use Rattle.bb_memory_seats.specs.Seats.{alone, number_of, view_log}
-use Rattle.bb_memory_shared_pools.specs.SharedPool.{SharedPool}
 use Rattle.bb_memory_shared_pools.proofs.SharedPoolKeeps.{recognizes_as}
 use Rattle.bb_memory_shared_pools.proofs.shared_pool.flags.Flags.is_held.Goals as goal
+use Rattle.bb_memory_shared_pools.specs.SharedPool.{SharedPool}
+use Rattle.std.proofs.Common.{[], ap, arith, subst, sym, ◌<◌, ◌∙◌}
 
 pub load-found-requires : goal.load-found-requires
 load-found-requires c =

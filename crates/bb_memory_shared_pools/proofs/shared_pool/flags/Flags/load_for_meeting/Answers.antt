@@ -1,9 +1,9 @@
-use Rattle.std.proofs.Common.{[], sym, ap, ◌∙◌, arith}
 use Rattle.bb_memory_pool_machine.specs.PoolMachine.{PoolScene}
 use Rattle.bb_memory_seats.specs.Seats.{standing_for}
-use Rattle.bb_memory_shared_pools.specs.SharedPool.{SharedPool}
 use Rattle.bb_memory_shared_pools.proofs.SharedPoolMeetings.{meets_as}
 use Rattle.bb_memory_shared_pools.proofs.shared_pool.flags.Flags.load_for_meeting.Goals as goal
+use Rattle.bb_memory_shared_pools.specs.SharedPool.{SharedPool}
+use Rattle.std.proofs.Common.{[], ap, arith, sym, ◌∙◌}
 
 pub load-requires : goal.load-requires
 load-requires c =

@@ -1,9 +1,9 @@
-use Rattle.std.proofs.Common.{List, ℕ, ◌++◌, ap, ◌∙◌, subst}
 use Rattle.atomic_table.specs.Table.{Me}
 use Rattle.bb_memory_seats.specs.Seats.{head_of, number_of, view_log}
-use Rattle.bb_memory_shared_pools.specs.SharedPoolRule.{NumberedLog, SeatView, AfterMeetingLoad}
 use Rattle.bb_memory_shared_pools.proofs.SharedPoolMeetings.{two_met}
 use Rattle.bb_memory_shared_pools.proofs.shared_pool.flags.Flags.meet.Goals as goal
+use Rattle.bb_memory_shared_pools.specs.SharedPoolRule.{AfterMeetingLoad, NumberedLog, SeatView}
+use Rattle.std.proofs.Common.{List, ap, subst, ℕ, ◌++◌, ◌∙◌}
 
 pub returns-clause-met : goal.returns-clause-met
 returns-clause-met c =

@@ -1,7 +1,7 @@
-use Rattle.std.proofs.Common.{sym, ap, ◌∙◌, arith}
-use Rattle.bb_memory_shared_pools.specs.SharedPool.{SharedPool}
 use Rattle.bb_memory_shared_pools.proofs.SharedPoolSeats.{merges}
 use Rattle.bb_memory_shared_pools.proofs.shared_pool.flags.Flags.merge.Goals as goal
+use Rattle.bb_memory_shared_pools.specs.SharedPool.{SharedPool}
+use Rattle.std.proofs.Common.{ap, arith, sym, ◌∙◌}
 
 pub join_seat-requires : goal.join_seat-requires
 join_seat-requires c =

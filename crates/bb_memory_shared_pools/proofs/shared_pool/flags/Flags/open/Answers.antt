@@ -1,8 +1,8 @@
-use Rattle.std.proofs.Common.{ℕ, replicate, ap, ◌∙◌}
 use Rattle.bb_memory_pool_machine.specs.PoolMachine.{PoolScene}
-use Rattle.bb_memory_shared_pools.specs.SharedPoolRule.{words_for}
 use Rattle.bb_memory_shared_pools.proofs.SharedPoolSeats.{opens}
 use Rattle.bb_memory_shared_pools.proofs.shared_pool.flags.Flags.open.Goals as goal
+use Rattle.bb_memory_shared_pools.specs.FlagWords.{words_for}
+use Rattle.std.proofs.Common.{ap, replicate, ℕ, ◌∙◌}
 
 pub of_words-requires : goal.of_words-requires
 of_words-requires c = opens c.args.scene c.as_slice.result.now

@@ -1,6 +1,6 @@
-use Rattle.std.proofs.Common.{sym, ap, ◌∙◌, arith}
 use Rattle.bb_memory_shared_pools.proofs.SharedPoolSeats.{gives_first}
 use Rattle.bb_memory_shared_pools.proofs.shared_pool.flags.Flags.split_first.Goals as goal
+use Rattle.std.proofs.Common.{ap, arith, sym, ◌∙◌}
 
 pub split_seat-requires : goal.split_seat-requires
 split_seat-requires c = (

@@ -1,11 +1,11 @@
-use Rattle.std.proofs.Common.{◌≡◌, ℕ, ◌<◌, [], sym, ap, ◌∙◌, arith, subst}
 use Rattle.bb_memory_pool_machine.specs.PoolMachine.{PoolScene}
 use Rattle.bb_memory_pool_machine.specs.declared.steps.pool.Flag.TheVariants.{HeldBy}
 use Rattle.bb_memory_seats.specs.Seats.{alone, number_of, view_log}
-use Rattle.bb_memory_shared_pools.specs.SharedPool.{SharedPool}
-use Rattle.bb_memory_shared_pools.specs.SharedPoolRule.{as_word}
 use Rattle.bb_memory_shared_pools.proofs.SharedPoolKeeps.{tries_at_as}
 use Rattle.bb_memory_shared_pools.proofs.shared_pool.flags.Flags.try_at.Goals as goal
+use Rattle.bb_memory_shared_pools.specs.FlagWords.{as_word}
+use Rattle.bb_memory_shared_pools.specs.SharedPool.{SharedPool}
+use Rattle.std.proofs.Common.{[], ap, arith, subst, sym, ℕ, ◌<◌, ◌∙◌, ◌≡◌}
 
 pub compare_exchange-flag-requires : goal.compare_exchange-flag-requires
 compare_exchange-flag-requires c =

@@ -1,9 +1,9 @@
-use Rattle.std.proofs.Common.{◌≡◌, ℕ, ◌+◌, ◌-◌, ◌%◌, ◌<◌, bit_or, ap, arith, ◌∙◌}
-use Rattle.bb_memory_traits.specs.Chunk.{Chunk, Layout}
-use Rattle.bb_memory_traits.specs.LeastPlace.{least_place}
 use Rattle.bb_memory_traits.proofs.LeastPlaces.{least_place-behind, least_place-is, least_place-multiple}
 use Rattle.bb_memory_traits.proofs.PowersOfTwo.{power_of_two-from_test}
 use Rattle.bb_memory_traits.proofs.layout.chunk.Chunk.at_or_after.Goals as goal
+use Rattle.bb_memory_traits.specs.Chunk.{Chunk, Layout}
+use Rattle.bb_memory_traits.specs.LeastPlace.{least_place}
+use Rattle.std.proofs.Common.{ap, arith, bit_or, ℕ, ◌%◌, ◌+◌, ◌-◌, ◌<◌, ◌∙◌, ◌≡◌}
 
 -- the mask makes the place of a layout
 place-behind : (v : ℕ) (layout : Layout) → 0 < v → bit_or (v - 1) (layout.align - 1) + 1 ≡ least_place v layout.align

@@ -1,6 +1,6 @@
+use Rattle.owner_tests.proofs.tests.owner.Owner.deallocate.Goals as goal
 use Rattle.std.proofs.Common.{arith}
 use Rattle.std.proofs.lemmas.Grind.{elements}
-use Rattle.owner_tests.proofs.tests.owner.Owner.deallocate.Goals as goal
 
 pub deallocate-requires : goal.deallocate-requires
 deallocate-requires g c = grind (arith, elements)

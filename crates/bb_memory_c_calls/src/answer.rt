@@ -1,0 +1,171 @@
+//! Answers as C sees them.
+ghost use Rattle.bb_memory_c_calls.specs.Answers.{answer_by, answer_of, figure_of, grow_code, no_figure, refused, shown_flag, shrink_code};
+ghost use Rattle.std.specs.Prelude.{◌≡◌};
+
+use crate::code;
+use bb_memory_pool_machine::steps::Flag;
+use bb_memory_traits::allocator::{AllocationError, AllocationGrowError, AllocationShrinkError};
+use bb_memory_traits::layout::Chunk;
+
+/// A code, and with code 0 the place of the chunk that was given. With any other code it is 0. Both fields fit into registers.
+#[repr(C)]
+#[derive(Clone, Copy)]
+pub struct Answer {
+    pub code: u32,
+    pub place: usize,
+}
+
+/// A code, and with code 0 the number that was asked for. With any other code it is 0.
+#[repr(C)]
+#[derive(Clone, Copy)]
+pub struct Figure {
+    pub code: u32,
+    pub number: usize,
+}
+
+/// The figures of a bump, in bytes.
+#[repr(C)]
+#[derive(Clone, Copy)]
+pub struct BumpInfo {
+    pub start_address: usize,
+    pub used_space: usize,
+    pub free_space: usize,
+    pub total_space: usize,
+}
+
+/// The figures of a one-chunk allocator.
+#[repr(C)]
+#[derive(Clone, Copy)]
+pub struct OneChunkInfo {
+    pub start_address: usize,
+    pub size: usize,
+    pub has_chunk_available: bool,
+}
+
+/// The figures of a pool, from bucket 0 on. Of a party, held buckets are its own, and `greatest_held` is the most that was found.
+#[repr(C)]
+#[derive(Clone, Copy)]
+pub struct PoolInfo {
+    pub start_address: usize,
+    pub size: usize,
+    pub bucket_size: usize,
+    pub max_alignment: usize,
+    pub number_of_buckets: usize,
+    pub held_buckets: usize,
+    pub greatest_held: usize,
+}
+
+/// The figures of a shared pool, which were read while parties may have called.
+#[repr(C)]
+#[derive(Clone, Copy)]
+pub struct SharedPoolInfo {
+    pub pool: PoolInfo,
+    pub refused: usize,
+}
+
+/// The flag of a bucket: one of `FREE`, `HELD` and `DETACHED`, and the party that holds it or has detached it, or 0.
+#[repr(C)]
+#[derive(Clone, Copy)]
+pub struct Holder {
+    pub state: u32,
+    pub party: u32,
+}
+
+/// The states of a bucket's flag.
+pub const FREE: u32 = 0;
+
+pub const HELD: u32 = 1;
+
+pub const DETACHED: u32 = 2;
+
+impl Holder {
+    /// Turns a flag into C's.
+    pub fn of(flag: Flag) -> Holder
+        ensures { result ≡ shown_flag flag }
+    {
+        let (state, party) = match flag {
+            Flag::Free => (FREE, 0),
+            Flag::HeldBy(party) => (HELD, party),
+            Flag::DetachedBy(party) => (DETACHED, party),
+        };
+        Holder { state, party }
+    }
+}
+
+impl Answer {
+    /// Nothing was given, for the cause of this code.
+    pub fn refusal(code: u32) -> Answer
+        ensures { result ≡ refused code }
+    {
+        Answer { code, place: 0 }
+    }
+
+    /// Turns the answer to a request into C's.
+    pub fn of(answer: Result<Chunk, AllocationError>) -> Answer
+        ensures { result ≡ answer_of answer }
+    {
+        match answer {
+            Ok(chunk) => Answer {
+                code: code::OK,
+                place: chunk.place(),
+            },
+            Err(AllocationError::SizeIsZero) => Answer::refusal(code::SIZE_IS_ZERO),
+            Err(AllocationError::SizeTooLarge) => Answer::refusal(code::SIZE_TOO_LARGE),
+            Err(AllocationError::AlignmentFailure) => Answer::refusal(code::ALIGNMENT_FAILURE),
+            Err(AllocationError::OutOfMemory) => Answer::refusal(code::OUT_OF_MEMORY),
+        }
+    }
+
+    /// Turns the answer to a grow into C's.
+    pub fn of_grow(answer: Result<Chunk, AllocationGrowError>) -> Answer
+        ensures { result ≡ answer_by grow_code answer }
+    {
+        match answer {
+            Ok(chunk) => Answer {
+                code: code::OK,
+                place: chunk.place(),
+            },
+            Err(AllocationGrowError::GrowWouldShrink) => Answer::refusal(code::GROW_WOULD_SHRINK),
+            Err(AllocationGrowError::AlignmentFailure) => {
+                Answer::refusal(code::ALIGNMENT_FAILURE)
+            }
+            Err(AllocationGrowError::OutOfMemory) => Answer::refusal(code::MORE_THAN_RESERVED),
+        }
+    }
+
+    /// Turns the answer to a shrink into C's.
+    pub fn of_shrink(answer: Result<Chunk, AllocationShrinkError>) -> Answer
+        ensures { result ≡ answer_by shrink_code answer }
+    {
+        match answer {
+            Ok(chunk) => Answer {
+                code: code::OK,
+                place: chunk.place(),
+            },
+            Err(AllocationShrinkError::ShrinkWouldGrow) => Answer::refusal(code::SHRINK_WOULD_GROW),
+            Err(AllocationShrinkError::AlignmentFailure) => {
+                Answer::refusal(code::ALIGNMENT_FAILURE)
+            }
+            Err(AllocationShrinkError::SizeIsZero) => Answer::refusal(code::SIZE_IS_ZERO),
+        }
+    }
+}
+
+impl Figure {
+    /// Returns the number that was asked for.
+    pub fn of(number: usize) -> Figure
+        ensures { result ≡ figure_of number }
+    {
+        Figure {
+            code: code::OK,
+            number,
+        }
+    }
+
+    /// No number, for the cause of this code.
+    pub fn refusal(code: u32) -> Figure
+        ensures { result ≡ no_figure code }
+    {
+        Figure { code, number: 0 }
+    }
+}

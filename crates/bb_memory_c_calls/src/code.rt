@@ -1,0 +1,51 @@
+//! The codes that the functions answer. 0 is for what was done, and each other number for one cause why nothing was.
+
+pub const OK: u32 = 0;
+
+pub const SIZE_IS_ZERO: u32 = 1;
+
+pub const SIZE_TOO_LARGE: u32 = 2;
+
+pub const ALIGNMENT_FAILURE: u32 = 3;
+
+pub const OUT_OF_MEMORY: u32 = 4;
+
+pub const GROW_WOULD_SHRINK: u32 = 5;
+
+pub const SHRINK_WOULD_GROW: u32 = 6;
+/// The size and the alignment make no layout.
+pub const INVALID_LAYOUT: u32 = 7;
+/// The handle is empty.
+pub const UNINITIALIZED: u32 = 8;
+/// The place isn't that of a held bucket, or of the chunk that is out.
+pub const NOT_HELD: u32 = 9;
+/// The handle isn't empty, where one was to be made.
+pub const ALREADY_INITIALIZED: u32 = 10;
+/// The numbers describe nothing that could be made.
+pub const INVALID_ARGUMENT: u32 = 11;
+/// Each party has joined.
+pub const NO_PARTY: u32 = 12;
+/// The chunk can't have the old layout: its place isn't a multiple of the alignment, or the size is more than is reserved.
+pub const LAYOUT_MISMATCH: u32 = 13;
+/// `malloc` refused.
+pub const MALLOC_REFUSED: u32 = 14;
+/// The new size is greater than what is reserved.
+pub const MORE_THAN_RESERVED: u32 = 15;
+/// The region has no room for one bucket.
+pub const NO_BUCKET: u32 = 16;
+/// Not each party has left.
+pub const PARTIES_JOINED: u32 = 18;
+/// The pool has no other party.
+pub const ONE_PARTY: u32 = 19;
+/// A detached bucket is there already.
+pub const DETACHED_FULL: u32 = 20;
+/// No detached bucket is there.
+pub const DETACHED_EMPTY: u32 = 21;
+/// No bucket has the number, or begins at the place.
+pub const NOT_A_BUCKET: u32 = 22;
+/// The party, or the detached bucket, is another's.
+pub const OTHER_POOL: u32 = 23;
+/// A reader of the detached bucket hasn't released it.
+pub const READERS_LEFT: u32 = 24;
+/// The detached bucket waits for no reader.
+pub const NO_READER: u32 = 25;

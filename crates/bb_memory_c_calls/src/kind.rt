@@ -1,0 +1,100 @@
+//! Traits of the kinds of values in handles: what a call, which is written once for all kinds, asks of one.
+ghost use Rattle.bb_memory_c_calls.specs.Calls.{Sharing, TakesParty};
+ghost use Rattle.bb_memory_traits.specs.Chunk.{Chunk};
+ghost use Rattle.bb_memory_traits.specs.Geometry.{TellsNumber, TellsPlace};
+ghost use Rattle.bb_memory_traits.specs.PoolObject.{PoolGeometry};
+ghost use Rattle.bb_memory_traits.specs.declared.allocator.AllocationError.{AllocationError};
+ghost use Rattle.bb_memory_traits.specs.declared.layout.Layout.{Layout as Asked};
+ghost use Rattle.std.specs.Prelude.{IfErr, IsFalse, IsTrue, Result, ℕ, ◌↔◌, ◌≡◌};
+
+use bb_memory_traits::allocator::AllocationError;
+use bb_memory_traits::layout::{Chunk, Layout};
+use std::alloc::Global;
+
+/// Gives chunks, and fills a C struct of type `I` with its figures.
+pub trait Gives<I>: Drop {
+    /// The answers that a request may have, and the value after it.
+    ghost may_give: { Self → Asked → Result Chunk AllocationError → Self → Type 0 };
+
+    /// The figures that the struct may be filled with, and the value after that.
+    ghost may_show: { Self → I → Self → Type 0 };
+
+    /// Asks for a chunk.
+    fn give(&mut self, layout: Layout) -> Result<Chunk, AllocationError>
+        ensures { may_give self.old layout result self.new };
+
+    /// Returns the filled struct.
+    fn show(&mut self) -> I
+        ensures { may_show self.old result self.new };
+}
+
+/// Knows its chunks by their places.
+pub trait Keeps: Drop {
+    /// A chunk is held at this place.
+    ghost holds: { Self → ℕ → Type 0 };
+
+    /// The value after the chunk at a place was given back.
+    ghost frees: { Self → ℕ → Self → Type 0 };
+
+    /// Returns whether a chunk is held at this place.
+    fn is_held(&mut self, place: usize) -> bool
+        ensures value { IsTrue result ↔ holds self.old place }
+        ensures unchanged { self.new ≡ self.old };
+
+    /// Gives back the chunk at this place, if one is held there, and returns whether one was. Otherwise it changes nothing.
+    fn give_back(&mut self, place: usize) -> bool
+        ensures held { IsTrue result ↔ holds self.old place }
+        ensures freed { IsTrue result → frees self.old place self.new }
+        ensures unchanged { IsFalse result → self.new ≡ self.old };
+}
+
+/// Is cut into buckets.
+pub trait Bucketed: Drop {
+    /// How its region is cut.
+    ghost geometry: { Self → PoolGeometry };
+
+    /// The answers that the taking of a whole bucket may have, and the value after it.
+    ghost may_take: { Self → Result Chunk AllocationError → Self → Type 0 };
+
+    /// Takes a whole bucket.
+    fn take(&mut self) -> Result<Chunk, AllocationError>
+        ensures may { may_take self.old result self.new }
+        ensures refused { IfErr result (λ error. error ≡ AllocationError.OutOfMemory) };
+
+    /// Returns whether taking a whole bucket needs no search now. Any answer is right.
+    fn is_short(&self) -> bool;
+
+    /// Returns a layout within which a request skips `layout_of`. Any answer is right.
+    fn limit(&self) -> Layout;
+
+    /// Returns where the bucket of this number begins, if there is one.
+    fn place_of(&self, number: u32) -> Option<usize>
+        ensures { TellsPlace (geometry self.now) number result };
+
+    /// Returns the number of the bucket at this place, if one begins there.
+    fn number_of(&self, place: usize) -> Option<u32>
+        ensures { TellsNumber (geometry self.now) place result };
+}
+
+/// Is shared by threads: `S` is a party that has joined, and the others are here.
+pub trait Shares<S: Drop>: Drop {
+    /// How the kind describes its parties.
+    ghost sharing: { Sharing Self S };
+
+    /// If the party's shared value begins where this one does, it is this one.
+    ghost knows: { Self → S → Type 0 };
+
+    /// Makes the last party that hasn't joined join, in memory of its own.
+    fn join_last(&mut self, alloc: Global) -> Result<Box<S>, u32>
+        ensures { TakesParty (λ joined. joined.value) self.old self.new result sharing };
+
+    /// Returns whether a party is one of its own that has joined.
+    fn has_joined(&self, party: &S) -> bool
+        requires { knows self.now party.now }
+        ensures { IsTrue result ↔ sharing.at self.now party.now };
+
+    /// Takes the party back, as the last of those that haven't joined.
+    fn take_back(&mut self, joined: S)
+        requires { sharing.at self.old joined }
+        ensures { (after : S) × sharing.leaves joined after × (self.new ≡ sharing.with_party self.old after) };
+}

@@ -1,0 +1,154 @@
+-- Detaching a bucket without a token, and attaching it by its number, keep words and logs in agreement.
+use Rattle.atomic_table.specs.Table.{Allows, Me, keeps, step}
+use Rattle.bb_memory_pool_machine.proofs.PoolLogFacts.{detached_not_held, interleaved_log}
+use Rattle.bb_memory_pool_machine.proofs.PoolLogSteps.{attach_from_agrees, detach_agrees}
+use Rattle.bb_memory_pool_machine.specs.PoolLogs.{IsHeldAfter, PoolEntry, PoolLog, entry_of, pass_in, with_entry}
+use Rattle.bb_memory_pool_machine.specs.PoolMachine.{PoolScene}
+use Rattle.bb_memory_pool_machine.specs.declared.steps.pool.Flag.{Flag}
+use Rattle.bb_memory_pool_machine.specs.declared.steps.pool.Flag.TheVariants.{DetachedBy, HeldBy}
+use Rattle.bb_memory_pool_machine.specs.declared.steps.pool.PoolOutcome.TheVariants.{Attaches, Detaches}
+use Rattle.bb_memory_pool_machine.specs.declared.steps.pool.PoolStep.TheVariants.{AttachFrom, Detach}
+use Rattle.bb_memory_seats.specs.Seats.{alone, number_of, view_log}
+use Rattle.bb_memory_shared_pools.proofs.FlagWords.{changed, flag_named, flag_there, found_in, marked, no_token, same_word}
+use Rattle.bb_memory_shared_pools.proofs.SharedPoolDetached.{still_detached}
+use Rattle.bb_memory_shared_pools.proofs.SharedPoolDetaching.{held_no_token, stores_as}
+use Rattle.bb_memory_shared_pools.proofs.SharedPoolFlagSteps.{AllowedAt, entered, steps_as, told}
+use Rattle.bb_memory_shared_pools.proofs.SharedPoolMeetings.{unchanged}
+use Rattle.bb_memory_shared_pools.proofs.SharedPoolTries.{idle_after_one}
+use Rattle.bb_memory_shared_pools.specs.FlagWords.{as_word, bucket_of, flags_in, sender_in, word_of}
+use Rattle.bb_memory_shared_pools.specs.SharedPoolRule.{AfterDetachSplit, AfterNumber, SeatView, WordsAndLogsAgree, attaches_number, detaches_number, effect_of}
+use Rattle.std.proofs.Common.{List, None, Some, [], ap, arith, eq-eqb, eqb, inl, inr, ne_eqb, refl, set, subst, sym, ℕ, ◌++◌, ◌<◌, ◌∙◌, ◌∷◌, ◌≡◌, ◌≢◌}
+use Rattle.std.proofs.lemmas.Bool.{cases_eq}
+use Rattle.std.specs.Prelude.{slice_get, slice_set}
+use mathlib.Core.Option.{none}
+use prog.Atomic.{either}
+
+-- DETACHING
+
+detaches_number_one : (scene : PoolScene) (slots seat party bucket : ℕ) (log : PoolLog) → party < 4294967296 →
+    1 < scene.parties → IsHeldAfter log bucket →
+    Allows (WordsAndLogsAgree scene) slots seat (alone scene party log, []) (word_of bucket) (λ _. as_word (DetachedBy party))
+    (λ _. AfterDetachSplit scene party log bucket)
+detaches_number_one scene slots seat party bucket log small others held state rule homes at fits =
+    let mine = rule.seated.known seat (alone scene party log) at in
+    let entry : PoolEntry = entry_of (Detach party bucket) (Detaches bucket) in
+    let marks : List Flag = slice_set rule.marks bucket (DetachedBy party) in
+    let agree = marked scene rule.marks (with_entry rule.logs party log entry) bucket (DetachedBy party) (DetachedBy party)
+    (flag_named party small)
+    (detach_agrees scene (flags_in rule.marks) rule.logs party log bucket rule.agree mine.0 mine.1 others held) in (
+      alone scene party (log ++ entry ∷ []),
+      keeps,
+      tt,
+      entered scene state rule seat party log entry (set state.words (word_of bucket) (as_word (DetachedBy party))) marks at
+          agree
+          (changed state.words rule.marks bucket (DetachedBy party) rule.words)
+          (λ b. still_detached rule.marks bucket b (DetachedBy party)
+          (held_no_token scene rule.marks rule.logs party log bucket rule.agree mine.1 held)),
+      told scene (flags_in marks) rule.logs party log entry mine.1 agree,
+    )
+
+-- a seat of one party, which isn't the only one, may detach a bucket that is held after its log, and make no token
+pub detaches_number_as : (scene : PoolScene) (slots seat word party bucket new : ℕ) (log : PoolLog) (me : Me ℕ SeatView) →
+    word ≡ word_of bucket → me ≡ (alone scene party log, []) → new ≡ as_word (DetachedBy party) → party < 4294967296 →
+    1 < scene.parties → IsHeldAfter log bucket →
+    Allows (WordsAndLogsAgree scene) slots seat me word (λ _. new) (λ _. detaches_number (step slots word new 0 none) me new)
+detaches_number_as scene slots seat word party bucket new log me there is named small others held =
+    stores_as scene slots seat word bucket (as_word (DetachedBy party)) new (alone scene party log, []) me
+    (λ m b. AfterDetachSplit m.0.scene (number_of m.0) (view_log m.0) b) there is named
+    (detaches_number_one scene slots seat party bucket log small others held)
+
+-- ATTACHING
+
+-- an exchange of a word for another
+abbrev swapped : ℕ → ℕ → ℕ → ℕ
+swapped old new found = either (eqb found old) new found
+
+-- An exchange of an idle party, at the flag of a bucket that `from` may have detached.
+module _ (scene : PoolScene) (slots seat word party bucket from : ℕ) (log : PoolLog) (me : Me ℕ SeatView)
+    (there : word ≡ word_of bucket) (is : me ≡ (alone scene party log, [])) (below : bucket < scene.geometry.buckets)
+    (small : from < 4294967296) (idle : pass_in log ≡ None)
+  where
+    abbrev sent : ℕ
+    sent = as_word (DetachedBy from)
+
+    abbrev own : ℕ
+    own = as_word (HeldBy party)
+
+    wins : AllowedAt (AfterNumber from) scene seat party bucket log (swapped sent own) (DetachedBy from)
+    wins state rule at named =
+        let mine = rule.seated.known seat (alone scene party log) at in
+        let entry : PoolEntry = entry_of (AttachFrom party bucket from) (Attaches bucket) in
+        let flags : List Flag = flags_in rule.marks in
+        let marks : List Flag = slice_set rule.marks bucket (HeldBy party) in
+        let flag : slice_get flags bucket ≡ Some (DetachedBy from) =
+        flag_there rule.marks bucket (DetachedBy from) named ∙ ap Some (flag_named from small) in
+        let agree = marked scene rule.marks (with_entry rule.logs party log entry) bucket (HeldBy party) (HeldBy party) refl
+        (attach_from_agrees scene flags rule.logs party log bucket rule.agree mine.0 mine.1 from idle flag) in
+        let won = ap (λ b. either b own sent) (eq-eqb sent sent refl) in (
+          alone scene party (log ++ entry ∷ []),
+          keeps,
+          tt,
+          entered scene state rule seat party log entry (set state.words (word_of bucket) (swapped sent own sent)) marks at agree
+              (ap (λ (w : ℕ). set state.words (word_of bucket) w) won
+              ∙ changed state.words rule.marks bucket (HeldBy party) rule.words)
+              (λ b. still_detached rule.marks bucket b (HeldBy party) (no_token rule.marks bucket from small named)),
+          (
+            λ same. record {
+              ended = record {
+                seat = told scene (flags_in marks) rule.logs party log entry mine.1 agree;
+                idle = idle_after_one log entry idle refl;
+              };
+              free = detached_not_held scene flags rule.logs party log bucket rule.agree mine.1 (from, flag);
+            },
+            λ apart. absurd (apart refl),
+          ),
+        )
+
+    loses : (mark : Flag) → as_word mark ≢ sent → AllowedAt (AfterNumber from) scene seat party bucket log (swapped sent own) mark
+    loses mark apart state rule at named =
+        let view : SeatView = alone scene party log in
+        let mine = rule.seated.known seat view at in
+        let found = found_in state.words rule.marks bucket mark rule.words named in
+        let lost = ap (λ b. either b own (as_word mark)) (ne_eqb (as_word mark) sent apart) in (
+          view,
+          keeps,
+          tt,
+          subst (λ (n : ℕ). WordsAndLogsAgree scene record {
+            words = set state.words (word_of bucket) n;
+            homes = state.homes;
+            views = set state.views seat view;
+          }) (found ∙ sym lost) (unchanged scene state seat (word_of bucket) view at rule),
+          (
+            λ same. absurd (apart same),
+            λ _. record {
+              seat = record {
+                is = refl;
+                interleaved = interleaved_log scene (flags_in rule.marks) rule.logs party log rule.agree mine.1;
+              };
+              idle = idle;
+            },
+          ),
+        )
+
+    either_mark : (mark : Flag) → AllowedAt (AfterNumber from) scene seat party bucket log (swapped sent own) mark
+    either_mark mark = elim (cases_eq (as_word mark) sent) [
+      | inl same ↦
+          subst (AllowedAt (AfterNumber from) scene seat party bucket log (swapped sent own))
+          (sym (same_word mark (DetachedBy from) same)) wins
+      | inr apart ↦ loses mark apart
+    ]
+
+    -- it attaches the bucket exactly where it finds that `from` has detached it without a token
+    pub attaches_number_as : (old new : ℕ) → old ≡ as_word (DetachedBy from) → new ≡ as_word (HeldBy party) →
+        Allows (WordsAndLogsAgree scene) slots seat me word (swapped old new)
+        (attaches_number (step slots word old new none) me)
+    attaches_number_as old new named becomes =
+        let allowed = steps_as (swapped sent own) (AfterNumber from) scene slots seat word party bucket log me there is below
+        either_mark in
+        let sender : from ≡ sender_in sent = omega arith in
+        let told_so = subst (λ (n : ℕ). Allows (WordsAndLogsAgree scene) slots seat me word (swapped sent own)
+        (effect_of (AfterNumber n) me (bucket_of word))) sender allowed in
+        subst (λ (w : ℕ). Allows (WordsAndLogsAgree scene) slots seat me word (swapped w new)
+        (effect_of (AfterNumber (sender_in w)) me (bucket_of word))) (sym named)
+        (subst (λ (w : ℕ). Allows (WordsAndLogsAgree scene) slots seat me word (swapped sent w)
+        (effect_of (AfterNumber (sender_in sent)) me (bucket_of word))) (sym becomes) told_so)

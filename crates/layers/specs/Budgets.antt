@@ -1,0 +1,23 @@
+-- A budget of chunks over an allocator.
+use Rattle.bb_memory_traits.specs.Chunk.{Chunk}
+use Rattle.bb_memory_traits.specs.declared.allocator.AllocationError.{AllocationError}
+use Rattle.bb_memory_traits.specs.declared.layout.Layout.{Layout}
+use Rattle.std.specs.Prelude.{Result, ℕ, ◌<◌, ◌≡◌, ◌≤◌}
+
+-- the allocator below, how many chunks may be out, and how many are
+pub record Budgeted (A : Type 0) : Type 0 where
+  pub inner : A
+  pub budget : ℕ
+  pub out : ℕ
+
+-- the geometry of such an allocator, and how many chunks may be out
+pub record Limited (G : Type 0) : Type 0 where
+  pub inner : G
+  pub budget : ℕ
+
+-- A request by the value, where the allocator below promises so: a spent budget is as it was, and else the allocator below was
+-- asked.
+pub record TakesWithin {A : Type 0} (takes : A → Layout → Result Chunk AllocationError → A → Type 0) (old : Budgeted A)
+    (layout : Layout) (answer : Result Chunk AllocationError) (new : Budgeted A) : Type 0 where
+  pub spent : old.budget ≤ old.out → new ≡ old
+  pub below : old.out < old.budget → takes old.inner layout answer new.inner

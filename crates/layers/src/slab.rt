@@ -1,0 +1,206 @@
+//! Records of bytes, each in a chunk of its own.
+ghost use Rattle.bb_memory_traits.specs.Chunk.{Chunk, IsSound};
+ghost use Rattle.bb_memory_traits.specs.HeldBytes.{HeldBytes, held_region};
+ghost use Rattle.bb_memory_traits.specs.declared.layout.Layout.{Layout};
+ghost use Rattle.layers.specs.Slabs.{HoldsThen, IsOfBytes, MayGiveLonger, NotesRequest, Stores, records_in};
+ghost use Rattle.std.specs.Prelude.{List, Ok, Some, [], length, remove, slice_get, slice_set, ℕ, ◌++◌, ◌<◌, ◌∷◌, ◌≡◌};
+
+use bb_memory_lists::lists::append_law;
+use bb_memory_traits::allocator::{AllocationError, Allocator, BaseAllocator};
+use bb_memory_traits::layout::{Chunk, Layout, LayoutError};
+use bb_memory_traits::region::{Region, live_bytes_law};
+use std::alloc::{AllocError, Global};
+use std::marker::Model;
+use thiserror::Error;
+
+/// Refusals of `insert`, by their cause.
+#[derive(Debug, Drop, Error)]
+pub enum InsertError {
+    #[error("no memory for the list of records")]
+    List(AllocError),
+    #[error("the record is too long: {0}")]
+    Layout(LayoutError),
+    #[error("no chunk: {0}")]
+    Refused(AllocationError),
+    #[error("the allocator gave a longer chunk than the record")]
+    NoExactChunk,
+}
+
+/// Records of bytes, each in a chunk of an allocator's region. A record is named by its position, from 0.
+#[derive(Drop)]
+pub struct Slab<A: Allocator + Drop> {
+    allocator: A,
+    region: Region,
+    chunks: Vec<Chunk>,
+}
+
+impl<A: Allocator + Drop> Model for Slab<A> {
+    ghost use Rattle.bb_memory_traits.specs.HeldBytes.{held_region};
+    ghost use Rattle.layers.specs.Slabs.{Records, records_in};
+    ghost use Rattle.std.specs.Prelude.{◌≡◌};
+
+    // A slab is its records, with their allocator and the chunks in which they lie.
+    ghost Value = { Records A };
+
+    ghost view = { λ s. record {
+      allocator = s.allocator;
+      chunks = s.chunks.items;
+      records = records_in s.region s.chunks.items;
+    } };
+
+    ghost invariant = { λ s. A.stands_for s.allocator s.chunks.items
+        × (held_region s.region ≡ A.region_of (A.geometry s.allocator)) };
+}
+
+impl<A: Allocator + Drop> Slab<A> {
+    /// Makes an empty slab. The allocator has nothing out, and the region is the allocator's.
+    pub fn new(alloc: Global, allocator: A, region: Region) -> Self
+        requires fresh { A.stands_for allocator [] }
+        requires same_region { held_region region ≡ A.region_of (A.geometry allocator) }
+        ensures empty { result
+            ≡ record { allocator = allocator; chunks = []; records = [] } }
+    {
+        Slab {
+            allocator,
+            region,
+            chunks: Vec::new(alloc),
+        }
+    }
+
+    /// Returns the number of records, each in a chunk of its own.
+    pub fn len(&self) -> usize
+        ensures records { result ≡ length self.now.records }
+        ensures chunks { result ≡ length self.now.chunks }
+    {
+        self.chunks.len()
+    }
+
+    /// Stores one more record, behind the others. A refusal keeps all. It is refused in this order: with `Layout` where no layout
+    /// has as many bytes, with `List` where memory was, with `Refused` as the allocator refuses to give as many, and with
+    /// `NoExactChunk` where it gives more. The allocator is asked once, and only behind the first two tests.
+    #[tactic(auto, using(bb_memory_traits::proofs::Layouts::same_layout))]
+    pub fn insert(&mut self, bytes: &[u8]) -> Result<(), InsertError>
+        ensures stores { Stores A.geometry A.may_allocate self.old bytes.now result self.new }
+        ensures asked_once { NotesRequest (A.note_after (A.geometry self.old.allocator))
+            (length bytes.now) result (A.note self.old.allocator) (A.note self.new.allocator) }
+    {
+        let layout = Layout::from_size_align(bytes.len(), 1).map_err(InsertError::Layout)?;
+        self.chunks.reserve(1).map_err(InsertError::List)?;
+        let chunk = match self.allocator.allocate(layout) {
+            Ok(chunk) => chunk,
+            Err(error) => return Err(InsertError::Refused(error)),
+        };
+        if chunk.len() != bytes.len() {
+            records_law::<A>();
+            return_last(&mut self.allocator, chunk, layout);
+            return Err(InsertError::NoExactChunk);
+        }
+        put(&mut self.region, &self.chunks, chunk, bytes);
+        self.chunks.push_reserved(chunk);
+        Ok(())
+    }
+
+    /// Returns the bytes of a record.
+    pub fn read(&self, position: usize) -> &[u8]
+        requires { position < length self.now.records }
+        ensures { slice_get self.now.records position ≡ Some result.now }
+    {
+        self.region.chunk(chunk_at(&self.chunks, position))
+    }
+
+    /// Writes a record whole, with as many bytes as it has. The others keep theirs.
+    pub fn write(&mut self, position: usize, bytes: &[u8])
+        requires { (old : List ℕ) × (slice_get self.old.records position ≡ Some old)
+            × (length bytes.now ≡ length old) }
+        ensures { self.new ≡ record self.old {
+          records = slice_set self.old.records position bytes.now;
+        } }
+    {
+        overwrite(&mut self.region, &self.chunks, position, bytes);
+    }
+
+    /// Takes a record out, and gives its chunk back. Those behind it move up. The allocator is asked for nothing.
+    pub fn remove(&mut self, position: usize)
+        requires { position < length self.old.records }
+        ensures leaves { self.new ≡ record {
+          allocator = self.new.allocator;
+          chunks = remove self.old.chunks position;
+          records = remove self.old.records position;
+        } }
+        ensures geometry { A.geometry self.new.allocator ≡ A.geometry self.old.allocator }
+        ensures unasked { A.note self.new.allocator ≡ A.note self.old.allocator }
+    {
+        give_back(&mut self.allocator, chunk_at(&self.chunks, position));
+        records_law::<A>();
+        self.chunks.remove(position);
+    }
+}
+
+/// Writes the record at a position.
+fn overwrite(region: &mut Region, chunks: &Vec<Chunk>, position: usize, bytes: &[u8])
+    requires sound { IsSound (held_region region.old) chunks.now.items }
+    requires fits { (old : List ℕ)
+        × (slice_get (records_in region.old chunks.now.items) position ≡ Some old)
+        × (length bytes.now ≡ length old) }
+    ensures { HoldsThen region.old region.new chunks.now.items
+        (slice_set (records_in region.old chunks.now.items) position bytes.now) }
+{
+    let chunk = chunk_at(chunks, position);
+    region.write(chunk, bytes);
+}
+
+/// Returns the chunk at a position.
+fn chunk_at(chunks: &Vec<Chunk>, position: usize) -> Chunk
+    requires { position < length chunks.now.items }
+    ensures { slice_get chunks.now.items position ≡ Some result }
+{
+    chunks[position]
+}
+
+/// Writes a record in the chunk that was just given.
+fn put(region: &mut Region, chunks: &Vec<Chunk>, chunk: Chunk, bytes: &[u8])
+    requires sound { IsSound (held_region region.old) (chunks.now.items ++ chunk ∷ []) }
+    requires len { length bytes.now ≡ chunk.len }
+    ensures { HoldsThen region.old region.new (chunks.now.items ++ chunk ∷ [])
+        (records_in region.old chunks.now.items ++ bytes.now ∷ []) }
+{
+    let _ = chunks;
+    append_law::<Chunk>();
+    live_bytes_law();
+    region.write(chunk, bytes);
+}
+
+/// Gives back the chunk that was given last: the allocator then stands for the lists without it.
+pub fn return_last<A: Allocator>(inner: &mut A, chunk: Chunk, layout: Layout)
+    requires { A.may_release inner.old chunk.place }
+    ensures stands { (live : List Chunk) → A.stands_for inner.old (live ++ chunk ∷ [])
+        → A.stands_for inner.new live }
+    ensures geometry { A.geometry inner.new ≡ A.geometry inner.old }
+    ensures unasked { A.note inner.new ≡ A.note inner.old }
+{
+    append_law::<Chunk>();
+    inner.deallocate(chunk.place(), layout);
+}
+
+/// Gives back a chunk: the allocator then stands for the lists without it.
+pub(crate) fn give_back<A: Allocator>(inner: &mut A, chunk: Chunk)
+    requires { A.may_release inner.old chunk.place }
+    ensures stands { (live : List Chunk) (position : ℕ) → A.stands_for inner.old live
+        → slice_get live position ≡ Some chunk → A.stands_for inner.new (remove live position) }
+    ensures geometry { A.geometry inner.new ≡ A.geometry inner.old }
+    ensures unasked { A.note inner.new ≡ A.note inner.old }
+{
+    inner.deallocate(chunk.place(), Layout::empty());
+}
+
+/// An allocator that may give a longer chunk for a layout may give one for the layout's size, and taking a chunk out of a list
+/// takes its record out. It does nothing: its contract is the law.
+#[tactic(auto, using(bb_memory_lists::specs::Hints::parts_of_lists))]
+fn records_law<A: Allocator>()
+    ensures longer { (geometry : A.Geometry) (live : List Chunk) (size : ℕ) (layout : Layout)
+        (chunk : Chunk)
+        → IsOfBytes layout size → size < chunk.len → A.may_allocate geometry live layout (Ok chunk)
+        → MayGiveLonger (A.may_allocate geometry live) size }
+    ensures removed { (held : HeldBytes) (chunks : List Chunk) (position : ℕ)
+        → records_in held (remove chunks position) ≡ remove (records_in held chunks) position }
+{}

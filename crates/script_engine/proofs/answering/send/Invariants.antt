@@ -1,6 +1,0 @@
-use Rattle.script_engine.proofs.Sending.{Sent}
-use Rattle.script_engine.proofs.answering.send.Given as goal
-
--- what isn't left is written
-abbrev pub invariant-loop : goal.invariant-loop
-invariant-loop g l = Sent l.text l.left (g.W.Write.contents l.fn.writer) (g.W.Write.contents l.writer)

@@ -1,6 +1,0 @@
-use Rattle.std.proofs.Common.{◌≢◌, All, take}
-use Rattle.script_engine.proofs.words.split_before.Given as goal
-
--- no byte so far is this one
-abbrev pub invariant-loop-index : goal.invariant-loop-index
-invariant-loop-index l = All (λ b. b ≢ l.byte) (take l.index l.text)

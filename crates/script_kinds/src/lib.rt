@@ -1,0 +1,20 @@
+//! Runs a script: reads it to its end, drives an allocator, a machine of steps or a loan book by it, and writes a line for each
+//! reply. `docs/script-format.md` says what a script is, and how it is answered; `specs` says it for the clauses.
+//!
+//! The files, in the order in which to read them:
+//!
+//! - `running`: the table of the kinds, and from the bytes of a script to the bytes that it is answered.
+//! - The kinds: `allocators` and `pool`, `steps` for both machines, `loan_pool`.
+//!
+//! Crate `scripts` has what all kinds share.
+#![tactic(auto)]
+
+mod allocators;
+mod loan_pool;
+mod pool;
+mod running;
+mod steps;
+
+pub use running::run;
+pub use scripts::laws::lines_law;
+pub use scripts::status::Status;

@@ -1,0 +1,45 @@
+//! The status of a run.
+ghost use Rattle.scripts.specs.Scripts.{code_of, message_of};
+ghost use Rattle.std.specs.Prelude.{MatchOption, None, Some, ◌≡◌};
+
+/// The end of a run, and what was written.
+#[derive(Debug, Clone, Copy, PartialEq, Eq)]
+pub enum Status {
+    /// The script was run to its end: a line for each reply, and what each `show` writes.
+    Done,
+    /// Some line is unreadable: the number of the first, and nothing else.
+    Unreadable,
+    /// Reading the input failed: nothing was written.
+    InputFailed,
+    /// Writing failed: nothing, or a beginning of what the input calls for.
+    OutputFailed,
+    /// Memory was refused: nothing was written.
+    OutOfMemory,
+}
+
+impl Status {
+    /// Returns the exit status of a program that ran the script.
+    pub fn code(self) -> u8
+        ensures { result ≡ code_of self }
+    {
+        match self {
+            Status::Done => 0,
+            Status::Unreadable => 2,
+            Status::InputFailed | Status::OutputFailed => 3,
+            Status::OutOfMemory => 4,
+        }
+    }
+
+    /// Returns what a program writes on standard error, behind its own name.
+    pub fn message(self) -> Option<&'static str>
+        ensures { MatchOption result (message_of self ≡ None)
+            (λ text. message_of self ≡ Some text.now) }
+    {
+        match self {
+            Status::Done | Status::Unreadable => None,
+            Status::InputFailed => Some("input failed"),
+            Status::OutputFailed => Some("output failed"),
+            Status::OutOfMemory => Some("out of memory"),
+        }
+    }
+}

@@ -1,0 +1,67 @@
+"""The code of a source in Rattle: what runs, without comments, clauses, ghost items and layout."""
+
+import functools
+import hashlib
+import re
+from collections.abc import Iterator
+
+# A text or a character, either of which may hold `//` or a brace.
+TEXT = r'"(?:\\.|[^"\\])*"|\'(?:\\.[^\'\n]*|[^\'\\\n])\''
+TEXT_OR_COMMENT = re.compile(rf"({TEXT})|//[^\n]*", re.S)
+# What isn't read here, so that code after it, or in it, could be left out.
+UNREADABLE = re.compile(r'/\*|\*/|\b[bc]?r#*"|\bmacro_rules\b')
+# A clause or a ghost item, up to its braces or its semicolon.
+CLAUSE_OR_GHOST = re.compile(
+    r'\b(?:requires|ensures)\b\*?[^{};"]*(?=\{)|(?:\bpub )?\b(?P<item>ghost)\b[^{};"]*(?=[{;])'
+)
+FUNCTION = re.compile(r"\bfn (\w+)")
+
+
+@functools.cache
+def code_of(source: str) -> str:
+    """Returns the code of a source, on the lines that it has there.
+
+    A clause with a text in it stays, since its braces may be in the text.
+    """
+    code = TEXT_OR_COMMENT.sub(lambda found: found[1] or "", source)
+    parts = []
+    start = 0
+    while (found := CLAUSE_OR_GHOST.search(code, start)) is not None:
+        parts.append(code[start : found.start()])
+        start = end_of_block(code, found.end())
+        if found["item"] and code.startswith(";", start):
+            start += 1
+        left_out = code[found.start() : start]
+        if re.search(TEXT, left_out, re.S) is not None:
+            parts.append(left_out)
+    return "".join([*parts, code[start:]])
+
+
+def end_of_block(code: str, start: int) -> int:
+    """Returns where the block ends whose brace is at `start`, or the item whose semicolon is."""
+    depth = 0
+    for place in range(start, len(code)):
+        depth += {"{": 1, "}": -1}.get(code[place], 0)
+        if depth == 0:
+            return place + 1
+    return len(code)
+
+
+def functions(code: str) -> Iterator[tuple[str, str]]:
+    """Yields the name and the body of each function; the body of one that is declared is `;`."""
+    for found in FUNCTION.finditer(code):
+        depth = 0
+        for place in range(found.end(), len(code)):
+            depth += {"(": 1, "[": 1, ")": -1, "]": -1}.get(code[place], 0)
+            if depth == 0 and code[place] in "{;":
+                yield found[1], code[place : end_of_block(code, place)]
+                break
+
+
+def sum_of(source: str) -> str:
+    """Returns a checksum of a source's code.
+
+    Blanks and line breaks don't change it, nor does a comma after the last of several lines.
+    """
+    words = " ".join(re.findall(rf"{TEXT}|\w+|[^\w\s]", code_of(source), re.S))
+    return hashlib.sha256(re.sub(r" ,(?= [)}\]])", "", words).encode()).hexdigest()[:16]

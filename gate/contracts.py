@@ -1,0 +1,261 @@
+"""The reference of public calls, and the check of what PROMISES.md says of them.
+
+    tools/contracts                 each public call, in one line
+    tools/contracts NAME            what has this name: a call, a definition, or a type
+    tools/contracts NAME LABEL..    the same, if it has clauses or fields with these labels
+    tools/contracts LABEL           the calls and definitions that have a clause or a field so named
+    tools/contracts --labels        each call and definition, with its labels or fields, sorted
+    tools/contracts --promises      checks what PROMISES.md says; the status is 1 if it is wrong
+    tools/contracts --public        the public names that stay, as docs/public.txt has them
+    tools/contracts --fix           writes docs/public.txt, the line counts of PROMISES.md, and the
+                                    version in files
+
+A NAME is written as users write it: `PoolAllocator::allocate`, `BaseAllocator::allocate`,
+`allocate`, `run_base`, `script_kinds::run`, `bb_pool_take`, `TakesBucket`, `PoolAllocator`. Whole
+words count. Of a call you see its first sentence, the labels of its clauses, the wrong bodies that
+break one, and the tests and examples that use it, found by its name and that of its type.
+`--labels` for two checkouts and `diff` show each clause that is lost between them.
+"""
+
+import argparse
+import re
+import signal
+from collections.abc import Iterable, Iterator, Mapping
+from pathlib import Path
+
+from gate import counts, public, rattle, users, versions
+from gate.crates import TOP
+from gate.edits import BadEdit, Edit, parse_edit
+from gate.files import texts_below
+from gate.index import Call, Definition, Index, Type, labels_of
+from gate.process import Failed, say
+
+# The wrong bodies of a crate that the check has to refuse.
+EDIT_PATH = re.compile(r"crates/\w+/must-fail/[^/]+\.edit")
+# How the column of a table begins that names what carries a promise.
+CALLS = re.compile(r"Carried by|Calls\b")
+NAMES_OF_A_CELL = re.compile(r"((?:(?:, )?`[\w:]+`)+)((?::(?:(?:,| and|)+ `[a-z_]+`)+)?)")
+
+
+def edits_of(texts: Mapping[str, str]) -> list[Edit]:
+    """Returns the wrong bodies of all crates that can be read, in the order of their paths."""
+    found = []
+    for path, text in sorted(texts.items()):
+        if EDIT_PATH.fullmatch(path) is None:
+            continue
+        try:
+            found.append(parse_edit(Path(path), text))
+        except BadEdit:
+            continue
+    return found
+
+
+def is_same(call: Call, other: Call) -> bool:
+    """Returns whether a contract or a body of one call is that of the other."""
+    if call.place == other.place:
+        return True
+    if call.trait and other.trait:
+        return False
+    return call.contract == other.contract
+
+
+def mutants_of(index: Index, call: Call, edits: Iterable[Edit]) -> Iterator[str]:
+    """Yields the wrong bodies that break a clause of a call, each with the clause's label."""
+    for edit in edits:
+        promise = edit.promise
+        if promise is None or promise.call.rpartition("::")[2] != call.name:
+            continue
+        if any(is_same(call, other) for other in index.calls(promise.call)):
+            yield f"{promise.label}: {edit.path.relative_to('crates')}"
+
+
+def lines_of_call(index: Index, call: Call, edits: list[Edit]) -> list[str]:
+    """Returns what is printed of a call."""
+    lines = [f"{call.title}  {call.place}"]
+    details = []
+    if call.comment:
+        details.append(rattle.first_sentence(call.comment))
+    if call.trait:
+        details.append(f"contract: {call.trait}::{call.name}  {call.contract}")
+    details += labels_of(call)
+    details += [f"mutant of {line}" for line in mutants_of(index, call, edits)]
+    details += users.lines_of(index, call)
+    return lines + [f"    {line}" for line in details]
+
+
+def lines_of_definition(definition: Definition) -> list[str]:
+    """Returns what is printed of a definition."""
+    item = definition.item
+    lines = [f"{item.name}  {definition.place}"]
+    if item.comment:
+        lines.append(f"    {item.comment}")
+    if item.fields:
+        lines.append(f"    fields: {' '.join(item.fields)}")
+    return lines
+
+
+def lines_of_type(index: Index, type: Type) -> list[str]:
+    """Returns what is printed of a type: what it is, and its calls, each in a line."""
+    lines = [f"{type.item.kind} {type.item.name}  {type.place}"]
+    if type.item.comment:
+        lines.append(f"    {rattle.first_sentence(type.item.comment)}")
+    if type.item.target is not None:
+        lines.append(f"    another name of: {type.item.target.name}")
+    for call in index.calls_of(type):
+        by = f", by {call.trait}" if call.trait else ""
+        lines.append(f"    {call.title}  {call.place}{by}")
+    return lines
+
+
+def look_up(index: Index, name: str, labels: list[str]) -> list[list[str]]:
+    """Returns what is printed of each thing that has a name and these labels."""
+    edits = edits_of(index.texts)
+    found = []
+    for definition in index.definitions_named(name):
+        if set(definition.item.fields).issuperset(labels):
+            found.append(lines_of_definition(definition))
+    if not labels:
+        found += [lines_of_type(index, type) for type in index.types_named(name)]
+    for call in index.calls(name):
+        if call.labels.issuperset(labels):
+            found.append(lines_of_call(index, call, edits))
+    return found
+
+
+def with_label(index: Index, label: str) -> list[list[str]]:
+    """Returns a line for each definition that has a field of this name, and each call a clause."""
+    found = [
+        [f"{definition.item.name}  {definition.place}"]
+        for definition in index.definitions
+        if label in definition.item.fields
+    ]
+    calls = [call for call in index.declared if label in call.labels]
+    return found + [[f"{call.title}  {call.place}"] for call in calls]
+
+
+def labels(index: Index) -> list[str]:
+    """Returns a line for each call under each of its names, with its labels, sorted.
+
+    So it does for each definition that has fields, which are clauses of the calls that cite it.
+    """
+    lines = []
+    for call in [*index.declared, *index.inherited]:
+        by = f" by {call.trait}" if call.trait else ""
+        lines.append(f"{call.title}{by}: {'; '.join(labels_of(call))}".rstrip())
+    for definition in index.definitions:
+        if definition.item.fields:
+            name = "::".join([*definition.within[1:], definition.item.name])
+            lines.append(f"{name}: fields: {' '.join(definition.item.fields)}")
+    return sorted(lines)
+
+
+def cells_of_calls(page: str) -> Iterator[str]:
+    """Yields each cell of a table of PROMISES.md that names what carries a promise."""
+    columns: list[int] = []
+    for line in page.split("\n"):
+        if not line.startswith("|"):
+            columns = []
+            continue
+        cells = [cell.strip() for cell in line.strip("|").split("|")]
+        if columns:
+            yield from (cells[column] for column in columns if column < len(cells))
+        else:
+            columns = [number for number, cell in enumerate(cells) if CALLS.match(cell)]
+
+
+def names_of(page: str) -> Iterator[tuple[str, list[str]]]:
+    """Yields each name in the tables of PROMISES.md with the labels that follow it."""
+    for cell in cells_of_calls(page):
+        for names, labels in NAMES_OF_A_CELL.findall(cell):
+            for name in re.findall(r"[\w:]+", names):
+                yield name, re.findall(r"\w+", labels)
+
+
+def untrue(index: Index) -> Iterator[str]:
+    """Yields what PROMISES.md says and isn't so: names, labels, and numbers of lines."""
+    for name, labels in names_of(index.texts[counts.PAGE].partition(counts.HEADING)[0]):
+        if not index.is_labelled(name, labels):
+            words = " ".join([name, *labels])
+            yield f"{counts.PAGE}: nothing has this name and these labels: {words}"
+    yield from counts.wrong(index.texts)
+
+
+def fix(top: Path) -> list[str]:
+    """Writes what files repeat, and returns a line for each file that has changed.
+
+    A further line names each thing that `docs/public.txt` no longer has.
+    """
+    texts = texts_below(top)
+    right = {**versions.fixed(texts), **counts.fixed(texts), **public.fixed(Index(texts))}
+    said = []
+    for name, text in right.items():
+        if texts.get(name, "") != text:
+            (top / name).write_text(text, encoding="utf-8")
+            said.append(f"wrote {name}")
+    if public.PAGE in right:
+        lost = public.lost(texts.get(public.PAGE, ""), right[public.PAGE])
+        said += [f"{public.PAGE}: no longer has: {line}" for line in lost]
+    return said
+
+
+def arguments(words: list[str]) -> argparse.Namespace:
+    """Reads the words of the command."""
+    parser = argparse.ArgumentParser(
+        prog="tools/contracts",
+        description=__doc__,
+        formatter_class=argparse.RawDescriptionHelpFormatter,
+        usage="tools/contracts [--tree FOLDER] "
+        "[NAME [LABEL..] | --labels | --promises | --public | --fix]",
+    )
+    parser.add_argument("words", nargs="*", metavar="NAME LABEL", help="see above")
+    parser.add_argument("--tree", type=Path, default=TOP, help="another checkout to read")
+    parser.add_argument("--labels", action="store_true", help="see above")
+    parser.add_argument("--promises", action="store_true", help="see above")
+    parser.add_argument("--public", action="store_true", help="see above")
+    parser.add_argument("--fix", action="store_true", help="see above")
+    return parser.parse_args(words)
+
+
+def index_lines(index: Index) -> list[str]:
+    """Returns a line for each call."""
+    return [f"{call.title}  {call.place}" for call in index.declared]
+
+
+def found_lines(index: Index, name: str, labels: list[str]) -> list[str]:
+    """Returns what is printed of a name. Raises Failed if nothing has it."""
+    found = look_up(index, name, labels)
+    if not found and not labels:
+        found = with_label(index, name)
+    if not found:
+        said = f" with the labels {' '.join(labels)}" if labels else ""
+        raise Failed(f"contracts: nothing is named {name}{said}")
+    return [line for lines in found for line in lines]
+
+
+def check(index: Index) -> None:
+    """Raises Failed if PROMISES.md says what isn't so."""
+    found = list(untrue(index))
+    if found:
+        raise Failed("\n".join([*found, f"contracts: {len(found)} findings"]))
+
+
+def main(words: list[str]) -> None:
+    """Runs `tools/contracts`."""
+    signal.signal(signal.SIGPIPE, signal.SIG_DFL)
+    wanted = arguments(words)
+    top = wanted.tree.resolve()
+    if wanted.fix:
+        say("\n".join(fix(top)) or "nothing to write")
+        return
+    index = Index(texts_below(top))
+    if wanted.promises:
+        check(index)
+    elif wanted.public:
+        say(public.text_of(index).rstrip("\n"))
+    elif wanted.labels:
+        say("\n".join(labels(index)))
+    elif wanted.words:
+        name, *with_labels = wanted.words
+        say("\n".join(found_lines(index, name, with_labels)))
+    else:
+        say("\n".join(index_lines(index)))

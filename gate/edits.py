@@ -1,0 +1,121 @@
+"""Edits: files that hold a wrong body, which the check has to refuse.
+
+An edit is in the form of `rt must-fail`, below lines of its own:
+
+    # function: pool_allocator::bucket_pool::BucketPoolBaseAllocator::allocate
+    # promise: PoolAllocator::allocate: answer
+    file: src/pool_allocator/bucket_pool.rt
+    old: Ok(geometry.chunk(i, layout.size()))
+    new: Ok(geometry.chunk(i - i, layout.size()))
+
+The second line has a call, as users write it, and the clause that the body breaks; an edit of
+`refused-by-text` has none. Each text is one line, and the old one occurs exactly once in the file.
+Further pairs apply to what the earlier ones made.
+"""
+
+import re
+from collections.abc import Callable
+from dataclasses import dataclass
+from pathlib import Path
+
+
+# The name of a clause that has no label.
+NO_LABEL = "(no label)"
+
+
+class BadEdit(Exception):
+    """An edit that can't be read or applied, so it says nothing about a contract."""
+
+
+@dataclass(frozen=True)
+class Promise:
+    """A clause that an edit breaks: a call as users write it, and the label of its clause."""
+
+    call: str
+    label: str
+
+
+@dataclass(frozen=True)
+class Change:
+    """A text that a file of the crate has exactly once, and what replaces it."""
+
+    file: str
+    old: str
+    new: str
+
+
+@dataclass(frozen=True)
+class Edit:
+    """A wrong body: the function that it changes, the promise that it breaks, and its changes."""
+
+    path: Path
+    function: str
+    promise: Promise | None
+    changes: tuple[Change, ...]
+
+
+def read_edit(path: Path) -> Edit:
+    """Reads a file with an edit. Raises BadEdit if it isn't in the form of one."""
+    return parse_edit(path, path.read_text(encoding="utf-8"))
+
+
+def parse_edit(path: Path, text: str) -> Edit:
+    """Reads the text of an edit, of the file at `path`. Raises BadEdit if it isn't in the form."""
+    function = None
+    promise = None
+    file = None
+    old = None
+    changes = []
+    for number, line in enumerate(text.splitlines(), 1):
+        word, _, rest = line.partition(":")
+        value = rest.removeprefix(" ")
+        if old is not None and word != "new":
+            raise BadEdit(f"line {number}: a line `new:` has to follow `old:`")
+        if word == "# function":
+            function = value
+        elif word == "# promise":
+            promise = parse_promise(value, number)
+        elif word == "file":
+            file = value
+        elif word == "old":
+            old = value
+        elif word == "new":
+            if file is None or old is None:
+                raise BadEdit(f"line {number}: `file:` and `old:` have to come before `new:`")
+            changes.append(Change(file, old, value))
+            old = None
+        elif line.strip() and not line.startswith("#"):
+            raise BadEdit(f"line {number}: isn't a line of an edit: {line}")
+    if not function:
+        raise BadEdit("a line `# function: PATH` is missing")
+    if old is not None or not changes:
+        raise BadEdit("lines `file:`, `old:` and `new:` are missing")
+    return Edit(path, function, promise, tuple(changes))
+
+
+def parse_promise(value: str, number: int) -> Promise:
+    """Reads what follows `# promise: ` in a line."""
+    match = re.fullmatch(rf"([\w:]+): (\w+|{re.escape(NO_LABEL)})", value)
+    if match is None:
+        raise BadEdit(f"line {number}: isn't `# promise: CALL: LABEL`: {value}")
+    return Promise(match[1], match[2])
+
+
+def apply(edit: Edit, read: Callable[[str], str]) -> dict[str, str]:
+    """Returns the texts of the files that an edit changes, by their paths in the crate.
+
+    `read` returns the text of a file. Raises BadEdit if a file isn't there, or has the old text of
+    a change not exactly once.
+    """
+    made: dict[str, str] = {}
+    for change in edit.changes:
+        if change.file not in made:
+            try:
+                made[change.file] = read(change.file)
+            except (KeyError, FileNotFoundError) as error:
+                raise BadEdit(f"{change.file}: isn't a file of the crate") from error
+        count = made[change.file].count(change.old)
+        if count != 1:
+            raise BadEdit(f"{change.file}: has {count} times, and not once: {change.old.strip()}")
+        made[change.file] = made[change.file].replace(change.old, change.new)
+    return made

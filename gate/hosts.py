@@ -1,0 +1,133 @@
+"""Runs what hosts have of the library for C, FILE or one that `rt lib` proves: `.ci/run-c [FILE]`.
+
+That is its installation, the release in dist, the examples, the Rust crate, and what GUIDE.md
+shows, from a copy. Once a release of the library is made, nothing may ask for `rt`. The release in
+dist has to have the same bytes, if the same kit and tools made it.
+"""
+
+import filecmp
+import os
+import shutil
+from collections.abc import Mapping
+from pathlib import Path
+
+from gate.crates import TOP
+from gate.files import MADE
+from gate.process import Failed, has, must_run, must_show, say
+from gate.temporary import temporary_folder
+
+# What is in the place of `rt` once the library is built.
+NO_RT = '#!/bin/sh\necho "rt was asked: $*" >&2\nexit 1\n'
+
+
+class Hosts:
+    """One run over a library, with a folder for what it makes."""
+
+    def __init__(self, top: Path, work: Path) -> None:
+        self.top = top
+        self.work = work
+        self.library = work / "given/bb_memory.o"
+        self.prefix = work / "prefix"
+
+    def make_release(self, library: Path | None) -> None:
+        """Makes a release of a library, or of one that is proved and built first."""
+        given = []
+        if library is not None:
+            # `make` splits a path at a blank, and the path of a checkout may have some.
+            shutil.copy2(library, self.work / library.name)
+            given = [f"LIBRARY={self.work / library.name}"]
+        folders = [f"DIST={self.work / 'dist'}", f"BUILD={self.library.parent}"]
+        must_run(["make", "-s", "-C", "crates/bb_memory_c", "release", *folders, *given], self.top)
+        counts = (self.work / "dist/INSTRUCTION_COUNTS").read_text(encoding="utf-8")
+        for line in counts.splitlines():
+            say(line.replace(" ", " instructions: ", 1))
+
+    def environment(self) -> dict[str, str]:
+        """Returns the environment in which `rt` fails, and tools of the user's Rust are found."""
+        folder = self.work / "no_rt"
+        folder.mkdir(exist_ok=True)
+        (folder / "rt").write_text(NO_RT, encoding="utf-8")
+        (folder / "rt").chmod(0o755)
+        path = [str(folder), os.environ["PATH"], str(Path.home() / ".cargo/bin")]
+        return {**os.environ, "PATH": ":".join(path)}
+
+    def check_installation(self, environment: Mapping[str, str]) -> None:
+        """Installs the library below the prefix, and checks what is installed and released."""
+        must_show(
+            [self.top / "crates/bb_memory_c/check", self.library, self.prefix],
+            self.top,
+            environment,
+        )
+
+    def run_examples(self, environment: Mapping[str, str]) -> None:
+        """Builds and runs the examples by the compilers that are there, and under each checker."""
+        make = ["make", "-s", "-C", "examples/c"]
+        prefix = f"PREFIX={self.prefix}"
+        words = [*make, "check", prefix, f"WORK={self.work / 'examples'}"]
+        must_show(words, self.top, environment)
+        if has("clang", environment) and has("clang++", environment):
+            compilers = ["CC=clang", "CXX=clang++"]
+            work = f"WORK={self.work / 'clang'}"
+            must_show([*make, "refused", "plain", *compilers, prefix, work], self.top, environment)
+
+    def check_rust(self, environment: Mapping[str, str]) -> None:
+        """Tests the Rust crate."""
+        if has("cargo", environment):
+            must_show([self.top / "bindings/rust/check", self.prefix], self.top, environment)
+
+    def compare_release(self) -> None:
+        """Compares the release in dist with the one of this library, if the same tools made both."""
+        stored = self.top / "dist"
+        made = self.work / "dist"
+        if not filecmp.cmp(stored / "MADE_BY", made / "MADE_BY", shallow=False):
+            kit = (stored / "MADE_BY").read_text(encoding="utf-8").partition("\n")[0]
+            say(f"dist was made by {kit} or by other tools, so its bytes can't be compared")
+            return
+        names = sorted({file.name for folder in (stored, made) for file in folder.iterdir()})
+        _, differing, missing = filecmp.cmpfiles(stored, made, names, shallow=False)
+        if differing or missing:
+            raise Failed(
+                f"dist is of another library: {' '.join([*differing, *missing])}\n"
+                "make -C crates/bb_memory_c release"
+            )
+
+    def run_guide(self, environment: Mapping[str, str]) -> None:
+        """Runs what GUIDE.md shows for C and Rust, from a fresh copy of the repository."""
+        if not has("pkg-config", environment):
+            return
+        script = must_run([self.top / ".ci/pages", "--hosts"], self.top)
+        if shutil.which("cargo", path=environment["PATH"]) is None:
+            lines = script.splitlines(keepends=True)
+            script = "".join(line for line in lines if "cargo" not in line)
+        shown = self.work / "shown"
+        shown.write_text(script, encoding="utf-8")
+        copy = self.work / "copy"
+        shutil.copytree(self.top, copy, symlinks=True, ignore=shutil.ignore_patterns(*MADE))
+        home = self.work / "home"
+        home.mkdir()
+        variables = {
+            "RUSTUP_HOME": os.environ.get("RUSTUP_HOME", str(Path.home() / ".rustup")),
+            "CARGO_TARGET_DIR": str(self.work / "target"),
+            "LIBRARY": str(self.library),
+            "HOME": str(home),
+        }
+        must_run(["bash", "-euo", "pipefail", shown], copy, {**environment, **variables})
+        say("GUIDE.md: what it shows for C and Rust runs from a fresh copy")
+
+
+def run(library: Path | None) -> None:
+    """Runs what hosts have of a library. Raises Failed if something of it fails."""
+    with temporary_folder() as work:
+        hosts = Hosts(TOP, work)
+        hosts.make_release(library)
+        environment = hosts.environment()
+        hosts.check_installation(environment)
+        hosts.run_examples(environment)
+        hosts.check_rust(environment)
+        hosts.compare_release()
+        hosts.run_guide(environment)
+
+
+def main(words: list[str]) -> None:
+    """Runs `.ci/run-c [FILE]`."""
+    run(Path(words[0]).resolve() if words else None)

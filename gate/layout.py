@@ -1,0 +1,139 @@
+"""Layout and slips that tools find, in C, C++, Rust, Python and shell.
+
+`rt ci` checks the layout of the files of Rattle. A tool that isn't installed is skipped, and a line
+says so; likewise a formatter of another version than the files are laid out by, since versions
+differ in what they write.
+"""
+
+import os
+import re
+import shutil
+from collections.abc import Mapping, Sequence
+from dataclasses import dataclass
+from pathlib import Path
+
+from gate import process
+from gate.crates import TOP
+from gate.files import MADE, files_below
+from gate.process import Failed, has, say
+from gate.temporary import temporary_folder
+
+# The Debian package of each tool has the tool's name.
+PACKAGES = ("clang-format", "black", "mypy", "shellcheck")
+# The versions whose layout the files have, as the tools print them.
+LAYOUT_OF = {"clang-format": r"\b14\.", "black": r"\b23\."}
+C_ENDINGS = {".c", ".h", ".cpp", ".hpp"}
+# How the first line of a script names its language.
+PYTHON = re.compile(r"#!.*\bpython3?$")
+SHELL = re.compile(r"#!.*\b(?:ba)?sh$")
+
+
+@dataclass(frozen=True)
+class Sources:
+    """The files of a checkout by their language."""
+
+    c: Sequence[Path]
+    python: Sequence[Path]
+    shell: Sequence[Path]
+
+
+@dataclass(frozen=True)
+class Check:
+    """A tool's command, and the folder that it is run in."""
+
+    tool: str
+    words: Sequence[str | Path]
+    folder: Path
+
+
+def first_line(file: Path) -> str:
+    """Returns the first line of a file that is a script, and an empty text of any other."""
+    with file.open("rb") as opened:
+        line = opened.readline(200)
+    return line.decode(errors="replace").rstrip("\n") if line.startswith(b"#!") else ""
+
+
+def find_sources(top: Path) -> Sources:
+    """Returns the files of a checkout by their language."""
+    c = []
+    python = []
+    shell = []
+    for file in files_below(top):
+        if file.suffix in C_ENDINGS:
+            c.append(file)
+        elif file.suffix == ".py" or PYTHON.fullmatch(first_line(file)):
+            python.append(file)
+        elif file.suffix == ".sh" or SHELL.fullmatch(first_line(file)):
+            shell.append(file)
+    return Sources(c, python, shell)
+
+
+def checks(top: Path) -> list[Check]:
+    """Returns the checks of a checkout: those of each language that it has files of."""
+    sources = find_sources(top)
+    found = []
+    if sources.c:
+        words: list[str | Path] = ["clang-format", "--dry-run", "-Werror", *sources.c]
+        found.append(Check("clang-format", words, top))
+    if sources.python:
+        words = ["black", "--check", "--quiet", "--diff", *sources.python]
+        found.append(Check("black", words, top))
+        found.append(Check("mypy", ["mypy", "--scripts-are-modules", *sources.python], top))
+    if sources.shell:
+        found.append(Check("shellcheck", ["shellcheck", *sources.shell], top))
+    rust = top / "bindings/rust"
+    if rust.is_dir():
+        found.append(Check("cargo-fmt", ["cargo", "fmt", "--check"], rust))
+        clippy = ["cargo", "clippy", "-q", "--offline", "--locked", "--all-targets"]
+        found.append(Check("cargo-clippy", [*clippy, "--", "-D", "warnings"], rust))
+    return found
+
+
+def is_layout_of(tool: str, environment: Mapping[str, str]) -> bool:
+    """Returns whether a tool has the version that files are laid out by. A line says so if not."""
+    if tool not in LAYOUT_OF:
+        return True
+    version = process.run([tool, "--version"], TOP, environment).text.partition("\n")[0]
+    if re.search(LAYOUT_OF[tool], version) is None:
+        say(f"{tool}: {version} lays files out in another way, skipped")
+        return False
+    return True
+
+
+def findings(check: Check, environment: Mapping[str, str]) -> str | None:
+    """Returns what a tool finds, or None if nothing, or if it can't be run."""
+    if not has(check.tool, environment) or not is_layout_of(check.tool, environment):
+        return None
+    ran = process.run(check.words, check.folder, environment)
+    if ran.is_ok:
+        return None
+    return f"{ran.text.strip()}\n{check.tool}: the findings above"
+
+
+def install() -> None:
+    """Installs the tools that are missing, if this is root on a machine with apt-get.
+
+    A tool that can't be installed is skipped later.
+    """
+    missing = [tool for tool in PACKAGES if shutil.which(tool) is None]
+    if not missing or os.geteuid() != 0 or shutil.which("apt-get") is None:
+        return
+    say(f"layout: installs {' '.join(missing)}")
+    quick = ["-o", "Acquire::Retries=0", "-o", "Acquire::http::Timeout=10"]
+    words = ["apt-get", "install", "-y", "-q", *quick, *missing]
+    environment = {**os.environ, "DEBIAN_FRONTEND": "noninteractive"}
+    if not process.run(words, TOP, environment).is_ok:
+        process.run(["apt-get", "update", "-q", *quick], TOP, environment)
+        process.run(words, TOP, environment)
+
+
+def run(top: Path) -> None:
+    """Runs each check of a checkout. Raises Failed, with all that was found, if there is anything."""
+    with temporary_folder() as work:
+        path = f"{os.environ['PATH']}:{Path.home() / '.cargo/bin'}"
+        environment = {**os.environ, "PATH": path, "CARGO_TARGET_DIR": str(work)}
+        found = [findings(check, environment) for check in checks(top)]
+    texts = [text for text in found if text is not None]
+    if texts:
+        raise Failed("\n".join(texts))
+    say("layout: no findings")

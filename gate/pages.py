@@ -1,0 +1,251 @@
+"""Keeps pages and comments true.
+
+    .ci/pages            prints each thing that isn't so; the status is 1 if there is any
+    .ci/pages --hosts    prints a script of what GUIDE.md shows from C
+
+Each example of README.md and GUIDE.md is in a file that is proved or that tests run. What pages and
+comments name is there, and so is what they link to. PROMISES.md and the edits name calls with
+labels of their clauses. Numbers that a page repeats are right. No text is new by which a call of
+what threads share could wait, and the files that a person has to read are as they were read.
+"""
+
+import re
+from collections.abc import Callable, Iterator, Mapping
+from dataclasses import dataclass
+from fnmatch import filter as matching
+from pathlib import Path
+
+from gate import contracts, links, places, process, public, readings, versions
+from gate.crates import TOP, Workspace
+from gate.edits import BadEdit, parse_edit
+from gate.files import TreeChanged, texts_below
+from gate.index import Index
+from gate.links import without_code
+from gate.process import Failed, say
+
+# The pages whose examples are in files that are proved or run: page, language, and the files.
+TESTED = (
+    ("README.md", "c", "*/bb_memory.h"),
+    ("README.md", "rust", "crates/examples/src/*.rt"),
+    ("GUIDE.md", "rust", "crates/examples/src/*.rt"),
+)
+# Words with which no comment begins: the files, the mark of a comment, and the words.
+FIRST_WORDS = (
+    ("crates/*/src/*.rt", "//[/!]", "What|Whether"),
+    ("crates/*/specs/*.antt", "--", "it|they|that|this"),
+)
+# The most columns of a commit's subject, which `git log --oneline` shows.
+SUBJECT = 72
+# How often the tree is read again if it changes meanwhile.
+ATTEMPTS = 3
+
+
+@dataclass(frozen=True)
+class Tree:
+    """A checkout: its texts by their paths, the words of those that are no pages, and its index."""
+
+    top: Path
+    texts: Mapping[str, str]
+    words: frozenset[str]
+    index: Index
+
+    def named(self, pattern: str) -> list[str]:
+        """Returns the paths that a pattern fits, in order."""
+        return sorted(matching(self.texts, pattern))
+
+    def joined(self, pattern: str) -> str:
+        """Returns the texts of the files that a pattern fits, as one."""
+        return "\n".join(self.texts[path] for path in self.named(pattern))
+
+
+def read_texts(top: Path, read: Callable[[Path], dict[str, str]] = texts_below) -> dict[str, str]:
+    """Returns the texts of a checkout, which others may write to meanwhile.
+
+    Where a file vanishes while it is read, all is read again. Raises TreeChanged after some times.
+    """
+    for _ in range(ATTEMPTS - 1):
+        try:
+            return read(top)
+        except TreeChanged:
+            continue
+    return read(top)
+
+
+def read_tree(top: Path) -> Tree:
+    """Reads a checkout."""
+    texts = read_texts(top)
+    of_code = [text for path, text in texts.items() if not path.endswith(".md")]
+    words = frozenset(re.findall(r"\w+", " ".join([*texts, *of_code])))
+    return Tree(top, texts, words, Index(texts))
+
+
+def bare(text: str) -> str:
+    """Returns a text without the indentation and the marks of comments."""
+    return re.sub(r"^[ \t]*(//[/!]?)?[ \t]*|[ \t]+$", "", text, flags=re.M)
+
+
+def untested_examples(tree: Tree) -> Iterator[str]:
+    """Yields each example of a page that is in none of the files that are proved or run."""
+    for page, language, files in TESTED:
+        tested = bare(tree.joined(files))
+        for example in re.findall(
+            rf"^```{language}\n(.*?)^```$", bare(tree.texts[page]), re.M | re.S
+        ):
+            if example not in tested:
+                yield f"{page}: an example that no file has: {example}"
+
+
+def lost_examples(tree: Tree) -> Iterator[str]:
+    """Yields each example that a comment names and that isn't there."""
+    for path in tree.named("crates/*/src/*.rt"):
+        for module, name, crate in re.findall(
+            "Example: `(.*)::(.*)` of `(.*)`", bare(tree.texts[path])
+        ):
+            source = tree.texts.get(f"{crate}/src/{module}.rt", "")
+            if re.search(rf"^pub fn {name}\b", source, re.M) is None:
+                yield f"{path}: an example that isn't there: {module}::{name} of {crate}"
+
+
+def is_there(tree: Tree, name: str) -> bool:
+    """Returns whether a name of a page is a path, a call, a definition, or words of one file.
+
+    Words in capitals stand for any word.
+    """
+    words = [word for word in re.findall(r"\w+", name) if not word.isupper()]
+    if "/" in name:
+        pattern = "*" + re.sub(r"\b[A-Z]+\b", "*", name) + "*"
+        return bool(matching(tree.texts, pattern)) and tree.words.issuperset(words)
+    if "::" not in name:
+        return tree.words.issuperset(words)
+    index = tree.index
+    if index.calls(name) or index.definitions_named(name) or index.types_named(name):
+        return True
+    return any(
+        all(re.search(rf"\b{word}\b", f"{path} {text}") for word in words)
+        for path, text in tree.texts.items()
+        if not path.endswith(".md")
+    )
+
+
+def lost_names(tree: Tree) -> Iterator[str]:
+    """Yields each name of a page that nothing has."""
+    for page in tree.named("[A-Zd]*.md"):
+        if page == "CHANGELOG.md":
+            continue
+        prose = without_code(tree.texts[page])
+        for name in re.findall(r"`(?:\./)?(\w[\w:./*-]*)`(?!:\n)", prose):
+            if not is_there(tree, name):
+                yield f"{page}: names what isn't there: {name}"
+
+
+def unnamed_crates(tree: Tree) -> Iterator[str]:
+    """Yields each crate that CONTRIBUTING.md doesn't name."""
+    named = set(re.findall(r"`(\w+)`", tree.texts["CONTRIBUTING.md"]))
+    for crate in Workspace(tree.top).crates:
+        if crate not in named:
+            yield f"CONTRIBUTING.md: doesn't name the crate {crate}"
+
+
+def beginnings(text: str, mark: str) -> Iterator[str]:
+    """Yields each line of a comment that begins a sentence: the first, or one after a full stop."""
+    is_within = False
+    for line in text.split("\n"):
+        is_comment = re.match(rf"\s*{mark}", line) is not None
+        if is_comment and not is_within:
+            yield line.strip()
+        is_within = is_comment and not line.rstrip().endswith(".")
+
+
+def wrong_first_words(tree: Tree) -> Iterator[str]:
+    """Yields each comment that begins with a word that makes no sense by itself."""
+    for files, mark, words in FIRST_WORDS:
+        wrong = re.compile(rf"{mark} ?(?:{words})\b", re.I)
+        for path in tree.named(files):
+            for line in beginnings(tree.texts[path], mark):
+                if wrong.match(line) is not None:
+                    yield f"{path}: {line}"
+
+
+def lost_edits(tree: Tree) -> Iterator[str]:
+    """Yields each edit in a folder that neither `.ci/mutants` nor the table of places reads."""
+    for path in sorted(tree.texts):
+        if not path.endswith(".edit"):
+            continue
+        if not contracts.EDIT_PATH.fullmatch(path) and not places.EDITS.fullmatch(path):
+            yield f"{path}: is in no folder whose edits are judged"
+
+
+def wrong_promises(tree: Tree) -> Iterator[str]:
+    """Yields each edit whose `# promise:` names no clause of a call, or that has none."""
+    for path, text in sorted(tree.texts.items()):
+        if contracts.EDIT_PATH.fullmatch(path) is None:
+            continue
+        try:
+            promise = parse_edit(Path(path), text).promise
+        except BadEdit as error:
+            yield f"{path}: {error}"
+            continue
+        if promise is None:
+            yield f"{path}: has no line `# promise: CALL: LABEL`"
+        elif not tree.index.calls(promise.call):
+            yield f"{path}: no call is named {promise.call}"
+        elif not tree.index.has_promise(promise.call, promise.label):
+            yield f"{path}: {promise.call} has no clause {promise.label}"
+
+
+def long_subject(top: Path) -> Iterator[str]:
+    """Yields the subject of the last commit if it is too long, where the checkout is one of git."""
+    if not (top / ".git").exists():
+        return
+    shown = process.run(["git", "log", "-1", "--format=%s"], top)
+    subject = shown.text.rstrip("\n")
+    if shown.is_ok and len(subject) > SUBJECT:
+        yield f"the last commit's subject has {len(subject)} columns, and not {SUBJECT}: {subject}"
+
+
+def findings(tree: Tree) -> Iterator[str]:
+    """Yields all that isn't so."""
+    yield from untested_examples(tree)
+    yield from lost_examples(tree)
+    yield from lost_names(tree)
+    yield from links.dead_links(tree.texts)
+    yield from links.DocLinks(tree.texts, tree.index).dead()
+    yield from contracts.untrue(tree.index)
+    yield from public.wrong(tree.index)
+    yield from versions.wrong(tree.texts)
+    yield from lost_edits(tree)
+    yield from wrong_promises(tree)
+    yield from unnamed_crates(tree)
+    yield from wrong_first_words(tree)
+    yield from places.findings(tree.texts)
+    yield from readings.findings(tree.texts)
+    yield from long_subject(tree.top)
+
+
+def hosts(guide: str) -> Iterator[str]:
+    """Yields a script of what GUIDE.md shows from C, in parts.
+
+    A text of C goes into the file that the line above it names.
+    """
+    part = re.search(r"^## From C, .*?^## ", guide, re.M | re.S)
+    if part is None:
+        raise ValueError("GUIDE.md: has no section `From C, ..`")
+    blocks = re.findall(r"(?:`([\w.]+)`:\n\n)?^```(sh|c)\n(.*?)^```$", part[0], re.M | re.S)
+    for file, language, text in blocks:
+        if language == "sh":
+            yield text
+        else:
+            yield f"cat > {file} <<'END'\n{text}END\n"
+
+
+def main(words: list[str]) -> None:
+    """Runs `.ci/pages`."""
+    if words == ["--hosts"]:
+        print(*hosts((TOP / "GUIDE.md").read_text(encoding="utf-8")), sep="")
+        return
+    if words:
+        raise Failed("usage: .ci/pages [--hosts]")
+    found = list(findings(read_tree(TOP)))
+    if found:
+        raise Failed("\n".join([*found, f"pages: {len(found)} findings"]))
+    say("pages: 0 findings")

@@ -1,0 +1,339 @@
+"""The table of places: what the libraries may name, and which files step on words or go round.
+
+No contract sees a step that is in no log, nor a wait. So two lists name what may be used: `NAMED`
+of other crates, and `CALLED` of calls in what threads share that the libraries don't define. The
+texts by which a call could wait are counted by their files in `PLACES`. Whoever changes such a
+place reads it, and then changes its number here. Comments and clauses don't count.
+
+A text can be evaded. So gate/readings.py has sums of the files that a person has to read.
+"""
+
+import functools
+import re
+from collections import Counter
+from collections.abc import Iterator, Mapping
+from dataclasses import dataclass
+from pathlib import Path
+
+from gate.code import UNREADABLE, code_of, functions
+from gate.edits import BadEdit, apply, parse_edit
+
+POOL = "bb_memory_shared_pools/src/shared_pool/"
+BUMP = "bb_memory_bump/src/shared_bump"
+C = "bb_memory_c/src/"
+C_CALLS = "bb_memory_c_calls/src/"
+EDITS = re.compile(r"crates/(\w+)/refused-by-text/[^/]+\.edit")
+SOURCE = re.compile(r"crates/(bb_\w+/src/.*)\.rt")
+# The crates over `atomic_table`: what threads share, and what C calls.
+SHARED = re.compile(r"bb_memory_(?:bump|c|c_calls|seats|shared_pools)/")
+# The folder of the proof of a function that calls itself, which has the measure by which it ends.
+RECURSION = re.compile(r"crates/(bb_\w+/proofs/(?:.*/)?\+[^/]+)/.*")
+
+# What the libraries may name of crates that aren't theirs.
+NAMED = frozenset(
+    {
+        "atomic_table::Join",
+        "atomic_table::Play",
+        "atomic_table::Seat",
+        "atomic_table::Split",
+        "atomic_table::Table",
+        "atomic_table::TableRule",
+        "std::alloc::AllocError",
+        "std::alloc::Allocator",
+        "std::alloc::Allocator as LanguageAllocator",
+        "std::alloc::Global",
+        "std::fmt",
+        "std::marker::Brand",
+        "std::marker::Model",
+        "std::marker::PhantomData",
+        "std::mem",
+        "std::ptr",
+        "std::sync::Arc",
+        "std::sync::atomic::AtomicU64",
+        "std::sync::atomic::Ordering",
+        "thiserror::Error",
+    }
+)
+# How imports of the libraries' own begin, besides those of modules of the same file.
+OWN = re.compile(r"bb_\w+|crate|self|super")
+MODULE = re.compile(r"\bmod (\w+);")
+IMPORT = re.compile(r"\buse\s+([^;]+);")
+PATH = re.compile(r"(?<![\w:])(?:::\s*)?((?:std|core|alloc|atomic_table|thiserror)(?:::\w+)+)")
+
+# What may be called in the crates that threads share, besides the libraries' own functions.
+CALLED = frozenset(
+    """
+    close_with compare_exchange copied fetch_add fetch_max filter from_elem from_raw get
+    into_raw_with_allocator is_none is_some iter_mut join_seat load_new_seat map map_err max min
+    null_mut of_words ok ok_or peek pop push_reserved replace saturating_sub split_seat store swap
+    try_clone unwrap with_capacity
+    """.split()
+)
+ATTRIBUTE = re.compile(r"#!?\[(?!cycle\b)[^\[\]]*\]")
+CALL = re.compile(r"\b(?!pub\b)([a-z_]\w*)!?(?=\(|::<)")
+DEFINED = re.compile(r"\bfn (\w+)")
+
+
+@dataclass(frozen=True)
+class Kind:
+    """A kind of text, and how often each file may have each; a file that isn't named has none.
+
+    A text is what the last group of the pattern finds, in the files whose path begins as `within`.
+    """
+
+    name: str
+    within: re.Pattern[str]
+    pattern: re.Pattern[str]
+    numbers: Mapping[str, Mapping[str, int]]
+
+
+PLACES = (
+    Kind(
+        "shares a word or defines a step",
+        re.compile(""),
+        re.compile(r"\b(Atomic\w*|Ordering|Table\w*|Play|Split|Join|Arc(?:::\w+)?)\b"),
+        {
+            POOL + "rule": {"TableRule": 1},
+            POOL + "flags": {"Table": 2, "AtomicU64": 4, "Play": 13, "Split": 2, "Join": 2},
+            POOL + "figures": {"Ordering": 4},
+            BUMP + "/rule": {"TableRule": 1},
+            BUMP + "/position": {"Table": 2, "Play": 4, "Split": 1, "Join": 1},
+            C + "shared_bump": {"Arc": 2, "Arc::new": 1, "Arc::try_clone": 1},
+            C + "shared_pool": {"Arc": 3, "Arc::new": 1, "Arc::try_clone": 1},
+        },
+    ),
+    Kind(
+        "steps on a word",
+        SHARED,
+        re.compile(
+            r"(?:\.|::)(load|store|swap|compare_exchange\w*|fetch_\w+|exchange|read"
+            r"|load_new_seat|split_seat|join_seat|peek|of_words|close_with)\b"
+        ),
+        {
+            POOL
+            + "flags": {
+                "of_words": 1,
+                "split_seat": 2,
+                "join_seat": 2,
+                "compare_exchange": 3,
+                "load": 4,
+                "load_new_seat": 1,
+                "store": 5,
+                "peek": 1,
+            },
+            POOL + "figures": {"fetch_add": 1, "fetch_max": 2, "load": 1},
+            BUMP: {"load": 1},
+            BUMP
+            + "/position": {
+                "of_words": 1,
+                "split_seat": 1,
+                "join_seat": 1,
+                "compare_exchange": 1,
+                "load": 3,
+                "close_with": 1,
+            },
+            BUMP + "/request": {"read": 1, "exchange": 1},
+            C + "shared_pool": {"swap": 1},
+        },
+    ),
+    Kind(
+        "has a word of the figures",
+        re.compile("bb_memory_shared_pools/"),
+        re.compile(r"\.(refused|greatest)\b"),
+        {POOL + "figures": {"refused": 2, "greatest": 2}},
+    ),
+    Kind(
+        "probes, meets, or reads a word in no log",
+        SHARED,
+        re.compile(
+            r"(?:\.|::)(try_flag|try_at|probe|attach_number|meet|meet_rest"
+            r"|load_for_meeting|found|holder|is_held|is_held_by|held_at|is_detached|is_out"
+            r"|count_out|count_taken|figures)\b"
+        ),
+        {
+            POOL + "flags": {"try_at": 1, "load_for_meeting": 1},
+            POOL + "buckets": {"try_flag": 1, "meet": 1, "meet_rest": 1},
+            POOL + "next_fit": {"try_at": 1, "probe": 1},
+            POOL + "by_number": {"found": 1, "is_held": 1, "is_held_by": 1},
+            POOL + "caching": {"attach_number": 1, "is_held_by": 1, "meet": 1},
+            POOL + "detached": {"attach_number": 1, "is_detached": 1},
+            POOL + "figures": {"count_taken": 1},
+            POOL + "meeting": {"load_for_meeting": 1, "meet_rest": 1},
+            BUMP: {"meet": 1, "meet_rest": 1},
+            BUMP + "/position": {"load_for_meeting": 1},
+            BUMP + "/meeting": {"load_for_meeting": 1, "meet_rest": 1},
+            C + "detached": {"attach_number": 2, "held_at": 2},
+            C
+            + "shared_pool": {
+                "holder": 1,
+                "held_at": 1,
+                "is_held": 2,
+                "is_out": 2,
+                "count_out": 1,
+                "figures": 1,
+            },
+            C_CALLS + "call": {"is_held": 1},
+            C_CALLS + "one_owner": {"is_held": 1},
+        },
+    ),
+    Kind(
+        "goes round",
+        SHARED,
+        re.compile(
+            r"\b(for\b(?=[^{};]*\bin\b)|while\b|loop\b|iter\w*|cycle\b(?=\())"
+            r"|(\.\.=?)|(?:[(\[,={;>]|\bmove|\breturn|\belse)\s*(\|)"
+        ),
+        {
+            POOL + "flags": {"..": 1, "|": 1},
+            POOL + "buckets": {"for": 2, "..": 2},
+            POOL + "next_fit": {"for": 1, "..": 1},
+            POOL + "by_number": {"for": 1, "..": 1},
+            POOL + "caching": {"while": 1},
+            BUMP: {"for": 1, "..": 1},
+            BUMP + "/meeting": {"while": 1},
+            BUMP + "/request": {"loop": 1},
+            C + "shared_pool": {"for": 2, "..": 4, "|": 1},
+            C_CALLS + "call": {"for": 2, "iter_mut": 1},
+            C_CALLS + "handle": {"|": 1},
+        },
+    ),
+)
+
+# How often functions call themselves, by their files.
+OWN_CALLS: Mapping[str, Mapping[str, int]] = {
+    POOL + "meeting": {"meet_rest": 1},
+    BUMP + "/meeting": {"meet_rest": 1},
+}
+# The functions that call themselves, by the folders of their proofs.
+RECURSIONS = frozenset(
+    {
+        "bb_memory_bump/proofs/shared_bump/SharedBumpAllocator/+meet_rest",
+        "bb_memory_shared_pools/proofs/shared_pool/flags/Flags/+meet_rest",
+    }
+)
+
+
+def sources_of(texts: Mapping[str, str]) -> dict[str, str]:
+    """Returns the sources of the libraries, by their paths below `crates`, without `.rt`."""
+    found = {}
+    for path, text in texts.items():
+        source = SOURCE.fullmatch(path)
+        if source is not None:
+            found[source[1]] = text
+    return found
+
+
+def imported(tree: str) -> Iterator[str]:
+    """Yields each path that an import has, as `std::alloc::Global` of `std::alloc::{Global}`."""
+    head, brace, rest = re.sub(r"\s*(::|[{},])\s*", r"\1", tree.strip()).partition("{")
+    if not brace:
+        yield head.removeprefix("::")
+        return
+    for part in re.findall(r"(?:[^,{}]|\{(?:[^{}]|\{[^{}]*\})*\})+", rest.removesuffix("}")):
+        yield from imported(head + part)
+
+
+def unnamed(code: str) -> Iterator[str]:
+    """Yields each path of another crate that the libraries may not name."""
+    own = {*MODULE.findall(code)}
+    paths = [path for tree in IMPORT.findall(code) for path in imported(tree)]
+    roots = [(path.partition("::")[0], path) for path in paths]
+    outside = [path for root, path in roots if root not in own and OWN.fullmatch(root) is None]
+    for path in [*outside, *PATH.findall(IMPORT.sub("", code))]:
+        if not any(path == name or path.startswith(name + "::") for name in NAMED):
+            yield path
+
+
+def own_calls(code: str) -> Iterator[str]:
+    """Yields the name of a function for each time that it calls itself."""
+    for name, body in functions(code):
+        yield from re.findall(rf"(?:\bself\.|\bSelf::|(?<![\w.:]))({name})\b(?=\(|::<)", body)
+
+
+def counted(found: Iterator[str], right: Mapping[str, int]) -> Iterator[str]:
+    """Yields each text that is found more or less often than is right, with how often it is."""
+    counts = Counter(found)
+    for text in sorted({*counts, *right}):
+        if counts[text] != right.get(text, 0):
+            yield f"`{text}` {counts[text]} times, and not {right.get(text, 0)}"
+
+
+@functools.cache
+def bare(source: str) -> str:
+    """Returns the code of a source without attributes."""
+    return ATTRIBUTE.sub("", code_of(source))
+
+
+@functools.cache
+def defined_in(code: str) -> frozenset[str]:
+    """Returns the names of the functions that a code defines."""
+    return frozenset(DEFINED.findall(code))
+
+
+@functools.cache
+def misplaced_in(name: str, code: str, defined: frozenset[str]) -> tuple[str, ...]:
+    """Returns what the code of one file names or calls that it may not, and its wrong numbers."""
+    found = [f"names what isn't in NAMED: {path}" for path in unnamed(code)]
+    body = IMPORT.sub("", code)
+    for kind in PLACES:
+        if kind.within.match(name) is not None:
+            texts = (match[match.lastindex or 0] for match in kind.pattern.finditer(body))
+            wrong = counted(texts, kind.numbers.get(name, {}))
+            found += [f"{text} ({kind.name})" for text in wrong]
+    if SHARED.match(name) is not None:
+        calls = sorted({*CALL.findall(body)} - defined - CALLED)
+        found += [f"calls what isn't in CALLED: {call}" for call in calls]
+        wrong = counted(own_calls(body), OWN_CALLS.get(name, {}))
+        found += [f"{text} (calls itself)" for text in wrong]
+    return tuple(found)
+
+
+def misplaced(sources: Mapping[str, str]) -> list[str]:
+    """Returns what sources name or call that they may not, and the texts at wrong places."""
+    found = []
+    codes = {name: bare(source) for name, source in sources.items()}
+    defined = frozenset().union(*map(defined_in, codes.values()))
+    for name in sorted({*sources, *(name for kind in PLACES for name in kind.numbers)}):
+        file = f"crates/{name}.rt"
+        if UNREADABLE.search(sources.get(name, "")) is not None:
+            found.append(
+                f"{file}: a macro, a raw text or a comment in stars, which isn't read here"
+            )
+        wrong = misplaced_in(name, codes.get(name, ""), defined)
+        found += [f"{file}: {text}" for text in wrong]
+    return found
+
+
+def recursions(texts: Mapping[str, str]) -> list[str]:
+    """Returns the folders of proofs of recursions that the table doesn't have, or has in vain."""
+    folders = {match[1] for path in texts if (match := RECURSION.fullmatch(path)) is not None}
+    return [
+        *(f"crates/{folder}: isn't in RECURSIONS" for folder in sorted(folders - RECURSIONS)),
+        *(f"crates/{folder}: is gone from RECURSIONS" for folder in sorted(RECURSIONS - folders)),
+    ]
+
+
+def unrefused(texts: Mapping[str, str]) -> list[str]:
+    """Returns the edits of `refused-by-text` that the table lets pass, or that can't be applied."""
+    sources = sources_of(texts)
+    found = []
+    for path, text in sorted(texts.items()):
+        crate = EDITS.fullmatch(path)
+        if crate is None:
+            continue
+        folder = f"crates/{crate[1]}/"
+        try:
+            edit = parse_edit(Path(path), text)
+            made = apply(edit, lambda file: texts[folder + file])
+        except BadEdit as error:
+            found.append(f"{path}: isn't an edit of these sources: {error}")
+            continue
+        edited = sources_of({folder + file: after for file, after in made.items()})
+        if not misplaced(sources | edited):
+            found.append(f"{path}: not refused by the table of places")
+    return found
+
+
+def findings(texts: Mapping[str, str]) -> list[str]:
+    """Returns all that the table of places finds."""
+    return [*misplaced(sources_of(texts)), *recursions(texts), *unrefused(texts)]

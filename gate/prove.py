@@ -1,0 +1,114 @@
+"""Proves one crate in a lane, unless it is kept, and runs the tests of one."""
+
+import os
+import shutil
+import subprocess
+import time
+from collections.abc import Callable
+from dataclasses import dataclass
+from pathlib import Path
+
+from gate import process, rt_output
+from gate.crates import Workspace
+from gate.process import ONE_TEXT, say
+
+
+@dataclass(frozen=True)
+class Built:
+    """A run of `rt` that proved and built a crate, or failed: what it wrote, and what it took."""
+
+    status: int
+    text: str
+    processor_seconds: float
+
+
+def command_of(workspace: Workspace, name: str) -> str:
+    """Returns the command of `rt` that proves and builds a crate."""
+    return "run" if workspace.is_program(name) else "lib"
+
+
+def product_of(workspace: Workspace, name: str) -> Path:
+    """Returns what a crate's build makes."""
+    if workspace.is_program(name):
+        return workspace.out(name) / name
+    if workspace.crates[name].is_static_library:
+        return workspace.out(name) / f"lib{name}.a"
+    return workspace.out(name) / "rlib"
+
+
+def is_kept(workspace: Workspace, name: str) -> bool:
+    """Returns whether an earlier run proved a crate, and nothing that its proof read has changed."""
+    stamp = workspace.out(name) / "proved"
+    if not stamp.exists() or not product_of(workspace, name).exists():
+        return False
+    return stamp.read_text(encoding="utf-8") == workspace.sum_of(name)
+
+
+def build(lane: Workspace, name: str, jobs: int, nice: int, report: Callable[[str], None]) -> Built:
+    """Proves and builds a crate in its lane by some jobs. Reports how far it is."""
+    folder = lane.folder(name)
+    words = ["nice", "-n", str(nice), "rt", command_of(lane, name), "--jobs", str(jobs)]
+    stdin = folder / "stdin"
+    lines = []
+    with open(stdin if stdin.exists() else os.devnull, encoding="utf-8") as given:
+        ran = subprocess.Popen(words, cwd=folder, stdin=given, **ONE_TEXT)
+    with ran:
+        assert ran.stdout is not None
+        for line in ran.stdout:
+            lines.append(line)
+            how_far = rt_output.progress(line)
+            if how_far is not None:
+                report(how_far)
+        _, status, used = os.wait4(ran.pid, 0)
+        ran.returncode = os.waitstatus_to_exitcode(status)
+    return Built(ran.returncode, "".join(lines), used.ru_utime + used.ru_stime)
+
+
+def bring(made: Path, out: Path) -> None:
+    """Replaces what is in a crate's out/ by what was made in its lane."""
+    for each in made.iterdir():
+        old = out / each.name
+        if old.is_dir():
+            shutil.rmtree(old)
+        each.replace(old)
+
+
+def prove(
+    workspace: Workspace, name: str, jobs: int, nice: int, report: Callable[[str], None]
+) -> bool:
+    """Proves and builds a crate over those below it, unless it is kept. Returns whether it is proved.
+
+    Prints why it isn't, and what it took.
+    """
+    if is_kept(workspace, name):
+        return True
+    began = time.monotonic()
+    lane = workspace.lane(name)
+    read = lane.sum_of(name)
+    built = build(lane, name, jobs, nice, report)
+    is_proved = built.status == 0
+    stamp = workspace.out(name) / "proved"
+    stamp.unlink(missing_ok=True)
+    bring(lane.out(name), workspace.out(name))
+    shutil.rmtree(lane.top)
+    if is_proved:
+        stamp.write_text(read, encoding="utf-8")
+    else:
+        say(built.text.replace(str(lane.top), str(workspace.top)))
+    word = "proved" if is_proved else "NOT proved"
+    seconds = f"{time.monotonic() - began:.0f} s, {built.processor_seconds:.0f} s of processor time"
+    say(f"test: {name} {word} in {seconds}")
+    return is_proved
+
+
+def run_tests(workspace: Workspace, name: str) -> list[bool]:
+    """Runs the tests of a crate without a proof, and returns for each whether it passed."""
+    ran = process.run(["rt", "try", "--test"], workspace.folder(name))
+    if ran.is_ok:
+        say(f"test: ran the tests of {name}")
+    else:
+        say(ran.text)
+    results = [test.is_ok for test in rt_output.tests(ran.text)]
+    if not results or all(results) != ran.is_ok:
+        return [False]
+    return results

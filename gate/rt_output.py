@@ -1,0 +1,106 @@
+"""The reader of what `rt` writes. No other file knows the form of its lines."""
+
+import re
+from collections.abc import Iterator
+from dataclasses import dataclass
+
+# Errors of a proof file that only say that a name is gone, or that another declaration was refused:
+# they show nothing of a contract.
+NAME_IS_GONE = re.compile("has no |is not in scope|not admitted|stands on")
+
+
+@dataclass(frozen=True)
+class Verdict:
+    """What a check says of one function: the end of its line, and the notes above the line."""
+
+    text: str
+    notes: str
+
+
+@dataclass(frozen=True)
+class Test:
+    """A test that has run."""
+
+    name: str
+    is_ok: bool
+
+
+@dataclass(frozen=True)
+class Counts:
+    """The last line of a run: how much has passed, and how much failed."""
+
+    passed: int
+    failed: int
+
+
+def progress(line: str) -> str | None:
+    """Returns how far a check is, as `3 of 10`, if a line says so."""
+    match = re.match(r"so far: (\d+ of \d+)|checked \S+, (\d+ of \d+)", line)
+    if match is None:
+        return None
+    return match[1] or match[2]
+
+
+def verdict_on(path: str, text: str) -> Verdict | None:
+    """Returns what a check says of the function at a path, which begins with the crate's name."""
+    pattern = rf"((?:^(?:note|help): .*\n)*)^fn {re.escape(path)}: (.*)"
+    match = re.search(pattern, text, re.M)
+    if match is None:
+        return None
+    return Verdict(match[2], match[1])
+
+
+def functions_that_may_wait(text: str) -> list[str]:
+    """Returns the functions that are proved, but may wait in place of returning.
+
+    A test also may abort, so it has another line, and isn't meant.
+    """
+    found = re.findall(r"^fn (.*): proved, may wait", text, re.M)
+    return list(dict.fromkeys(found))
+
+
+def open_goals(path: str, text: str) -> list[str]:
+    """Returns the goals of a function that a check left open, and what it says of refused answers.
+
+    `path` begins with the crate's name. Answers in the proof files of this function count, but for
+    those that are refused because a name is gone.
+    """
+    goals = []
+    verdict = verdict_on(path, text)
+    if verdict is not None:
+        goals += re.findall(r"^note: src/\S+: .*?\(`([^`]+)`\)", verdict.notes, re.M)
+        goals += re.findall(r"`search` did not prove `([^`]+)`", verdict.text)
+    for error in refused_answers(path, text):
+        if NAME_IS_GONE.search(error) is None:
+            goals.append(error)
+    return goals
+
+
+def refused_answers(path: str, text: str) -> Iterator[str]:
+    """Yields the errors in the proof files of a function, each in one line."""
+    parts = [re.escape(part) for part in path.split("::")[1:]]
+    # The folder of a function that calls itself begins with a plus.
+    parts[-1] = r"\+?" + parts[-1]
+    folder = "/".join(["proofs", *parts])
+    pattern = rf"^(?:\./)?{folder}/\w+\.antt:\S+ error: (.*(?:\n  .*)*)"
+    for error in re.findall(pattern, text, re.M):
+        yield " ".join(error.split())
+
+
+def compile_errors(text: str) -> list[str]:
+    """Returns the errors by which a text that is no program ends a check before any proof."""
+    return re.findall(r"^(?:\S+ error\[[\w-]+\]|rattle: error): .*", text, re.M)
+
+
+def tests(text: str) -> list[Test]:
+    """Returns the tests that have run, in their order."""
+    found = re.findall(r"^test (\S+) \.\.\. (\w+)", text, re.M)
+    return [Test(name, word == "ok") for name, word in found]
+
+
+def counts(text: str) -> Counts | None:
+    """Returns what the last line of a run counts, if it counts."""
+    match = re.fullmatch(r"(\d+) passed, (\d+) failed", text.strip().rpartition("\n")[2])
+    if match is None:
+        return None
+    return Counts(int(match[1]), int(match[2]))

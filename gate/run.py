@@ -1,0 +1,201 @@
+"""The merge gate, `.ci/run`: all that a change has to pass.
+
+That is the toolchain's gate `rt ci`, which proves all crates and tests from nothing, and beside it
+the gate's own tests, pages, layout, `./test`, mutants, C plainly and under each checker, and the
+Rust crate. OOM tests run on what `rt ci` built.
+"""
+
+import re
+import shutil
+import signal
+import subprocess
+import sys
+import time
+from collections.abc import Iterator, Sequence
+from contextlib import ExitStack, contextmanager
+from pathlib import Path
+from types import FrameType
+
+from gate import layout, out_of_memory, rt_output
+from gate.crates import TOP, Workspace
+from gate.process import Failed, must_run, must_show, say, status_of
+from gate.temporary import temporary_folder
+
+# The word that a library needs to wait, and the kit's trait that brings it.
+WAIT = re.compile(r"\bWait(?:Methods)?\b")
+# The library that `./test` has built.
+LIBRARY = "crates/bb_memory_c/out/libbb_memory_c.a"
+
+
+def waiting_lines(workspace: Workspace) -> list[str]:
+    """Returns the lines of sources that name Wait, each with its place.
+
+    A function that may wait would let a lock be put round an allocator. Tests join threads by the
+    promise that started them.
+    """
+    found = []
+    for name in workspace.crates:
+        for file in workspace.sources(name):
+            if file.suffix != ".rt":
+                continue
+            lines = file.read_text(encoding="utf-8").splitlines()
+            for number, line in enumerate(lines, 1):
+                if WAIT.search(line):
+                    found.append(f"{file.relative_to(workspace.top)}:{number}: {line}")
+    return found
+
+
+def refuse_waiting_lines(workspace: Workspace) -> None:
+    """Raises Failed if a source names Wait."""
+    found = waiting_lines(workspace)
+    if found:
+        raise Failed("\n".join([*found, "run: the lines above name Wait"]))
+
+
+def refuse_waiting_functions(log: str) -> None:
+    """Raises Failed if the toolchain says of a function that it may wait."""
+    found = rt_output.functions_that_may_wait(log)
+    if found:
+        raise Failed("\n".join([*found, "run: the functions above may wait"]))
+
+
+def copy_for_rt(top: Path, copy: Path) -> None:
+    """Copies what `rt ci` reads, but no mutants, for each of which it would prove a crate once more.
+
+    `.ci/mutants` judges those.
+    """
+    copy.mkdir()
+    for file in ("HANDLES", "crates.txt"):
+        shutil.copy2(top / file, copy)
+    without = shutil.ignore_patterns("out", "must-fail")
+    shutil.copytree(top / "crates", copy / "crates", symlinks=True, ignore=without)
+
+
+class Background:
+    """A command that runs beside others. Its output goes to a file, or else to the gate's own."""
+
+    def __init__(self, words: Sequence[str | Path], folder: Path, log: Path | None) -> None:
+        self.log = log
+        self.command = " ".join(str(word) for word in words)
+        with ExitStack() as files:
+            output = files.enter_context(log.open("wb")) if log is not None else None
+            self.process = subprocess.Popen(
+                words,
+                cwd=folder,
+                stdin=subprocess.DEVNULL,
+                stdout=output,
+                stderr=subprocess.STDOUT if output is not None else None,
+            )
+
+    def text(self) -> str:
+        """Returns what is in the file with the output."""
+        if self.log is None:
+            return ""
+        return self.log.read_text(encoding="utf-8", errors="replace")
+
+    def finish(self) -> str:
+        """Waits for the end, and returns the output. Raises Failed, with the output, if it fails."""
+        status = self.process.wait()
+        if status != 0:
+            raise Failed(f"{self.text().rstrip()}\nstatus {status}: {self.command}".strip())
+        return self.text()
+
+
+def show_until_end(command: Background, log: Path, beginning: str) -> None:
+    """Shows the lines of a command's output that begin so, old and new, until it ends."""
+    with log.open(encoding="utf-8", errors="replace") as output:
+        rest = ""
+        has_ended = False
+        while not has_ended:
+            has_ended = command.process.poll() is not None
+            *lines, rest = (rest + output.read()).split("\n")
+            for line in lines:
+                if line.startswith(beginning):
+                    say(line)
+            if not has_ended:
+                time.sleep(0.2)
+
+
+@contextmanager
+def background(
+    words: Sequence[str | Path], folder: Path, log: Path | None = None
+) -> Iterator[Background]:
+    """Starts a command beside others, and ends it at the end if it still runs."""
+    started = Background(words, folder, log)
+    try:
+        yield started
+    finally:
+        if started.process.poll() is None:
+            started.process.terminate()
+            started.process.wait()
+
+
+def test_gate(top: Path) -> None:
+    """Runs the tests of the gate itself."""
+    words = [sys.executable, "-m", "unittest", "discover", "-s", "gate/tests", "-t", "."]
+    lines = must_run(words, top).splitlines()
+    say("\n".join(f"gate: {line}" for line in lines if line.startswith("Ran ")))
+
+
+def show_rows(top: Path) -> None:
+    """Checks that each worked row has a test, and shows the end of what is said of them."""
+    lines = must_run([top / ".ci/rows"], top).splitlines()
+    say("\n".join(lines[-5:]))
+
+
+def check_texts(top: Path) -> None:
+    """Runs what proves nothing, in seconds: the gate's tests, sources, pages, rows and layout."""
+    test_gate(top)
+    refuse_waiting_lines(Workspace(top))
+    must_show([top / ".ci/pages"], top)
+    show_rows(top)
+    must_show([top / "tools/imports", "--check"], top)
+    layout.install()
+    layout.run(top)
+
+
+def run_commands(top: Path, work: Path) -> str:
+    """Runs `rt ci` and beside it all else of the gate that doesn't need its end.
+
+    Returns what `rt ci` has written. Raises Failed if a command fails.
+    """
+    with background(["rt", "ci"], work / "all", work / "log") as rt_ci:
+        check_texts(top)
+        must_show([top / "test"], top)
+        with background([top / ".ci/mutants"], top) as mutants:
+            must_show([top / ".ci/run-c", LIBRARY], top)
+            mutants.finish()
+        show_until_end(rt_ci, work / "log", "rt: ")
+        return rt_ci.finish()
+
+
+def run(top: Path) -> None:
+    """Runs the gate on a checkout. Raises Failed if something fails.
+
+    The last line that it prints is the one of `rt ci`.
+    """
+    began = time.monotonic()
+    with temporary_folder() as work:
+        copy_for_rt(top, work / "all")
+        log = run_commands(top, work)
+        refuse_waiting_functions(log)
+        out_of_memory.run(top, work / "all")
+    say(f"run: passed in {time.monotonic() - began:.0f} s")
+    say(log.rstrip("\n").rpartition("\n")[2])
+
+
+def end(number: int, frame: FrameType | None) -> None:
+    """Ends the gate at a signal, and with it what it has started."""
+    raise Failed(f"run: ended by signal {number}")
+
+
+def main(words: list[str]) -> None:
+    """Runs `.ci/run`."""
+    if words:
+        raise Failed("usage: .ci/run, with no arguments")
+    signal.signal(signal.SIGTERM, end)
+    run(TOP)
+
+
+if __name__ == "__main__":
+    sys.exit(status_of(main))

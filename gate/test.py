@@ -1,0 +1,152 @@
+"""All tests: `./test` proves each crate but those of tests, and runs tests, scripts and examples.
+
+It runs every `#[test]`, memrun on its stored script and on scripts of each status, and the examples
+in C if there is a C compiler. `./test NAME..` does this for some crates and for those below them. A
+test needs no proof to fail: `rt try` runs it at once, and .ci/run proves that it is safe and ends.
+
+At most as many crates are proved side by side as there are processors, those that are higher in
+crates.txt first. What is made is in crates/*/out, and is kept while nothing that its proof read has
+changed: the next `./test`, `rt check` of a crate above and `make install` prove it no more. All else
+that a change has to pass is in .ci/run, the merge gate.
+"""
+
+import os
+import re
+import shutil
+import time
+from collections.abc import Sequence
+from pathlib import Path
+
+from gate import process, prove
+from gate.crates import CORES, TOP, Workspace, kit
+from gate.process import Failed, say
+from gate.schedule import Plan, Scheduler
+from gate.temporary import temporary_folder
+
+# The hash of the logic that the proofs are for.
+LOGIC = "dac8208d650f15bf"
+# A crate of at least this many files is large: more than one job proves it sooner.
+LARGE = 10
+# The memory that a check takes at most, in kilobytes.
+CHECK_TAKES = 4_000_000
+
+
+def most_at_once() -> int:
+    """Returns how many crates are proved at a time: as processors and available memory allow."""
+    text = Path("/proc/meminfo").read_text(encoding="utf-8")
+    available = re.search(r"MemAvailable: +(\d+)", text)
+    if available is None:
+        raise Failed("/proc/meminfo has no line MemAvailable")
+    return max(1, min(CORES, int(available[1]) // CHECK_TAKES))
+
+
+def wanted_crates(workspace: Workspace, names: Sequence[str]) -> list[str]:
+    """Returns the crates with these names and those below them; all crates if no name is given."""
+    for name in names:
+        if name not in workspace.crates:
+            raise Failed(f"test: crates.txt has no {name}")
+    if not names:
+        return list(workspace.crates)
+    found = {each for name in names for each in [*workspace.below(name), name]}
+    return [name for name in workspace.crates if name in found]
+
+
+def plan_of(workspace: Workspace, wanted: Sequence[str]) -> Plan:
+    """Returns what has to be done for these crates."""
+    tests = [name for name in wanted if workspace.has_tests(name)]
+    proves = [name for name in wanted if name not in tests]
+    below = {name: workspace.below(name) for name in proves}
+    waited_for = {each for names in below.values() for each in names}
+    large = [name for name in waited_for if len(workspace.sources(name)) >= LARGE]
+    return Plan(proves, tests, below, large, CORES, most_at_once())
+
+
+class Test:
+    """One run of `./test`."""
+
+    def __init__(self, workspace: Workspace) -> None:
+        self.workspace = workspace
+        self.began = time.monotonic()
+        self.how_far: dict[str, str] = {}
+
+    def prove(self, name: str, jobs: int) -> bool:
+        """Proves a crate, those that are higher in crates.txt first where processors are few."""
+
+        def report(how_far: str) -> None:
+            self.how_far[name] = how_far
+
+        nice = min(list(self.workspace.crates).index(name), 19)
+        return prove.prove(self.workspace, name, jobs, nice, report)
+
+    def run_tests(self, name: str) -> list[bool]:
+        """Runs the tests of a crate."""
+        return prove.run_tests(self.workspace, name)
+
+    def say_how_far(self, names: Sequence[str]) -> None:
+        """Prints what is running, and how far it is."""
+        running = ", ".join(f"{name} {self.how_far.get(name, '')}".strip() for name in names)
+        say(f"test: {time.monotonic() - self.began:.0f} s: {running}")
+
+    def crates(self, plan: Plan) -> list[bool]:
+        """Proves crates and runs tests, and returns for each whether it is well."""
+        results = Scheduler(plan, self.prove, self.run_tests).run(self.say_how_far)
+        return [is_ok for each in results.values() for is_ok in each]
+
+    def part(self, what: str, words: Sequence[str | Path]) -> list[bool]:
+        """Runs a part of the tests on what was built.
+
+        Returns for each that its last line counts that it passed.
+        """
+        say(f"test: {what}")
+        ran = process.run(words, self.workspace.top)
+        if not ran.is_ok:
+            say(ran.text)
+            return [False]
+        say(ran.last_line)
+        count = re.search(r"\d+", ran.last_line)
+        if count is None:
+            return [False]
+        return [True] * int(count[0])
+
+    def examples(self) -> list[bool]:
+        """Builds and runs the examples in C over the library that was proved."""
+        with temporary_folder() as work:
+            # `make` splits a path at a blank, and the path of a checkout may have some.
+            library = work / "libbb_memory_c.a"
+            shutil.copy2(self.workspace.out("bb_memory_c") / library.name, library)
+            # Each of four builds of `workers` kills 250 processes in each of its two ways; in
+            # .ci/run-c each kills 1,000.
+            given = [f"LIBRARY={library}", "KILLS_archive=250", "KILLS_shared=250"]
+            make = ["make", f"-sj{CORES}", "-C", "examples/c", "plain", *given, f"WORK={work}"]
+            return self.part("runs the examples in C", make)
+
+    def run(self, names: Sequence[str]) -> list[bool]:
+        """Tests these crates and those below them, or all, and returns for each part if it is well."""
+        wanted = wanted_crates(self.workspace, names)
+        plan = plan_of(self.workspace, wanted)
+        say(
+            f"test: proves {' '.join(plan.proves)}, by {CORES} processors, after any other run here"
+        )
+        with self.workspace.lock():
+            results = self.crates(plan)
+            if all(results) and "memrun" in wanted:
+                results += self.part("runs memrun on scripts", [TOP / ".ci/run-memrun"])
+            if all(results) and not names and process.has("cc") and process.has("make"):
+                results += self.examples()
+        return results
+
+
+def main(names: list[str]) -> None:
+    """Runs `./test NAME..`."""
+    say(f"test: {kit()}")
+    if not kit().endswith(f" logic {LOGIC}"):
+        say(f"test: warning: tried with logic {LOGIC}; under another one a check may fail")
+    test = Test(Workspace(TOP))
+    results = test.run(names)
+    used = os.times()
+    processor_seconds = used.children_user + used.children_system
+    say(f"test: {time.monotonic() - test.began:.0f} s, {processor_seconds:.0f} s of processor time")
+    counted = f"{results.count(True)} passed, {results.count(False)} failed"
+    say(counted)
+    if not all(results):
+        raise Failed("test: not all passed")

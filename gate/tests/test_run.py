@@ -1,0 +1,123 @@
+"""The merge gate, on a checkout whose commands only end well or badly."""
+
+import io
+import os
+import unittest
+from contextlib import redirect_stdout
+from unittest.mock import patch
+
+from gate import process, run
+from gate.crates import TOP, Workspace
+from gate.process import Failed
+from gate.tests.places import CheckoutTest, log
+
+WELL = "#!/bin/sh\nexit 0\n"
+BADLY = "#!/bin/sh\necho planted\nexit 3\n"
+CHECKOUT = {
+    "HANDLES": "Handles allowed: none.\n",
+    "crates.txt": "low:\n",
+    "crates/low/src/lib.rt": "pub fn low() {}\n",
+    "crates/low/must-fail/wrong.edit": "",
+    "gate/tests/__init__.py": "",
+    "test": WELL,
+    ".ci/pages": WELL,
+    ".ci/rows": WELL,
+    ".ci/mutants": WELL,
+    ".ci/run-c": WELL,
+    "tools/imports": WELL,
+}
+
+
+class GateTest(CheckoutTest):
+    """Runs the gate with a program `rt` that writes a stored log."""
+
+    def setUp(self) -> None:
+        super().setUp()
+        self.write(CHECKOUT)
+        self.log = log("ci_wait").replace("proved, may wait", "proved")
+        self.status = 0
+        self.ran_oom_tests = self.enterContext(patch("gate.run.out_of_memory.run"))
+        self.ran_layout = self.enterContext(patch("gate.run.layout.run"))
+        self.enterContext(patch("gate.run.layout.install"))
+
+    def run_gate(self) -> str:
+        """Runs the gate and returns what it prints."""
+        stored = self.work / "log"
+        stored.write_text(self.log, encoding="utf-8")
+        copy = "test -f crates/low/src/lib.rt && ! test -e crates/low/must-fail || exit 4\n"
+        rt = f'#!/bin/sh\n{copy}cat "{stored}"\nexit {self.status}\n'
+        printed = io.StringIO()
+        with self.tool("rt", rt), redirect_stdout(printed):
+            run.run(self.top)
+        return printed.getvalue()
+
+    def test_it_passes_what_is_well(self) -> None:
+        printed = self.run_gate()
+        self.assertIn("rt: waits proved\n", printed)
+        self.assertTrue(printed.endswith("\n1 passed, 0 failed\n"))
+        self.ran_oom_tests.assert_called_once()
+
+    def test_it_starts_by_path_and_by_shell(self) -> None:
+        """A word that the gate doesn't know ends it at once, so nothing else is run here."""
+        for shell in ([], ["sh"], ["bash"]):
+            ended = process.run([*shell, TOP / ".ci/run", "word"], self.work)
+            self.assertEqual(ended.status, 1, shell)
+            self.assertEqual(ended.text, "usage: .ci/run, with no arguments\n")
+
+    def test_a_function_that_may_wait(self) -> None:
+        self.log = log("ci_wait")
+        with self.assertRaisesRegex(Failed, "waits::spin\nrun: the functions above may wait"):
+            self.run_gate()
+
+    def test_a_source_that_names_wait(self) -> None:
+        self.write({"crates/low/src/lock.rt": "use std::sync::Wait;\n"})
+        with self.assertRaisesRegex(Failed, "crates/low/src/lock.rt:1: use std::sync::Wait;"):
+            self.run_gate()
+
+    def test_rt_ci_fails(self) -> None:
+        self.status = 1
+        self.log = log("ci_failed")
+        with self.assertRaisesRegex(Failed, "1 passed, 1 failed\nstatus 1: rt ci"):
+            self.run_gate()
+
+    def test_rt_ci_is_missing(self) -> None:
+        with patch.dict(os.environ, {"PATH": "/nowhere"}), self.assertRaises(FileNotFoundError):
+            run.run_commands(self.top, self.work)
+
+    def test_layout_has_findings(self) -> None:
+        self.ran_layout.side_effect = Failed("planted")
+        with self.assertRaisesRegex(Failed, "planted"):
+            self.run_gate()
+
+    def test_an_oom_test_does_not_hold(self) -> None:
+        self.ran_oom_tests.side_effect = Failed("planted")
+        with self.assertRaisesRegex(Failed, "planted"):
+            self.run_gate()
+
+    def test_each_command_fails(self) -> None:
+        commands = [name for name, text in CHECKOUT.items() if text == WELL]
+        self.assertEqual(len(commands), 6)
+        for command in commands:
+            self.write({command: BADLY})
+            with self.assertRaisesRegex(Failed, f"status 3: .*{command}"):
+                self.run_gate()
+            self.write({command: WELL})
+
+    def test_a_test_of_the_gate_fails(self) -> None:
+        planted = "import unittest\nclass T(unittest.TestCase):\n    def test(self):\n        self.fail()\n"
+        self.write({"gate/tests/test_planted.py": planted})
+        with self.assertRaisesRegex(Failed, "FAILED"):
+            self.run_gate()
+
+    def test_no_temporary_folder(self) -> None:
+        with patch.dict(os.environ, {"TMPDIR": "/nowhere"}), self.assertRaises(OSError):
+            self.run_gate()
+        self.ran_oom_tests.assert_not_called()
+
+    def test_words_that_only_look_like_wait(self) -> None:
+        self.write({"crates/low/src/lib.rt": "fn Waiter() {}\n"})
+        run.refuse_waiting_lines(Workspace(self.top))
+
+
+if __name__ == "__main__":
+    unittest.main()

@@ -1,0 +1,84 @@
+"""The version, which `bb_memory.h` has as BB_VERSION, in all files that repeat it."""
+
+import re
+from collections.abc import Iterator, Mapping
+
+HEADER = "crates/bb_memory_c/bb_memory.h"
+VERSION = re.compile(r'^#define BB_VERSION "([\d.]+)"', re.M)
+CHANGES = "CHANGELOG.md"
+# The text before the version, the version, and the text after it, in each file that repeats it.
+COPIES = {
+    "bindings/rust/Cargo.toml": re.compile(r'(^\[package\]\nname = .*\nversion = ")(.*)(")', re.M),
+    "bindings/rust/Cargo.lock": re.compile(r'(^name = "bb_memory"\nversion = ")(.*)(")', re.M),
+}
+# The same in the name of a file of the release, which a page may have.
+RELEASE = re.compile(r"(\bbb_memory-|libbb_memory\.so\.)(\d+\.\d+\.\d+)()")
+PARTS = ("MAJOR", "MINOR", "PATCH")
+PAGE = re.compile(r"[A-Z]+\.md|docs/\w+\.md|bindings/rust/\w+\.md|crates/\w+/\w+\.md")
+# The version of the crate that this is a port of, and the last one before those of CHANGELOG.md.
+OTHERS = ("0.9.3", "0.14.0")
+
+
+def version_of(texts: Mapping[str, str]) -> str:
+    """Returns the version that the header has."""
+    match = VERSION.search(texts[HEADER])
+    if match is None:
+        raise ValueError(f"{HEADER}: has no BB_VERSION")
+    return match[1]
+
+
+def pages(texts: Mapping[str, str]) -> Iterator[str]:
+    """Yields the pages, but for CHANGELOG.md."""
+    for path in sorted(texts):
+        if PAGE.fullmatch(path) and path != CHANGES:
+            yield path
+
+
+def copies(texts: Mapping[str, str]) -> Iterator[tuple[str, re.Pattern[str], str]]:
+    """Yields each file that repeats the version, the text in which it does, and what is right."""
+    version = version_of(texts)
+    for name, number in zip(PARTS, version.split(".")):
+        yield HEADER, re.compile(rf"(^#define BB_VERSION_{name} )(\d+)($)", re.M), number
+    for file, pattern in COPIES.items():
+        yield file, pattern, version
+    for page in pages(texts):
+        yield page, RELEASE, version
+
+
+def wrong(texts: Mapping[str, str]) -> Iterator[str]:
+    """Yields each place that has another version than the header, and what CHANGELOG.md lacks."""
+    for file, pattern, right in copies(texts):
+        found = pattern.findall(texts[file])
+        if not found and pattern is not RELEASE:
+            yield f"{file}: the version isn't where it is looked for"
+        for _, number, _ in found:
+            if number != right:
+                yield f"{file}: version {number} and not {right} (tools/contracts --fix)"
+    yield from wrong_changes(texts)
+
+
+def wrong_changes(texts: Mapping[str, str]) -> Iterator[str]:
+    """Yields what is wrong of the versions that CHANGELOG.md lists.
+
+    The newest one is the header's, each older one names its commit, and a page names no other one.
+    """
+    headings = re.findall(r"^## (\d+\.\d+\.\d+)(.*)$", texts[CHANGES], re.M)
+    versions = [version for version, _ in headings]
+    if versions[:1] != [version_of(texts)]:
+        yield f"{CHANGES}: the newest version isn't {version_of(texts)}"
+    for version, rest in headings[1:]:
+        if re.fullmatch(r" \(commit [0-9a-f]{8}\)", rest) is None:
+            yield f"{CHANGES}: {version} has no `(commit ..)`"
+    for page in pages(texts):
+        for number in re.findall(r"(?<![\w.-])[01]\.\d+\.\d+(?![\w.]\w)", texts[page]):
+            if number not in versions and number not in OTHERS:
+                yield f"{page}: {number} isn't a version of {CHANGES}"
+
+
+def fixed(texts: Mapping[str, str]) -> dict[str, str]:
+    """Returns the files that repeat the version, with the right one."""
+    found: dict[str, str] = {}
+    for file, pattern, right in copies(texts):
+        text = found.get(file, texts[file])
+        found[file] = pattern.sub(lambda match: f"{match[1]}{right}{match[3]}", text)
+    return found
