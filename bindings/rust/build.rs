@@ -19,7 +19,7 @@ const STANDARD_FOLDERS: [&str; 5] = [
 ];
 
 /// The ABI that this crate's declarations are of: `BB_ABI` of the header.
-const ABI: &str = "2";
+const ABI: &str = "3";
 
 fn main() {
     for name in ["BB_MEMORY_LIB_DIR", "BB_MEMORY_LINK", "PKG_CONFIG_PATH", "DOCS_RS"] {

@@ -15,7 +15,7 @@
 //             fprintf(stderr, "no pool: %s\n", bb_text(code));
 //             return 1;
 //         }
-//         bb_answer chunk = bb_pool_allocate(&pool, 48, 8);  // 48 bytes at a multiple of 8
+//         bb_chunk chunk = bb_pool_allocate(&pool, 48, 8);  // 48 bytes at a multiple of 8
 //         if (chunk.code != BB_OK)
 //             return 1;
 //         memset(chunk.place, 0, 48);
@@ -79,22 +79,20 @@
 
 #ifdef __cplusplus
 extern "C" {
-#pragma GCC diagnostic push
-#pragma GCC diagnostic ignored "-Wshadow"  // a struct of figures and its function have one name
 #endif
 
 // The version of this library, as text and by its numbers. BB_VERSION_NUMBER grows with each
 // version, for `#if`.
-#define BB_VERSION "1.1.0"
-#define BB_VERSION_MAJOR 1
-#define BB_VERSION_MINOR 1
+#define BB_VERSION "2.0.0"
+#define BB_VERSION_MAJOR 2
+#define BB_VERSION_MINOR 0
 #define BB_VERSION_PATCH 0
 #define BB_VERSION_NUMBER (BB_VERSION_MAJOR * 10000 + BB_VERSION_MINOR * 100 + BB_VERSION_PATCH)
 
 // The number in the shared library's SONAME. It grows if a function goes, or if a type, a struct's
 // fields or a code's number changes. So a program runs with each library of its number, from the
 // version on with which it was linked.
-#define BB_ABI 2
+#define BB_ABI 3
 
 // A place is where a region or a chunk begins; a `bb_address` is one that is only passed in. The
 // functions see only their numbers: a host whose places are numbers, such as offsets, defines
@@ -246,17 +244,17 @@ BB_HANDLE(bb_lost);
 #undef BB_HANDLE
 
 // A code, and with BB_OK the place where the chunk begins that was given. Returned in registers.
-typedef struct bb_answer {
+typedef struct bb_chunk {
     uint32_t code;
     bb_place place;
-} bb_answer;
+} bb_chunk;
 
 // A code, and with BB_OK the number that was asked for; for a place, its number. Returned in
 // registers.
-typedef struct bb_figure {
+typedef struct bb_number {
     uint32_t code;
     size_t number;
-} bb_figure;
+} bb_number;
 
 // Names the functions that the library calls in place of `malloc`, `realloc` and `free`. A process
 // names them before its other calls.
@@ -291,22 +289,22 @@ uint32_t bb_bump_destroy(bb_bump *);
 
 // Gives a chunk of exactly `size` bytes at the least multiple of `align` after what is used.
 // BB_SIZE_IS_ZERO; BB_OUT_OF_MEMORY.
-BB_MUST_USE bb_answer bb_bump_allocate(bb_bump *, size_t size, size_t align);
+BB_MUST_USE bb_chunk bb_bump_allocate(bb_bump *, size_t size, size_t align);
 
 // Takes all chunks back.
 uint32_t bb_bump_deallocate(bb_bump *);
 
 // The figures of a bump, in bytes. The used space includes the padding between chunks, and the free
 // space lies after the last chunk.
-struct bb_bump_info {
+typedef struct bb_bump_figures {
     size_t start_address;
     size_t used_space;
     size_t free_space;
     size_t total_space;
-};
+} bb_bump_figures;
 
 // Fills in the figures of the bump.
-uint32_t bb_bump_info(bb_bump *, struct bb_bump_info *);
+uint32_t bb_bump_info(bb_bump *, bb_bump_figures *);
 
 // ONE CHUNK: one request gets all of the region, from the first multiple of its alignment on.
 
@@ -319,7 +317,7 @@ uint32_t bb_one_chunk_destroy(bb_one_chunk *);
 // Gives a chunk of at least `size` bytes, up to the region's end. BB_OUT_OF_MEMORY if the chunk is
 // in use, or if less than `size` bytes, or none at all, are left after the first multiple of
 // `align`.
-BB_MUST_USE bb_answer bb_one_chunk_allocate(bb_one_chunk *, size_t size, size_t align);
+BB_MUST_USE bb_chunk bb_one_chunk_allocate(bb_one_chunk *, size_t size, size_t align);
 
 // Takes back the chunk that begins at this place. BB_NOT_HELD.
 uint32_t bb_one_chunk_deallocate(bb_one_chunk *, bb_address place);
@@ -329,33 +327,33 @@ uint32_t bb_one_chunk_deallocate(bb_one_chunk *, bb_address place);
 // one. The errors, in this order: BB_UNINITIALIZED; BB_INVALID_LAYOUT of either layout;
 // BB_NOT_HELD; BB_LAYOUT_MISMATCH; BB_GROW_WOULD_SHRINK; BB_ALIGNMENT_FAILURE if the new alignment
 // is greater than the old one; BB_MORE_THAN_RESERVED.
-BB_MUST_USE bb_answer bb_one_chunk_grow(bb_one_chunk *, bb_address place, size_t old_size,
-                                        size_t old_align, size_t new_size, size_t new_align);
+BB_MUST_USE bb_chunk bb_one_chunk_grow(bb_one_chunk *, bb_address place, size_t old_size,
+                                       size_t old_align, size_t new_size, size_t new_align);
 
 // Shrinks the chunk at this place, which it keeps, to exactly the new size, which may be 0. The old
 // size is the host's word, and is compared with the new one and with what is reserved. The errors,
 // in this order: BB_UNINITIALIZED; BB_INVALID_LAYOUT of either layout; BB_NOT_HELD;
 // BB_LAYOUT_MISMATCH; BB_SHRINK_WOULD_GROW; BB_ALIGNMENT_FAILURE if the new alignment is greater
 // than the old one.
-BB_MUST_USE bb_answer bb_one_chunk_shrink(bb_one_chunk *, bb_address place, size_t old_size,
-                                          size_t old_align, size_t new_size, size_t new_align);
+BB_MUST_USE bb_chunk bb_one_chunk_shrink(bb_one_chunk *, bb_address place, size_t old_size,
+                                         size_t old_align, size_t new_size, size_t new_align);
 
 // Returns 1 if the chunk that is in use begins at this place, otherwise 0.
-bb_figure bb_one_chunk_holds(bb_one_chunk *, bb_address place);
+bb_number bb_one_chunk_holds(bb_one_chunk *, bb_address place);
 
 // Returns how many bytes are reserved for the chunk at this place: all of the region from the place
 // on, which is what an allocated or a grown chunk has. BB_NOT_HELD.
-bb_figure bb_one_chunk_reserved(bb_one_chunk *, bb_address place);
+bb_number bb_one_chunk_reserved(bb_one_chunk *, bb_address place);
 
 // The figures of a one chunk: its region, and whether no chunk is in use.
-struct bb_one_chunk_info {
+typedef struct bb_one_chunk_figures {
     size_t start_address;
     size_t size;
     bool has_chunk_available;
-};
+} bb_one_chunk_figures;
 
 // Fills in the figures of the one chunk.
-uint32_t bb_one_chunk_info(bb_one_chunk *, struct bb_one_chunk_info *);
+uint32_t bb_one_chunk_info(bb_one_chunk *, bb_one_chunk_figures *);
 
 // POOL: the region is cut into buckets of one layout. Each is a stride after the one before it.
 
@@ -390,22 +388,22 @@ uint32_t bb_pool_destroy(bb_pool *);
 
 // Gives a chunk of `size` bytes in a bucket that isn't held. BB_SIZE_TOO_LARGE;
 // BB_ALIGNMENT_FAILURE; BB_OUT_OF_MEMORY if every bucket is held.
-BB_MUST_USE bb_answer bb_pool_allocate(bb_pool *, size_t size, size_t align);
+BB_MUST_USE bb_chunk bb_pool_allocate(bb_pool *, size_t size, size_t align);
 
 // Gives a whole bucket, as a request of a bucket's own size and alignment does. BB_OUT_OF_MEMORY if
 // every bucket is held.
-BB_MUST_USE bb_answer bb_pool_take(bb_pool *);
+BB_MUST_USE bb_chunk bb_pool_take(bb_pool *);
 
 // Takes back the bucket that begins at this place. BB_NOT_HELD.
 uint32_t bb_pool_deallocate(bb_pool *, bb_address place);
 
 // Returns 1 if a held bucket begins at this place, otherwise 0.
-bb_figure bb_pool_holds(bb_pool *, bb_address place);
+bb_number bb_pool_holds(bb_pool *, bb_address place);
 
 // The figures of a pool. The start is that of bucket 0: the region's start rounded up to the
 // bucket's alignment. The size is the region's, as it was passed. `greatest_held` is the greatest
 // number of buckets that were held at one time so far.
-struct bb_pool_info {
+typedef struct bb_pool_figures {
     size_t start_address;
     size_t size;
     size_t bucket_size;
@@ -413,26 +411,26 @@ struct bb_pool_info {
     size_t number_of_buckets;
     size_t held_buckets;
     size_t greatest_held;
-};
+} bb_pool_figures;
 
 // Fills in the figures of the pool.
-uint32_t bb_pool_info(bb_pool *, struct bb_pool_info *);
+uint32_t bb_pool_info(bb_pool *, bb_pool_figures *);
 
 // Returns where the bucket of this number begins, from 0 on, held or not. BB_NOT_A_BUCKET. A
 // process that maps the region at another address reads bucket n at its bucket 0 plus n *
 // BB_STRIDE(bucket_size, bucket_align). If the alignment is greater than a page, bucket 0 is as far
 // after the mapping's start as in the first process.
-bb_figure bb_pool_place_at(const bb_pool *, uint32_t number);
+bb_number bb_pool_place_at(const bb_pool *, uint32_t number);
 
 // Returns the number of the bucket that begins at this place, held or not. BB_NOT_A_BUCKET.
-bb_figure bb_pool_number_at(const bb_pool *, bb_address place);
+bb_number bb_pool_number_at(const bb_pool *, bb_address place);
 
 // Makes a pool as `bb_pool_init` does, and returns BB_NO_BUCKET also if there is room for less than
 // `buckets`. Refused, the handle is empty.
 BB_MUST_USE static inline uint32_t bb_pool_init_at_least(bb_pool *pool, size_t bucket_size,
                                                          size_t bucket_align, bb_place start,
                                                          size_t size, uint32_t buckets) {
-    struct bb_pool_info info;
+    bb_pool_figures info;
     uint32_t code = bb_pool_init(pool, bucket_size, bucket_align, start, size);
     if (code != BB_OK)
         return code;
@@ -472,10 +470,10 @@ BB_MUST_USE uint32_t bb_shared_bump_reset(bb_shared_bump *);
 uint32_t bb_bump_party_destroy(bb_bump_party *);
 
 // Gives a chunk as `bb_bump_allocate` does.
-BB_MUST_USE bb_answer bb_bump_party_allocate(bb_bump_party *, size_t size, size_t align);
+BB_MUST_USE bb_chunk bb_bump_party_allocate(bb_bump_party *, size_t size, size_t align);
 
 // Fills in the figures of the bump as `bb_bump_info` does: one load finds what is used.
-uint32_t bb_bump_party_info(bb_bump_party *, struct bb_bump_info *);
+uint32_t bb_bump_party_info(bb_bump_party *, bb_bump_figures *);
 
 // SHARED POOL: a bucket is given back through the party that holds it, which took or attached it. A
 // return comes before the next taking (the steps are sequentially consistent), so the bucket's
@@ -494,14 +492,14 @@ uint32_t bb_shared_pool_destroy(bb_shared_pool *);
 // The figures of a shared pool. A cached or a detached bucket counts as held. `greatest_held` is
 // the greatest number that `info` found, or all if a request was refused. `refused` counts these
 // requests.
-struct bb_shared_pool_info {
-    struct bb_pool_info pool;
+typedef struct bb_shared_pool_figures {
+    bb_pool_figures pool;
     size_t refused;
-};
+} bb_shared_pool_figures;
 
 // Fills in the figures of the pool, for any thread and while parties call. Each bucket is looked
 // at, at a moment of its own.
-uint32_t bb_shared_pool_info(const bb_shared_pool *, struct bb_shared_pool_info *);
+uint32_t bb_shared_pool_info(const bb_shared_pool *, bb_shared_pool_figures *);
 
 // The states of a bucket's flag.
 enum {
@@ -512,14 +510,14 @@ enum {
 
 // What a bucket's flag says: it is free, or the party of this number holds it or has detached it.
 // The number is 0 if it is free.
-struct bb_holder {
+typedef struct bb_holder {
     uint32_t state;
     uint32_t party;
-};
+} bb_holder;
 
 // Fills in what the flag of the bucket of this number says, by one load, for any thread or process.
 // BB_NOT_A_BUCKET.
-uint32_t bb_shared_pool_holder(const bb_shared_pool *, uint32_t number, struct bb_holder *);
+uint32_t bb_shared_pool_holder(const bb_shared_pool *, uint32_t number, bb_holder *);
 
 // Makes a party that hasn't joined join. Refused as `bb_shared_bump_join`.
 BB_MUST_USE uint32_t bb_shared_pool_join(bb_shared_pool *, bb_pool_party *);
@@ -542,21 +540,21 @@ uint32_t bb_shared_pool_forget(bb_shared_pool *, bb_pool_party *);
 uint32_t bb_pool_party_destroy(bb_pool_party *);
 
 // Returns the number by which flags name this party.
-bb_figure bb_pool_party_number(bb_pool_party *);
+bb_number bb_pool_party_number(bb_pool_party *);
 
 // Gives a chunk of `size` bytes in a bucket that isn't held, by next fit: one search from the
 // bucket that the party gave back last, otherwise mostly from the one after the bucket that it took
 // last. BB_SIZE_TOO_LARGE; BB_ALIGNMENT_FAILURE; BB_OUT_OF_MEMORY if the search found each bucket
 // held, one after the other.
-BB_MUST_USE bb_answer bb_pool_party_allocate(bb_pool_party *, size_t size, size_t align);
+BB_MUST_USE bb_chunk bb_pool_party_allocate(bb_pool_party *, size_t size, size_t align);
 
 // Gives a whole bucket, as a request of a bucket's own size and alignment does. BB_OUT_OF_MEMORY.
-BB_MUST_USE bb_answer bb_pool_party_take(bb_pool_party *);
+BB_MUST_USE bb_chunk bb_pool_party_take(bb_pool_party *);
 
 // Takes up to `count` whole buckets, as that many calls of `bb_pool_party_take` do, and stores
 // their places in the first slots. Returns how many were taken: less than `count` if the next one
 // was refused, which is BB_OK still. `slots` may be NULL if `count` is 0.
-BB_MUST_USE bb_figure bb_pool_party_take_many(bb_pool_party *, bb_place *slots, size_t count);
+BB_MUST_USE bb_number bb_pool_party_take_many(bb_pool_party *, bb_place *slots, size_t count);
 
 // Takes back the bucket that begins at this place. BB_NOT_HELD if this party doesn't hold it, or
 // caches it.
@@ -565,26 +563,26 @@ uint32_t bb_pool_party_deallocate(bb_pool_party *, bb_address place);
 // Takes back the buckets at these places, as that many calls of `bb_pool_party_deallocate` do, in
 // order, up to the first one that is refused. Returns how many were taken back. `places` may be
 // NULL if `count` is 0.
-bb_figure bb_pool_party_deallocate_many(bb_pool_party *, const bb_place *places, size_t count);
+bb_number bb_pool_party_deallocate_many(bb_pool_party *, const bb_place *places, size_t count);
 
 // Gives back each bucket whose flag says that the party holds it, cached or not, as `leave` does.
 // The party stays, with nothing cached.
 uint32_t bb_pool_party_give_all_back(bb_pool_party *);
 
 // Returns 1 if a bucket that this party holds and doesn't cache begins at this place, otherwise 0.
-bb_figure bb_pool_party_holds(bb_pool_party *, bb_address place);
+bb_number bb_pool_party_holds(bb_pool_party *, bb_address place);
 
 // Fills in the figures of the pool, with the buckets that this party holds and doesn't cache as the
 // held ones. `greatest_held` is the greatest number of them that `info` found. It takes time by the
 // number of buckets.
-uint32_t bb_pool_party_info(bb_pool_party *, struct bb_pool_info *);
+uint32_t bb_pool_party_info(bb_pool_party *, bb_pool_figures *);
 
 // Returns where the bucket of this number begins, as `bb_pool_place_at` does. BB_NOT_A_BUCKET.
-bb_figure bb_pool_party_place_at(const bb_pool_party *, uint32_t number);
+bb_number bb_pool_party_place_at(const bb_pool_party *, uint32_t number);
 
 // Returns the number of the bucket that begins at this place, as `bb_pool_number_at` does.
 // BB_NOT_A_BUCKET.
-bb_figure bb_pool_party_number_at(const bb_pool_party *, bb_address place);
+bb_number bb_pool_party_number_at(const bb_pool_party *, bb_address place);
 
 // Has the party cache at most `most` of the buckets that it gives back from now on. Its next
 // requests take the one cached last, without an atomic step. Other parties find a cached bucket
@@ -602,7 +600,7 @@ BB_MUST_USE static inline uint32_t bb_shared_pool_init_at_least(bb_shared_pool *
                                                                 size_t bucket_align, bb_place start,
                                                                 size_t size, uint32_t parties,
                                                                 uint32_t buckets) {
-    struct bb_shared_pool_info info;
+    bb_shared_pool_figures info;
     uint32_t code = bb_shared_pool_init(pool, bucket_size, bucket_align, start, size, parties);
     if (code != BB_OK)
         return code;
@@ -625,7 +623,7 @@ BB_MUST_USE uint32_t bb_detached_init(bb_detached *);
 uint32_t bb_detached_destroy(bb_detached *);
 
 // Returns the length of the chunk with which the bucket in it was detached. BB_DETACHED_EMPTY.
-bb_figure bb_detached_len(bb_detached *);
+bb_number bb_detached_len(bb_detached *);
 
 // Has the bucket wait for this number of readers (examples/c/pubsub.c): until each has released it,
 // no party attaches it. BB_DETACHED_EMPTY; BB_INVALID_ARGUMENT if there is no reader;
@@ -634,7 +632,7 @@ BB_MUST_USE uint32_t bb_detached_share(bb_detached *, uint32_t readers);
 
 // Releases the bucket for one reader, and returns how many readers are left. The last one, for
 // which that is 0, sees to the attach. BB_NO_READER.
-BB_MUST_USE bb_figure bb_detached_release(bb_detached *);
+BB_MUST_USE bb_number bb_detached_release(bb_detached *);
 
 // Detaches the bucket at this place, with a chunk of `len` bytes, into the `bb_detached`.
 // BB_ONE_PARTY; BB_NOT_HELD if this party doesn't hold the bucket, or caches it; BB_SIZE_TOO_LARGE
@@ -644,7 +642,7 @@ BB_MUST_USE uint32_t bb_pool_party_detach(bb_pool_party *, bb_address place, siz
 
 // Attaches the bucket that is in the `bb_detached`, which has none then: this party holds the
 // bucket. BB_DETACHED_EMPTY; BB_OTHER_POOL; BB_READERS_LEFT.
-BB_MUST_USE bb_answer bb_pool_party_attach(bb_pool_party *, bb_detached *);
+BB_MUST_USE bb_chunk bb_pool_party_attach(bb_pool_party *, bb_detached *);
 
 // Gives back the bucket that is in the `bb_detached`, which has none then, by one store and without
 // a holder. Refused as `bb_pool_party_attach`.
@@ -664,14 +662,14 @@ uint32_t bb_pool_party_recover(bb_pool_party *, uint32_t number, bb_lost *);
 // Detaches the bucket at this place by its number, which is returned. The number goes to another
 // party in any way, with this party's own number, and that party attaches the bucket by them.
 // BB_ONE_PARTY; BB_NOT_HELD if this party doesn't hold the bucket, or caches it.
-BB_MUST_USE bb_figure bb_pool_party_detach_number(bb_pool_party *, bb_address place);
+BB_MUST_USE bb_number bb_pool_party_detach_number(bb_pool_party *, bb_address place);
 
 // Attaches the bucket of this number if the party of number `from` has detached it by its number,
 // and returns its place: this party holds the bucket then. It is one exchange of the bucket's flag,
 // so of any number of callers at most one gets the bucket. Any two numbers may be passed.
 // BB_NOT_A_BUCKET; BB_NOT_HELD if the flag says anything else, as of a bucket that is in a
 // `bb_detached`.
-BB_MUST_USE bb_answer bb_pool_party_attach_number(bb_pool_party *, uint32_t number, uint32_t from);
+BB_MUST_USE bb_chunk bb_pool_party_attach_number(bb_pool_party *, uint32_t number, uint32_t from);
 
 // PROCESSES share a pool as threads do if the region and the library's memory (`bb_use_memory`) lie
 // in a mapping that all have at one address: one that `fork` copies (examples/c/workers.c), or one
@@ -691,7 +689,6 @@ BB_MUST_USE bb_answer bb_pool_party_attach_number(bb_pool_party *, uint32_t numb
 // `return_detached` it may be another's.
 
 #ifdef __cplusplus
-#pragma GCC diagnostic pop
 }
 #endif
 #endif

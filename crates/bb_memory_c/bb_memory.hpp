@@ -172,7 +172,7 @@ inline void tell_return(const void *place) noexcept {
 
 // A party that leaves gives back each bucket that it holds.
 inline void tell_leaving(bb_pool_party *party) noexcept {
-    bb_figure at = bb_pool_party_place_at(party, 0);
+    bb_number at = bb_pool_party_place_at(party, 0);
     for (std::uint32_t number = 1; at.code == BB_OK; at = bb_pool_party_place_at(party, number++)) {
         const void *place = reinterpret_cast<const void *>(at.number);
         if (bb_pool_party_holds(party, place).number == 1)
@@ -182,7 +182,7 @@ inline void tell_leaving(bb_pool_party *party) noexcept {
 
 // A detached bucket is given back by its number.
 inline void tell_return_at(const bb_pool_party *party, std::uint32_t number) noexcept {
-    bb_figure at = bb_pool_party_place_at(party, number);
+    bb_number at = bb_pool_party_place_at(party, number);
     if (at.code == BB_OK)
         tell_return(reinterpret_cast<const void *>(at.number));
 }
@@ -307,7 +307,7 @@ class pool_party : public detail::shared_pool::party {
 public:
     // Returns the number by which flags name this party, or nothing if it hasn't joined.
     std::optional<std::uint32_t> number() noexcept {
-        bb_figure figure = bb_pool_party_number(&handle_);
+        bb_number figure = bb_pool_party_number(&handle_);
         if (figure.code != BB_OK)
             return std::nullopt;
         return static_cast<std::uint32_t>(figure.number);
@@ -364,31 +364,31 @@ public:
 };
 
 // The calls that `take`, `make` and the resources choose by a handle's type.
-inline bb_answer allocate(bb_bump *of, std::size_t size, std::size_t align) {
+inline bb_chunk allocate(bb_bump *of, std::size_t size, std::size_t align) {
     return bb_bump_allocate(of, size, align);
 }
 
-inline bb_answer allocate(bb_bump_party *of, std::size_t size, std::size_t align) {
+inline bb_chunk allocate(bb_bump_party *of, std::size_t size, std::size_t align) {
     return bb_bump_party_allocate(of, size, align);
 }
 
-inline bb_answer allocate(bb_pool *of, std::size_t size, std::size_t align) {
+inline bb_chunk allocate(bb_pool *of, std::size_t size, std::size_t align) {
     return bb_pool_allocate(of, size, align);
 }
 
-inline bb_answer allocate(bb_pool_party *of, std::size_t size, std::size_t align) {
-    bb_answer given = bb_pool_party_allocate(of, size, align);
+inline bb_chunk allocate(bb_pool_party *of, std::size_t size, std::size_t align) {
+    bb_chunk given = bb_pool_party_allocate(of, size, align);
     if (given.code == BB_OK)
         tell_taking(given.place);
     return given;
 }
 
-inline bb_answer take_whole(bb_pool *of) {
+inline bb_chunk take_whole(bb_pool *of) {
     return bb_pool_take(of);
 }
 
-inline bb_answer take_whole(bb_pool_party *of) {
-    bb_answer given = bb_pool_party_take(of);
+inline bb_chunk take_whole(bb_pool_party *of) {
+    bb_chunk given = bb_pool_party_take(of);
     if (given.code == BB_OK)
         tell_taking(given.place);
     return given;
@@ -424,7 +424,7 @@ inline std::size_t deallocate_many(bb_pool_party *to, void *const *places, std::
 // Returns nothing if `from` doesn't hold the bucket, or if its pool has no other party.
 inline std::optional<std::uint32_t> detach_number(bb_pool_party *from, const void *place) {
     tell_return(place);
-    bb_figure number = bb_pool_party_detach_number(from, place);
+    bb_number number = bb_pool_party_detach_number(from, place);
     if (number.code != BB_OK)
         return std::nullopt;
     return static_cast<std::uint32_t>(number.number);
@@ -450,7 +450,7 @@ using unique = std::unique_ptr<T, give_back<T, Handle>>;
 // held.
 template<class Handle>
 unique<void, Handle> take(Handle *from) {
-    bb_answer given = bb::take_whole(from);
+    bb_chunk given = bb::take_whole(from);
     return unique<void, Handle>(given.code == BB_OK ? given.place : nullptr, {from});
 }
 
@@ -458,7 +458,7 @@ unique<void, Handle> take(Handle *from) {
 // Of any number of callers at most one gets the bucket; the others get an empty pointer.
 inline unique<void, bb_pool_party> attach_number(bb_pool_party *to, std::uint32_t number,
                                                  std::uint32_t from) {
-    bb_answer given = bb_pool_party_attach_number(to, number, from);
+    bb_chunk given = bb_pool_party_attach_number(to, number, from);
     if (given.code != BB_OK)
         return unique<void, bb_pool_party>(nullptr, {to});
     tell_taking(given.place);
@@ -469,7 +469,7 @@ inline unique<void, bb_pool_party> attach_number(bb_pool_party *to, std::uint32_
 // refuses.
 template<class T, class Handle, class... Arguments>
 unique<T, Handle> make(Handle *from, Arguments &&...arguments) {
-    bb_answer given = bb::allocate(from, sizeof(T), alignof(T));
+    bb_chunk given = bb::allocate(from, sizeof(T), alignof(T));
     if (given.code != BB_OK)
         return unique<T, Handle>(nullptr, {from});
     unique<void, Handle> bucket(given.place, {from});
@@ -486,7 +486,7 @@ public:
 
 private:
     void *do_allocate(std::size_t size, std::size_t align) override {
-        bb_answer given = bb::allocate(from_, size == 0 ? 1 : size, align);
+        bb_chunk given = bb::allocate(from_, size == 0 ? 1 : size, align);
         return given.code == BB_OK ? given.place
                                    : std::pmr::null_memory_resource()->allocate(size, align);
     }
@@ -512,7 +512,7 @@ public:
 
 private:
     void *do_allocate(std::size_t size, std::size_t align) override {
-        bb_answer given = bb::allocate(from_, size, align);
+        bb_chunk given = bb::allocate(from_, size, align);
         if (given.code != BB_OK)
             return upstream_->allocate(size, align);
         if (!has(given.place))

@@ -40,7 +40,7 @@ static size_t length_of(size_t number) {
 // Takes a chunk of the shared bump, over which the thread's arena starts again. What the last one
 // gave stays.
 static void begin_arena(worker *self) {
-    bb_answer chunk = bb_bump_party_allocate(&self->party, ARENA, 64);
+    bb_chunk chunk = bb_bump_party_allocate(&self->party, ARENA, 64);
     expect(chunk.code == BB_OK, "the shared bump has room for each arena");
     bb_bump_destroy(&self->arena);
     expect(bb_bump_init(&self->arena, chunk.place, ARENA) == BB_OK,
@@ -48,7 +48,7 @@ static void begin_arena(worker *self) {
 }
 
 static void *allocate(worker *self, size_t size) {
-    bb_answer given = bb_bump_allocate(&self->arena, size, 8);
+    bb_chunk given = bb_bump_allocate(&self->arena, size, 8);
     if (given.code == BB_OUT_OF_MEMORY) {
         begin_arena(self);
         given = bb_bump_allocate(&self->arena, size, 8);

@@ -60,7 +60,7 @@ static void make(size_class classes[CLASSES], void *region, size_t size) {
         const wish *of = &wishes[at];
         size_class made = {BB_EMPTY, 0, 0, of->size, 0, 0, 0, 0};
         const size_t len = bb_bytes_for(of->size, of->align, of->buckets);
-        bb_answer part = bb_bump_allocate(&cuts, len, of->align);
+        bb_chunk part = bb_bump_allocate(&cuts, len, of->align);
         expect(part.code == BB_OK, "the region has room");
         uint32_t code =
             bb_pool_init_at_least(&made.pool, of->size, of->align, part.place, len, of->buckets);
@@ -72,8 +72,8 @@ static void make(size_class classes[CLASSES], void *region, size_t size) {
     expect(bb_bump_destroy(&cuts) == BB_OK, "the bump isn't needed any more");
 }
 
-static bb_answer allocate(size_class classes[CLASSES], size_t size, size_t align) {
-    bb_answer given = {BB_SIZE_TOO_LARGE, NULL};
+static bb_chunk allocate(size_class classes[CLASSES], size_t size, size_t align) {
+    bb_chunk given = {BB_SIZE_TOO_LARGE, NULL};
     bool spills = false;
     for (size_t at = 0; at < CLASSES; at++) {
         size_class *of = &classes[at];
@@ -138,7 +138,7 @@ static void churn(size_class classes[CLASSES]) {
         size_t at = random % LIVE;
         if (live[at].place == NULL) {
             const size_t len = random_length(random);
-            bb_answer given = allocate(classes, len, 8);
+            bb_chunk given = allocate(classes, len, 8);
             expect(given.code == BB_OK || given.code == BB_OUT_OF_MEMORY,
                    "a chunk is given, or all that fit are full");
             if (given.code != BB_OK)
@@ -173,7 +173,7 @@ int main(void) {
     churn(classes);
     for (size_t at = 0; at < CLASSES; at++) {
         size_class *of = &classes[at];
-        struct bb_pool_info info;
+        bb_pool_figures info;
         expect(bb_pool_info(&of->pool, &info) == BB_OK, "a pool has figures");
         expect(info.held_buckets == 0 && of->held == 0, "every bucket is back");
         printf("classes: %zu buckets of %zu bytes: at most %zu held, %zu for a smaller class, %zu "

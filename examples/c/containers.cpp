@@ -270,7 +270,7 @@ void detached_buckets_come_back() {
         }
     });
     for (int round = 1; round <= 100; round++) {
-        bb_answer given = bb::allocate(writer.get(), sizeof(int), alignof(int));
+        bb_chunk given = bb::allocate(writer.get(), sizeof(int), alignof(int));
         for (; given.code != BB_OK; given = bb::allocate(writer.get(), sizeof(int), alignof(int)))
             std::this_thread::yield();
         ::new (given.place) int(round);

@@ -35,8 +35,8 @@ static pthread_barrier_t start;
 static void *allocate(void *argument) {
     pthread_barrier_wait(&start);
     for (int round = 0; round < ROUNDS; round++) {
-        bb_answer of_pool = bb_pool_allocate(&pool, BUCKET_SIZE, 8);
-        bb_answer of_party = bb_pool_party_allocate(&party, BUCKET_SIZE, 8);
+        bb_chunk of_pool = bb_pool_allocate(&pool, BUCKET_SIZE, 8);
+        bb_chunk of_party = bb_pool_party_allocate(&party, BUCKET_SIZE, 8);
         expect(of_pool.code == BB_OK && of_party.code == BB_OK, "a bucket is given");
         expect(bb_pool_deallocate(&pool, of_pool.place) == BB_OK, "a bucket is given back");
         expect(bb_pool_party_deallocate(&party, of_party.place) == BB_OK,
@@ -45,7 +45,7 @@ static void *allocate(void *argument) {
     return argument;
 }
 
-static void expect_figure(bb_figure figure, size_t number) {
+static void expect_figure(bb_number figure, size_t number) {
     expect(figure.code == BB_OK && figure.number == number, "a number has its place");
 }
 
@@ -68,8 +68,8 @@ int main(void) {
         bb_shared_pool_init(&shared, BUCKET_SIZE, ALIGN, shared_words, sizeof shared_words, 1);
     expect(code == BB_OK, "one is shared");
     expect(bb_shared_pool_join(&shared, &party) == BB_OK, "a party joins");
-    struct bb_pool_info of_pool;
-    struct bb_pool_info of_party;
+    bb_pool_figures of_pool;
+    bb_pool_figures of_party;
     expect(bb_pool_info(&pool, &of_pool) == BB_OK, "the pool has figures");
     expect(bb_pool_party_info(&party, &of_party) == BB_OK, "the party has figures");
     expect(pthread_barrier_init(&start, NULL, 2) == 0, "two can wait for one another");

@@ -118,7 +118,7 @@ static uint32_t read_one(mail *from) {
         return 0;
     store(&from->state, TAKEN);
     size_t len = bb_detached_len(&from->detached).number;
-    bb_answer got = bb_pool_party_attach(&all->client, &from->detached);
+    bb_chunk got = bb_pool_party_attach(&all->client, &from->detached);
     expect(got.code == BB_OK, "a bucket is attached");
     store(&from->state, EMPTY);
     const unsigned char *message = (const unsigned char *)got.place;
@@ -167,7 +167,7 @@ static bool send_one(uint32_t message) {
     const size_t len = len_of(message);
     if (load(&to->state) != EMPTY)
         return false;
-    bb_answer given = bb_pool_party_allocate(&all->daemon, len, ALIGN);
+    bb_chunk given = bb_pool_party_allocate(&all->daemon, len, ALIGN);
     if (given.code == BB_OUT_OF_MEMORY)
         return false;
     expect(given.code == BB_OK, "a bucket is given");
@@ -185,7 +185,7 @@ static bool send_one(uint32_t message) {
 static void clean_up(void) {
     for (uint32_t at = 0; at < MAILS; at++) {
         mail *it = &all->mails[at];
-        struct bb_holder holder;
+        bb_holder holder;
         bb_lost lost = BB_LOST;
         if (load(&it->state) != TAKEN)
             continue;
@@ -242,7 +242,7 @@ int main(int argc, char **argv) {
     store(&all->ends, 1);
     wait_for(client, false);
 
-    struct bb_shared_pool_info info;
+    bb_shared_pool_figures info;
     expect(bb_shared_pool_info(&all->pool, &info) == BB_OK, "the pool has figures");
     expect(info.pool.held_buckets == 0, "every bucket is back");
     for (uint32_t at = 0; at < MAILS; at++)

@@ -97,7 +97,7 @@ static unsigned char byte_of(uint32_t publisher, uint32_t number) {
 // ends the wait.
 static message *take(bb_pool_party *party) {
     while (true) {
-        bb_answer given = bb_pool_party_allocate(party, BB_OF(message));
+        bb_chunk given = bb_pool_party_allocate(party, BB_OF(message));
         expect(given.code == BB_OK || given.code == BB_OUT_OF_MEMORY,
                "a bucket is given, or none is free");
         lock();
@@ -148,10 +148,10 @@ static void *publisher(void *argument) {
 static void release(bb_pool_party *party, slot *been_read) {
     lock();
     hub.count.delivered++;
-    bb_figure left = bb_detached_release(&been_read->detached);
+    bb_number left = bb_detached_release(&been_read->detached);
     expect(left.code == BB_OK && left.number < SUBSCRIBERS, "a reader releases a bucket once");
     if (left.number == 0) {
-        bb_answer mine = bb_pool_party_attach(party, &been_read->detached);
+        bb_chunk mine = bb_pool_party_attach(party, &been_read->detached);
         expect(mine.code == BB_OK, "the last reader attaches the bucket");
         expect(mine.place == (const void *)been_read->read, "it is the one that was read");
         expect(bb_pool_party_deallocate(party, mine.place) == BB_OK, "a bucket is given back");
@@ -197,8 +197,8 @@ static void *subscriber(void *argument) {
     return NULL;
 }
 
-static struct bb_shared_pool_info figures_of_pool(void) {
-    struct bb_shared_pool_info now;
+static bb_shared_pool_figures figures_of_pool(void) {
+    bb_shared_pool_figures now;
     expect(bb_shared_pool_info(&pool, &now) == BB_OK, "the pool has figures while parties call");
     return now;
 }
@@ -206,7 +206,7 @@ static struct bb_shared_pool_info figures_of_pool(void) {
 static void *statistics(void *argument) {
     struct timespec pause = {0, 1000000};
     for (bool ends = false; !ends; nanosleep(&pause, NULL)) {
-        struct bb_shared_pool_info pools = figures_of_pool();
+        bb_shared_pool_figures pools = figures_of_pool();
         expect(pools.pool.number_of_buckets == BUCKETS, "the pool has its buckets");
         expect(pools.pool.held_buckets <= BUCKETS, "no more is held than there is");
         lock();

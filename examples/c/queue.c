@@ -58,7 +58,7 @@ static void *send_all(void *argument) {
     for (size_t number = 0; number < MESSAGES; number++) {
         size_t len = 2 + (number * 13 + sender) % (BUCKET_SIZE - 2);
         pthread_mutex_lock(&shared.lock);
-        bb_answer given = bb_pool_allocate(&shared.pool, len, 8);
+        bb_chunk given = bb_pool_allocate(&shared.pool, len, 8);
         while (given.code == BB_OUT_OF_MEMORY) {
             pthread_cond_wait(&shared.changed, &shared.lock);
             given = bb_pool_allocate(&shared.pool, len, 8);
@@ -105,14 +105,14 @@ static void run_queue(void) {
     expect(code == BB_OK, "a pool is made");
     code = bb_pool_init(&shared.pool, BUCKET_SIZE, 8, buffer, 64);
     expect(code == BB_ALREADY_INITIALIZED, "a handle holds one");
-    struct bb_pool_info info;
+    bb_pool_figures info;
     expect(bb_pool_info(&shared.pool, &info) == BB_OK, "a pool has figures");
     expect(info.number_of_buckets == BUCKETS, "the buffer has room for all");
 
     bb_bump bump = BB_EMPTY;
     code = bb_bump_init(&bump, (unsigned char *)buffer + POOL_SIZE, SLOTS_SIZE);
     expect(code == BB_OK, "a bump is made");
-    bb_answer slots = bb_bump_allocate(&bump, BUCKETS * sizeof(slot), sizeof(size_t));
+    bb_chunk slots = bb_bump_allocate(&bump, BUCKETS * sizeof(slot), sizeof(size_t));
     expect(slots.code == BB_OK, "the slots have room");
     shared.slots = (slot *)slots.place;
 
@@ -134,7 +134,7 @@ static void run_queue(void) {
 static void run_refusals(void) {
     bb_bump bump = BB_EMPTY;
     expect(bb_bump_init(&bump, buffer, sizeof buffer) == BB_OK, "a bump is made");
-    bb_answer region = bb_bump_allocate(&bump, 1024, 8);
+    bb_chunk region = bb_bump_allocate(&bump, 1024, 8);
     expect(region.code == BB_OK, "the bump has room");
 
     bb_pool pool = BB_EMPTY;
@@ -144,11 +144,11 @@ static void run_refusals(void) {
     expect(bb_pool_init(&pool, 128, 8, NULL, 1024) == BB_INVALID_ARGUMENT,
            "a region doesn't start at 0");
     expect(bb_pool_init(&pool, 128, 8, region.place, 1024) == BB_OK, "eight buckets");
-    struct bb_pool_info info;
+    bb_pool_figures info;
     expect(bb_pool_info(&pool, &info) == BB_OK && info.number_of_buckets == 8, "eight buckets");
     expect(bb_pool_allocate(&pool, 129, 8).code == BB_SIZE_TOO_LARGE, "129 bytes are too many");
     expect(bb_pool_allocate(&pool, 128, 16).code == BB_ALIGNMENT_FAILURE, "16 is too wide");
-    bb_answer given = bb_pool_allocate(&pool, 48, 4);
+    bb_chunk given = bb_pool_allocate(&pool, 48, 4);
     expect(given.code == BB_OK && (size_t)given.place % 8 == 0, "48 bytes are given");
     expect(bb_pool_holds(&pool, given.place).number == 1, "the bucket is held");
     expect(bb_pool_deallocate(&pool, given.place) == BB_OK, "the bucket is given back");

@@ -112,7 +112,7 @@ static void *send_all(void *argument) {
     worker *self = (worker *)argument;
     for (size_t number = 0; number < MESSAGES; number++) {
         size_t len = length_of(self->number, number);
-        bb_answer given = bb_pool_party_allocate(&self->party, len, 8);
+        bb_chunk given = bb_pool_party_allocate(&self->party, len, 8);
         while (given.code == BB_OUT_OF_MEMORY) {
             sched_yield();
             given = bb_pool_party_allocate(&self->party, len, 8);
@@ -135,9 +135,9 @@ static void *send_all(void *argument) {
 static void *receive_all(void *argument) {
     worker *self = (worker *)argument;
     while (get(&self->detached)) {
-        bb_figure len = bb_detached_len(&self->detached);
+        bb_number len = bb_detached_len(&self->detached);
         expect(len.code == BB_OK && len.number >= sizeof(head), "a bucket has come");
-        bb_answer taken = bb_pool_party_attach(&self->party, &self->detached);
+        bb_chunk taken = bb_pool_party_attach(&self->party, &self->detached);
         expect(taken.code == BB_OK, "a bucket is attached");
         head begins;
         memcpy(&begins, taken.place, sizeof begins);
@@ -168,11 +168,11 @@ static void make(worker *workers, size_t count, bb_shared_pool *pool) {
 static void take_back(worker *workers, size_t count, bb_shared_pool *pool) {
     for (size_t number = 0; number < count; number++) {
         worker *of = &workers[number];
-        struct bb_pool_info info;
+        bb_pool_figures info;
         expect(bb_pool_party_info(&of->party, &info) == BB_OK, "a party has figures");
         expect(info.held_buckets == 0, "no party holds a bucket");
         expect(bb_shared_pool_leave(pool, &of->party) == BB_OK, "a party leaves");
-        bb_figure len = bb_detached_len(&of->detached);
+        bb_number len = bb_detached_len(&of->detached);
         expect(len.code == BB_DETACHED_EMPTY, "no bucket is detached");
         expect(bb_detached_destroy(&of->detached) == BB_OK, "a thread's bb_detached is freed");
     }

@@ -68,7 +68,7 @@ static void use_pool(worker *self) {
     size_t held = 0;
     uint64_t patterns[HELD];
     while (self->taken < ROUNDS) {
-        bb_answer given = bb_pool_party_allocate(&self->pool, SHARE, 8);
+        bb_chunk given = bb_pool_party_allocate(&self->pool, SHARE, 8);
         expect(given.code == BB_OK || given.code == BB_OUT_OF_MEMORY,
                "a bucket is given, or none is free");
         if (given.code == BB_OK) {
@@ -108,11 +108,11 @@ static void use_pool(worker *self) {
 static void use_bump(worker *self) {
     size_t seen = 0;
     for (size_t chunk = 0; chunk < CHUNKS; chunk++) {
-        bb_answer given = bb_bump_party_allocate(&self->bump, CHUNK, 8);
+        bb_chunk given = bb_bump_party_allocate(&self->bump, CHUNK, 8);
         expect(given.code == BB_OK && (size_t)given.place % 8 == 0, "the bump has room for all");
         self->places[chunk] = given.place;
         fill(given.place, CHUNK, pattern_of(self, chunk));
-        struct bb_bump_info info;
+        bb_bump_figures info;
         expect(bb_bump_party_info(&self->bump, &info) == BB_OK && info.used_space >= seen + CHUNK,
                "what is used grows");
         expect(info.used_space + info.free_space == sizeof bump_words, "what isn't used is free");
@@ -172,7 +172,7 @@ static void make(bb_shared_pool *pool, bb_shared_bump *bump) {
 static void one_by_one(void) {
     bb_pool_party *mine = &workers[0].pool;
     bb_pool_party *other = &workers[1].pool;
-    struct bb_pool_info info;
+    bb_pool_figures info;
     expect(bb_pool_party_info(mine, &info) == BB_OK && info.number_of_buckets == BUCKETS,
            "eight buckets");
     expect(info.bucket_size == BUCKET_SIZE && info.max_alignment == 8,
@@ -185,7 +185,7 @@ static void one_by_one(void) {
     expect(bb_pool_party_allocate(mine, 1, 3).code == BB_INVALID_LAYOUT, "3 is no power of two");
     void *places[BUCKETS];
     for (size_t bucket = 0; bucket < BUCKETS; bucket++) {
-        bb_answer given = bb_pool_party_allocate(mine, SHARE, 8);
+        bb_chunk given = bb_pool_party_allocate(mine, SHARE, 8);
         expect(given.code == BB_OK, "a bucket is given");
         places[bucket] = given.place;
         for (size_t before = 0; before < bucket; before++)
@@ -199,7 +199,7 @@ static void one_by_one(void) {
         expect(bb_pool_party_deallocate(mine, places[bucket]) == BB_OK, "a bucket is given back");
     bb_bump_party *bump = &workers[0].bump;
     expect(bb_bump_party_allocate(bump, 0, 1).code == BB_SIZE_IS_ZERO, "no chunk has no byte");
-    struct bb_bump_info bytes;
+    bb_bump_figures bytes;
     expect(bb_bump_party_info(bump, &bytes) == BB_OK && bytes.used_space == 0, "nothing is used");
     expect(bytes.free_space == sizeof bump_words && bytes.total_space == sizeof bump_words,
            "all of the region is free");
@@ -227,7 +227,7 @@ int main(void) {
             expect_filled(workers[number].places[chunk], CHUNK,
                           pattern_of(&workers[number], chunk));
     }
-    struct bb_bump_info bytes;
+    bb_bump_figures bytes;
     expect(bb_bump_party_info(&workers[0].bump, &bytes) == BB_OK && bytes.free_space == 0,
            "all of the bump is used");
     expect(bb_bump_party_allocate(&workers[0].bump, 1, 1).code == BB_OUT_OF_MEMORY,

@@ -189,7 +189,7 @@ static uint64_t *receive(bb_pool_party *party, uint32_t worker, uint32_t from) {
     slot *of = take_slot(FULL, RECEIVING, worker, 0, from);
     if (of == NULL)
         return NULL;
-    bb_answer got = bb_pool_party_attach(party, &of->detached);
+    bb_chunk got = bb_pool_party_attach(party, &of->detached);
     expect(got.code == BB_OK, "a bucket is attached");
     set_state(of, EMPTY, 0);
     __atomic_fetch_add(&all->messages, 1, __ATOMIC_SEQ_CST);
@@ -203,7 +203,7 @@ static void give_back(bb_pool_party *party, uint64_t *bucket, uint64_t number) {
 
 // Takes a bucket and fills it, or returns NULL if each bucket is held.
 static uint64_t *take_filled(bb_pool_party *party, uint64_t number) {
-    bb_answer got = bb_pool_party_allocate(party, SIZE, 8);
+    bb_chunk got = bb_pool_party_allocate(party, SIZE, 8);
     if (got.code != BB_OK)
         return NULL;
     fill((uint64_t *)got.place, number);
@@ -284,7 +284,7 @@ static void clean_up(uint32_t worker) {
         if ((step != SENDING && step != RECEIVING) || worker_in(state) != worker)
             continue;
         uint32_t bucket = bucket_in(state);
-        struct bb_holder holder;
+        bb_holder holder;
         expect(bb_shared_pool_holder(&pool, bucket, &holder) == BB_OK, "its bucket has a flag");
         expect(holder.state != BB_FREE, "its bucket isn't free");
         if (holder.state == BB_DETACHED) {
@@ -292,7 +292,7 @@ static void clean_up(uint32_t worker) {
             uint32_t code = bb_pool_party_recover(&mine, bucket, &lost);
             expect(code == BB_OK, "a bucket is recovered");
         } else {
-            bb_figure number = bb_pool_party_number(party);
+            bb_number number = bb_pool_party_number(party);
             expect(holder.party == number.number, "the dead party holds it");
         }
         empty_slot(it);
@@ -352,7 +352,7 @@ static int run(uint32_t kills, uint32_t cached) {
     }
     end_workers();
     end_slots();
-    struct bb_shared_pool_info info;
+    bb_shared_pool_figures info;
     expect(bb_shared_pool_info(&pool, &info) == BB_OK, "the pool has figures");
     expect(kills < 100 || all->messages > 0, "messages came");
     printf("%u kills: %u wrong, %u lost\n", kills, (unsigned)all->wrong,

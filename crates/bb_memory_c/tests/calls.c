@@ -39,15 +39,15 @@ static void expect_at(int line, int holds) {
 
 #define EXPECT(holds) expect_at(__LINE__, holds)
 
-static int given(bb_answer answer, size_t place) {
+static int given(bb_chunk answer, size_t place) {
     return answer.code == BB_OK && answer.place == place;
 }
 
-static int refused(bb_answer answer, uint32_t code) {
+static int refused(bb_chunk answer, uint32_t code) {
     return answer.code == code && answer.place == 0;
 }
 
-static int is(bb_figure figure, size_t number) {
+static int is(bb_number figure, size_t number) {
     return figure.code == BB_OK && figure.number == number;
 }
 
@@ -69,7 +69,7 @@ INFO_OF(pool, pool_info)
 INFO_OF(bump_party, bump_info)
 INFO_OF(pool_party, pool_info)
 
-static int has_none(bb_figure figure, uint32_t code) {
+static int has_none(bb_number figure, uint32_t code) {
     return figure.code == code && figure.number == 0;
 }
 
@@ -157,7 +157,7 @@ static void run_bump(void) {
     EXPECT(requests == 0);
     EXPECT(bb_bump_destroy(&bump) == BB_OK);
     EXPECT(bb_bump_destroy(&bump) == BB_UNINITIALIZED);
-    struct bb_bump_info info = {1, 2, 3, 4};
+    bb_bump_figures info = {1, 2, 3, 4};
     EXPECT(bb_bump_info(&bump, &info) == BB_UNINITIALIZED);
     EXPECT(info.start_address == 1);
     EXPECT(info.total_space == 4);
@@ -222,7 +222,7 @@ static void run_pool(void) {
     EXPECT(same(of_pool(&pool).held_buckets, 0));
     size_t places[7];
     for (size_t at = 0; at < 7; at++) {
-        bb_answer answer = bb_pool_allocate(&pool, 48, 4);
+        bb_chunk answer = bb_pool_allocate(&pool, 48, 4);
         EXPECT(answer.code == BB_OK);
         EXPECT((answer.place - 4104) % 128 == 0);
         places[at] = answer.place;
@@ -243,7 +243,7 @@ static void run_pool(void) {
     EXPECT(bb_pool_destroy(&pool) == BB_OK);
     EXPECT(bb_pool_destroy(&pool) == BB_UNINITIALIZED);
     EXPECT(bb_pool_deallocate(&pool, place) == BB_UNINITIALIZED);
-    struct bb_pool_info info;
+    bb_pool_figures info;
     EXPECT(bb_pool_info(&pool, &info) == BB_UNINITIALIZED);
 }
 
@@ -252,8 +252,8 @@ static void run_pool(void) {
 #define RUN_TAKE(POOL, MADE)                                   \
     do {                                                       \
         requests = 0;                                          \
-        bb_answer one = POOL##_take(&MADE);                    \
-        bb_answer other = POOL##_take(&MADE);                  \
+        bb_chunk one = POOL##_take(&MADE);                     \
+        bb_chunk other = POOL##_take(&MADE);                   \
         EXPECT(one.code == BB_OK && other.code == BB_OK);      \
         EXPECT(one.place + other.place == 4096 + 4596);        \
         EXPECT(one.place == 4096 || one.place == 4596);        \
@@ -303,8 +303,8 @@ static void run_take(void) {
         EXPECT(has_none(POOL##_number_at(&MADE, 4095), BB_NOT_A_BUCKET));                          \
         EXPECT(has_none(POOL##_number_at(&MADE, 4096 + 64 * 5), BB_NOT_A_BUCKET));                 \
         EXPECT(has_none(POOL##_number_at(&MADE, SIZE_MAX), BB_NOT_A_BUCKET));                      \
-        bb_answer given = POOL##_allocate(&MADE, 48, 4);                                           \
-        bb_figure number = POOL##_number_at(&MADE, given.place);                                   \
+        bb_chunk given = POOL##_allocate(&MADE, 48, 4);                                            \
+        bb_number number = POOL##_number_at(&MADE, given.place);                                   \
         EXPECT(given.code == BB_OK && is(number, (given.place - 4096) / 64));                      \
         EXPECT(is(POOL##_place_at(&MADE, (uint32_t)number.number), given.place) && requests == 0); \
         EXPECT(POOL##_destroy(&MADE) == BB_OK);                                                    \
@@ -430,7 +430,7 @@ static void run_memory(void) {
 // Returns whether a shared pool has these figures: how many buckets are held, how many at most were
 // found, and how many requests were refused.
 static int counts(const bb_shared_pool *pool, size_t held, size_t most, size_t refusals) {
-    struct bb_shared_pool_info info;
+    bb_shared_pool_figures info;
     EXPECT(bb_shared_pool_info(pool, &info) == BB_OK);
     EXPECT(info.pool.start_address == 4104);
     EXPECT(info.pool.size == 1100);
@@ -445,8 +445,8 @@ static void run_counts(void) {
     bb_shared_pool pool = BB_EMPTY;
     bb_pool_party one = BB_EMPTY;
     bb_pool_party other = BB_EMPTY;
-    struct bb_shared_pool_info info;
-    struct bb_shared_pool_info before;
+    bb_shared_pool_figures info;
+    bb_shared_pool_figures before;
     memset(&info, 0xa5, sizeof info);
     before = info;
     EXPECT(bb_shared_pool_info(&pool, &info) == BB_UNINITIALIZED);
@@ -457,8 +457,8 @@ static void run_counts(void) {
     EXPECT(bb_pool_party_cache(&one, 1) == BB_OK);
     EXPECT(bb_shared_pool_join(&pool, &other) == BB_OK);
     EXPECT(counts(&pool, 0, 0, 0));
-    bb_answer first = bb_pool_party_allocate(&one, 48, 8);
-    bb_answer second = bb_pool_party_allocate(&one, 48, 8);
+    bb_chunk first = bb_pool_party_allocate(&one, 48, 8);
+    bb_chunk second = bb_pool_party_allocate(&one, 48, 8);
     EXPECT(first.code == BB_OK);
     EXPECT(second.code == BB_OK);
     EXPECT(bb_pool_party_allocate(&other, 48, 8).code == BB_OK);
@@ -498,7 +498,7 @@ static void run_freed_pool_party(void) {
     EXPECT(bb_shared_pool_init(&pool, 64, 8, 4096, 128, 2) == BB_OK);
     EXPECT(bb_shared_pool_join(&pool, &freed) == BB_OK);
     EXPECT(bb_shared_pool_join(&pool, &other) == BB_OK);
-    bb_answer kept = bb_pool_party_allocate(&freed, 64, 8);
+    bb_chunk kept = bb_pool_party_allocate(&freed, 64, 8);
     EXPECT(kept.code == BB_OK);
     EXPECT((kept.place == 4096 || kept.place == 4160));
     EXPECT(bb_pool_party_destroy(&freed) == BB_OK);
@@ -706,13 +706,13 @@ static void run_parties_come_and_go(void) {
     EXPECT(bb_shared_pool_join(&pool, &one) == BB_OK);
     EXPECT(bb_shared_pool_join(&pool, &none) == BB_NO_PARTY);
     EXPECT(same(of_pool_party(&one).held_buckets, 0));
-    bb_answer kept = bb_pool_party_allocate(&other, 64, 8);
+    bb_chunk kept = bb_pool_party_allocate(&other, 64, 8);
     EXPECT(kept.code == BB_OK);
     EXPECT(same(of_pool_party(&other).held_buckets, 1));
     for (size_t round = 0; round < 10000; round++) {
         size_t place = 0;
         for (size_t held = 0; held < round % 5; held++) {
-            bb_answer given = bb_pool_party_allocate(&one, 48, 8);
+            bb_chunk given = bb_pool_party_allocate(&one, 48, 8);
             EXPECT(given.code == BB_OK);
             EXPECT(given.place != kept.place);
             EXPECT(same(of_pool_party(&one).held_buckets, held + 1));
@@ -873,7 +873,7 @@ static void run_others(void) {
     EXPECT(bb_shared_pool_join(&far, &stranger) == BB_OK);
     EXPECT(bb_shared_pool_leave(&far, &party) == BB_OTHER_POOL);
     EXPECT(bb_shared_pool_leave(&pool, &stranger) == BB_OTHER_POOL);
-    bb_answer sent = bb_pool_party_allocate(&party, 40, 8);
+    bb_chunk sent = bb_pool_party_allocate(&party, 40, 8);
     EXPECT(bb_detached_init(&detached) == BB_OK);
     EXPECT(bb_pool_party_detach(&party, sent.place, 40, &detached) == BB_OK);
     EXPECT(refused(bb_pool_party_attach(&stranger, &detached), BB_OTHER_POOL));
@@ -924,14 +924,14 @@ static void run_nested(void) {
     bb_detached detached = BB_EMPTY;
     EXPECT(bb_shared_pool_init(&outer, 1024, 8, 4096, 2048, 2) == BB_OK);
     EXPECT(bb_shared_pool_join(&outer, &of_outer) == BB_OK);
-    bb_answer first = bb_pool_party_allocate(&of_outer, 1024, 8);
-    bb_answer second = bb_pool_party_allocate(&of_outer, 1024, 8);
+    bb_chunk first = bb_pool_party_allocate(&of_outer, 1024, 8);
+    bb_chunk second = bb_pool_party_allocate(&of_outer, 1024, 8);
     EXPECT(first.code == BB_OK);
     EXPECT(second.code == BB_OK);
     EXPECT(first.place + second.place == 4096 + 5120);
     EXPECT(bb_shared_pool_init(&inner, 64, 8, 5120, 1024, 2) == BB_OK);
     EXPECT(bb_shared_pool_join(&inner, &of_inner) == BB_OK);
-    bb_answer nested = bb_pool_party_allocate(&of_inner, 8, 8);
+    bb_chunk nested = bb_pool_party_allocate(&of_inner, 8, 8);
     EXPECT(nested.code == BB_OK);
     EXPECT(nested.place >= 5120);
     EXPECT(nested.place < 6144);
@@ -969,8 +969,8 @@ static void run_detached(void) {
     EXPECT(refused(bb_pool_party_attach(&parties[0], &detached), BB_DETACHED_EMPTY));
 
     requests = 0;
-    bb_answer sent = bb_pool_party_allocate(&parties[0], 48, 8);
-    bb_answer kept = bb_pool_party_allocate(&parties[0], 48, 8);
+    bb_chunk sent = bb_pool_party_allocate(&parties[0], 48, 8);
+    bb_chunk kept = bb_pool_party_allocate(&parties[0], 48, 8);
     EXPECT(sent.code == BB_OK);
     EXPECT(kept.code == BB_OK);
     EXPECT(sent.place + kept.place == 4096 + 4160);
@@ -1036,7 +1036,7 @@ static void run_detached(void) {
 }
 
 static int says(bb_shared_pool *pool, uint32_t number, uint32_t state, uint32_t party) {
-    struct bb_holder holder = {7, 7};
+    bb_holder holder = {7, 7};
     return bb_shared_pool_holder(pool, number, &holder) == BB_OK && holder.state == state &&
            holder.party == party;
 }
@@ -1051,7 +1051,7 @@ static void run_holders(void) {
     bb_detached detached = BB_EMPTY;
     bb_lost lost = BB_LOST;
     bb_lost none = BB_EMPTY;
-    struct bb_holder holder = {7, 7};
+    bb_holder holder = {7, 7};
     EXPECT(bb_shared_pool_holder(&pool, 0, &holder) == BB_UNINITIALIZED);
     EXPECT(holder.state == 7);
     EXPECT(holder.party == 7);
@@ -1069,8 +1069,8 @@ static void run_holders(void) {
     EXPECT(bb_detached_init(&detached) == BB_OK);
     EXPECT(bb_pool_party_return_detached(&parties[0], &detached) == BB_DETACHED_EMPTY);
     requests = 0;
-    bb_figure one = bb_pool_party_number(&parties[0]);
-    bb_figure other = bb_pool_party_number(&parties[1]);
+    bb_number one = bb_pool_party_number(&parties[0]);
+    bb_number other = bb_pool_party_number(&parties[1]);
     EXPECT(one.code == BB_OK);
     EXPECT(other.code == BB_OK);
     EXPECT(one.number < 2);
@@ -1156,7 +1156,7 @@ static void run_by_number(void) {
     size_t place = bb_pool_party_take(&sender).place;
     EXPECT(has_none(bb_pool_party_detach_number(&receiver, place), BB_NOT_HELD));
     EXPECT(has_none(bb_pool_party_detach_number(&sender, place + 1), BB_NOT_HELD));
-    bb_figure number = bb_pool_party_number_at(&sender, place);
+    bb_number number = bb_pool_party_number_at(&sender, place);
     uint32_t bucket = (uint32_t)number.number;
     EXPECT(refused(bb_pool_party_attach_number(&receiver, bucket, 3), BB_NOT_HELD));
     EXPECT(is(bb_pool_party_detach_number(&sender, place), bucket));
@@ -1299,7 +1299,7 @@ static void run_join_number_refused(void) {
     for (uint32_t at = 0; at < 3; at++) {
         EXPECT(bb_shared_pool_join(&pool, &parties[at]) == BB_OK);
         EXPECT(bb_shared_pool_join(&twin, &of_twin[at]) == BB_OK);
-        bb_figure number = bb_pool_party_number(&of_twin[at]);
+        bb_number number = bb_pool_party_number(&of_twin[at]);
         EXPECT(number.code == BB_OK);
         EXPECT(is(bb_pool_party_number(&parties[at]), number.number));
     }
@@ -1349,7 +1349,7 @@ static void *receive(void *argument) {
     receiver *self = (receiver *)argument;
     for (uint32_t round = 1; round <= ROUNDS; round++) {
         wait_for(&round_begun, round);
-        bb_answer got = bb_pool_party_attach_number(&self->party, load(&bucket_sent), SENDER);
+        bb_chunk got = bb_pool_party_attach_number(&self->party, load(&bucket_sent), SENDER);
         if (got.code == BB_OK) {
             __atomic_fetch_add(&wins_in_round, 1, __ATOMIC_SEQ_CST);
             EXPECT(bb_pool_party_deallocate(&self->party, got.place) == BB_OK);
@@ -1375,7 +1375,7 @@ static void run_attach_at_once(void) {
         EXPECT(pthread_create(&threads[at], NULL, receive, &receivers[at]) == 0);
     }
     for (uint32_t round = 1; round <= ROUNDS; round++) {
-        bb_answer sent = bb_pool_party_take(&sender);
+        bb_chunk sent = bb_pool_party_take(&sender);
         EXPECT(sent.code == BB_OK);
         store(&bucket_sent, (uint32_t)bb_pool_party_detach_number(&sender, sent.place).number);
         store(&wins_in_round, 0);
@@ -1386,7 +1386,7 @@ static void run_attach_at_once(void) {
     for (uint32_t at = 0; at < RECEIVERS; at++)
         EXPECT(pthread_join(threads[at], NULL) == 0);
     EXPECT(receivers[0].wins + receivers[1].wins == ROUNDS);
-    struct bb_shared_pool_info info;
+    bb_shared_pool_figures info;
     EXPECT(bb_shared_pool_info(&pool, &info) == BB_OK);
     EXPECT(info.pool.held_buckets == 0);
     for (uint32_t at = 0; at < RECEIVERS; at++)
