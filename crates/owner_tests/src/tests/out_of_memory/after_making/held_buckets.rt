@@ -61,7 +61,7 @@ fn takes(rt: &impl Abort, pool: &mut impl Buckets, size: usize) {
     same(rt, pool.told(number.unwrap_or(0), place).1.0, Some(place));
 }
 
-/// Returns where the bucket of 16 bytes of a number begins.
+/// Returns the place of the bucket of 16 bytes with this number.
 fn place_of(number: u32) -> usize {
     (number as usize).saturating_mul(16).saturating_add(4096)
 }
@@ -75,7 +75,7 @@ fn gives(rt: &impl Abort, pool: &mut impl Buckets, number: u32) {
     same(rt, pool.told(number, place).1, (at, found, false));
 }
 
-/// Checks that nothing is held or given back where no bucket of 16 bytes begins.
+/// Checks that nothing is held or given back at a place at which no bucket of 16 bytes begins.
 fn has_none_between(rt: &impl Abort, pool: &mut impl Buckets, buckets: u32) {
     for wild in [0, 1, 4080, 4095, 4097, 4104, usize::MAX, place_of(buckets)] {
         same(rt, pool.told(buckets, wild).1, (None, None, false));
@@ -129,7 +129,7 @@ fn fixed_counts_what_it_holds(rt: HostRuntime) {
     }
 }
 
-/// Asks for a byte, which reads one index word. It is given at `place`, or refused where this is `None`.
+/// Requests a byte, which reads one index word. It is given at `place`, or refused if this is `None`.
 fn by_one_read(rt: &impl Abort, pool: &mut PoolAllocator<Global>, place: Option<usize>) {
     let given = pool.allocate(layout(rt, 1, 1));
     same(rt, pool.last_reads(), 1);
