@@ -218,7 +218,7 @@ pub trait BaseAllocator {
 /// a list that it stands for have the same place. A resize never changes the allocator: only the answer says how much of
 /// the part that is reserved for a chunk may be used.
 pub trait Allocator: BaseAllocator {
-    /// What the answers to resizes depend on. The geometry fixes it, by the law `fixed`.
+    /// The facts on which the answers to resizes depend. The geometry fixes them, by the law `fixed`.
     ghost ResizeKey: { Type 0 };
 
     ghost resize_key: { Self → ResizeKey };
