@@ -27,10 +27,11 @@ class Hosts:
         self.top = top
         self.work = work
         self.library = work / "given/bb_memory.o"
+        self.memrun = work / "given/memrun.o"
         self.prefix = work / "prefix"
 
     def make_release(self, library: Path | None) -> None:
-        """Makes a release of a library, or of one that is proved and built first."""
+        """Makes a release of a library, or of one that is proved and built first, and of memrun."""
         given = []
         if library is not None:
             # `make` splits a path at a blank, and the path of a checkout may have some.
@@ -54,7 +55,7 @@ class Hosts:
     def check_installation(self, environment: Mapping[str, str]) -> None:
         """Installs the library below the prefix, and checks what is installed and released."""
         must_show(
-            [self.top / "crates/bb_memory_c/check", self.library, self.prefix],
+            [self.top / "crates/bb_memory_c/check", self.library, self.memrun, self.prefix],
             self.top,
             environment,
         )
