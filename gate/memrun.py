@@ -138,7 +138,7 @@ def stored() -> Script:
 def worked() -> list[Script]:
     """Returns the worked scripts of docs/script-format.md, with the lines that stand beside them."""
     page = (TOP / "docs/script-format.md").read_text(encoding="utf-8")
-    part = page.partition("## One script of each kind\n")[2]
+    part = page.partition("## One script of each kind\n")[2].partition("\n## ")[0]
     return [worked_script(block) for block in re.findall(r"(?:^    .*\n)+", part, re.M)]
 
 
