@@ -61,6 +61,20 @@ fn a_box_owns_its_value_and_its_bucket() {
     assert_eq!((pool.held_buckets(), pool.greatest_held()), (0, 2));
 }
 
+/// Has a value in a pool over a borrowed region.
+struct Counter<'pool> {
+    count: PoolBox<'pool, u64>,
+}
+
+#[test]
+fn a_struct_has_a_value_in_a_pool() {
+    let mut region = Box::new_uninit_slice(64);
+    let pool = PoolAllocator::over(Layout::new::<u64>(), &mut region).unwrap();
+    let mut counter = Counter { count: PoolBox::try_new(&pool, 1).unwrap() };
+    *counter.count += 1;
+    assert_eq!((*counter.count, pool.held_buckets()), (2, 1));
+}
+
 #[test]
 fn a_refused_value_comes_back() {
     let pool = PoolAllocator::with_buckets(bucket(), 1).unwrap();
