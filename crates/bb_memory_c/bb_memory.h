@@ -273,7 +273,7 @@ void bb_use_memory(void *(*allocate)(size_t), void *(*resize)(void *, size_t),
 //                              first, before the old memory is freed
 //     bb_shared_pool           336, 16 for each bucket, 12 for each party; to join 256; to cache
 //                              256, 4 for each bucket, 4 for each that may be cached
-//     bb_detached              64
+//     bb_detached              128
 //
 // FIGURES: each `info` fills a struct with the figures of what its handle owns. If the handle is
 // empty, the struct stays as it was.

@@ -14,12 +14,14 @@ use bb_memory_traits::layout::Chunk;
 use std::alloc::Global;
 use std::marker::Model;
 
-/// A detached bucket with the place at which its pool begins, or none, and for how many readers it waits.
+/// A detached bucket with the place at which its pool begins, or none, and for how many readers it waits. A gap keeps what the
+/// calls of its sender and its receiver write off the cache lines of its neighbours.
 #[derive(Drop)]
 pub struct Detached {
     inside: Option<DetachedBucket>,
     start: usize,
     readers: u32,
+    gap: [u64; 10],
 }
 
 impl Model for Detached {
@@ -159,6 +161,7 @@ pub extern "C" fn bb_detached_init(alloc: Global, detached: &mut DetachedHandle)
         inside: None,
         start: 0,
         readers: 0,
+        gap: [0; 10],
     };
     call::keep(detached, alloc, none)
 }

@@ -400,7 +400,7 @@ static void run_memory(void) {
     EXPECT(bb_bump_destroy(&bump) == BB_OK);
     EXPECT(bb_one_chunk_destroy(&one) == BB_OK);
     bb_detached detached = BB_EMPTY;
-    WITHIN(64, bb_detached_init(&detached));
+    WITHIN(128, bb_detached_init(&detached));
     EXPECT(bb_detached_destroy(&detached) == BB_OK);
     for (uint32_t parties = 1; parties < 6; parties++)
         for (size_t buckets = 1; buckets < 100000; buckets = buckets * 2 + 1) {
