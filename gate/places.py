@@ -167,8 +167,8 @@ PLACES = (
             + "shared_pool": {
                 "holder": 1,
                 "held_at": 1,
-                "is_held": 1,
-                "is_out": 4,
+                "is_held": 2,
+                "is_out": 3,
                 "count_out": 1,
                 "figures": 1,
             },

@@ -9,7 +9,7 @@ ghost use Rattle.bb_memory_shared_pools.specs.SharedPoolCaching.{CachingParty, I
 ghost use Rattle.bb_memory_traits.specs.Chunk.{region_at};
 ghost use Rattle.bb_memory_traits.specs.PoolObject.{bucket_place};
 ghost use Rattle.std.specs.Arc.{arc_value};
-ghost use Rattle.std.specs.Prelude.{Contains, IfErr, IfNone, IfOk, IfSome, IsFalse, IsTrue, Some, length, slice_get, slice_set, vec_capacity, ℕ, ◌<◌, ◌↔◌, ◌≡◌, ◌≤◌};
+ghost use Rattle.std.specs.Prelude.{Contains, IfErr, IfNone, IfOk, IfSome, IsFalse, IsTrue, Some, false, length, slice_get, slice_set, vec_capacity, ℕ, ◌<◌, ◌↔◌, ◌≡◌, ◌≤◌};
 
 use crate::handle::{Handle, PoolPartyHandle, SharedPoolHandle};
 use bb_memory_c_calls::answer::{Answer, Figure, Holder, PoolInfo, SharedPoolInfo};
@@ -83,6 +83,40 @@ pub(crate) fn note(in_use: &mut Vec<bool>, number: u32, is_in_use: bool)
 {
     if let Some(entry) = in_use.get_mut(number as usize) {
         *entry = is_in_use;
+    }
+}
+
+/// Clears the entry of the bucket of this number. Returns what it was, if there is one.
+fn clear(in_use: &mut Vec<bool>, number: u32) -> Option<bool>
+    ensures was { result ≡ slice_get in_use.old.items number }
+    ensures cleared { in_use.new.items ≡ slice_set in_use.old.items number false }
+{
+    let entry = in_use.get_mut(number as usize)?;
+    let was_in_use = *entry;
+    *entry = false;
+    Some(was_in_use)
+}
+
+/// Returns whether the party has the bucket of this number in use, and clears its entry. One that caches none asks the bucket's
+/// flag.
+#[inline(always)]
+fn end_use(
+    party: &mut CachingParty,
+    pool: &SharedPoolAllocator,
+    in_use: &mut Vec<bool>,
+    number: u32,
+) -> bool
+    requires theirs { party.old.party.allocator ≡ pool.now }
+    requires few { length party.old.cached ≤ party.old.most }
+    requires listed { AreListed party.old party.old.most in_use.old.items }
+    requires below { number < (geometry_of party.old).buckets }
+    ensures value { IsTrue result ↔ IsOut party.old number }
+    ensures unchanged { party.new ≡ party.old }
+    ensures cleared { in_use.new.items ≡ slice_set in_use.old.items number false }
+{
+    match clear(in_use, number) {
+        Some(was_in_use) => was_in_use,
+        None => party.is_held(pool, number),
     }
 }
 
@@ -222,12 +256,14 @@ impl JoinedPool {
         ensures returned { IsTrue result → ReturnsCaching self.old number self.new }
         ensures unchanged { IsFalse result → self.new ≡ self.old }
     {
-        if !self.is_out(number) {
+        self.invariant();
+        let pool = &*self.pool;
+        let was_in_use = end_use(&mut self.party, pool, &mut self.in_use, number);
+        if !was_in_use {
             return false;
         }
-        note(&mut self.in_use, number, false);
-        let bucket = by_number::bucket(&*self.pool, self.party.party(), number, 0);
-        self.party.deallocate(&*self.pool, bucket);
+        let bucket = by_number::bucket(pool, self.party.party(), number, 0);
+        self.party.deallocate(pool, bucket);
         true
     }
 }
