@@ -63,8 +63,8 @@ PATH = re.compile(r"(?<![\w:])(?:::\s*)?((?:std|core|alloc|atomic_table|thiserro
 # What may be called in the crates that threads share, besides the libraries' own functions.
 CALLED = frozenset(
     """
-    close_with compare_exchange copied fetch_add fetch_max filter from_elem from_raw get
-    into_raw_with_allocator is_none is_some iter_mut join_seat load_new_seat map map_err max min
+    close_with compare_exchange copied fetch_add fetch_max fill filter from_elem from_raw get
+    get_mut into_raw_with_allocator is_none is_some iter_mut join_seat load_new_seat map map_err max min
     null_mut of_words ok ok_or peek pop push_reserved replace saturating_sub split_seat store swap
     try_clone unwrap with_capacity
     """.split()
@@ -168,7 +168,7 @@ PLACES = (
                 "holder": 1,
                 "held_at": 1,
                 "is_held": 2,
-                "is_out": 2,
+                "is_out": 3,
                 "count_out": 1,
                 "figures": 1,
             },
@@ -192,7 +192,7 @@ PLACES = (
             BUMP: {"for": 1, "..": 1},
             BUMP + "/meeting": {"while": 1},
             BUMP + "/request": {"loop": 1},
-            C + "shared_pool": {"for": 2, "..": 4, "|": 1},
+            C + "shared_pool": {"for": 3, "..": 5, "|": 1},
             C_CALLS + "call": {"for": 2, "iter_mut": 1},
             C_CALLS + "handle": {"|": 1},
         },

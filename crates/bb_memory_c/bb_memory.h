@@ -272,8 +272,8 @@ void bb_use_memory(void *(*allocate)(size_t), void *(*resize)(void *, size_t),
 //     bb_shared_bump           256, and 16 for each party; to join 64; to reset as much as at
 //                              first, before the old memory is freed
 //     bb_shared_pool           336, 16 for each bucket, 12 for each party; to join 256; to cache
-//                              256, 4 for each bucket, 4 for each that may be cached
-//     bb_detached              64
+//                              256, 1 for each bucket, 4 for each that may be cached
+//     bb_detached              128
 //
 // FIGURES: each `info` fills a struct with the figures of what its handle owns. If the handle is
 // empty, the struct stays as it was.

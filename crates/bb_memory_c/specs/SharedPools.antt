@@ -67,16 +67,16 @@ pub record AreFlagged (pool : SharedPool) (are_so : ℕ → Type 0) (flags : Lis
   pub below : (bucket : ℕ) → Has flags bucket → bucket < pool.scene.geometry.buckets
   pub exact : (bucket : ℕ) → Has flags bucket ↔ are_so bucket
 
--- `places` has, for each of these cached buckets, where it is in their list
-abbrev pub ArePlaces : List ℕ → List ℕ → Type 0
-ArePlaces cached places = (k bucket : ℕ) → slice_get cached k ≡ Some bucket → slice_get places bucket ≡ Some k
+-- the list says which of the pool's buckets the party has in use; if the party caches at most 0
+-- buckets, there is no entry
+pub record AreListed (joined : CachingParty) (most : ℕ) (list : List Bool) : Type 0 where
+  pub flagged : 0 < most → AreFlagged joined.party.allocator (IsOut joined) list
+  pub none : most ≡ 0 → list ≡ []
 
--- The party is of this pool, and `places` has where the buckets are that it caches. There is room
--- for each bucket of the pool if the party caches any.
-pub record IsJoinedAt (pool : SharedPool) (joined : CachingParty) (places : List ℕ) : Type 0 where
+-- the party is of this pool, and `in_use` says which buckets it has in use if it caches any
+pub record IsJoinedAt (pool : SharedPool) (joined : CachingParty) (in_use : List Bool) : Type 0 where
   pub theirs : joined.party.allocator ≡ pool
-  pub room : 0 < joined.most → pool.scene.geometry.buckets ≤ length places
-  pub listed : ArePlaces joined.cached places
+  pub listed : AreListed joined joined.most in_use
 
 -- a pool over the region, cut into buckets of this layout, and all of its parties, which have made
 -- no step

@@ -6,7 +6,7 @@ ghost use Rattle.bb_memory_c_calls.specs.declared.code.TheConstants.{UNINITIALIZ
 ghost use Rattle.std.specs.Prelude.{IfOk, MatchOption, Some, ◌≡◌};
 
 use crate::handle::{DetachedHandle, Handle, LostHandle, PoolPartyHandle};
-use crate::shared_pool::JoinedPool;
+use crate::shared_pool::{JoinedPool, note};
 use bb_memory_c_calls::answer::{Answer, Figure};
 use bb_memory_c_calls::{call, code};
 use bb_memory_shared_pools::shared_pool::{DetachedBucket, LostBucket, by_number};
@@ -14,12 +14,14 @@ use bb_memory_traits::layout::Chunk;
 use std::alloc::Global;
 use std::marker::Model;
 
-/// A detached bucket with the place at which its pool begins, or none, and for how many readers it waits.
+/// A detached bucket with the place at which its pool begins, or none, and for how many readers it waits. A gap keeps what the
+/// calls of its sender and its receiver write off the cache lines of its neighbours.
 #[derive(Drop)]
 pub struct Detached {
     inside: Option<DetachedBucket>,
     start: usize,
     readers: u32,
+    gap: [u64; 10],
 }
 
 impl Model for Detached {
@@ -50,6 +52,7 @@ impl JoinedPool {
         }
         let bucket = by_number::bucket(&*self.pool, self.party.party(), number, len);
         let token = self.party.detach(&*self.pool, bucket);
+        note(&mut self.in_use, number, false);
         detached.inside = Some(token);
         detached.start = self.pool.start_address();
         code::OK
@@ -86,6 +89,7 @@ impl JoinedPool {
         };
         let bucket = by_number::bucket(&*self.pool, self.party.party(), number, 0);
         let told = self.party.detach_number(&*self.pool, bucket);
+        note(&mut self.in_use, number, false);
         Figure::of(told as usize)
     }
 
@@ -101,6 +105,7 @@ impl JoinedPool {
         if !self.party.attach_number(&*self.pool, number, from) {
             return Answer::refusal(code::NOT_HELD);
         }
+        note(&mut self.in_use, number, true);
         let size = self.pool.bucket_size();
         let bucket = by_number::bucket(&*self.pool, self.party.party(), number, size);
         Answer::of(Ok(bucket.chunk()))
@@ -112,7 +117,11 @@ impl JoinedPool {
         ensures { TellsAttach self.old detached.old result self.new detached.new }
     {
         match self.take_inside(detached) {
-            Ok(token) => Answer::of(Ok(self.party.attach(&*self.pool, token).chunk())),
+            Ok(token) => {
+                let bucket = self.party.attach(&*self.pool, token);
+                note(&mut self.in_use, bucket.number(), true);
+                Answer::of(Ok(bucket.chunk()))
+            }
             Err(code) => Answer::refusal(code),
         }
     }
@@ -159,6 +168,7 @@ pub extern "C" fn bb_detached_init(alloc: Global, detached: &mut DetachedHandle)
         inside: None,
         start: 0,
         readers: 0,
+        gap: [0; 10],
     };
     call::keep(detached, alloc, none)
 }

@@ -400,7 +400,7 @@ static void run_memory(void) {
     EXPECT(bb_bump_destroy(&bump) == BB_OK);
     EXPECT(bb_one_chunk_destroy(&one) == BB_OK);
     bb_detached detached = BB_EMPTY;
-    WITHIN(64, bb_detached_init(&detached));
+    WITHIN(128, bb_detached_init(&detached));
     EXPECT(bb_detached_destroy(&detached) == BB_OK);
     for (uint32_t parties = 1; parties < 6; parties++)
         for (size_t buckets = 1; buckets < 100000; buckets = buckets * 2 + 1) {
@@ -416,9 +416,9 @@ static void run_memory(void) {
             WITHIN(336 + 16 * buckets + 12 * parties,
                    bb_shared_pool_init(&shared_pool, 8, 8, 4096, 8 * buckets, parties));
             WITHIN(256, bb_shared_pool_join(&shared_pool, &pool_party));
-            WITHIN(256 + 4 * buckets + 4 * (buckets / 2),
+            WITHIN(256 + buckets + 4 * (buckets / 2),
                    bb_pool_party_cache(&pool_party, (uint32_t)buckets / 2));
-            WITHIN(256 + 8 * buckets, bb_pool_party_cache(&pool_party, UINT32_MAX));
+            WITHIN(256 + 5 * buckets, bb_pool_party_cache(&pool_party, UINT32_MAX));
             EXPECT(bb_pool_destroy(&pool) == BB_OK);
             EXPECT(bb_shared_bump_destroy(&shared_bump) == BB_OK);
             EXPECT(bb_bump_party_destroy(&bump_party) == BB_OK);
@@ -807,6 +807,91 @@ static void run_caching(void) {
     EXPECT(given(bb_pool_party_allocate(&other, 8, 8), places[1]));
     EXPECT(bb_shared_pool_destroy(&pool) == BB_OK);
     EXPECT(bb_pool_party_destroy(&other) == BB_OK);
+    EXPECT(bb_detached_destroy(&detached) == BB_OK);
+}
+
+// Returns whether the party has the bucket at this place in use. If it hasn't, no call takes the
+// bucket from it.
+static int has(const bb_pool_party *party, size_t place) {
+    bb_number told = bb_pool_party_holds(party, place);
+    EXPECT(told.code == BB_OK);
+    if (told.number == 0) {
+        bb_detached detached = BB_EMPTY;
+        EXPECT(bb_detached_init(&detached) == BB_OK);
+        EXPECT(bb_pool_party_deallocate(party, place) == BB_NOT_HELD);
+        EXPECT(is(bb_pool_party_deallocate_many(party, &place, 1), 0));
+        EXPECT(bb_pool_party_detach(party, place, 8, &detached) == BB_NOT_HELD);
+        EXPECT(has_none(bb_pool_party_detach_number(party, place), BB_NOT_HELD));
+        EXPECT(bb_detached_destroy(&detached) == BB_OK);
+    }
+    return told.number == 1;
+}
+
+// A caching party has in use what it took or attached, and what it held before it cached any. It
+// hasn't what it gave back, cached or not, nor what it detached.
+static void run_in_use(void) {
+    bb_shared_pool pool = BB_EMPTY;
+    bb_pool_party one = BB_EMPTY;
+    bb_pool_party other = BB_EMPTY;
+    bb_detached detached = BB_EMPTY;
+    EXPECT(bb_shared_pool_init(&pool, 64, 8, 4096, 64 * 4, 2) == BB_OK);
+    EXPECT(bb_detached_init(&detached) == BB_OK);
+    EXPECT(bb_shared_pool_join_number(&pool, 0, &one) == BB_OK);
+    EXPECT(bb_shared_pool_join_number(&pool, 1, &other) == BB_OK);
+    size_t held = bb_pool_party_take(&one).place;
+    size_t back = bb_pool_party_take(&one).place;
+    size_t others = bb_pool_party_take(&other).place;
+    EXPECT(bb_pool_party_deallocate(&one, back) == BB_OK);
+    EXPECT(bb_pool_party_cache(&one, 1) == BB_OK);
+    EXPECT(has(&one, held));
+    EXPECT(!has(&one, back));
+    EXPECT(!has(&one, others));
+    EXPECT(!has(&one, held + 1));
+    EXPECT(!has(&one, 4096 + 64 * 4));
+    EXPECT(same(of_pool_party(&one).held_buckets, 1));
+
+    // A return to the cache, and one to the pool.
+    EXPECT(given(bb_pool_party_take(&one), back));
+    EXPECT(has(&one, back));
+    EXPECT(bb_pool_party_deallocate(&one, held) == BB_OK);
+    EXPECT(bb_pool_party_deallocate(&one, back) == BB_OK);
+    EXPECT(!has(&one, held));
+    EXPECT(!has(&one, back));
+    EXPECT(given(bb_pool_party_allocate(&one, 8, 8), held));
+    EXPECT(has(&one, held));
+
+    // With a token, and by its number.
+    EXPECT(bb_pool_party_detach(&one, held, 8, &detached) == BB_OK);
+    EXPECT(!has(&one, held));
+    EXPECT(given(bb_pool_party_attach(&one, &detached), held));
+    EXPECT(has(&one, held));
+    size_t bucket = bb_pool_party_number_at(&one, held).number;
+    EXPECT(is(bb_pool_party_detach_number(&one, held), bucket));
+    EXPECT(!has(&one, held));
+    EXPECT(given(bb_pool_party_attach_number(&one, (uint32_t)bucket, 0), held));
+    EXPECT(has(&one, held));
+
+    // It caches fewer, then more; a refused request for memory leaves all as it is.
+    EXPECT(bb_pool_party_cache(&one, 0) == BB_OK);
+    EXPECT(has(&one, held));
+    EXPECT(!has(&one, back));
+    EXPECT(bb_pool_party_cache(&one, 2) == BB_OK);
+    EXPECT(has(&one, held));
+    EXPECT(!has(&one, back));
+    for (unsigned nth = 1; nth <= 2; nth++) {
+        requests = 0;
+        to_refuse = nth;
+        EXPECT(bb_pool_party_cache(&one, 1) == BB_MALLOC_REFUSED);
+    }
+    to_refuse = 0;
+    EXPECT(has(&one, held));
+    EXPECT(!has(&one, back));
+    EXPECT(bb_pool_party_give_all_back(&one) == BB_OK);
+    EXPECT(!has(&one, held));
+    EXPECT(has(&other, others));
+    EXPECT(bb_shared_pool_leave(&pool, &one) == BB_OK);
+    EXPECT(bb_shared_pool_leave(&pool, &other) == BB_OK);
+    EXPECT(bb_shared_pool_destroy(&pool) == BB_OK);
     EXPECT(bb_detached_destroy(&detached) == BB_OK);
 }
 
@@ -1473,6 +1558,7 @@ int main(void) {
     run_reset();
     run_parties_come_and_go();
     run_caching();
+    run_in_use();
     run_many();
     run_others();
     run_nested();
