@@ -306,9 +306,9 @@ BB_SANITIZE_INLINE uint32_t bb_sanitize_shared_pool_abandon(bb_shared_pool *pool
 // PARTIES
 //
 
-// Returns the greatest size up to `most` that a bucket of the party's pool has, or 0 if the handle is
-// empty. It is found by requests that are refused: their alignment is too great, and a size that is
-// too great is refused before that.
+// Returns the greatest size up to `most` that a bucket of the party's pool has, or 0 if the handle
+// is empty. It is found by requests that are refused: their alignment is too great, and a size that
+// is too great is refused before that.
 BB_SANITIZE_INLINE size_t bb_sanitize_size(bb_pool_party *party, size_t most) {
     const size_t too_great = BB_SIZE(1) << 62;
     size_t least = 0;

@@ -26,10 +26,11 @@ typedef struct {
     unsigned char text[TEXT];
 } message;
 
-// A message on its way: a bucket that waits for its readers.
+// A message on its way: a bucket, and how many readers are left.
 typedef struct slot {
     bb_detached detached;
     const message *read;
+    uint32_t readers;
     struct slot *next;
 } slot;
 
@@ -120,8 +121,7 @@ static void publish(bb_pool_party *party, message *written) {
     on_its_way->read = written;
     uint32_t code = bb_pool_party_detach(party, written, sizeof *written, &on_its_way->detached);
     expect(code == BB_OK, "a bucket is detached");
-    code = bb_detached_share(&on_its_way->detached, SUBSCRIBERS);
-    expect(code == BB_OK, "it waits for each subscriber");
+    on_its_way->readers = SUBSCRIBERS;
     for (size_t at = 0; at < SUBSCRIBERS; at++) {
         queue *to = &hub.to[at];
         to->at[(to->first + to->count) % BUCKETS] = on_its_way;
@@ -144,13 +144,13 @@ static void *publisher(void *argument) {
     return NULL;
 }
 
-// The last reader attaches the bucket, and gives it back.
+// The last reader attaches the bucket, and gives it back. Readers count by an atomic step: each has
+// read the bucket before the last one gives it back.
 static void release(bb_pool_party *party, slot *been_read) {
+    uint32_t left = __atomic_sub_fetch(&been_read->readers, 1, __ATOMIC_ACQ_REL);
     lock();
     hub.count.delivered++;
-    bb_number left = bb_detached_release(&been_read->detached);
-    expect(left.code == BB_OK && left.number < SUBSCRIBERS, "a reader releases a bucket once");
-    if (left.number == 0) {
+    if (left == 0) {
         bb_chunk mine = bb_pool_party_attach(party, &been_read->detached);
         expect(mine.code == BB_OK, "the last reader attaches the bucket");
         expect(mine.place == (const void *)been_read->read, "it is the one that was read");
@@ -207,8 +207,8 @@ static void *statistics(void *argument) {
     struct timespec pause = {0, 1000000};
     for (bool ends = false; !ends; nanosleep(&pause, NULL)) {
         bb_shared_pool_figures pools = figures_of_pool();
-        expect(pools.pool.number_of_buckets == BUCKETS, "the pool has its buckets");
-        expect(pools.pool.held_buckets <= BUCKETS, "no more is held than there is");
+        expect(pools.number_of_buckets == BUCKETS, "the pool has its buckets");
+        expect(pools.held_buckets <= BUCKETS, "no more is held than there is");
         lock();
         figures now = hub.count;
         ends = hub.closed && now.held == 0;
@@ -246,7 +246,7 @@ int main(void) {
     expect(pthread_join(of_statistics, NULL) == 0, "statistics end when nothing is held");
     expect(hub.count.delivered == (size_t)PUBLISHERS * MESSAGES * SUBSCRIBERS,
            "each message came to each");
-    expect(figures_of_pool().pool.held_buckets == 0, "each bucket is back");
+    expect(figures_of_pool().held_buckets == 0, "each bucket is back");
 
     bb_pool_party last = BB_EMPTY;
     expect(bb_shared_pool_join(&pool, &last) == BB_OK, "a party joins");
