@@ -1,7 +1,8 @@
 // Publish and subscribe over one pool, without a copy: each message goes to each of several
-// readers, who read its bucket where it lies, and the last of them gives the bucket back by a party
-// of its own. A publisher that finds no bucket waits for a return. A thread of statistics reads the
-// pool's figures meanwhile. One lock orders what the host counts; the pool's calls need none.
+// readers, who read its bucket where it lies. An atomic number in the message counts the readers
+// that are left. The one that takes it to 0 is the last, and gives the bucket back by a party of its
+// own. A publisher that finds no bucket waits for a return. A thread of statistics reads the pool's
+// figures meanwhile. One lock orders what else the host counts; the pool's calls need none.
 #define _POSIX_C_SOURCE 200809L
 #include <pthread.h>
 #include <stdint.h>
@@ -20,17 +21,19 @@ enum {
     TEXT = 48
 };
 
+// A message, with the number of its readers that haven't released it yet. Only `release` changes
+// that number once the message is published.
 typedef struct {
     uint32_t publisher;
     uint32_t number;
+    uint32_t readers;
     unsigned char text[TEXT];
 } message;
 
-// A message on its way: a bucket, and how many readers are left.
+// A message on its way, in a detached bucket.
 typedef struct slot {
     bb_detached detached;
-    const message *read;
-    uint32_t readers;
+    message *read;
     struct slot *next;
 } slot;
 
@@ -121,7 +124,6 @@ static void publish(bb_pool_party *party, message *written) {
     on_its_way->read = written;
     uint32_t code = bb_pool_party_detach(party, written, sizeof *written, &on_its_way->detached);
     expect(code == BB_OK, "a bucket is detached");
-    on_its_way->readers = SUBSCRIBERS;
     for (size_t at = 0; at < SUBSCRIBERS; at++) {
         queue *to = &hub.to[at];
         to->at[(to->first + to->count) % BUCKETS] = on_its_way;
@@ -138,16 +140,18 @@ static void *publisher(void *argument) {
         message *written = take(&publishing[self]);
         written->publisher = self;
         written->number = number;
+        written->readers = SUBSCRIBERS;
         memset(written->text, byte_of(self, number), TEXT);
         publish(&publishing[self], written);
     }
     return NULL;
 }
 
-// The last reader attaches the bucket, and gives it back. Readers count by an atomic step: each has
-// read the bucket before the last one gives it back.
+// Releases a message for one reader, which reads it no more. The last reader attaches the bucket, and
+// gives it back. The order of the atomic step makes the others' reads come before that.
 static void release(bb_pool_party *party, slot *been_read) {
-    uint32_t left = __atomic_sub_fetch(&been_read->readers, 1, __ATOMIC_ACQ_REL);
+    uint32_t left = __atomic_sub_fetch(&been_read->read->readers, 1, __ATOMIC_ACQ_REL);
+    expect(left < SUBSCRIBERS, "a reader releases a message once");
     lock();
     hub.count.delivered++;
     if (left == 0) {
