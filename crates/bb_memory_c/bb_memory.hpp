@@ -512,9 +512,14 @@ struct give_back {
 template<class T, class Handle>
 using unique = std::unique_ptr<T, give_back<T, Handle>>;
 
+// Whether a handle is one of a pool or of a party of a pool.
+template<class Handle>
+inline constexpr bool has_buckets =
+    std::is_same_v<Handle, bb_pool> || std::is_same_v<Handle, bb_pool_party>;
+
 // Allocates a whole bucket of a pool or of a party's pool, whose handle outlives the pointer. The
 // pointer is empty if each bucket is held.
-template<class Handle>
+template<class Handle, class = std::enable_if_t<has_buckets<Handle>>>
 unique<void, Handle> take(Handle *from) {
     bb_chunk given = bb::take_whole(from);
     return unique<void, Handle>(given.code == BB_OK ? given.place : nullptr, {from});
@@ -537,7 +542,8 @@ inline unique<void, bb_pool_party> attach_number(bb_pool_party *to, std::uint32_
 // Makes a T in a bucket of a pool or of a party's pool, whose handle outlives the pointer. The
 // pointer is empty if the pool refuses. If T's constructor throws, the bucket is returned.
 template<class T, class Handle, class... Arguments>
-unique<T, Handle> make(Handle *from, Arguments &&...arguments) {
+std::enable_if_t<has_buckets<Handle>, unique<T, Handle>> make(Handle *from,
+                                                              Arguments &&...arguments) {
     bb_chunk given = bb::allocate(from, sizeof(T), alignof(T));
     if (given.code != BB_OK)
         return unique<T, Handle>(nullptr, {from});
