@@ -47,11 +47,11 @@
 //
 // RULES
 //
-// No function can test these rules, and breaking one is undefined behaviour. The most dangerous
-// ones come first.
+// No function tests these rules. Breaking one may give a chunk to two holders, or corrupt the
+// library's memory. The most dangerous ones come first.
 //
-//  1. Only one call at a time uses a handle. A data race on a handle may give one chunk twice.
-//     Threads that call at once have a party each, or a lock.
+//  1. Only one call at a time uses a handle. A data race on a handle is undefined behaviour, and
+//     may give one chunk twice. Threads that call at once have a party each, or a lock.
 //  2. A handle goes to another thread by a lock, an atomic, or the start or join of a thread.
 //  3. Return each chunk once. A second return is refused until the place is given again; from then
 //     on it takes the chunk from its new holder.
@@ -427,8 +427,8 @@ typedef struct bb_number {
 
 // Has the library call these functions in place of `malloc`, `realloc` and `free`. The parameters
 // have the meaning of C's functions of these names, and `release` may be called with NULL. A
-// process calls this before its other calls, once: nothing is synchronized. So a host without
-// `malloc` gives the library an arena of its own.
+// process calls this before its other calls; no lock guards it. So a host without `malloc` gives
+// the library an arena of its own.
 void bb_use_memory(void *(*allocate)(size_t size), void *(*resize)(void *block, size_t size),
                    void (*release)(void *block));
 
@@ -573,7 +573,8 @@ uint32_t bb_one_chunk_info(bb_one_chunk *one, bb_one_chunk_figures *figures);
 // POOL: a region that is cut into buckets of one layout.
 //
 // Bucket 0 begins at the first multiple of the alignment in the region. Each further bucket begins
-// a stride after the one before it. A chunk is at the start of its bucket.
+// a stride after the one before it, and the region has a whole stride for the last one, too. A
+// chunk is at the start of its bucket.
 //
 
 // The stride of buckets of `size` bytes at multiples of `align`: the size rounded up to the
@@ -1000,7 +1001,8 @@ uint32_t bb_pool_party_deallocate(bb_pool_party *party, bb_address place);
 bb_number bb_pool_party_deallocate_many(bb_pool_party *party, const bb_place *places, size_t count);
 
 // Takes back each bucket whose flag says that this party holds it, cached or not. The party stays,
-// with nothing cached. It takes time by the number of buckets.
+// with nothing cached, and goes on caching what it returns from now on. It takes time by the number
+// of buckets.
 //
 // Codes, in order: BB_UNINITIALIZED.
 uint32_t bb_pool_party_give_all_back(bb_pool_party *party);
