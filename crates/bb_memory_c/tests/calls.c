@@ -94,6 +94,19 @@ static void run_texts(void) {
     }
 }
 
+// Each code has its own name, and no other number has one.
+static void run_names(void) {
+    const char *none = bb_name(BB_LAST_CODE + 1);
+    EXPECT(strcmp(none, bb_name(UINT32_MAX)) == 0);
+    EXPECT(strcmp(bb_name(BB_NOT_HELD), "BB_NOT_HELD") == 0);
+    EXPECT(strcmp(bb_name(BB_OK), "BB_OK") == 0);
+    for (uint32_t code = BB_OK; code <= BB_LAST_CODE; code++) {
+        EXPECT(strncmp(bb_name(code), "BB_", 3) == 0);
+        for (uint32_t before = BB_OK; before < code; before++)
+            EXPECT(strcmp(bb_name(code), bb_name(before)) != 0);
+    }
+}
+
 // The bytes that are said have room for exactly that number of buckets, and one byte less for one
 // bucket less.
 static void run_bytes(void) {
@@ -245,7 +258,7 @@ static void run_pool(void) {
 
 // Takes both buckets of 500 bytes, and the one that came back: what a request of the bucket's own
 // size and alignment gets.
-#define RUN_TAKE(POOL, MADE)                                   \
+#define RUN_TAKE(POOL, MADE, END)                              \
     do {                                                       \
         requests = 0;                                          \
         bb_chunk one = POOL##_take(&MADE);                     \
@@ -257,7 +270,7 @@ static void run_pool(void) {
         EXPECT(POOL##_deallocate(&MADE, one.place) == BB_OK);  \
         EXPECT(given(POOL##_take(&MADE), one.place));          \
         EXPECT(requests == 0);                                 \
-        EXPECT(POOL##_destroy(&MADE) == BB_OK);                \
+        EXPECT((END) == BB_OK);                                \
         EXPECT(refused(POOL##_take(&MADE), BB_UNINITIALIZED)); \
     } while (0)
 
@@ -267,45 +280,46 @@ static void run_take(void) {
     bb_pool_party caching = BB_EMPTY;
     bb_pool_party party = BB_EMPTY;
     EXPECT(bb_pool_init(&pool, 500, 4, 4096, 1024) == BB_OK);
-    RUN_TAKE(bb_pool, pool);
+    RUN_TAKE(bb_pool, pool, bb_pool_destroy(&pool));
     EXPECT(bb_shared_pool_init(&shared, 500, 4, 4096, 1024, 2) == BB_OK);
     EXPECT(bb_shared_pool_join(&shared, &party) == BB_OK);
-    RUN_TAKE(bb_pool_party, party);
+    RUN_TAKE(bb_pool_party, party, bb_shared_pool_leave(&shared, &party));
     EXPECT(bb_shared_pool_destroy(&shared) == BB_OK);
     EXPECT(bb_shared_pool_init(&shared, 500, 4, 4096, 1024, 2) == BB_OK);
     EXPECT(bb_shared_pool_join(&shared, &caching) == BB_OK);
     EXPECT(bb_pool_party_cache(&caching, 1) == BB_OK);
-    RUN_TAKE(bb_pool_party, caching);
+    RUN_TAKE(bb_pool_party, caching, bb_shared_pool_leave(&shared, &caching));
     EXPECT(bb_shared_pool_destroy(&shared) == BB_OK);
 }
 
 // Buckets of 48 bytes at multiples of 32 are 64 bytes apart, the first at 4096, and the region has
 // room for five. A bucket has its number and its place whether it is held or not, and no call takes
 // memory.
-#define RUN_NUMBERS(POOL, MADE)                                                                    \
-    do {                                                                                           \
-        requests = 0;                                                                              \
-        for (uint32_t number = 0; number < 5; number++) {                                          \
-            EXPECT(is(POOL##_place_at(&MADE, number), 4096 + 64 * (size_t)number));                \
-            EXPECT(is(POOL##_number_at(&MADE, 4096 + 64 * (size_t)number), number));               \
-            EXPECT(has_none(POOL##_number_at(&MADE, 4096 + 64 * (size_t)number + 1),               \
-                            BB_NOT_A_BUCKET));                                                     \
-            EXPECT(has_none(POOL##_number_at(&MADE, 4096 + 64 * (size_t)number + 63),              \
-                            BB_NOT_A_BUCKET));                                                     \
-        }                                                                                          \
-        EXPECT(has_none(POOL##_place_at(&MADE, 5), BB_NOT_A_BUCKET));                              \
-        EXPECT(has_none(POOL##_place_at(&MADE, UINT32_MAX), BB_NOT_A_BUCKET));                     \
-        EXPECT(has_none(POOL##_number_at(&MADE, 0), BB_NOT_A_BUCKET));                             \
-        EXPECT(has_none(POOL##_number_at(&MADE, 4095), BB_NOT_A_BUCKET));                          \
-        EXPECT(has_none(POOL##_number_at(&MADE, 4096 + 64 * 5), BB_NOT_A_BUCKET));                 \
-        EXPECT(has_none(POOL##_number_at(&MADE, SIZE_MAX), BB_NOT_A_BUCKET));                      \
-        bb_chunk given = POOL##_allocate(&MADE, 48, 4);                                            \
-        bb_number number = POOL##_number_at(&MADE, given.place);                                   \
-        EXPECT(given.code == BB_OK && is(number, (given.place - 4096) / 64));                      \
-        EXPECT(is(POOL##_place_at(&MADE, (uint32_t)number.number), given.place) && requests == 0); \
-        EXPECT(POOL##_destroy(&MADE) == BB_OK);                                                    \
-        EXPECT(has_none(POOL##_place_at(&MADE, 0), BB_UNINITIALIZED));                             \
-        EXPECT(has_none(POOL##_number_at(&MADE, 4096), BB_UNINITIALIZED));                         \
+#define RUN_NUMBERS(POOL, MADE, END)                                                   \
+    do {                                                                               \
+        requests = 0;                                                                  \
+        for (uint32_t number = 0; number < 5; number++) {                              \
+            EXPECT(given(POOL##_place_at(&MADE, number), 4096 + 64 * (size_t)number)); \
+            EXPECT(is(POOL##_number_at(&MADE, 4096 + 64 * (size_t)number), number));   \
+            EXPECT(has_none(POOL##_number_at(&MADE, 4096 + 64 * (size_t)number + 1),   \
+                            BB_NOT_A_BUCKET));                                         \
+            EXPECT(has_none(POOL##_number_at(&MADE, 4096 + 64 * (size_t)number + 63),  \
+                            BB_NOT_A_BUCKET));                                         \
+        }                                                                              \
+        EXPECT(refused(POOL##_place_at(&MADE, 5), BB_NOT_A_BUCKET));                   \
+        EXPECT(refused(POOL##_place_at(&MADE, UINT32_MAX), BB_NOT_A_BUCKET));          \
+        EXPECT(has_none(POOL##_number_at(&MADE, 0), BB_NOT_A_BUCKET));                 \
+        EXPECT(has_none(POOL##_number_at(&MADE, 4095), BB_NOT_A_BUCKET));              \
+        EXPECT(has_none(POOL##_number_at(&MADE, 4096 + 64 * 5), BB_NOT_A_BUCKET));     \
+        EXPECT(has_none(POOL##_number_at(&MADE, SIZE_MAX), BB_NOT_A_BUCKET));          \
+        bb_chunk chunk = POOL##_allocate(&MADE, 48, 4);                                \
+        bb_number number = POOL##_number_at(&MADE, chunk.place);                       \
+        EXPECT(chunk.code == BB_OK && is(number, (chunk.place - 4096) / 64));          \
+        EXPECT(given(POOL##_place_at(&MADE, (uint32_t)number.number), chunk.place));   \
+        EXPECT(requests == 0);                                                         \
+        EXPECT((END) == BB_OK);                                                        \
+        EXPECT(refused(POOL##_place_at(&MADE, 0), BB_UNINITIALIZED));                  \
+        EXPECT(has_none(POOL##_number_at(&MADE, 4096), BB_UNINITIALIZED));             \
     } while (0)
 
 // A bucket's place by its number, and back, of each pool. The region starts before bucket 0, and
@@ -315,10 +329,10 @@ static void run_numbers(void) {
     bb_shared_pool shared = BB_EMPTY;
     bb_pool_party party = BB_EMPTY;
     EXPECT(bb_pool_init(&pool, 48, 32, 4065, 31 + 64 * 5 + 63) == BB_OK);
-    RUN_NUMBERS(bb_pool, pool);
+    RUN_NUMBERS(bb_pool, pool, bb_pool_destroy(&pool));
     EXPECT(bb_shared_pool_init(&shared, 48, 32, 4065, 31 + 64 * 5 + 63, 1) == BB_OK);
     EXPECT(bb_shared_pool_join(&shared, &party) == BB_OK);
-    RUN_NUMBERS(bb_pool_party, party);
+    RUN_NUMBERS(bb_pool_party, party, bb_shared_pool_leave(&shared, &party));
     EXPECT(bb_shared_pool_destroy(&shared) == BB_OK);
 }
 
@@ -1534,6 +1548,7 @@ static void run_one_party(void) {
 int main(void) {
     run_version();
     run_texts();
+    run_names();
     run_bytes();
     run_bump();
     run_one_chunk();
