@@ -16,7 +16,7 @@
 //         bb_pool pool = BB_EMPTY;  // a handle; it is passed by its address
 //         uint32_t code = bb_pool_init(&pool, 128, 8, region, sizeof region);
 //         if (code != BB_OK) {
-//             fprintf(stderr, "no pool: %s: %s\n", bb_name(code), bb_text(code));
+//             fprintf(stderr, "no pool: %s\n", bb_text(code));
 //             return 1;
 //         }
 //         bb_chunk chunk = bb_pool_allocate(&pool, 48, 8);  // 48 bytes at a multiple of 8
