@@ -83,7 +83,8 @@
 //
 // If AddressSanitizer or ThreadSanitizer is on, or if BB_VALGRIND is defined before the first
 // include, bb_memory_sanitize.h reports to the checker what is in use. BB_NO_SANITIZE turns that
-// off. MemorySanitizer needs `__msan_unpoison` of each struct that a call filled.
+// off. Both are defined for all files of a program, or for none. MemorySanitizer needs
+// `__msan_unpoison` of each struct that a call filled.
 #ifndef BB_MEMORY_H
 #define BB_MEMORY_H
 
@@ -421,8 +422,8 @@ typedef struct bb_number {
 //                              256, 4 for each bucket, 4 for each that may be cached
 //     bb_detached              64
 //
-// Each kind has a `destroy`, which frees that memory. The handle is empty then, and may be
-// initialized again. The bytes of chunks that are still in use stay the host's.
+// `destroy` frees that memory, and `leave`, `forget` and `abandon` free a party's. The handle is
+// empty then, and may be used again. The bytes of chunks that are still in use stay the host's.
 //
 
 // Has the library call these functions in place of `malloc`, `realloc` and `free`. The parameters
@@ -455,7 +456,7 @@ uint32_t bb_bump_destroy(bb_bump *bump);
 // Codes, in order: BB_UNINITIALIZED, BB_INVALID_LAYOUT, BB_SIZE_IS_ZERO, BB_OUT_OF_MEMORY.
 BB_MUST_USE bb_chunk bb_bump_allocate(bb_bump *bump, size_t size, size_t align);
 
-// Takes all chunks back. The next chunk begins at the start of the region again.
+// Takes all chunks back. The next chunk is allocated from the start of the region on again.
 //
 // Codes, in order: BB_UNINITIALIZED.
 uint32_t bb_bump_deallocate(bb_bump *bump);
@@ -464,10 +465,13 @@ uint32_t bb_bump_deallocate(bb_bump *bump);
 typedef struct bb_bump_figures {
     // Where the region begins.
     size_t start_address;
+
     // The bytes from the start to the end of the last chunk, with the padding between chunks.
     size_t used_space;
+
     // The bytes after the last chunk.
     size_t free_space;
+
     // The bytes of the region.
     size_t total_space;
 } bb_bump_figures;
@@ -558,8 +562,10 @@ bb_number bb_one_chunk_reserved(bb_one_chunk *one, bb_address place);
 typedef struct bb_one_chunk_figures {
     // Where the region begins.
     size_t start_address;
+
     // The bytes of the region.
     size_t size;
+
     // Whether no chunk is in use.
     bool has_chunk_available;
 } bb_one_chunk_figures;
@@ -648,16 +654,22 @@ bb_number bb_pool_holds(bb_pool *pool, bb_address place);
 typedef struct bb_pool_figures {
     // Where bucket 0 begins: the region's start rounded up to the alignment.
     size_t start_address;
+
     // The bytes of the region, as `init` got them.
     size_t size;
+
     // The bytes of a bucket.
     size_t bucket_size;
+
     // The alignment of a bucket.
     size_t max_alignment;
+
     // How many buckets the pool has.
     size_t number_of_buckets;
+
     // How many buckets are held now.
     size_t held_buckets;
+
     // The greatest number of buckets that were held at one time so far.
     size_t greatest_held;
 } bb_pool_figures;
@@ -859,14 +871,19 @@ uint32_t bb_shared_pool_abandon(bb_shared_pool *pool);
 typedef struct bb_shared_pool_figures {
     // Where bucket 0 begins: the region's start rounded up to the alignment.
     size_t start_address;
+
     // The bytes of the region, as `init` got them.
     size_t size;
+
     // The bytes of a bucket.
     size_t bucket_size;
+
     // The alignment of a bucket.
     size_t max_alignment;
+
     // How many buckets the pool has.
     size_t number_of_buckets;
+
     // How many buckets are held.
     size_t held_buckets;
 } bb_shared_pool_figures;
@@ -895,6 +912,7 @@ enum {
 typedef struct bb_holder {
     // BB_FREE, BB_HELD or BB_DETACHED.
     uint32_t state;
+
     // The number of the party that holds or has detached the bucket, or 0 if the bucket is free.
     uint32_t party;
 } bb_holder;
@@ -967,7 +985,8 @@ bb_number bb_pool_party_number(bb_pool_party *party);
 // BB_OUT_OF_MEMORY.
 BB_MUST_USE bb_chunk bb_pool_party_allocate(bb_pool_party *party, size_t size, size_t align);
 
-// Allocates a whole bucket. It searches as `bb_pool_party_allocate` does.
+// Allocates a whole bucket: the one that the party cached last, otherwise one that a search over all
+// buckets finds, by next fit.
 //
 // Returns the place of the bucket. BB_OUT_OF_MEMORY if the search found each bucket held, one after
 // the other.
@@ -1080,8 +1099,8 @@ BB_MUST_USE static inline uint32_t bb_shared_pool_init_at_least(bb_shared_pool *
 }
 
 #ifndef BB_PLACES_ARE_NUMBERS
-// Allocates a whole bucket, for hosts that want only a pointer. It searches as
-// `bb_pool_party_allocate` does.
+// Allocates a whole bucket, for hosts that want only a pointer: the bucket that the party cached
+// last, otherwise one that a search over all buckets finds, by next fit.
 //
 // Returns the place of the bucket, or NULL if the search found each bucket held, one after the
 // other, or if the handle is empty. `bb_pool_party_deallocate` returns the bucket. Compilers may
