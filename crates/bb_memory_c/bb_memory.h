@@ -985,8 +985,8 @@ bb_number bb_pool_party_number(bb_pool_party *party);
 // BB_OUT_OF_MEMORY.
 BB_MUST_USE bb_chunk bb_pool_party_allocate(bb_pool_party *party, size_t size, size_t align);
 
-// Allocates a whole bucket: the one that the party cached last, otherwise one that a search over all
-// buckets finds, by next fit.
+// Allocates a whole bucket: the one that the party cached last, otherwise one that a search over
+// all buckets finds, by next fit.
 //
 // Returns the place of the bucket. BB_OUT_OF_MEMORY if the search found each bucket held, one after
 // the other.
