@@ -1056,10 +1056,11 @@ bb_chunk bb_pool_party_place_at(const bb_pool_party *party, uint32_t number);
 // Codes, in order: BB_UNINITIALIZED, BB_NOT_A_BUCKET.
 bb_number bb_pool_party_number_at(const bb_pool_party *party, bb_address place);
 
-// Has the party cache at most `most` of the buckets that it returns from now on. A cached bucket
-// stays held for other parties, and the party takes the one that it cached last without an atomic
-// step. 0 ends caching. What the party cached before is given back first. It takes time by the
-// number of buckets.
+// Has the party cache at most `most` of the buckets that it returns from now on, and never more
+// than the pool has. The party takes the one that it cached last without an atomic step. For other
+// parties a cached bucket is held, so give the pool more buckets than its parties may cache in all.
+// 0 ends caching. What the party cached before is given back first. It takes time by the number of
+// buckets.
 //
 // Codes, in order: BB_UNINITIALIZED, BB_MALLOC_REFUSED.
 BB_MUST_USE uint32_t bb_pool_party_cache(bb_pool_party *party, uint32_t most);
@@ -1218,7 +1219,8 @@ BB_MUST_USE bb_chunk bb_pool_party_attach_number(bb_pool_party *party, uint32_t 
 //   parties that have joined.
 //
 // A process may be killed at any instruction, except in a call that takes or frees memory: `init`,
-// `join`, `join_number`, `leave`, `forget`, `cache`, `recover`, `reset`, `destroy` or `abandon`.
+// `join`, `join_number`, `leave`, `forget`, `cache`, `recover`, `reset`, `destroy` or `abandon`. If
+// a process died in one of these, what it shared is not used any more.
 //
 // After a process died, another one does this:
 //
