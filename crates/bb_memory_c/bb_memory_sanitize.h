@@ -1,22 +1,22 @@
-// Reports to checkers of memory what is in use: bb_memory.h includes this file if AddressSanitizer
-// or ThreadSanitizer is on, or if BB_VALGRIND is defined. It gives the calls of pools by other
-// functions of the same names, which make the call and report:
+// Reports to checkers of memory which buckets are in use. bb_memory.h includes this file if
+// AddressSanitizer or ThreadSanitizer is on, or if BB_VALGRIND is defined. Each call that takes or
+// returns a bucket is then a function of this file, which makes the call and reports it:
 //
-// - to AddressSanitizer, and to valgrind's memcheck, that a free bucket is not to be used, and that
-//   of a bucket in use only the bytes are that were requested. So the checker stops at a use after
-//   return, and at an overflow into a bucket's padding or into a free bucket;
-// - to AddressSanitizer that a handle is used, so that it stops at a copy of a handle that was
-//   destroyed;
-// - to ThreadSanitizer, and to valgrind's helgrind, that a bucket's return comes before its next
-//   taking.
+// - AddressSanitizer and valgrind's memcheck learn that a free bucket is not to be used, and of a
+//   bucket in use only the bytes that were requested. So they stop at a use after return, and at an
+//   overflow into a bucket's padding or into a free bucket.
+// - AddressSanitizer learns that a handle is used. So it stops at a copy of a handle that was
+//   destroyed.
+// - ThreadSanitizer and valgrind's helgrind learn that a bucket's return comes before its next
+//   taking. So they find a race only if there is one.
 //
 // Regions are memory of the process. A host whose places are other numbers defines
-// BB_PLACES_ARE_NUMBERS or BB_NO_SANITIZE, and then this file isn't included. A host destroys a
-// pool before it uses the region for something else, also a region on a stack.
+// BB_PLACES_ARE_NUMBERS or BB_NO_SANITIZE, and then bb_memory.h doesn't include this file. A host
+// destroys a pool before it uses the region for something else, for example a region on a stack.
 //
-// Each process has reports of its own. One that reads a bucket which another process took, and
-// doesn't attach it, reports that by `bb_sanitize_open`. A bucket that `bb_pool_party_recover`
-// gives back is reported as free only after its next return.
+// Each process has reports of its own. One that reads a bucket that another process took, and
+// doesn't attach it, first calls `bb_sanitize_open`. A bucket that `bb_pool_party_recover` gives
+// back is reported as free only after its next return.
 #ifndef BB_MEMORY_SANITIZE_H
 #define BB_MEMORY_SANITIZE_H
 
