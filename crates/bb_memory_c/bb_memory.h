@@ -282,7 +282,7 @@ static inline const char *bb_text(uint32_t code) {
     case BB_SHRINK_WOULD_GROW: return "the new size of a shrink is not smaller than the old one";
     case BB_INVALID_LAYOUT: return "the size and the alignment are not a valid layout";
     case BB_UNINITIALIZED: return "the handle is empty";
-    case BB_NOT_HELD: return "nothing that could be returned or attached is held there";
+    case BB_NOT_HELD: return "nothing in use begins at the place, or the bucket is not detached";
     case BB_ALREADY_INITIALIZED: return "the handle is not empty";
     case BB_INVALID_ARGUMENT: return "the region, the buckets or the number of parties is invalid";
     case BB_NO_PARTY: return "no such party is left to join";

@@ -1,7 +1,7 @@
 // bb_memory for C++17, over bb_memory.h. Its rules and codes hold here too.
 //
 // There are owners that destroy what they initialized, parties that leave when they end,
-// `std::unique_ptr` that returns its bucket, and `std::pmr::memory_resource` over a bump, a pool
+// `std::unique_ptr` that gives its bucket back, and `std::pmr::memory_resource` over a bump, a pool
 // and a party. A refusal is a value: of an enum, or empty. Only a memory resource throws:
 // `std::bad_alloc`, as containers require.
 //
@@ -251,8 +251,8 @@ public:
 
         ~party() { leave(); }
 
-        // Ends the party, which may join again. Each bucket that it holds is returned: none of them
-        // is used any more.
+        // Ends the party, which may join again. Each bucket that it holds is given back: none of
+        // them is used any more.
         void leave() noexcept { end_by(Leave); }
 
         // Returns the handle, for functions of bb_memory.h.
@@ -292,7 +292,7 @@ public:
         return owner<Handle, Destroy>::destroy();
     }
 
-    // Has a party join, which has not joined.
+    // Has a party join that hasn't joined.
     error join(party &into) noexcept { return join_by(Join, into); }
 
 protected:
@@ -365,24 +365,24 @@ public:
     // Gives back the buckets that the party caches.
     error flush() noexcept { return static_cast<error>(bb_pool_party_flush(get())); }
 
-    // Returns the bucket that is in `from`, without attaching it.
+    // Gives back the bucket that is in `from`, without attaching it.
     error return_detached(detached &from) noexcept {
         return static_cast<error>(bb_pool_party_return_detached(get(), from.get()));
     }
 
-    // Returns the detached bucket of this number, whose `bb_detached` nobody has or will use.
+    // Gives back the detached bucket of this number, whose `bb_detached` nobody has or will use.
     error recover(std::uint32_t number) noexcept {
         bb_lost lost = BB_LOST;
         return static_cast<error>(bb_pool_party_recover(get(), number, &lost));
     }
 
-    // Returns each bucket that this party holds, cached ones too. The party stays.
+    // Gives back each bucket that this party holds, cached ones too. The party stays.
     error give_all_back() noexcept {
         return static_cast<error>(bb_pool_party_give_all_back(get()));
     }
 
-    // Ends the party without returning anything: the next party that joins by its number holds what
-    // this one held.
+    // Ends the party without giving anything back: the next party that joins by its number holds
+    // what this one held.
     void forget() noexcept { end_by(bb_shared_pool_forget); }
 };
 
@@ -455,12 +455,12 @@ inline bb_chunk take_whole(bb_pool_party *of) {
     return bb_pool_party_take(of);
 }
 
-// Returns the bucket at this place to a pool.
+// Gives the bucket at this place back to a pool.
 inline error deallocate(bb_pool *to, const void *place) {
     return static_cast<error>(bb_pool_deallocate(to, place));
 }
 
-// Returns the bucket at this place to a party's pool.
+// Gives the bucket at this place back to a party's pool.
 inline error deallocate(bb_pool_party *to, const void *place) {
     return static_cast<error>(bb_pool_party_deallocate(to, place));
 }
@@ -471,8 +471,8 @@ inline std::size_t take_many(bb_pool_party *from, void **slots, std::size_t coun
     return bb_pool_party_take_many(from, slots, count).number;
 }
 
-// Returns the buckets at these places to the pool, up to the first one that is refused. Returns how
-// many were returned.
+// Gives the buckets at these places back to the pool, up to the first one that is refused. Returns
+// how many were given back.
 inline std::size_t deallocate_many(bb_pool_party *to, void *const *places, std::size_t count) {
     return bb_pool_party_deallocate_many(to, places, count).number;
 }
@@ -495,8 +495,8 @@ inline std::optional<std::uint32_t> detach_number(bb_pool_party *from, const voi
 // VALUES in buckets
 //
 
-// Destroys a T, and returns its bucket. With `void` it only returns the bucket. The handle stays
-// where it is until then.
+// Destroys a T, and gives its bucket back. With `void` it only gives the bucket back. Until then
+// the handle doesn't move.
 template<class T, class Handle>
 struct give_back {
     Handle *to;
@@ -540,7 +540,7 @@ inline unique<void, bb_pool_party> attach_number(bb_pool_party *to, std::uint32_
 }
 
 // Makes a T in a bucket of a pool or of a party's pool, whose handle outlives the pointer. The
-// pointer is empty if the pool refuses. If T's constructor throws, the bucket is returned.
+// pointer is empty if the pool refuses. If T's constructor throws, the bucket is given back.
 template<class T, class Handle, class... Arguments>
 std::enable_if_t<has_buckets<Handle>, unique<T, Handle>> make(Handle *from,
                                                               Arguments &&...arguments) {
