@@ -848,7 +848,8 @@ BB_MUST_USE uint32_t bb_shared_pool_init(bb_shared_pool *pool, size_t bucket_siz
                                          uint32_t parties);
 
 // Frees the memory of the shared pool and empties the handle, if no party is joined and no bucket
-// is detached. It takes time by the number of buckets.
+// is detached. It takes time by the number of buckets and of parties, and some 100 bytes of stack
+// for each party.
 //
 // BB_PARTIES_JOINED if a party has joined and not left, and for good if one was abandoned.
 // BB_BUCKET_DETACHED if a bucket is detached; a party attaches it or returns it. If the call is
