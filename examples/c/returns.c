@@ -15,7 +15,6 @@
 #include <string.h>
 
 #include "bb_memory.h"
-#include "thread_sanitizer.h"
 
 enum {
     SENDERS = 2,
@@ -118,7 +117,6 @@ static void *send_all(void *argument) {
             given = bb_pool_party_allocate(&self->party, len, 8);
         }
         expect(given.code == BB_OK, "a bucket is given");
-        tell_taking(given.place);
         head begins = {self->number, number};
         memcpy(given.place, &begins, sizeof begins);
         unsigned char *text = (unsigned char *)given.place + sizeof begins;
@@ -150,7 +148,6 @@ static void *receive_all(void *argument) {
             expect(bytes[at] == byte_of(begins.sender, begins.number),
                    "it has what its sender wrote");
         self->seen[begins.sender][begins.number]++;
-        tell_return(taken.place);
         uint32_t code = bb_pool_party_deallocate(&self->party, taken.place);
         expect(code == BB_OK, "its receiver gives it back");
     }
@@ -168,7 +165,7 @@ static void make(worker *workers, size_t count, bb_shared_pool *pool) {
 static void take_back(worker *workers, size_t count, bb_shared_pool *pool) {
     for (size_t number = 0; number < count; number++) {
         worker *of = &workers[number];
-        bb_pool_figures info;
+        bb_shared_pool_figures info;
         expect(bb_pool_party_info(&of->party, &info) == BB_OK, "a party has figures");
         expect(info.held_buckets == 0, "no party holds a bucket");
         expect(bb_shared_pool_leave(pool, &of->party) == BB_OK, "a party leaves");
