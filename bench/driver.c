@@ -1,6 +1,7 @@
-// Times the allocators with one owner and their peers, and prints a line for each round, which
-// `report` reads. Its argument is the number of rounds.
+// Times the allocators with one owner and their peers on one processor, and prints a line for each
+// figure, which `report` reads. Its argument is the number of rounds.
 #include "heaps.h"
+#include "pin.h"
 #include "pool_bench.h"
 #include <stdio.h>
 #include <stdlib.h>
@@ -174,10 +175,12 @@ static void time_written(void) {
 // The other allocators: for each request of 48 bytes its nanoseconds, together with those of giving
 // back what it took.
 static void time_others(void) {
+#define OTHER_ENTRY(name, by, run) {name, by, run},
+
     static const struct {
         const char *name, *by;
         rounds_of *run;
-    } others[] = {OTHER_ROWS};
+    } others[] = {OTHER_ROWS(OTHER_ENTRY)};
 
     uint32_t requests[GROUP];
     uint32_t rounds = CALLS / GROUP;
@@ -204,9 +207,12 @@ int main(int argc, char **argv) {
     memory = aligned_alloc(4096, (size_t)MOST_BUCKETS * 128);
     if (!memory)
         return 1;
+    find_processors();
     open_heaps();
     look_for(pools, POOLS);
     look_for(written, WRITTEN);
+    // DPDK lets the first thread move again where it is opened first.
+    keep_on_a_processor(0);
     // The lines take turns, so that each has its rounds spread over the whole run.
     for (int round = 0; round < rounds; round++) {
         time_others();
