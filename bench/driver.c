@@ -138,6 +138,11 @@ static double call_time(follow *run, const task *t, size_t before, uint32_t firs
     return (timed(run, t, calls, born) - made) * 1e9 / (double)(calls - before);
 }
 
+// How many calls a figure is of: a taking with its return, or a refusal.
+static int calls_of(pattern p) {
+    return p == REFUSED ? 1 : 2;
+}
+
 // One round of some loops over pools like this one, of which so many per cent are held, each in
 // turn. The time that making and filling the pool takes is subtracted.
 static void time_each(const char *name, const loop *loops, int many, pattern p, task t,
@@ -150,7 +155,7 @@ static void time_each(const char *name, const loop *loops, int many, pattern p, 
     for (int i = 0; i < many; i++)
         if (loops[i].is_there)
             printf("%s,1,%u,%u,%s,%.2f\n", name, t.buckets, percent, loops[i].name,
-                   call_time(loops[i].run, &t, before, first));
+                   calls_of(p) * call_time(loops[i].run, &t, before, first));
 }
 
 // A full pool alone refuses. Where filling it takes far longer than the refusals, nothing can be

@@ -12,7 +12,8 @@
 //
 // Arguments: the number of rounds, the number of timed calls of each thread in a round, and the
 // first letters of the kinds to be timed, if not all are meant. Prints a line for each figure,
-// which `report` reads: the nanoseconds of one call, with those of the loop.
+// which `report` reads: the nanoseconds of a taking with its return, with those of the loop; or of a
+// refusal.
 #define BB_PLACES_ARE_NUMBERS
 #include "heaps.h"
 #include "pin.h"
@@ -353,8 +354,8 @@ static void *work(void *arg) {
     return NULL;
 }
 
-// Runs the threads over a pool of that many buckets, kept that full, and prints the nanoseconds of
-// one call.
+// Runs the threads over a pool of that many buckets, kept that full, and prints the nanoseconds of a
+// taking with its return: of two calls.
 static void time_kind(const struct kind *kind, uint32_t buckets, unsigned percent, size_t calls,
                       thread *all) {
     pthread_t ids[MOST_THREADS];
@@ -386,7 +387,7 @@ static void time_kind(const struct kind *kind, uint32_t buckets, unsigned percen
         dpdk_pool_close();
     if (went_well)
         printf("coin,%u,%u,%u,%s,%.2f\n", threads, buckets, percent, kind->name,
-               sum / threads / (double)calls);
+               2 * sum / threads / (double)calls);
     else
         fprintf(stderr, "%s, %u threads, %u buckets, %u%%: no figure\n", kind->name, threads,
                 buckets, percent);

@@ -69,8 +69,8 @@ def slower(now: Mapping[Key, float], landed: Mapping[Key, float]) -> list[str]:
     """Returns a line for each row that is slower than in the earlier run."""
     found = []
     compared = 0
-    for key, nanoseconds in now.items():
-        if key.by.split()[0] not in OURS or key not in landed or key.call == "refused":
+    for key in now:
+        if key.by.split()[0] not in OURS or key not in landed:
             continue
         both = [by for by in COMPARED if key._replace(by=by) in now]
         both = [by for by in both if key._replace(by=by) in landed]
@@ -79,8 +79,7 @@ def slower(now: Mapping[Key, float], landed: Mapping[Key, float]) -> list[str]:
         compared += 1
         change = by_peers(now, key, both) / by_peers(landed, key, both)
         if change > SLOWER:
-            times = f"{landed[key]:.1f} then, {nanoseconds:.1f} now"
-            found.append(f"{change:.2f} times as slow: {', '.join(map(str, key))}: {times}")
+            found.append(f"{change:.2f} times as slow by its peers: {', '.join(map(str, key))}")
     print(f"{compared} rows were compared with the earlier run by their peers")
     return found
 
