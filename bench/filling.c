@@ -12,8 +12,8 @@
 //
 // Arguments: the number of rounds, the number of timed calls of each thread in a round, and the
 // first letters of the kinds to be timed, if not all are meant. Prints a line for each figure,
-// which `report` reads: the nanoseconds of a taking with its return, with those of the loop; or of a
-// refusal.
+// which `report` reads: the nanoseconds of a taking with its return, with those of the loop, or of
+// a refusal.
 #define BB_PLACES_ARE_NUMBERS
 #include "heaps.h"
 #include "pin.h"
@@ -271,7 +271,7 @@ static const struct kind {
     {"malloc and free", heap_follow, is_always_there, 0},
     {"mimalloc", mimalloc_follow, mimalloc_is_there, 0},
     {"DPDK", dpdk_follow, dpdk_is_there, CACHED},
-    {"loop alone", none_follow, is_always_there, 0},
+    {"loop", none_follow, is_always_there, 0},
 };
 
 static const uint32_t sizes[] = {64, 4096, MOST_BUCKETS};
@@ -354,8 +354,8 @@ static void *work(void *arg) {
     return NULL;
 }
 
-// Runs the threads over a pool of that many buckets, kept that full, and prints the nanoseconds of a
-// taking with its return: of two calls.
+// Runs the threads over a pool of that many buckets, kept that full, and prints the nanoseconds of
+// a taking with its return: of two calls.
 static void time_kind(const struct kind *kind, uint32_t buckets, unsigned percent, size_t calls,
                       thread *all) {
     pthread_t ids[MOST_THREADS];

@@ -17,8 +17,8 @@ extern heap_calls mimalloc_calls;
 
 void open_heaps(void);
 
-// Opens a pool, of which there is one of each kind at a time, and which the thread has entered then.
-// At most `cached` free buckets are kept for each thread. Returns 0 if the package isn't installed.
+// Opens a pool, of which there is one of each kind at a time. The thread has entered it then. At
+// most `cached` free buckets are kept for each thread. Returns 0 if the package isn't installed.
 typedef int open_pool(uint32_t buckets, size_t bucket_size, uint32_t cached);
 
 // Takes a bucket. Its place is 0 if no bucket is free.

@@ -2,7 +2,7 @@
 #include <stddef.h>
 #include <stdint.h>
 
-// A pool, and what is asked of it. Sizes and the alignment are in bytes.
+// A pool, and the requests that it gets. Sizes and the alignment are in bytes.
 typedef struct {
     uint32_t buckets;
     size_t bucket_size;
@@ -10,8 +10,8 @@ typedef struct {
     size_t request_size;
 } task;
 
-// The call of a script that asks for a bucket. Any other number gives back the bucket whose place
-// stands at that index of those that are kept: the last place moves there.
+// The call of a script that requests a bucket. Any other number gives back the bucket whose place
+// is at that index of those that are kept: the last place moves there.
 #define TAKE UINT32_MAX
 
 // The answer where there is no such pool.
@@ -35,7 +35,7 @@ typedef uint64_t follow(const task *, const uint32_t *script, size_t calls);
     ROW("DPDK", dpdk)                             \
     ROW("pmr", pmr_pool)                          \
     ROW("boost::interprocess", interprocess_pool) \
-    ROW("loop alone", no_pool)
+    ROW("loop", no_pool)
 
 // The pools of loops that write what they take.
 #define WRITTEN_ROWS(ROW)                       \

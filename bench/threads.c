@@ -111,7 +111,7 @@ static inline void party_give(size_t taken) {
     (void)bb_pool_party_deallocate(party, taken);
 }
 
-// The same by whole buckets, which are asked for with no layout.
+// The same by whole buckets, which are taken with no layout.
 static inline size_t whole_take(void) {
     return bb_pool_party_take(party).place;
 }
@@ -213,8 +213,8 @@ static inline void none_give(size_t taken) {
     (void)taken;
 }
 
-// How many takings of a thread took so many cycles of the processor's clock; the last counts all
-// longer ones.
+// How many takings of a thread took each number of cycles of the processor's clock; the last one
+// counts all longer ones.
 static _Thread_local uint32_t *counts;
 
 static inline uint64_t cycles(void) {
@@ -380,7 +380,7 @@ static const kind kinds[] = {
     {"C caching", {CALLS(party), NULL, NULL}, NULL, NULL, BURST},
     {"C caching take", {CALLS(whole), NULL, NULL}, NULL, NULL, BURST},
     {"C caching many", {NULL, many_burst, NULL, NULL, NULL}, NULL, NULL, BURST},
-    {"ring alone", {NULL, NULL, NULL, ENDS(none)}, NULL, NULL, 0},
+    {"ring", {NULL, NULL, NULL, ENDS(none)}, NULL, NULL, 0},
 };
 
 // Returns 1 if this machine has what the kind calls.
