@@ -51,7 +51,7 @@
 //     proved: the proofs are of one call at a time.
 //  6. A call that takes two handles gets two. No two shared pools or bumps begin at one place, not
 //     even one in a chunk of the other: by that place another's party or bucket is refused
-//     (BB_OTHER_POOL). One that was abandoned counts as long as it has a party or a detached bucket.
+//     (BB_OTHER_POOL). An abandoned one counts as long as it has a party or a detached bucket.
 //  7. Call nothing in a signal handler, which may have interrupted a call with the handle or
 //     `malloc`. Call nothing in a child that a process of several threads forked, since another
 //     thread may have locked `malloc`. After any other fork, only one of the two processes may go
@@ -467,8 +467,8 @@ uint32_t bb_shared_bump_leave(bb_shared_bump *, bb_bump_party *);
 // abandoned; BB_MALLOC_REFUSED.
 BB_MUST_USE uint32_t bb_shared_bump_reset(bb_shared_bump *);
 
-// Gives up a party that hasn't left, whose handle is empty then. It can't join again, and what it took
-// stays used. The bump can't be reset or destroyed any more.
+// Gives up a party that hasn't left, whose handle is empty then. It can't join again, and what it
+// took stays used. The bump can't be reset or destroyed any more.
 uint32_t bb_bump_party_abandon(bb_bump_party *);
 
 // Gives a chunk as `bb_bump_allocate` does.
@@ -488,13 +488,13 @@ uint32_t bb_bump_party_info(bb_bump_party *, bb_bump_figures *);
 BB_MUST_USE uint32_t bb_shared_pool_init(bb_shared_pool *, size_t bucket_size, size_t bucket_align,
                                          bb_place start, size_t size, uint32_t parties);
 
-// Frees the pool's memory. The handle is empty then. BB_PARTIES_JOINED if not each party has left, for
-// good if one was abandoned; BB_BUCKET_DETACHED if a bucket is detached. It takes time by the number
-// of buckets, and of parties, each of which also takes some 100 bytes of stack.
+// Frees the pool's memory. The handle is empty then. BB_PARTIES_JOINED if not each party has left,
+// for good if one was abandoned; BB_BUCKET_DETACHED if a bucket is detached. It takes time by the
+// number of buckets, and of parties, each of which also takes some 100 bytes of stack.
 uint32_t bb_shared_pool_destroy(bb_shared_pool *);
 
-// Empties the handle, whatever the pool's parties and buckets do. The pool's memory is freed once no
-// party is left in it.
+// Empties the handle, whatever the pool's parties and buckets do. The pool's memory is freed once
+// no party is left in it.
 uint32_t bb_shared_pool_abandon(bb_shared_pool *);
 
 // The figures of a shared pool. The start is that of bucket 0: the region's start rounded up to the
@@ -653,14 +653,14 @@ BB_MUST_USE bb_chunk bb_pool_party_attach(bb_pool_party *, bb_detached *);
 uint32_t bb_pool_party_return_detached(bb_pool_party *, bb_detached *);
 
 // Gives back the bucket of this number, which was detached into a `bb_detached`. `bb_lost lost =
-// BB_LOST;` says that nobody has or will use that `bb_detached`, as that of a dead process. The call
-// empties the `bb_lost`, also if it is refused for the bucket, and calls `free` with NULL.
+// BB_LOST;` says that nobody has or will use that `bb_detached`, as that of a dead process. The
+// call empties the `bb_lost`, also if it is refused for the bucket, and calls `free` with NULL.
 // BB_UNINITIALIZED if either handle is empty, and then both stay as they were; BB_NOT_A_BUCKET;
 // BB_NOT_HELD if the bucket isn't detached, or was detached by its number.
 //
-// A process that died in `bb_pool_party_return_detached`, or in this call, may have given the bucket
-// back already. Another party may have taken and detached it since. `bb_shared_pool_holder` can't
-// tell that, and this call would free that party's message.
+// A process that died in `bb_pool_party_return_detached`, or in this call, may have given the
+// bucket back already. Another party may have taken and detached it since. `bb_shared_pool_holder`
+// can't tell that, and this call would free that party's message.
 uint32_t bb_pool_party_recover(bb_pool_party *, uint32_t number, bb_lost *);
 
 // Detaches the bucket at this place by its number, which is returned. The number goes to another
@@ -683,8 +683,8 @@ BB_MUST_USE bb_chunk bb_pool_party_attach_number(bb_pool_party *, uint32_t numbe
 //
 // A handle is copied by `fork` or lies in the mapping; one process at a time uses it. A process may
 // be killed at any instruction but in a call that takes or frees memory: `init`, `join`,
-// `join_number`, `leave`, `forget`, `cache`, `recover`, `reset`, `destroy` or `abandon`. Another process then
-// leaves for its party: exactly what the party held is free again.
+// `join_number`, `leave`, `forget`, `cache`, `recover`, `reset`, `destroy` or `abandon`. Another
+// process then leaves for its party: exactly what the party held is free again.
 //
 // `leave` trusts the pool's words, and of what the party's handle owns only what never changes:
 // where the pool and the cache lie, and the party's number. All else there may be torn, as may be a
