@@ -1,8 +1,7 @@
 //! A shared pool behind handles: one for the pool and the parties that haven't joined, and one for each party that has.
-ghost use Rattle.bb_memory_c.specs.SharedPools.{AnswersJoinNumber, AreListed, AreUnjoined, CountsOut, GivesBack, GivesChunk, HasGivenAllBack, HasUnjoined, HoldsAt, HoldsPlace, IsAt, IsJoinedAt, IsNumberAt, Knows, PoolParties, ShowsParty, ShowsShared, TakesNumber, TellsCache, TellsHolder, as_joined, cutting_shared_pool, emptied, forgetting_pool, geometry_of, sharing_pool, with_last, with_unjoined};
+ghost use Rattle.bb_memory_c.specs.SharedPools.{AnswersJoinNumber, AreListed, AreUnjoined, CountsOut, GivesBack, GivesChunk, HasGivenAllBack, HasUnjoined, HoldsAt, HoldsPlace, IsAt, IsJoinedAt, IsNumberAt, Knows, PoolParties, ShowsParty, ShowsShared, TakesNumber, TellsCache, TellsDestroy, TellsHolder, as_joined, cutting_shared_pool, emptied, forgetting_pool, geometry_of, shared_pool_info, sharing_pool, with_last, with_unjoined};
 ghost use Rattle.bb_memory_c_calls.specs.Answers.{figure_of, no_figure};
-ghost use Rattle.bb_memory_c_calls.specs.Calls.{Answers, AnswersFree, AnswersInfo, AnswersJoin, AnswersLeave, AnswersNumber, AnswersPlace, AnswersPoolMake, AnswersRequest, AnswersReturn, AnswersReturns, AnswersTake, AnswersTakings, AnswersWhether, IfBoth};
-ghost use Rattle.bb_memory_c_calls.specs.OneOwner.{pool_info};
+ghost use Rattle.bb_memory_c_calls.specs.Calls.{Answers, AnswersDestroy, AnswersFree, AnswersInfo, AnswersJoin, AnswersLeave, AnswersNumber, AnswersPlace, AnswersPoolMake, AnswersRequest, AnswersReturn, AnswersReturns, AnswersTake, AnswersTakings, AnswersWhether, IfBoth};
 ghost use Rattle.bb_memory_c_calls.specs.declared.code.TheConstants.{OK as ok, UNINITIALIZED as uninitialized};
 ghost use Rattle.bb_memory_shared_pools.specs.SharedPool.{IsParty};
 ghost use Rattle.bb_memory_shared_pools.specs.SharedPoolCaching.{CachingParty, IsOut, ReturnsCaching};
@@ -12,8 +11,8 @@ ghost use Rattle.std.specs.Arc.{arc_value};
 ghost use Rattle.std.specs.Prelude.{Contains, IfErr, IfNone, IfOk, IfSome, IsFalse, IsTrue, Some, false, length, slice_get, slice_set, vec_capacity, ℕ, ◌<◌, ◌↔◌, ◌≡◌, ◌≤◌};
 
 use crate::handle::{Handle, PoolPartyHandle, SharedPoolHandle};
-use bb_memory_c_calls::answer::{Answer, Figure, Holder, PoolInfo, SharedPoolInfo};
-use bb_memory_c_calls::kind::{Bucketed, Gives, Keeps, Shares};
+use bb_memory_c_calls::answer::{Answer, Figure, Holder, SharedPoolInfo};
+use bb_memory_c_calls::kind::{Bucketed, Ends, Gives, Keeps, Shares};
 use bb_memory_c_calls::layout::cut_into;
 use bb_memory_c_calls::{call, code};
 use bb_memory_owned::pool_allocator::AllocationError;
@@ -35,7 +34,6 @@ pub struct JoinedPool {
     pub(crate) pool: Arc<SharedPoolAllocator, Global>,
     pub(crate) party: CachingParty,
     pub(crate) in_use: Vec<bool>,
-    greatest: usize,
     gap: [u64; 16],
 }
 
@@ -47,18 +45,17 @@ impl Model for JoinedPool {
     ghost invariant = { λ s. IsJoinedAt (arc_value s.pool) s.party s.in_use.items };
 }
 
-/// Returns the figures of `pool` with these two counts.
-fn figures_of(pool: &SharedPoolAllocator, held: usize, greatest: usize) -> PoolInfo
-    ensures { result ≡ pool_info pool.now.scene.geometry held greatest }
+/// Returns the figures of `pool`, with this number of held buckets.
+fn figures_of(pool: &SharedPoolAllocator, held: usize) -> SharedPoolInfo
+    ensures { result ≡ shared_pool_info pool.now.scene.geometry held }
 {
-    PoolInfo {
+    SharedPoolInfo {
         start_address: pool.start_address(),
         size: pool.size(),
         bucket_size: pool.bucket_size(),
         max_alignment: pool.max_alignment(),
         number_of_buckets: pool.number_of_buckets() as usize,
         held_buckets: held,
-        greatest_held: greatest,
     }
 }
 
@@ -139,7 +136,6 @@ impl JoinedPool {
             pool,
             party,
             in_use: Vec::new(alloc),
-            greatest: 0,
             gap: [0; 16],
         };
         Box::new(alloc, joined).map_err(|refused| refused.value.party.into_inner())
@@ -268,7 +264,7 @@ impl JoinedPool {
     }
 }
 
-impl Gives<PoolInfo> for JoinedPool {
+impl Gives<SharedPoolInfo> for JoinedPool {
     ghost may_give = { GivesChunk };
 
     ghost may_show = { ShowsParty };
@@ -280,10 +276,9 @@ impl Gives<PoolInfo> for JoinedPool {
         Ok(bucket.chunk())
     }
 
-    fn show(&mut self) -> PoolInfo {
+    fn show(&mut self) -> SharedPoolInfo {
         let held = self.count_out();
-        self.greatest = self.greatest.max(held);
-        figures_of(&*self.pool, held, self.greatest)
+        figures_of(&*self.pool, held)
     }
 }
 
@@ -432,6 +427,21 @@ impl Shares<JoinedPool> for PoolParties {
     }
 }
 
+impl Ends for PoolParties {
+    ghost ends = { TellsDestroy };
+
+    fn end_code(&mut self) -> u32 {
+        if self.parties.len() < self.pool.number_of_parties() as usize {
+            return code::PARTIES_JOINED;
+        }
+        if self.pool.has_detached(&mut self.parties) {
+            code::BUCKET_DETACHED
+        } else {
+            code::OK
+        }
+    }
+}
+
 /// Makes a shared pool over the region of `size` bytes at `start`, behind a handle that has to be empty. The region is cut into
 /// buckets of `bucket_size` bytes at multiples of `bucket_align`, with room for one. Each party, at least one, can join.
 #[unsafe(no_mangle)]
@@ -463,15 +473,24 @@ pub extern "C" fn bb_shared_pool_init(
     call::keep(handle, alloc, PoolParties { pool, parties })
 }
 
-/// Frees the handle of a shared pool, which is empty then. The pool stays as long as one of its parties does.
+/// Frees a shared pool, whose handle is empty then. It is refused with `BB_PARTIES_JOINED` unless each party has left, and with
+/// `BB_BUCKET_DETACHED` if a bucket is detached.
 #[unsafe(no_mangle)]
 pub extern "C" fn bb_shared_pool_destroy(alloc: Global, handle: &mut SharedPoolHandle) -> u32
+    ensures { AnswersDestroy handle.old.value handle.new.value result TellsDestroy }
+{
+    call::destroy(handle, alloc)
+}
+
+/// Empties the handle of a shared pool, whatever its parties and buckets do. The pool stays as long as one of its parties does.
+#[unsafe(no_mangle)]
+pub extern "C" fn bb_shared_pool_abandon(alloc: Global, handle: &mut SharedPoolHandle) -> u32
     ensures { AnswersFree handle.old.value handle.new.value result }
 {
     call::free(handle, alloc)
 }
 
-/// Fills the struct with the pool's figures, while parties may call: each is read at a moment of its own.
+/// Fills the struct with the pool's figures, while parties may call: each flag is read at a moment of its own.
 #[unsafe(no_mangle)]
 pub extern "C" fn bb_shared_pool_info(handle: &mut SharedPoolHandle, to: &mut SharedPoolInfo) -> u32
     ensures { AnswersInfo handle.old.value handle.new.value to.old to.new result ShowsShared }
@@ -479,12 +498,8 @@ pub extern "C" fn bb_shared_pool_info(handle: &mut SharedPoolHandle, to: &mut Sh
     let Some(all) = handle.made_mut() else {
         return code::UNINITIALIZED;
     };
-    let figures = all.pool.figures();
-    let (held, greatest) = (figures.held as usize, figures.greatest_held as usize);
-    *to = SharedPoolInfo {
-        pool: figures_of(&*all.pool, held, greatest),
-        refused: figures.refused as usize,
-    };
+    let held = all.pool.held_buckets() as usize;
+    *to = figures_of(&*all.pool, held);
     code::OK
 }
 
@@ -587,9 +602,10 @@ pub extern "C" fn bb_shared_pool_leave(
     call::leave(handle, alloc, party)
 }
 
-/// Frees a party that hasn't left, whose handle is empty then. It can't join again, and what it holds stays held.
+/// Frees a party that hasn't left, whose handle is empty then. It can't join again, what it holds stays held, and the pool can't be
+/// destroyed.
 #[unsafe(no_mangle)]
-pub extern "C" fn bb_pool_party_destroy(alloc: Global, handle: &mut PoolPartyHandle) -> u32
+pub extern "C" fn bb_pool_party_abandon(alloc: Global, handle: &mut PoolPartyHandle) -> u32
     ensures { AnswersFree handle.old.value handle.new.value result }
 {
     call::free(handle, alloc)
@@ -704,7 +720,7 @@ pub extern "C" fn bb_pool_party_holds(handle: &mut PoolPartyHandle, place: usize
 
 /// Fills the struct with the pool's figures, and with how many buckets this party holds, without those that it caches.
 #[unsafe(no_mangle)]
-pub extern "C" fn bb_pool_party_info(handle: &mut PoolPartyHandle, to: &mut PoolInfo) -> u32
+pub extern "C" fn bb_pool_party_info(handle: &mut PoolPartyHandle, to: &mut SharedPoolInfo) -> u32
     ensures { AnswersInfo handle.old.value handle.new.value to.old to.new result ShowsParty }
 {
     call::info(handle, to)

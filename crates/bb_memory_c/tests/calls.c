@@ -846,7 +846,7 @@ static void run_caching(void) {
 
 // Returns whether the party has the bucket at this place in use. If it hasn't, no call takes the
 // bucket from it.
-static int has(const bb_pool_party *party, size_t place) {
+static int has(bb_pool_party *party, size_t place) {
     bb_number told = bb_pool_party_holds(party, place);
     EXPECT(told.code == BB_OK);
     if (told.number == 0) {

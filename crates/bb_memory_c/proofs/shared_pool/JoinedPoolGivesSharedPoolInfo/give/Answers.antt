@@ -1,5 +1,5 @@
 use Rattle.bb_memory_c.proofs.InUse.{joined-gains}
-use Rattle.bb_memory_c.proofs.shared_pool.JoinedPoolGivesPoolInfo.give.Goals as goal
+use Rattle.bb_memory_c.proofs.shared_pool.JoinedPoolGivesSharedPoolInfo.give.Goals as goal
 use Rattle.bb_memory_c.specs.SharedPools.{IsJoinedAt}
 use Rattle.bb_memory_shared_pools.proofs.SharedPoolLaws.{held_below}
 use Rattle.bb_memory_shared_pools.specs.SharedPool.{SharedPool}
