@@ -78,7 +78,7 @@ pub trait Bucketed: Drop {
 
 /// Is destroyed only if nothing of it is in use.
 pub trait Ends: Drop {
-    /// What the code of a destruction says of the value.
+    /// A destruction of the value may return this code.
     ghost ends: { Self → ℕ → Type 0 };
 
     /// Returns the code of a destruction: `BB_OK`, or why it is refused.
