@@ -271,7 +271,7 @@ static void close_parties(void) {
 
 // Returns 1 if the thread's party holds as many buckets as the thread does.
 static int holds_what_it_should(const thread *own) {
-    bb_pool_figures info;
+    bb_shared_pool_figures info;
     return bb_pool_party_info(own->party, &info) == BB_OK && info.held_buckets == own->count;
 }
 

@@ -489,12 +489,16 @@ BB_MUST_USE uint32_t bb_shared_pool_init(bb_shared_pool *, size_t bucket_size, s
 // Empties the handle. The pool itself is freed once no party is left in it.
 uint32_t bb_shared_pool_destroy(bb_shared_pool *);
 
-// The figures of a shared pool. A cached or a detached bucket counts as held. `greatest_held` is
-// the greatest number that `info` found, or all if a request was refused. `refused` counts these
-// requests.
+// The figures of a shared pool. The start is that of bucket 0: the region's start rounded up to the
+// bucket's alignment. The size is the region's, as it was passed. A cached or a detached bucket
+// counts as held.
 typedef struct bb_shared_pool_figures {
-    bb_pool_figures pool;
-    size_t refused;
+    size_t start_address;
+    size_t size;
+    size_t bucket_size;
+    size_t max_alignment;
+    size_t number_of_buckets;
+    size_t held_buckets;
 } bb_shared_pool_figures;
 
 // Fills in the figures of the pool, for any thread and while parties call. Each bucket is looked
@@ -573,9 +577,8 @@ uint32_t bb_pool_party_give_all_back(bb_pool_party *);
 bb_number bb_pool_party_holds(bb_pool_party *, bb_address place);
 
 // Fills in the figures of the pool, with the buckets that this party holds and doesn't cache as the
-// held ones. `greatest_held` is the greatest number of them that `info` found. It takes time by the
-// number of buckets.
-uint32_t bb_pool_party_info(bb_pool_party *, bb_pool_figures *);
+// held ones. It takes time by the number of buckets.
+uint32_t bb_pool_party_info(bb_pool_party *, bb_shared_pool_figures *);
 
 // Returns where the bucket of this number begins, as `bb_pool_place_at` does. BB_NOT_A_BUCKET.
 bb_number bb_pool_party_place_at(const bb_pool_party *, uint32_t number);
@@ -604,7 +607,7 @@ BB_MUST_USE static inline uint32_t bb_shared_pool_init_at_least(bb_shared_pool *
     uint32_t code = bb_shared_pool_init(pool, bucket_size, bucket_align, start, size, parties);
     if (code != BB_OK)
         return code;
-    if (bb_shared_pool_info(pool, &info) == BB_OK && info.pool.number_of_buckets >= buckets)
+    if (bb_shared_pool_info(pool, &info) == BB_OK && info.number_of_buckets >= buckets)
         return BB_OK;
     bb_shared_pool_destroy(pool);
     return BB_NO_BUCKET;

@@ -207,8 +207,8 @@ static void *statistics(void *argument) {
     struct timespec pause = {0, 1000000};
     for (bool ends = false; !ends; nanosleep(&pause, NULL)) {
         bb_shared_pool_figures pools = figures_of_pool();
-        expect(pools.pool.number_of_buckets == BUCKETS, "the pool has its buckets");
-        expect(pools.pool.held_buckets <= BUCKETS, "no more is held than there is");
+        expect(pools.number_of_buckets == BUCKETS, "the pool has its buckets");
+        expect(pools.held_buckets <= BUCKETS, "no more is held than there is");
         lock();
         figures now = hub.count;
         ends = hub.closed && now.held == 0;
@@ -246,7 +246,7 @@ int main(void) {
     expect(pthread_join(of_statistics, NULL) == 0, "statistics end when nothing is held");
     expect(hub.count.delivered == (size_t)PUBLISHERS * MESSAGES * SUBSCRIBERS,
            "each message came to each");
-    expect(figures_of_pool().pool.held_buckets == 0, "each bucket is back");
+    expect(figures_of_pool().held_buckets == 0, "each bucket is back");
 
     bb_pool_party last = BB_EMPTY;
     expect(bb_shared_pool_join(&pool, &last) == BB_OK, "a party joins");

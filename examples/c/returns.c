@@ -168,7 +168,7 @@ static void make(worker *workers, size_t count, bb_shared_pool *pool) {
 static void take_back(worker *workers, size_t count, bb_shared_pool *pool) {
     for (size_t number = 0; number < count; number++) {
         worker *of = &workers[number];
-        bb_pool_figures info;
+        bb_shared_pool_figures info;
         expect(bb_pool_party_info(&of->party, &info) == BB_OK, "a party has figures");
         expect(info.held_buckets == 0, "no party holds a bucket");
         expect(bb_shared_pool_leave(pool, &of->party) == BB_OK, "a party leaves");

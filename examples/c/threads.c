@@ -172,7 +172,7 @@ static void make(bb_shared_pool *pool, bb_shared_bump *bump) {
 static void one_by_one(void) {
     bb_pool_party *mine = &workers[0].pool;
     bb_pool_party *other = &workers[1].pool;
-    bb_pool_figures info;
+    bb_shared_pool_figures info;
     expect(bb_pool_party_info(mine, &info) == BB_OK && info.number_of_buckets == BUCKETS,
            "eight buckets");
     expect(info.bucket_size == BUCKET_SIZE && info.max_alignment == 8,

@@ -1,11 +1,9 @@
 -- A shared pool, its parties, and detached buckets that go from party to party, in handles: what C gets from their calls.
 use Rattle.bb_memory_c_calls.specs.Answers.{answer_of, figure_of, no_figure, refused, shown_flag}
 use Rattle.bb_memory_c_calls.specs.Calls.{Answers, AreKnown, Cutting, HasRoom, IsOneOf, IsThere, MayBeShared, Parties, Sharing, count_unjoined, with_party}
-use Rattle.bb_memory_c_calls.specs.OneOwner.{pool_info}
 use Rattle.bb_memory_c_calls.specs.declared.answer.Answer.{Answer}
 use Rattle.bb_memory_c_calls.specs.declared.answer.Figure.{Figure}
 use Rattle.bb_memory_c_calls.specs.declared.answer.Holder.{Holder}
-use Rattle.bb_memory_c_calls.specs.declared.answer.PoolInfo.{PoolInfo}
 use Rattle.bb_memory_c_calls.specs.declared.answer.SharedPoolInfo.{SharedPoolInfo}
 use Rattle.bb_memory_c_calls.specs.declared.code.TheConstants.{ALREADY_INITIALIZED as already_initialized, DETACHED_EMPTY as detached_empty, DETACHED_FULL as detached_full, INVALID_ARGUMENT as invalid_argument, MALLOC_REFUSED as malloc_refused, NOT_A_BUCKET as not_a_bucket, NOT_HELD as not_held, NO_PARTY as no_party, NO_READER as no_reader, OK as ok, ONE_PARTY as one_party, OTHER_POOL as other_pool, READERS_LEFT as readers_left, SIZE_TOO_LARGE as size_too_large, UNINITIALIZED as uninitialized}
 use Rattle.bb_memory_index_set.specs.IndexSets.{Has}
@@ -97,18 +95,28 @@ abbrev pub CountsOut : CachingParty → ℕ → Type 0
 CountsOut joined count = (flags : List Bool) × AreFlagged joined.party.allocator (IsOut joined) flags
     × (count ≡ count_by (λ flag. flag) flags)
 
--- C gets a party's figures: how many buckets it has in use, and the most that were found, which is
--- no less. The party doesn't change.
-abbrev pub ShowsParty : CachingParty → PoolInfo → CachingParty → Type 0
-ShowsParty joined info after = (flags : List Bool) × AreFlagged joined.party.allocator (IsOut joined) flags × (greatest : ℕ)
-    × (count_by (λ flag. flag) flags ≤ greatest)
-    × (info ≡ pool_info (geometry_of joined) (count_by (λ flag. flag) flags) greatest) × (after ≡ joined)
+-- the figures of a shared pool of this geometry, of which `held` buckets are held
+abbrev pub shared_pool_info : PoolGeometry → ℕ → SharedPoolInfo
+shared_pool_info geometry held = record {
+  start_address = first_place geometry.region geometry.bucket;
+  size = geometry.region.size;
+  bucket_size = geometry.bucket.size;
+  max_alignment = geometry.bucket.align;
+  number_of_buckets = geometry.buckets;
+  held_buckets = held;
+}
+
+-- C gets a party's figures: the held buckets are those that the party has in use. The party doesn't
+-- change.
+abbrev pub ShowsParty : CachingParty → SharedPoolInfo → CachingParty → Type 0
+ShowsParty joined info after = (flags : List Bool) × AreFlagged joined.party.allocator (IsOut joined) flags
+    × (info ≡ shared_pool_info (geometry_of joined) (count_by (λ flag. flag) flags)) × (after ≡ joined)
 
 -- C gets a shared pool's figures: whatever its parties did meanwhile, no more buckets are held than
--- were at most, and those are no more than it has.
+-- it has.
 abbrev pub ShowsShared : PoolParties → SharedPoolInfo → PoolParties → Type 0
-ShowsShared all info after = let geometry = all.shared.scene.geometry in (held : ℕ) × (greatest : ℕ)
-    × (held ≤ greatest) × (greatest ≤ geometry.buckets) × (info.pool ≡ pool_info geometry held greatest) × (after ≡ all)
+ShowsShared all info after = let geometry = all.shared.scene.geometry in (held : ℕ)
+    × (held ≤ geometry.buckets) × (info ≡ shared_pool_info geometry held) × (after ≡ all)
 
 -- C gets the flag of the bucket of a number, as it may be found, or BB_NOT_A_BUCKET if there is no
 -- such bucket.

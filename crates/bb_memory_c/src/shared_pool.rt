@@ -1,8 +1,7 @@
 //! A shared pool behind handles: one for the pool and the parties that haven't joined, and one for each party that has.
-ghost use Rattle.bb_memory_c.specs.SharedPools.{AnswersJoinNumber, ArePlaces, AreUnjoined, CountsOut, GivesBack, GivesChunk, HasGivenAllBack, HasUnjoined, HoldsAt, HoldsPlace, IsAt, IsJoinedAt, IsNumberAt, Knows, PoolParties, ShowsParty, ShowsShared, TakesNumber, TellsCache, TellsHolder, as_joined, cutting_shared_pool, emptied, forgetting_pool, geometry_of, sharing_pool, with_last, with_unjoined};
+ghost use Rattle.bb_memory_c.specs.SharedPools.{AnswersJoinNumber, ArePlaces, AreUnjoined, CountsOut, GivesBack, GivesChunk, HasGivenAllBack, HasUnjoined, HoldsAt, HoldsPlace, IsAt, IsJoinedAt, IsNumberAt, Knows, PoolParties, ShowsParty, ShowsShared, TakesNumber, TellsCache, TellsHolder, as_joined, cutting_shared_pool, emptied, forgetting_pool, geometry_of, shared_pool_info, sharing_pool, with_last, with_unjoined};
 ghost use Rattle.bb_memory_c_calls.specs.Answers.{figure_of, no_figure};
 ghost use Rattle.bb_memory_c_calls.specs.Calls.{Answers, AnswersFree, AnswersInfo, AnswersJoin, AnswersLeave, AnswersNumber, AnswersPlace, AnswersPoolMake, AnswersRequest, AnswersReturn, AnswersReturns, AnswersTake, AnswersTakings, AnswersWhether, IfBoth};
-ghost use Rattle.bb_memory_c_calls.specs.OneOwner.{pool_info};
 ghost use Rattle.bb_memory_c_calls.specs.declared.code.TheConstants.{OK as ok, UNINITIALIZED as uninitialized};
 ghost use Rattle.bb_memory_shared_pools.specs.SharedPool.{IsParty};
 ghost use Rattle.bb_memory_shared_pools.specs.SharedPoolCaching.{CachingParty, IsOut, ReturnsCaching};
@@ -12,7 +11,7 @@ ghost use Rattle.std.specs.Arc.{arc_value};
 ghost use Rattle.std.specs.Prelude.{Contains, IfErr, IfNone, IfOk, IfSome, IsFalse, IsTrue, Some, length, slice_get, slice_set, vec_capacity, ℕ, ◌<◌, ◌↔◌, ◌≡◌, ◌≤◌};
 
 use crate::handle::{Handle, PoolPartyHandle, SharedPoolHandle};
-use bb_memory_c_calls::answer::{Answer, Figure, Holder, PoolInfo, SharedPoolInfo};
+use bb_memory_c_calls::answer::{Answer, Figure, Holder, SharedPoolInfo};
 use bb_memory_c_calls::kind::{Bucketed, Gives, Keeps, Shares};
 use bb_memory_c_calls::layout::cut_into;
 use bb_memory_c_calls::{call, code};
@@ -35,7 +34,6 @@ pub struct JoinedPool {
     pub(crate) pool: Arc<SharedPoolAllocator, Global>,
     pub(crate) party: CachingParty,
     places: Vec<u32>,
-    greatest: usize,
     gap: [u64; 16],
 }
 
@@ -47,18 +45,17 @@ impl Model for JoinedPool {
     ghost invariant = { λ s. IsJoinedAt (arc_value s.pool) s.party s.places.items };
 }
 
-/// Returns the figures of `pool` with these two counts.
-fn figures_of(pool: &SharedPoolAllocator, held: usize, greatest: usize) -> PoolInfo
-    ensures { result ≡ pool_info pool.now.scene.geometry held greatest }
+/// Returns the figures of `pool`, with this number of held buckets.
+fn figures_of(pool: &SharedPoolAllocator, held: usize) -> SharedPoolInfo
+    ensures { result ≡ shared_pool_info pool.now.scene.geometry held }
 {
-    PoolInfo {
+    SharedPoolInfo {
         start_address: pool.start_address(),
         size: pool.size(),
         bucket_size: pool.bucket_size(),
         max_alignment: pool.max_alignment(),
         number_of_buckets: pool.number_of_buckets() as usize,
         held_buckets: held,
-        greatest_held: greatest,
     }
 }
 
@@ -119,7 +116,6 @@ impl JoinedPool {
             pool,
             party,
             places: Vec::new(alloc),
-            greatest: 0,
             gap: [0; 16],
         };
         Box::new(alloc, joined).map_err(|refused| refused.value.party.into_inner())
@@ -233,7 +229,7 @@ impl JoinedPool {
     }
 }
 
-impl Gives<PoolInfo> for JoinedPool {
+impl Gives<SharedPoolInfo> for JoinedPool {
     ghost may_give = { GivesChunk };
 
     ghost may_show = { ShowsParty };
@@ -244,10 +240,9 @@ impl Gives<PoolInfo> for JoinedPool {
         Ok(bucket.chunk())
     }
 
-    fn show(&mut self) -> PoolInfo {
+    fn show(&mut self) -> SharedPoolInfo {
         let held = self.count_out();
-        self.greatest = self.greatest.max(held);
-        figures_of(&*self.pool, held, self.greatest)
+        figures_of(&*self.pool, held)
     }
 }
 
@@ -434,7 +429,7 @@ pub extern "C" fn bb_shared_pool_destroy(alloc: Global, handle: &mut SharedPoolH
     call::free(handle, alloc)
 }
 
-/// Fills the struct with the pool's figures, while parties may call: each is read at a moment of its own.
+/// Fills the struct with the pool's figures, while parties may call: each flag is read at a moment of its own.
 #[unsafe(no_mangle)]
 pub extern "C" fn bb_shared_pool_info(handle: &mut SharedPoolHandle, to: &mut SharedPoolInfo) -> u32
     ensures { AnswersInfo handle.old.value handle.new.value to.old to.new result ShowsShared }
@@ -442,12 +437,8 @@ pub extern "C" fn bb_shared_pool_info(handle: &mut SharedPoolHandle, to: &mut Sh
     let Some(all) = handle.made_mut() else {
         return code::UNINITIALIZED;
     };
-    let figures = all.pool.figures();
-    let (held, greatest) = (figures.held as usize, figures.greatest_held as usize);
-    *to = SharedPoolInfo {
-        pool: figures_of(&*all.pool, held, greatest),
-        refused: figures.refused as usize,
-    };
+    let held = all.pool.held_buckets() as usize;
+    *to = figures_of(&*all.pool, held);
     code::OK
 }
 
@@ -667,7 +658,7 @@ pub extern "C" fn bb_pool_party_holds(handle: &mut PoolPartyHandle, place: usize
 
 /// Fills the struct with the pool's figures, and with how many buckets this party holds, without those that it caches.
 #[unsafe(no_mangle)]
-pub extern "C" fn bb_pool_party_info(handle: &mut PoolPartyHandle, to: &mut PoolInfo) -> u32
+pub extern "C" fn bb_pool_party_info(handle: &mut PoolPartyHandle, to: &mut SharedPoolInfo) -> u32
     ensures { AnswersInfo handle.old.value handle.new.value to.old to.new result ShowsParty }
 {
     call::info(handle, to)

@@ -56,18 +56,18 @@ static int same(size_t figure, size_t number) {
 }
 
 // Returns the figures of what a handle owns, which isn't empty.
-#define INFO_OF(KIND, INFO)                                \
-    static struct bb_##INFO of_##KIND(bb_##KIND *handle) { \
-        struct bb_##INFO info;                             \
-        memset(&info, 0xa5, sizeof info);                  \
-        EXPECT(bb_##KIND##_info(handle, &info) == BB_OK);  \
-        return info;                                       \
+#define INFO_OF(KIND, FIGURES)                            \
+    static FIGURES of_##KIND(bb_##KIND *handle) {         \
+        FIGURES info;                                     \
+        memset(&info, 0xa5, sizeof info);                 \
+        EXPECT(bb_##KIND##_info(handle, &info) == BB_OK); \
+        return info;                                      \
     }
-INFO_OF(bump, bump_info)
-INFO_OF(one_chunk, one_chunk_info)
-INFO_OF(pool, pool_info)
-INFO_OF(bump_party, bump_info)
-INFO_OF(pool_party, pool_info)
+INFO_OF(bump, bb_bump_figures)
+INFO_OF(one_chunk, bb_one_chunk_figures)
+INFO_OF(pool, bb_pool_figures)
+INFO_OF(bump_party, bb_bump_figures)
+INFO_OF(pool_party, bb_shared_pool_figures)
 
 static int has_none(bb_number figure, uint32_t code) {
     return figure.code == code && figure.number == 0;
@@ -427,18 +427,16 @@ static void run_memory(void) {
         }
 }
 
-// Returns whether a shared pool has these figures: how many buckets are held, how many at most were
-// found, and how many requests were refused.
-static int counts(const bb_shared_pool *pool, size_t held, size_t most, size_t refusals) {
+// Returns whether a shared pool has these figures, with this number of held buckets.
+static int counts(const bb_shared_pool *pool, size_t held) {
     bb_shared_pool_figures info;
     EXPECT(bb_shared_pool_info(pool, &info) == BB_OK);
-    EXPECT(info.pool.start_address == 4104);
-    EXPECT(info.pool.size == 1100);
-    EXPECT(info.pool.bucket_size == 128);
-    EXPECT(info.pool.max_alignment == 8);
-    EXPECT(info.pool.number_of_buckets == 8);
-    return info.pool.held_buckets == held && info.pool.greatest_held == most &&
-           info.refused == refusals;
+    EXPECT(info.start_address == 4104);
+    EXPECT(info.size == 1100);
+    EXPECT(info.bucket_size == 128);
+    EXPECT(info.max_alignment == 8);
+    EXPECT(info.number_of_buckets == 8);
+    return info.held_buckets == held;
 }
 
 static void run_counts(void) {
@@ -452,40 +450,39 @@ static void run_counts(void) {
     EXPECT(bb_shared_pool_info(&pool, &info) == BB_UNINITIALIZED);
     EXPECT(memcmp(&info, &before, sizeof info) == 0);
     EXPECT(bb_shared_pool_init(&pool, 128, 8, 4097, 1100, 2) == BB_OK);
-    EXPECT(counts(&pool, 0, 0, 0));
+    EXPECT(counts(&pool, 0));
     EXPECT(bb_shared_pool_join(&pool, &one) == BB_OK);
     EXPECT(bb_pool_party_cache(&one, 1) == BB_OK);
     EXPECT(bb_shared_pool_join(&pool, &other) == BB_OK);
-    EXPECT(counts(&pool, 0, 0, 0));
+    EXPECT(counts(&pool, 0));
     bb_chunk first = bb_pool_party_allocate(&one, 48, 8);
     bb_chunk second = bb_pool_party_allocate(&one, 48, 8);
     EXPECT(first.code == BB_OK);
     EXPECT(second.code == BB_OK);
     EXPECT(bb_pool_party_allocate(&other, 48, 8).code == BB_OK);
-    EXPECT(counts(&pool, 3, 3, 0));
-    EXPECT(same(of_pool_party(&one).greatest_held, 2));
+    EXPECT(counts(&pool, 3));
+    EXPECT(same(of_pool_party(&one).held_buckets, 2));
     EXPECT(bb_pool_party_deallocate(&one, first.place) == BB_OK);
-    EXPECT(counts(&pool, 3, 3, 0));
+    EXPECT(counts(&pool, 3));
     EXPECT(bb_pool_party_deallocate(&one, second.place) == BB_OK);
-    EXPECT(counts(&pool, 2, 3, 0));
+    EXPECT(counts(&pool, 2));
     for (size_t at = 1; at < 7; at++) {
         EXPECT(bb_pool_party_allocate(&other, 48, 8).code == BB_OK);
-        EXPECT(counts(&pool, 2 + at, 2 + at, 0));
+        EXPECT(counts(&pool, 2 + at));
     }
     EXPECT(refused(bb_pool_party_allocate(&other, 48, 8), BB_OUT_OF_MEMORY));
-    EXPECT(counts(&pool, 8, 8, 1));
+    EXPECT(counts(&pool, 8));
     EXPECT(refused(bb_pool_party_allocate(&other, 129, 8), BB_SIZE_TOO_LARGE));
-    EXPECT(counts(&pool, 8, 8, 1));
+    EXPECT(counts(&pool, 8));
     EXPECT(given(bb_pool_party_allocate(&one, 48, 8), first.place));
-    EXPECT(counts(&pool, 8, 8, 1));
+    EXPECT(counts(&pool, 8));
     EXPECT(refused(bb_pool_party_allocate(&one, 48, 8), BB_OUT_OF_MEMORY));
-    EXPECT(counts(&pool, 8, 8, 2));
+    EXPECT(counts(&pool, 8));
     EXPECT(same(of_pool_party(&one).held_buckets, 1));
-    EXPECT(same(of_pool_party(&one).greatest_held, 2));
     EXPECT(bb_shared_pool_leave(&pool, &other) == BB_OK);
-    EXPECT(counts(&pool, 1, 8, 2));
+    EXPECT(counts(&pool, 1));
     EXPECT(bb_shared_pool_leave(&pool, &one) == BB_OK);
-    EXPECT(counts(&pool, 0, 8, 2));
+    EXPECT(counts(&pool, 0));
     EXPECT(bb_shared_pool_destroy(&pool) == BB_OK);
     EXPECT(bb_shared_pool_info(&pool, &info) == BB_UNINITIALIZED);
 }
@@ -1388,7 +1385,7 @@ static void run_attach_at_once(void) {
     EXPECT(receivers[0].wins + receivers[1].wins == ROUNDS);
     bb_shared_pool_figures info;
     EXPECT(bb_shared_pool_info(&pool, &info) == BB_OK);
-    EXPECT(info.pool.held_buckets == 0);
+    EXPECT(info.held_buckets == 0);
     for (uint32_t at = 0; at < RECEIVERS; at++)
         EXPECT(bb_shared_pool_leave(&pool, &receivers[at].party) == BB_OK);
     EXPECT(bb_shared_pool_leave(&pool, &sender) == BB_OK);

@@ -131,10 +131,7 @@ impl<const CAPPED: usize, const MOST: usize> SharedBucketPool<CAPPED, MOST> {
                     len: layout.size(),
                 })
             }
-            None => {
-                self.count_refusal();
-                Err(AllocationError::OutOfMemory)
-            }
+            None => Err(AllocationError::OutOfMemory),
         }
     }
 

@@ -23,7 +23,6 @@ use bb_memory_pool_machine::steps::Flag;
 use bb_memory_traits::geometry::Geometry;
 use std::alloc::{AllocError, Global};
 use std::marker::Model;
-use std::sync::atomic::AtomicU64;
 
 /// The word of a free flag.
 const FREE: u64 = 0;
@@ -248,9 +247,6 @@ impl Join<View> for Merge {
 pub(super) struct Flags {
     table: Table<u8, View, Scene, Agreement, Global>,
     pub(super) scene: Scene,
-    /// The number of refused requests, and the greatest number of buckets that were found held. No clause speaks of them.
-    pub(super) refused: AtomicU64,
-    pub(super) greatest: AtomicU64,
 }
 
 impl Model for Flags {
@@ -281,12 +277,7 @@ impl Flags {
     {
         let words = Vec::from_elem(alloc, FREE, FIRST + scene.geometry.count() as usize)?;
         let (table, seat) = Table::of_words(alloc, words.as_slice(), &scene)?;
-        let flags = Flags {
-            table,
-            scene,
-            refused: AtomicU64::new(0),
-            greatest: AtomicU64::new(0),
-        };
+        let flags = Flags { table, scene };
         Ok((flags, seat))
     }
 

@@ -1,7 +1,7 @@
 //! Parties of one thread that share a pool of buckets of 128 bytes. A request answers a bucket's number, place and length.
 ghost use Rattle.std.specs.Prelude.{◌<◌, ◌≡◌};
 
-use crate::tests::buckets::{counts, fit, found, hold, last_of, pool_at_last, take, two};
+use crate::tests::buckets::{fit, found, hold, last_of, pool_at_last, take, two};
 use crate::tests::checks::{chunk, layout, none_asked, same};
 use bb_memory_shared_pools::shared_pool::by_number::Flag;
 use bb_memory_shared_pools::shared_pool::{
@@ -198,27 +198,28 @@ fn a_meeting_keeps_where_a_search_begins(rt: HostRuntime) {
     none_asked(rt);
 }
 
-/// The figures say how many buckets are held, how many were found held at most, and how many requests were refused.
+/// A bucket is held from its taking to its return, also while it is detached. A refusal changes nothing.
 #[test]
-fn figures_count_what_is_held(rt: HostRuntime) {
+fn held_buckets_are_counted(rt: HostRuntime) {
     let (small, (pool, mut a, mut b)) = (layout(&rt, 48, 4), two(&rt, 256));
     let (rt, pool) = (&rt, &pool);
-    same(rt, counts(pool), (0, 0, 0));
+    same(rt, pool.held_buckets(), 0);
     let first = hold(rt, pool, &mut a, small);
     let large = layout(rt, 129, 4);
     same(rt, take(pool, &mut b, large), Err(SizeTooLarge));
-    same(rt, counts(pool), (1, 1, 0));
+    same(rt, pool.held_buckets(), 1);
     let detached = pool.detach(&mut a, first);
-    same(rt, counts(pool), (1, 1, 0));
+    same(rt, pool.held_buckets(), 1);
     let first = pool.attach(&mut b, detached);
     pool.deallocate_bucket(&mut b, first);
-    same(rt, counts(pool), (0, 1, 0));
+    same(rt, pool.held_buckets(), 0);
     let first = hold(rt, pool, &mut a, small);
     same(rt, take(pool, &mut b, small), Ok((1, 4224, 48)));
     same(rt, take(pool, &mut b, small), Err(OutOfMemory));
     same(rt, fit(pool, &mut b, small), Err(OutOfMemory));
+    same(rt, pool.held_buckets(), 2);
     pool.deallocate_bucket(&mut a, first);
-    same(rt, counts(pool), (1, 2, 2));
+    same(rt, pool.held_buckets(), 1);
     none_asked(rt);
 }
 

@@ -1,5 +1,5 @@
 use Rattle.bb_memory_c.proofs.Cached.{joined-takes}
-use Rattle.bb_memory_c.proofs.shared_pool.JoinedPoolGivesPoolInfo.give.Goals as goal
+use Rattle.bb_memory_c.proofs.shared_pool.JoinedPoolGivesSharedPoolInfo.give.Goals as goal
 
 pub invariant_of-self-2 : goal.invariant_of-self-2
 invariant_of-self-2 c =
