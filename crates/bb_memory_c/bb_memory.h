@@ -139,8 +139,7 @@ enum {
     BB_NOT_HELD = 9,
     // The handle is not empty.
     BB_ALREADY_INITIALIZED = 10,
-    // The region, the buckets or the parties are invalid, as each `init` says; or a share has no
-    // reader.
+    // The region, the buckets or the parties are invalid, as each `init` says.
     BB_INVALID_ARGUMENT = 11,
     // Each party has joined or was destroyed; for a number, its party has, or there is none.
     BB_NO_PARTY = 12,
@@ -166,12 +165,8 @@ enum {
     BB_NOT_A_BUCKET = 22,
     // The party or the detached bucket belongs to another pool or bump.
     BB_OTHER_POOL = 23,
-    // A reader has not released the detached bucket.
-    BB_READERS_LEFT = 24,
-    // The detached bucket waits for no reader, or none is there: only for `release`.
-    BB_NO_READER = 25,
     // The greatest code of this version.
-    BB_LAST_CODE = BB_NO_READER
+    BB_LAST_CODE = BB_OTHER_POOL
 };
 
 // Returns what a code says, for a log.
@@ -188,7 +183,7 @@ static inline const char *bb_text(uint32_t code) {
     case BB_UNINITIALIZED: return "the handle is empty";
     case BB_NOT_HELD: return "nothing is held at the place";
     case BB_ALREADY_INITIALIZED: return "the handle is not empty";
-    case BB_INVALID_ARGUMENT: return "the region, buckets, parties or readers are invalid";
+    case BB_INVALID_ARGUMENT: return "the region, the buckets or the parties are invalid";
     case BB_NO_PARTY: return "no such party is left to join";
     case BB_LAYOUT_MISMATCH: return "the chunk cannot have the old layout";
     case BB_MALLOC_REFUSED: return "malloc failed";
@@ -200,8 +195,6 @@ static inline const char *bb_text(uint32_t code) {
     case BB_DETACHED_EMPTY: return "no detached bucket is in the bb_detached";
     case BB_NOT_A_BUCKET: return "no bucket has the number or begins at the place";
     case BB_OTHER_POOL: return "the party or the bucket belongs to another pool or bump";
-    case BB_READERS_LEFT: return "a reader has not released the detached bucket";
-    case BB_NO_READER: return "the detached bucket waits for no reader";
     default: return "not a code of bb_memory";
     }
 }
@@ -628,15 +621,6 @@ uint32_t bb_detached_destroy(bb_detached *);
 // Returns the length of the chunk with which the bucket in it was detached. BB_DETACHED_EMPTY.
 bb_number bb_detached_len(bb_detached *);
 
-// Has the bucket wait for this number of readers (examples/c/pubsub.c): until each has released it,
-// no party attaches it. BB_DETACHED_EMPTY; BB_INVALID_ARGUMENT if there is no reader;
-// BB_READERS_LEFT.
-BB_MUST_USE uint32_t bb_detached_share(bb_detached *, uint32_t readers);
-
-// Releases the bucket for one reader, and returns how many readers are left. The last one, for
-// which that is 0, sees to the attach. BB_NO_READER.
-BB_MUST_USE bb_number bb_detached_release(bb_detached *);
-
 // Detaches the bucket at this place, with a chunk of `len` bytes, into the `bb_detached`.
 // BB_ONE_PARTY; BB_NOT_HELD if this party doesn't hold the bucket, or caches it; BB_SIZE_TOO_LARGE
 // if `len` is greater than a bucket's size; BB_DETACHED_FULL.
@@ -644,7 +628,7 @@ BB_MUST_USE uint32_t bb_pool_party_detach(bb_pool_party *, bb_address place, siz
                                           bb_detached *);
 
 // Attaches the bucket that is in the `bb_detached`, which has none then: this party holds the
-// bucket. BB_DETACHED_EMPTY; BB_OTHER_POOL; BB_READERS_LEFT.
+// bucket. BB_DETACHED_EMPTY; BB_OTHER_POOL.
 BB_MUST_USE bb_chunk bb_pool_party_attach(bb_pool_party *, bb_detached *);
 
 // Gives back the bucket that is in the `bb_detached`, which has none then, by one store and without

@@ -76,8 +76,6 @@ enum class [[nodiscard]] error : std::uint32_t {
     detached_empty = BB_DETACHED_EMPTY,
     not_a_bucket = BB_NOT_A_BUCKET,
     other_pool = BB_OTHER_POOL,
-    readers_left = BB_READERS_LEFT,
-    no_reader = BB_NO_READER,
 };
 
 // clang-format on

@@ -5,7 +5,7 @@ use Rattle.bb_memory_c_calls.specs.declared.answer.Answer.{Answer}
 use Rattle.bb_memory_c_calls.specs.declared.answer.Figure.{Figure}
 use Rattle.bb_memory_c_calls.specs.declared.answer.Holder.{Holder}
 use Rattle.bb_memory_c_calls.specs.declared.answer.SharedPoolInfo.{SharedPoolInfo}
-use Rattle.bb_memory_c_calls.specs.declared.code.TheConstants.{ALREADY_INITIALIZED as already_initialized, DETACHED_EMPTY as detached_empty, DETACHED_FULL as detached_full, INVALID_ARGUMENT as invalid_argument, MALLOC_REFUSED as malloc_refused, NOT_A_BUCKET as not_a_bucket, NOT_HELD as not_held, NO_PARTY as no_party, NO_READER as no_reader, OK as ok, ONE_PARTY as one_party, OTHER_POOL as other_pool, READERS_LEFT as readers_left, SIZE_TOO_LARGE as size_too_large, UNINITIALIZED as uninitialized}
+use Rattle.bb_memory_c_calls.specs.declared.code.TheConstants.{ALREADY_INITIALIZED as already_initialized, DETACHED_EMPTY as detached_empty, DETACHED_FULL as detached_full, MALLOC_REFUSED as malloc_refused, NOT_A_BUCKET as not_a_bucket, NOT_HELD as not_held, NO_PARTY as no_party, OK as ok, ONE_PARTY as one_party, OTHER_POOL as other_pool, SIZE_TOO_LARGE as size_too_large, UNINITIALIZED as uninitialized}
 use Rattle.bb_memory_index_set.specs.IndexSets.{Has}
 use Rattle.bb_memory_pool_machine.specs.PoolLogs.{MayBeFound}
 use Rattle.bb_memory_pool_machine.specs.declared.steps.pool.Flag.{Flag}
@@ -224,38 +224,13 @@ forgetting_pool = record sharing_pool { leaves = IsForgotten }
 
 -- DETACHED BUCKETS
 
--- what a `bb_detached` holds: a detached bucket or none, and how many readers it waits for
-pub record Detached : Type 0 where
-  pub inside : Option TakenBucket
-  pub readers : ℕ
-
--- a `bb_detached` that holds a bucket and waits for no reader
-abbrev pub holding : TakenBucket → Detached
-holding token = record { inside = Some token; readers = 0 }
-
--- a `bb_detached` that holds no bucket and waits for no reader
-abbrev pub nothing : Detached
-nothing = record { inside = None; readers = 0 }
+-- what a `bb_detached` holds: a detached bucket or none
+abbrev pub Detached : Type 0
+Detached = Option TakenBucket
 
 -- C gets the length of the chunk in the bucket, or BB_DETACHED_EMPTY if there is none
 abbrev pub TellsLen : Detached → Figure → Type 0
-TellsLen detached told = MatchOption detached.inside (told ≡ no_figure detached_empty) (λ token. told ≡ figure_of token.len)
-
--- The bucket is to wait for that many readers. If several errors apply, the first one in this list
--- is returned.
-pub record TellsShare (before : Detached) (readers code : ℕ) (after : Detached) : Type 0 where
-  pub empty : before.inside ≡ None → code ≡ detached_empty
-  pub nobody : before.inside ≢ None → readers ≡ 0 → code ≡ invalid_argument
-  pub left : before.inside ≢ None → 0 < readers → 0 < before.readers → code ≡ readers_left
-  pub shared : before.inside ≢ None → 0 < readers → before.readers ≡ 0 →
-      (code ≡ ok) × (after ≡ record before { readers = readers })
-  pub unchanged : code ≢ ok → after ≡ before
-
--- A reader is done, and C gets how many more the bucket waits for.
-pub record TellsRelease (before : Detached) (told : Figure) (after : Detached) : Type 0 where
-  pub released : 0 < before.readers →
-      (told ≡ figure_of (before.readers - 1)) × (after ≡ record before { readers = before.readers - 1 })
-  pub nobody : before.readers ≡ 0 → (told ≡ no_figure no_reader) × (after ≡ before)
+TellsLen detached told = MatchOption detached (told ≡ no_figure detached_empty) (λ token. told ≡ figure_of token.len)
 
 -- DETACHING
 
@@ -284,9 +259,9 @@ pub record TellsDetach (party : CachingParty) (before : Detached) (place len cod
   pub one_party : ¬ HasOthers party → code ≡ one_party
   pub not_held : HasOthers party → ¬ HoldsPlace party place → code ≡ not_held
   pub too_large : MayDetachAt party place → (geometry_of party).bucket.size < len → code ≡ size_too_large
-  pub full : MayDetachChunk party place len → before.inside ≢ None → code ≡ detached_full
-  pub detached : MayDetachChunk party place len → before.inside ≡ None →
-      (code ≡ ok) × ((number : ℕ) × (token : TakenBucket) × HoldsAt party place number × (filled ≡ holding token)
+  pub full : MayDetachChunk party place len → before ≢ None → code ≡ detached_full
+  pub detached : MayDetachChunk party place len → before ≡ None →
+      (code ≡ ok) × ((number : ℕ) × (token : TakenBucket) × HoldsAt party place number × (filled ≡ Some token)
       × HasDetached party number len after token)
   pub unchanged : code ≢ ok → (after ≡ party) × (filled ≡ before)
 
@@ -315,7 +290,7 @@ pub record TellsAttachNumber (party : CachingParty) (number from : ℕ) (told : 
 
 -- if the pool of the detached bucket begins where the party's pool does, it is that pool
 abbrev pub KnowsInside : CachingParty → Detached → Type 0
-KnowsInside joined detached = IfSome detached.inside (λ token. AreKnown start_of token.allocator joined.party.allocator)
+KnowsInside joined detached = IfSome detached (λ token. AreKnown start_of token.allocator joined.party.allocator)
 
 -- The party attached the detached bucket, by one step. The chunk in it is inside the region.
 pub record HasAttached (joined : CachingParty) (token : TakenBucket) (after : CachingParty) : Type 0 where
@@ -328,15 +303,11 @@ HasReturned joined number after =
     after ≡ record joined { party = with_entries joined.party (return_detached_entry joined.party.number number) }
 
 -- The bucket is taken out of a `bb_detached` for a party of its pool. If several errors apply, the
--- first one in this list is returned, and nothing changes: none is there, it is of another pool, it
--- waits for a reader.
+-- first one in this list is returned, and nothing changes: none is there, it is of another pool.
 pub record TakesInside (joined : CachingParty) (before : Detached) (told : Result TakenBucket ℕ) (left : Detached) : Type 0 where
-  pub empty : before.inside ≡ None → told ≡ Err detached_empty
-  pub others : IfSome before.inside (λ token. token.allocator ≢ joined.party.allocator → told ≡ Err other_pool)
-  pub read : 0 < before.readers →
-      IfSome before.inside (λ token. token.allocator ≡ joined.party.allocator → told ≡ Err readers_left)
-  pub taken : before.readers ≡ 0 → IfSome before.inside (λ token. token.allocator ≡ joined.party.allocator →
-      (told ≡ Ok token) × (left ≡ nothing))
+  pub empty : before ≡ None → told ≡ Err detached_empty
+  pub others : IfSome before (λ token. token.allocator ≢ joined.party.allocator → told ≡ Err other_pool)
+  pub taken : IfSome before (λ token. token.allocator ≡ joined.party.allocator → (told ≡ Ok token) × (left ≡ None))
   pub unchanged : IfErr told (λ code. left ≡ before)
 
 -- If a bucket was taken out of a `bb_detached`, `done` holds of it. Otherwise C gets the code of

@@ -856,8 +856,8 @@ static void run_many(void) {
     EXPECT(bb_pool_party_destroy(&other) == BB_OK);
 }
 
-// A party of another pool or bump, and a bucket of another pool or one that is read, are refused by
-// codes, and stay as they are.
+// A party of another pool or bump, and a bucket of another pool, are refused by a code, and stay as
+// they are.
 static void run_others(void) {
     bb_shared_pool pool = BB_EMPTY;
     bb_shared_pool far = BB_EMPTY;
@@ -876,24 +876,8 @@ static void run_others(void) {
     EXPECT(refused(bb_pool_party_attach(&stranger, &detached), BB_OTHER_POOL));
     EXPECT(is(bb_detached_len(&detached), 40));
     EXPECT(same(of_pool_party(&stranger).held_buckets, 0));
-    // Until each of two readers has released it, the bucket stays in its `bb_detached`.
-    EXPECT(bb_detached_share(&detached, 0) == BB_INVALID_ARGUMENT);
-    EXPECT(has_none(bb_detached_release(&detached), BB_NO_READER));
-    EXPECT(bb_detached_share(&detached, 2) == BB_OK);
-    EXPECT(bb_detached_share(&detached, 1) == BB_READERS_LEFT);
-    EXPECT(refused(bb_pool_party_attach(&party, &detached), BB_READERS_LEFT));
-    EXPECT(is(bb_detached_release(&detached), 1));
-    EXPECT(refused(bb_pool_party_attach(&stranger, &detached), BB_OTHER_POOL));
-    EXPECT(refused(bb_pool_party_attach(&party, &detached), BB_READERS_LEFT));
-    EXPECT(is(bb_detached_release(&detached), 0));
-    EXPECT(has_none(bb_detached_release(&detached), BB_NO_READER));
-    EXPECT(is(bb_detached_len(&detached), 40));
     EXPECT(given(bb_pool_party_attach(&party, &detached), sent.place));
-    EXPECT(bb_detached_share(&detached, 1) == BB_DETACHED_EMPTY);
-    EXPECT(has_none(bb_detached_release(&detached), BB_NO_READER));
     EXPECT(bb_detached_destroy(&detached) == BB_OK);
-    EXPECT(bb_detached_share(&detached, 1) == BB_UNINITIALIZED);
-    EXPECT(has_none(bb_detached_release(&detached), BB_UNINITIALIZED));
     EXPECT(bb_shared_pool_leave(&pool, &party) == BB_OK);
     EXPECT(bb_shared_pool_leave(&far, &stranger) == BB_OK);
     EXPECT(bb_shared_pool_destroy(&pool) == BB_OK);
@@ -1095,9 +1079,6 @@ static void run_holders(void) {
     EXPECT(bb_pool_party_detach(&parties[0], place, 40, &detached) == BB_OK);
     EXPECT(says(&pool, number, BB_DETACHED, by));
     EXPECT(bb_pool_party_return_detached(&stranger, &detached) == BB_OTHER_POOL);
-    EXPECT(bb_detached_share(&detached, 1) == BB_OK);
-    EXPECT(bb_pool_party_return_detached(&parties[1], &detached) == BB_READERS_LEFT);
-    EXPECT(is(bb_detached_release(&detached), 0));
     EXPECT(bb_pool_party_return_detached(&parties[1], &detached) == BB_OK);
     EXPECT(says(&pool, number, BB_FREE, 0));
     EXPECT(bb_pool_party_return_detached(&parties[1], &detached) == BB_DETACHED_EMPTY);

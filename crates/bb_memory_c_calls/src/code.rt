@@ -45,7 +45,3 @@ pub const DETACHED_EMPTY: u32 = 21;
 pub const NOT_A_BUCKET: u32 = 22;
 /// The party, or the detached bucket, is another's.
 pub const OTHER_POOL: u32 = 23;
-/// A reader of the detached bucket hasn't released it.
-pub const READERS_LEFT: u32 = 24;
-/// The detached bucket waits for no reader.
-pub const NO_READER: u32 = 25;
