@@ -261,12 +261,12 @@ static void open_parties(uint32_t buckets, unsigned cached) {
         if (bb_pool_party_cache(&parties[i], cached) != BB_OK)
             abort();
     }
-    bb_shared_pool_destroy(&pool);
+    bb_shared_pool_abandon(&pool);
 }
 
 static void close_parties(void) {
     for (unsigned i = 0; i < threads; i++)
-        bb_pool_party_destroy(&parties[i]);
+        bb_pool_party_abandon(&parties[i]);
 }
 
 // Returns 1 if the thread's party holds as many buckets as the thread does.

@@ -122,7 +122,7 @@ static void join_all(unsigned cached) {
         if (bb_shared_pool_join(&pool, &parties[i]) != BB_OK ||
             bb_pool_party_cache(&parties[i], cached) != BB_OK)
             abort();
-    bb_shared_pool_destroy(&pool);
+    bb_shared_pool_abandon(&pool);
 }
 
 // The message of a party is a bucket that it detached into the next of these. There are twice as
@@ -444,7 +444,7 @@ static double timed(const kind *of, what it) {
         pthread_join(all[i], NULL);
         sum = it == SEND ? threads * jobs[i].spent : sum + jobs[i].spent;
         refused += jobs[i].refused;
-        bb_pool_party_destroy(&parties[i]);
+        bb_pool_party_abandon(&parties[i]);
     }
     if (is_dpdk)
         dpdk_pool_close();

@@ -49,9 +49,9 @@
 //  5. `place_at`, `number_at`, `bb_shared_pool_info` and `bb_shared_pool_holder` may run beside
 //     calls with their handle that don't empty it. That is tested (examples/c/places.c) and not
 //     proved: the proofs are of one call at a time.
-//  6. A call that takes two handles gets two. While a party or a detached bucket of a shared pool
-//     or bump is left, no other shared pool or bump begins at its place, not even in a chunk of it:
-//     by that place another's party or bucket is refused (BB_OTHER_POOL).
+//  6. A call that takes two handles gets two. No two shared pools or bumps begin at one place, not
+//     even one in a chunk of the other: by that place another's party or bucket is refused
+//     (BB_OTHER_POOL). An abandoned one counts as long as it has a party or a detached bucket.
 //  7. Call nothing in a signal handler, which may have interrupted a call with the handle or
 //     `malloc`. Call nothing in a child that a process of several threads forked, since another
 //     thread may have locked `malloc`. After any other fork, only one of the two processes may go
@@ -141,7 +141,7 @@ enum {
     BB_ALREADY_INITIALIZED = 10,
     // The region, the buckets or the parties are invalid, as each `init` says.
     BB_INVALID_ARGUMENT = 11,
-    // Each party has joined or was destroyed; for a number, its party has, or there is none.
+    // Each party has joined or was abandoned; for a number, its party has, or there is none.
     BB_NO_PARTY = 12,
     // The place is not a multiple of the old alignment, or the old size of a shrink is greater than
     // what is reserved.
@@ -153,7 +153,10 @@ enum {
     // The region has no room for one bucket, or for as many as were asked for: only for a pool's
     // `init`.
     BB_NO_BUCKET = 16,
-    // Not each party has left: only for `bb_shared_bump_reset`.
+    // A bucket of the pool is detached: only for `bb_shared_pool_destroy`.
+    BB_BUCKET_DETACHED = 17,
+    // Not each party has left: only for `bb_shared_bump_reset`, `bb_shared_bump_destroy` and
+    // `bb_shared_pool_destroy`.
     BB_PARTIES_JOINED = 18,
     // The pool has no other party: only for `detach` and `detach_number`.
     BB_ONE_PARTY = 19,
@@ -189,6 +192,7 @@ static inline const char *bb_text(uint32_t code) {
     case BB_MALLOC_REFUSED: return "malloc failed";
     case BB_MORE_THAN_RESERVED: return "the new size is greater than what is reserved";
     case BB_NO_BUCKET: return "the region has no room for the buckets";
+    case BB_BUCKET_DETACHED: return "a bucket of the pool is detached";
     case BB_PARTIES_JOINED: return "not each party has left";
     case BB_ONE_PARTY: return "the pool has no other party";
     case BB_DETACHED_FULL: return "a detached bucket is in the bb_detached already";
@@ -436,16 +440,20 @@ BB_MUST_USE static inline uint32_t bb_pool_init_at_least(bb_pool *pool, size_t b
 // PARTIES: what threads share is initialized for some number of parties. `join` makes a party in a
 // handle of its own, for one thread at a time, and `leave` ends it, so that it can join again. No
 // call of a party waits for another. One thread at a time calls `join`, `join_number`, `leave`,
-// `forget`, `reset` or `destroy` of what is shared; parties may be used meanwhile. The shared
-// object stays as long as its own handle or one of its parties does.
+// `forget`, `reset`, `destroy` or `abandon` of what is shared; parties may be used meanwhile.
 
 // Makes a bump that threads share, for this number of parties. BB_INVALID_ARGUMENT if the start is
 // 0, if start plus size exceeds SIZE_MAX, or if there is no party.
 BB_MUST_USE uint32_t bb_shared_bump_init(bb_shared_bump *, bb_place start, size_t size,
                                          uint32_t parties);
 
-// Empties the handle. The bump itself is freed once no party is left in it.
+// Frees the bump's memory. The handle is empty then. BB_PARTIES_JOINED if not each party has left,
+// for good if one was abandoned.
 uint32_t bb_shared_bump_destroy(bb_shared_bump *);
+
+// Empties the handle, whatever the bump's parties do. The bump's memory is freed once no party is
+// left in it.
+uint32_t bb_shared_bump_abandon(bb_shared_bump *);
 
 // Makes a party that hasn't joined join. BB_ALREADY_INITIALIZED if the party's handle isn't empty,
 // and before any other error; BB_NO_PARTY; BB_MALLOC_REFUSED.
@@ -456,11 +464,12 @@ uint32_t bb_shared_bump_leave(bb_shared_bump *, bb_bump_party *);
 
 // Starts again over the region, with as many parties, none of which has joined: the host uses no
 // chunk that was given before. BB_PARTIES_JOINED if not each party has left, for good if one was
-// destroyed; BB_MALLOC_REFUSED.
+// abandoned; BB_MALLOC_REFUSED.
 BB_MUST_USE uint32_t bb_shared_bump_reset(bb_shared_bump *);
 
-// Destroys a party that hasn't left. It can't join again, and what it took stays used.
-uint32_t bb_bump_party_destroy(bb_bump_party *);
+// Gives up a party that hasn't left, whose handle is empty then. It can't join again, and what it
+// took stays used. The bump can't be reset or destroyed any more.
+uint32_t bb_bump_party_abandon(bb_bump_party *);
 
 // Gives a chunk as `bb_bump_allocate` does.
 BB_MUST_USE bb_chunk bb_bump_party_allocate(bb_bump_party *, size_t size, size_t align);
@@ -479,8 +488,14 @@ uint32_t bb_bump_party_info(bb_bump_party *, bb_bump_figures *);
 BB_MUST_USE uint32_t bb_shared_pool_init(bb_shared_pool *, size_t bucket_size, size_t bucket_align,
                                          bb_place start, size_t size, uint32_t parties);
 
-// Empties the handle. The pool itself is freed once no party is left in it.
+// Frees the pool's memory. The handle is empty then. BB_PARTIES_JOINED if not each party has left,
+// for good if one was abandoned; BB_BUCKET_DETACHED if a bucket is detached. It takes time by the
+// number of buckets, and of parties, each of which also takes 48 bytes of stack.
 uint32_t bb_shared_pool_destroy(bb_shared_pool *);
+
+// Empties the handle, whatever the pool's parties and buckets do. The pool's memory is freed once
+// no party is left in it.
+uint32_t bb_shared_pool_abandon(bb_shared_pool *);
 
 // The figures of a shared pool. The start is that of bucket 0: the region's start rounded up to the
 // bucket's alignment. The size is the region's, as it was passed. A cached or a detached bucket
@@ -521,7 +536,7 @@ BB_MUST_USE uint32_t bb_shared_pool_join(bb_shared_pool *, bb_pool_party *);
 
 // Makes the party of this number join. Parties count from 0, and `bb_pool_party_number` returns a
 // party's number. Refused as `bb_shared_pool_join`, with BB_NO_PARTY if this party has joined or
-// was destroyed, or if there is none of that number. If `malloc` fails, nothing changes.
+// was abandoned, or if there is none of that number. If `malloc` fails, nothing changes.
 BB_MUST_USE uint32_t bb_shared_pool_join_number(bb_shared_pool *, uint32_t number, bb_pool_party *);
 
 // Ends a party, whose handle is empty then, and gives back each bucket whose flag says that the
@@ -533,8 +548,9 @@ uint32_t bb_shared_pool_leave(bb_shared_pool *, bb_pool_party *);
 // party that joins by its number holds what this one held, cached or not. BB_OTHER_POOL.
 uint32_t bb_shared_pool_forget(bb_shared_pool *, bb_pool_party *);
 
-// Destroys a party that hasn't left. It can't join again, and what it holds stays held for good.
-uint32_t bb_pool_party_destroy(bb_pool_party *);
+// Gives up a party that hasn't left, whose handle is empty then. It can't join again, what it holds
+// stays held for good, and the pool can't be destroyed any more.
+uint32_t bb_pool_party_abandon(bb_pool_party *);
 
 // Returns the number by which flags name this party.
 bb_number bb_pool_party_number(bb_pool_party *);
@@ -615,7 +631,8 @@ BB_MUST_USE static inline uint32_t bb_shared_pool_init_at_least(bb_shared_pool *
 BB_MUST_USE uint32_t bb_detached_init(bb_detached *);
 
 // Frees the memory of the `bb_detached`. A bucket that is in it stays detached. A `bb_detached`
-// keeps no pool: if the pool of the bucket that is in it has ended, this is the call that is left.
+// keeps no pool: if the pool of the bucket that is in it was abandoned and has ended, this is the
+// call that is left.
 uint32_t bb_detached_destroy(bb_detached *);
 
 // Returns the length of the chunk with which the bucket in it was detached. BB_DETACHED_EMPTY.
@@ -636,14 +653,14 @@ BB_MUST_USE bb_chunk bb_pool_party_attach(bb_pool_party *, bb_detached *);
 uint32_t bb_pool_party_return_detached(bb_pool_party *, bb_detached *);
 
 // Gives back the bucket of this number, which was detached into a `bb_detached`. `bb_lost lost =
-// BB_LOST;` says that nobody has or will use that `bb_detached`, as that of a dead process. The call
-// empties the `bb_lost`, also if it is refused for the bucket, and calls `free` with NULL.
+// BB_LOST;` says that nobody has or will use that `bb_detached`, as that of a dead process. The
+// call empties the `bb_lost`, also if it is refused for the bucket, and calls `free` with NULL.
 // BB_UNINITIALIZED if either handle is empty, and then both stay as they were; BB_NOT_A_BUCKET;
 // BB_NOT_HELD if the bucket isn't detached, or was detached by its number.
 //
-// A process that died in `bb_pool_party_return_detached`, or in this call, may have given the bucket
-// back already. Another party may have taken and detached it since. `bb_shared_pool_holder` can't
-// tell that, and this call would free that party's message.
+// A process that died in `bb_pool_party_return_detached`, or in this call, may have given the
+// bucket back already. Another party may have taken and detached it since. `bb_shared_pool_holder`
+// can't tell that, and this call would free that party's message.
 uint32_t bb_pool_party_recover(bb_pool_party *, uint32_t number, bb_lost *);
 
 // Detaches the bucket at this place by its number, which is returned. The number goes to another
@@ -666,8 +683,8 @@ BB_MUST_USE bb_chunk bb_pool_party_attach_number(bb_pool_party *, uint32_t numbe
 //
 // A handle is copied by `fork` or lies in the mapping; one process at a time uses it. A process may
 // be killed at any instruction but in a call that takes or frees memory: `init`, `join`,
-// `join_number`, `leave`, `forget`, `cache`, `recover`, `reset` or `destroy`. Another process then
-// leaves for its party: exactly what the party held is free again.
+// `join_number`, `leave`, `forget`, `cache`, `recover`, `reset`, `destroy` or `abandon`. Another
+// process then leaves for its party: exactly what the party held is free again.
 //
 // `leave` trusts the pool's words, and of what the party's handle owns only what never changes:
 // where the pool and the cache lie, and the party's number. All else there may be torn, as may be a

@@ -70,6 +70,7 @@ enum class [[nodiscard]] error : std::uint32_t {
     malloc_refused = BB_MALLOC_REFUSED,
     more_than_reserved = BB_MORE_THAN_RESERVED,
     no_bucket = BB_NO_BUCKET,
+    bucket_detached = BB_BUCKET_DETACHED,
     parties_joined = BB_PARTIES_JOINED,
     one_party = BB_ONE_PARTY,
     detached_full = BB_DETACHED_FULL,
@@ -280,9 +281,9 @@ protected:
 
 namespace detail {
 
-using shared_bump = shared<bb_shared_bump, bb_shared_bump_init, bb_shared_bump_destroy,
+using shared_bump = shared<bb_shared_bump, bb_shared_bump_init, bb_shared_bump_abandon,
                            bb_bump_party, bb_shared_bump_join, bb_shared_bump_leave>;
-using shared_pool = shared<bb_shared_pool, bb_shared_pool_init, bb_shared_pool_destroy,
+using shared_pool = shared<bb_shared_pool, bb_shared_pool_init, bb_shared_pool_abandon,
                            bb_pool_party, bb_shared_pool_join, bb_shared_pool_leave>;
 
 }  // namespace detail

@@ -69,7 +69,7 @@ int main(void) {
     expect(code == BB_OK, "one is shared");
     expect(bb_shared_pool_join(&shared, &party) == BB_OK, "a party joins");
     bb_pool_figures of_pool;
-    bb_pool_figures of_party;
+    bb_shared_pool_figures of_party;
     expect(bb_pool_info(&pool, &of_pool) == BB_OK, "the pool has figures");
     expect(bb_pool_party_info(&party, &of_party) == BB_OK, "the party has figures");
     expect(pthread_barrier_init(&start, NULL, 2) == 0, "two can wait for one another");

@@ -5,7 +5,7 @@ use Rattle.bb_memory_c_calls.specs.declared.answer.Answer.{Answer}
 use Rattle.bb_memory_c_calls.specs.declared.answer.Figure.{Figure}
 use Rattle.bb_memory_c_calls.specs.declared.answer.Holder.{Holder}
 use Rattle.bb_memory_c_calls.specs.declared.answer.SharedPoolInfo.{SharedPoolInfo}
-use Rattle.bb_memory_c_calls.specs.declared.code.TheConstants.{ALREADY_INITIALIZED as already_initialized, DETACHED_EMPTY as detached_empty, DETACHED_FULL as detached_full, MALLOC_REFUSED as malloc_refused, NOT_A_BUCKET as not_a_bucket, NOT_HELD as not_held, NO_PARTY as no_party, OK as ok, ONE_PARTY as one_party, OTHER_POOL as other_pool, SIZE_TOO_LARGE as size_too_large, UNINITIALIZED as uninitialized}
+use Rattle.bb_memory_c_calls.specs.declared.code.TheConstants.{ALREADY_INITIALIZED as already_initialized, BUCKET_DETACHED as bucket_detached, DETACHED_EMPTY as detached_empty, DETACHED_FULL as detached_full, MALLOC_REFUSED as malloc_refused, NOT_A_BUCKET as not_a_bucket, NOT_HELD as not_held, NO_PARTY as no_party, OK as ok, ONE_PARTY as one_party, OTHER_POOL as other_pool, PARTIES_JOINED as parties_joined, SIZE_TOO_LARGE as size_too_large, UNINITIALIZED as uninitialized}
 use Rattle.bb_memory_index_set.specs.IndexSets.{Has}
 use Rattle.bb_memory_pool_machine.specs.PoolLogs.{MayBeFound}
 use Rattle.bb_memory_pool_machine.specs.declared.steps.pool.Flag.{Flag}
@@ -13,6 +13,7 @@ use Rattle.bb_memory_shared_pools.specs.SharedPool.{AreFresh, PoolParty, SharedP
 use Rattle.bb_memory_shared_pools.specs.SharedPoolCaching.{AttachesCaching, CachingParty, IsOut, ReturnsCaching, ServesCaching}
 use Rattle.bb_memory_shared_pools.specs.SharedPoolCaching as caching
 use Rattle.bb_memory_shared_pools.specs.SharedPoolLeaving.{GivesAllBack}
+use Rattle.bb_memory_shared_pools.specs.SharedPoolMeetings.{MetDetached, MetUndetached}
 use Rattle.bb_memory_traits.specs.Chunk.{Chunk, IsInside, Region, first_place}
 use Rattle.bb_memory_traits.specs.PoolObject.{IsCut, PoolGeometry, bucket_place}
 use Rattle.bb_memory_traits.specs.declared.allocator.AllocationError.{AllocationError}
@@ -165,6 +166,16 @@ pub record HasGivenAllBack (joined after : CachingParty) : Type 0 where
   pub given : GivesAllBack joined.party after.party
   pub empty : after.cached ≡ []
   pub most : after.most ≡ joined.most
+
+-- A pool is destroyed if each party has left and no bucket is detached. Each of its parties has left
+-- then, so their logs say which buckets are detached: with BB_BUCKET_DETACHED they have met while one
+-- was, and with BB_OK they have met while each of the buckets was not.
+pub record TellsDestroy (all : PoolParties) (code : ℕ) : Type 0 where
+  pub joined : (code ≡ parties_joined) ↔ (count_unjoined all < all.shared.scene.parties)
+  pub detached : code ≡ bucket_detached → (bucket : ℕ) × MetDetached all.shared.scene all.parties bucket
+  pub destroyed : code ≡ ok → (bucket : ℕ) → bucket < all.shared.scene.geometry.buckets
+      → MetUndetached all.shared.scene all.parties bucket
+  pub no_other : code ≢ parties_joined → code ≢ bucket_detached → code ≡ ok
 
 -- PARTIES BY THEIR NUMBERS
 

@@ -1,7 +1,7 @@
 //! A shared pool behind handles: one for the pool and the parties that haven't joined, and one for each party that has.
-ghost use Rattle.bb_memory_c.specs.SharedPools.{AnswersJoinNumber, ArePlaces, AreUnjoined, CountsOut, GivesBack, GivesChunk, HasGivenAllBack, HasUnjoined, HoldsAt, HoldsPlace, IsAt, IsJoinedAt, IsNumberAt, Knows, PoolParties, ShowsParty, ShowsShared, TakesNumber, TellsCache, TellsHolder, as_joined, cutting_shared_pool, emptied, forgetting_pool, geometry_of, shared_pool_info, sharing_pool, with_last, with_unjoined};
+ghost use Rattle.bb_memory_c.specs.SharedPools.{AnswersJoinNumber, ArePlaces, AreUnjoined, CountsOut, GivesBack, GivesChunk, HasGivenAllBack, HasUnjoined, HoldsAt, HoldsPlace, IsAt, IsJoinedAt, IsNumberAt, Knows, PoolParties, ShowsParty, ShowsShared, TakesNumber, TellsCache, TellsDestroy, TellsHolder, as_joined, cutting_shared_pool, emptied, forgetting_pool, geometry_of, shared_pool_info, sharing_pool, with_last, with_unjoined};
 ghost use Rattle.bb_memory_c_calls.specs.Answers.{figure_of, no_figure};
-ghost use Rattle.bb_memory_c_calls.specs.Calls.{Answers, AnswersFree, AnswersInfo, AnswersJoin, AnswersLeave, AnswersNumber, AnswersPlace, AnswersPoolMake, AnswersRequest, AnswersReturn, AnswersReturns, AnswersTake, AnswersTakings, AnswersWhether, IfBoth};
+ghost use Rattle.bb_memory_c_calls.specs.Calls.{Answers, AnswersDestroy, AnswersFree, AnswersInfo, AnswersJoin, AnswersLeave, AnswersNumber, AnswersPlace, AnswersPoolMake, AnswersRequest, AnswersReturn, AnswersReturns, AnswersTake, AnswersTakings, AnswersWhether, IfBoth};
 ghost use Rattle.bb_memory_c_calls.specs.declared.code.TheConstants.{OK as ok, UNINITIALIZED as uninitialized};
 ghost use Rattle.bb_memory_shared_pools.specs.SharedPool.{IsParty};
 ghost use Rattle.bb_memory_shared_pools.specs.SharedPoolCaching.{CachingParty, IsOut, ReturnsCaching};
@@ -12,7 +12,7 @@ ghost use Rattle.std.specs.Prelude.{Contains, IfErr, IfNone, IfOk, IfSome, IsFal
 
 use crate::handle::{Handle, PoolPartyHandle, SharedPoolHandle};
 use bb_memory_c_calls::answer::{Answer, Figure, Holder, SharedPoolInfo};
-use bb_memory_c_calls::kind::{Bucketed, Gives, Keeps, Shares};
+use bb_memory_c_calls::kind::{Bucketed, Ends, Gives, Keeps, Shares};
 use bb_memory_c_calls::layout::cut_into;
 use bb_memory_c_calls::{call, code};
 use bb_memory_owned::pool_allocator::AllocationError;
@@ -390,6 +390,21 @@ impl Shares<JoinedPool> for PoolParties {
     }
 }
 
+impl Ends for PoolParties {
+    ghost ends = { TellsDestroy };
+
+    fn end_code(&mut self) -> u32 {
+        if self.parties.len() < self.pool.number_of_parties() as usize {
+            return code::PARTIES_JOINED;
+        }
+        if self.pool.has_detached(&mut self.parties) {
+            code::BUCKET_DETACHED
+        } else {
+            code::OK
+        }
+    }
+}
+
 /// Makes a shared pool over the region of `size` bytes at `start`, behind a handle that has to be empty. The region is cut into
 /// buckets of `bucket_size` bytes at multiples of `bucket_align`, with room for one. Each party, at least one, can join.
 #[unsafe(no_mangle)]
@@ -421,9 +436,18 @@ pub extern "C" fn bb_shared_pool_init(
     call::keep(handle, alloc, PoolParties { pool, parties })
 }
 
-/// Frees the handle of a shared pool, which is empty then. The pool stays as long as one of its parties does.
+/// Frees a shared pool, whose handle is empty then. It is refused with `BB_PARTIES_JOINED` unless each party has left, and with
+/// `BB_BUCKET_DETACHED` if a bucket is detached.
 #[unsafe(no_mangle)]
 pub extern "C" fn bb_shared_pool_destroy(alloc: Global, handle: &mut SharedPoolHandle) -> u32
+    ensures { AnswersDestroy handle.old.value handle.new.value result TellsDestroy }
+{
+    call::destroy(handle, alloc)
+}
+
+/// Empties the handle of a shared pool, whatever its parties and buckets do. The pool stays as long as one of its parties does.
+#[unsafe(no_mangle)]
+pub extern "C" fn bb_shared_pool_abandon(alloc: Global, handle: &mut SharedPoolHandle) -> u32
     ensures { AnswersFree handle.old.value handle.new.value result }
 {
     call::free(handle, alloc)
@@ -541,9 +565,10 @@ pub extern "C" fn bb_shared_pool_leave(
     call::leave(handle, alloc, party)
 }
 
-/// Frees a party that hasn't left, whose handle is empty then. It can't join again, and what it holds stays held.
+/// Frees a party that hasn't left, whose handle is empty then. It can't join again, what it holds stays held, and the pool can't be
+/// destroyed.
 #[unsafe(no_mangle)]
-pub extern "C" fn bb_pool_party_destroy(alloc: Global, handle: &mut PoolPartyHandle) -> u32
+pub extern "C" fn bb_pool_party_abandon(alloc: Global, handle: &mut PoolPartyHandle) -> u32
     ensures { AnswersFree handle.old.value handle.new.value result }
 {
     call::free(handle, alloc)

@@ -33,6 +33,8 @@ pub const MALLOC_REFUSED: u32 = 14;
 pub const MORE_THAN_RESERVED: u32 = 15;
 /// The region has no room for one bucket.
 pub const NO_BUCKET: u32 = 16;
+/// A bucket of the pool is detached.
+pub const BUCKET_DETACHED: u32 = 17;
 /// Not each party has left.
 pub const PARTIES_JOINED: u32 = 18;
 /// The pool has no other party.
