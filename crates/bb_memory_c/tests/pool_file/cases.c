@@ -731,14 +731,17 @@ static void waits(void) {
     close_it(file);
 }
 
-// Counts the messages that go around a ring of processes, each of which waits for the one before.
-static void ring(void) {
+// One bucket goes to another process and back, and each side waits for the other: for a message, for
+// an empty slot, and for a free bucket.
+static void ping(void) {
     enum {
-        ROUNDS = 3000
+        ROUNDS = 200
     };
 
     bb_pool_file *file = open_it();
     bb_pool_party *party = join_it(file);
+    for (int at = 0; at < 19; at++)
+        take_one(party);
     const pid_t child = child_of();
     if (child == 0) {
         bb_pool_file *own = open_it();
@@ -746,22 +749,22 @@ static void ring(void) {
         for (int round = 0; round < ROUNDS; round++) {
             EXPECT(bb_pool_file_wait_full(own, 0, BB_NO_TIMEOUT) == BB_OK);
             const bb_message message = bb_pool_file_take(own, mine, 0);
+            usleep(100);  // so long that the sender sleeps
             EXPECT(message.code == BB_OK && bb_pool_file_done(own, mine, 0) == BB_OK);
-            EXPECT(bb_pool_file_post(own, mine, 1, message.place, message.len) == BB_OK);
+            usleep(100);
+            EXPECT(bb_pool_file_deallocate(own, mine, message.place) == BB_OK);
         }
         _exit(0);
     }
     const uint64_t begun = milliseconds();
-    bb_place place = take_one(party);
     for (int round = 0; round < ROUNDS; round++) {
-        EXPECT(bb_pool_file_post(file, party, 0, place, 5) == BB_OK);
-        EXPECT(bb_pool_file_wait_full(file, 1, BB_NO_TIMEOUT) == BB_OK);
-        const bb_message message = bb_pool_file_take(file, party, 1);
-        EXPECT(message.code == BB_OK && bb_pool_file_done(file, party, 1) == BB_OK);
-        place = message.place;
+        EXPECT(bb_pool_file_post(file, party, 0, take_one(party), 5) == BB_OK);
+        EXPECT(bb_pool_file_wait_empty(file, 0, BB_NO_TIMEOUT) == BB_OK);
+        EXPECT(bb_pool_file_wait_bucket(file, BB_NO_TIMEOUT) == BB_OK);
+        usleep(100);
+        // A lost wake costs a tenth of a second each time.
+        EXPECT(milliseconds() - begun < 50 * ROUNDS);
     }
-    // A lost wake would cost a tenth of a second each time.
-    EXPECT(milliseconds() - begun < ROUNDS * 10);
     end(child);
     close_it(file);
     remove_it();
@@ -1183,7 +1186,7 @@ int main(int argc, char **argv) {
         by_number();
         one_wins();
         waits();
-        ring();
+        ping();
         reaps();
         forked();
         orphans();

@@ -7,6 +7,8 @@
 //     kills make FOLDER KILLS                 makers of the file are killed at random moments
 //     kills step FOLDER STRIDE                a process is killed after each instruction of each
 //                                             call, or after each STRIDE-th of the long calls
+//     kills pause FOLDER STRIDE               a process is stopped there, another party interferes,
+//                                             and the call goes on
 #define _GNU_SOURCE
 #include <fcntl.h>
 #include <pthread.h>
@@ -534,7 +536,10 @@ enum {
     REAPS,
     LEAVES,
     CLOSES,
-    OPERATIONS
+    OPERATIONS,
+    // For `pause` only: a take whose code is noted, and a reap of detached buckets.
+    NOTES_TAKE,
+    REAPS_DETACHED
 };
 
 static const char *const NAMES[] = {"open",
@@ -573,6 +578,9 @@ struct prepared {
     bb_place place;
     uint32_t number;
 };
+
+// The code that NOTES_TAKE found, in shared memory.
+static uint32_t *noted;
 
 static struct prepared prepare(int what, uint32_t number) {
     struct prepared prepared = {NULL, number};
@@ -624,13 +632,14 @@ static void operate(int what, struct prepared with) {
     case ATTACHES: EXPECT(bb_pool_file_attach(file, mine, with.number).code == BB_OK); break;
     case REAPS: EXPECT(bb_pool_file_reap(file, false, NULL) == BB_OK); break;
     case LEAVES: EXPECT(bb_pool_file_leave(file, mine) == BB_OK); break;
+    case NOTES_TAKE: *noted = bb_pool_file_take(file, mine, 0).code; break;
+    case REAPS_DETACHED: EXPECT(bb_pool_file_reap(file, true, NULL) == BB_OK); break;
     default: EXPECT(bb_pool_file_close(file) == BB_OK);
     }
 }
 
-// Runs the operation in a child, that many instructions far, and kills it. Returns whether the
-// operation ended before.
-static bool run_steps(int what, uint32_t steps, uint32_t number) {
+// Starts an operation in a child, which is stopped right before it.
+static pid_t start(int what, uint32_t number) {
     int status;
     const pid_t child = fork();
     if (child == 0) {
@@ -644,16 +653,41 @@ static bool run_steps(int what, uint32_t steps, uint32_t number) {
     }
     EXPECT(waitpid(child, &status, 0) == child);
     EXPECT(WIFSTOPPED(status) && WSTOPSIG(status) == SIGSTOP);
+    return child;
+}
+
+// Has the child go that many instructions far. Returns whether the operation ended before.
+static bool go(pid_t child, uint32_t steps) {
+    int status;
     for (uint32_t step = 0; step < steps; step++) {
         ptrace(PTRACE_SINGLESTEP, child, NULL, NULL);
         EXPECT(waitpid(child, &status, 0) == child && WIFSTOPPED(status));
         if (WSTOPSIG(status) == SIGUSR1)
-            break;
+            return true;
         EXPECT(WSTOPSIG(status) == SIGTRAP);
     }
-    const bool ended = WSTOPSIG(status) == SIGUSR1;
+    return false;
+}
+
+static void go_on(pid_t child) {
+    int status;
+    ptrace(PTRACE_CONT, child, NULL, NULL);
+    EXPECT(waitpid(child, &status, 0) == child);
+    EXPECT(WIFSTOPPED(status) && WSTOPSIG(status) == SIGUSR1);
+}
+
+static void end_killed(pid_t child) {
+    int status;
     EXPECT(kill(child, SIGKILL) == 0);
     EXPECT(waitpid(child, &status, 0) == child && WIFSIGNALED(status));
+}
+
+// Runs the operation in a child, that many instructions far, and kills it. Returns whether the
+// operation ended before.
+static bool run_steps(int what, uint32_t steps, uint32_t number) {
+    const pid_t child = start(what, number);
+    const bool ended = go(child, steps);
+    end_killed(child);
     return ended;
 }
 
@@ -778,6 +812,128 @@ static int run_step(uint32_t long_stride) {
     return 0;
 }
 
+// PAUSE
+
+// Leaves a bucket that a dead party has detached by its number, which is returned.
+static uint32_t leave_detached(void) {
+    uint32_t *number = mmap(NULL, 4096, PROT_READ | PROT_WRITE, MAP_SHARED | MAP_ANONYMOUS, -1, 0);
+    EXPECT(number != MAP_FAILED);
+    const pid_t child = fork();
+    if (child == 0) {
+        EXPECT(bb_pool_file_open(&file, path, NULL) == BB_OK);
+        EXPECT(bb_pool_file_join(file, &mine) == BB_OK);
+        *number = (uint32_t)bb_pool_file_detach(file, mine, bb_pool_party_take(mine).place).number;
+        _exit(0);
+    }
+    EXPECT(waitpid(child, NULL, 0) == child);
+    const uint32_t detached = *number;
+    munmap(number, 4096);
+    return detached;
+}
+
+// While a reap of detached buckets is stopped, another party attaches one, gives it back, takes it
+// again, and posts it. The message stays.
+static bool pause_reap(bb_pool_file *ours, bb_pool_party *party, uint32_t steps) {
+    const uint32_t number = leave_detached();
+    const pid_t child = start(REAPS_DETACHED, 0);
+    const bool ended = go(child, steps);
+    const bb_chunk got = bb_pool_file_attach(ours, party, number);
+    if (got.code == BB_OK) {
+        EXPECT(bb_pool_party_deallocate(party, got.place) == BB_OK);
+        EXPECT(bb_pool_party_take(party).place == got.place);
+        fill(got.place, 55);
+        EXPECT(bb_pool_file_post(ours, party, 0, got.place, 17) == BB_OK);
+    }
+    if (!ended)
+        go_on(child);
+    end_killed(child);
+    const bb_message message = bb_pool_file_take(ours, party, 0);
+    if (got.code == BB_OK)
+        EXPECT(message.code == BB_OK && message.len == 17 && is_filled(message.place, 55));
+    else
+        EXPECT(message.code == BB_DETACHED_EMPTY);
+    return ended;
+}
+
+// While a take is stopped, another party takes the message, is done with it, and detaches its bucket
+// by number. The take gets nothing then, and the bucket stays detached.
+static bool pause_take(bb_pool_file *ours, bb_pool_party *party, uint32_t steps) {
+    const bb_chunk chunk = bb_pool_party_take(party);
+    fill(chunk.place, 99);
+    EXPECT(bb_pool_file_post(ours, party, 0, chunk.place, 44) == BB_OK);
+    const pid_t child = start(NOTES_TAKE, 0);
+    const bool ended = go(child, steps);
+    const bb_message message = bb_pool_file_take(ours, party, 0);
+    if (message.code == BB_OK) {
+        EXPECT(bb_pool_file_done(ours, party, 0) == BB_OK);
+        fill(message.place, 55);
+        EXPECT(bb_pool_file_detach(ours, party, message.place).code == BB_OK);
+    }
+    if (!ended)
+        go_on(child);
+    if (message.code == BB_OK) {
+        EXPECT(*noted == BB_NOT_HELD || *noted == BB_DETACHED_EMPTY);
+        const bb_chunk back = bb_pool_file_attach(ours, party, message.number);
+        EXPECT(back.code == BB_OK && is_filled(back.place, 55));
+    } else {
+        EXPECT(*noted == BB_OK);
+    }
+    end_killed(child);
+    return ended;
+}
+
+// While a leave is stopped, another party joins and takes a bucket, which it keeps.
+static bool pause_leave(bb_pool_file *ours, bb_pool_party *party, uint32_t steps) {
+    bb_pool_party *other;
+    const bb_chunk chunk = bb_pool_party_take(party);
+    fill(chunk.place, 99);
+    EXPECT(bb_pool_file_post(ours, party, 0, chunk.place, 44) == BB_OK);
+    const pid_t child = start(LEAVES, 0);
+    const bool ended = go(child, steps);
+    EXPECT(bb_pool_file_join(ours, &other) == BB_OK);
+    const bb_chunk got = bb_pool_party_take(other);
+    EXPECT(got.code == BB_OK);
+    if (!ended)
+        go_on(child);
+    end_killed(child);
+    EXPECT(bb_pool_party_holds(other, got.place).number == 1);
+    EXPECT(bb_pool_file_take(ours, party, 0).len == 44);
+    return ended;
+}
+
+static int run_pause(uint32_t long_stride) {
+    bool (*const scenes[])(bb_pool_file *, bb_pool_party *, uint32_t) = {pause_take, pause_leave,
+                                                                         pause_reap};
+    const char *const names[] = {"take", "leave", "reap"};
+    noted = mmap(NULL, 4096, PROT_READ | PROT_WRITE, MAP_SHARED | MAP_ANONYMOUS, -1, 0);
+    EXPECT(noted != MAP_FAILED);
+    for (int scene = 0; scene < 3; scene++) {
+        const uint32_t stride = scene == 0 ? 1 : long_stride;
+        uint32_t steps = 1;
+        for (bool ended = false; !ended; steps += stride) {
+            bb_pool_file *ours;
+            bb_pool_party *party;
+            bb_pool_file_figures figures;
+            unlink(path);
+            EXPECT(bb_pool_file_open(&ours, path, &OPTIONS) == BB_OK);
+            EXPECT(bb_pool_file_join(ours, &party) == BB_OK);
+            ended = scenes[scene](ours, party, steps);
+            EXPECT(bb_pool_file_done(ours, party, 0) != BB_INVALID_ARGUMENT);
+            EXPECT(bb_pool_file_close(ours) == BB_OK);
+            EXPECT(bb_pool_file_open(&ours, path, NULL) == BB_OK);
+            EXPECT(bb_pool_file_reap(ours, true, NULL) == BB_OK);
+            EXPECT(bb_pool_file_info(ours, &figures) == BB_OK);
+            EXPECT(figures.held + figures.wrong == 0 && figures.detached == figures.full_slots);
+            EXPECT(bb_pool_file_close(ours) == BB_OK);
+        }
+        printf("kills: %-24s stopped after each", names[scene]);
+        if (stride > 1)
+            printf(" %uth", stride);
+        printf(" of %u instructions\n", steps - stride);
+    }
+    return 0;
+}
+
 int main(int argc, char **argv) {
     if (argc == 6 && strcmp(argv[1], "work") == 0)
         return run_worker(argv);
@@ -792,10 +948,13 @@ int main(int argc, char **argv) {
         status = run_make((uint32_t)atoi(argv[3]));
     } else if (argc == 4 && strcmp(argv[1], "step") == 0) {
         status = run_step((uint32_t)atoi(argv[3]));
+    } else if (argc == 4 && strcmp(argv[1], "pause") == 0) {
+        status = run_pause((uint32_t)atoi(argv[3]));
     } else {
         fprintf(stderr, "usage: kills run FOLDER KILLS CACHED THREADS\n"
                         "       kills make FOLDER KILLS\n"
-                        "       kills step FOLDER STRIDE\n");
+                        "       kills step FOLDER STRIDE\n"
+                        "       kills pause FOLDER STRIDE\n");
     }
     unlink(path);
     return status;
