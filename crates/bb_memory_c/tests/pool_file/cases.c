@@ -30,7 +30,7 @@ enum {
     // line of events.
     FIRST_SLOT = 2 * PAGE + 64,
     // The greatest number of bytes that one `open` here may request.
-    MOST_BYTES = 1 << 28
+    MOST_BYTES = 1 << 27
 };
 
 static const bb_pool_file_options OPTIONS = {
@@ -307,14 +307,20 @@ static void become_nobody(void) {
     EXPECT(setgid(65534) == 0 && setuid(65534) == 0);
 }
 
-// Files of others: this runs as root, and its children as another user.
+// Files that others may write, and files of others: those need root, and a child that is another
+// user.
 static void permissions(void) {
     bb_pool_file_options shared = OPTIONS;
     shared.mode = 0666;
-    if (geteuid() != 0)
-        return;
     umask(0);
-    EXPECT(code_of(path, &OPTIONS) == BB_OK);
+    EXPECT(code_of(path, &OPTIONS) == BB_OK && chmod(path, 0622) == 0);
+    EXPECT(code_of(path, &OPTIONS) == BB_FILE_UNSAFE && code_of(path, &shared) == BB_OK);
+    EXPECT(chmod(path, 0600) == 0);
+    if (geteuid() != 0) {
+        remove_it();
+        umask(022);
+        return;
+    }
     pid_t child = child_of();
     if (child == 0) {
         become_nobody();
@@ -330,8 +336,6 @@ static void permissions(void) {
         _exit(0);
     }
     end(child);
-    EXPECT(chmod(path, 0622) == 0);
-    EXPECT(code_of(path, &OPTIONS) == BB_FILE_UNSAFE && code_of(path, &shared) == BB_OK);
     remove_it();
     EXPECT(code_of(path, &shared) == BB_OK && chown(path, 12345, 12345) == 0);
     EXPECT(code_of(path, &shared) == BB_OK && chmod(path, 0600) == 0);
@@ -903,16 +907,19 @@ enum {
     WAYS
 };
 
-// Starts a process that sleeps, in one of the ways, and returns it.
+// Starts a process that sleeps, in one of the ways, and returns it. It ends by itself if this test
+// fails.
 static pid_t start_by(int way) {
-    char *argv[] = {"sleep", "100", NULL};
+    char *argv[] = {"sleep", "20", NULL};
     char *none[] = {NULL};
     pid_t started = -1;
     switch (way) {
     case BY_FORK:
         started = fork();
-        if (started == 0)
+        if (started == 0) {
+            alarm(20);
             pause();
+        }
         break;
     case BY_SPAWN: EXPECT(posix_spawn(&started, "/bin/sleep", NULL, NULL, argv, none) == 0); break;
     case BY_VFORK:
@@ -924,8 +931,10 @@ static pid_t start_by(int way) {
         break;
     default:
         started = (pid_t)syscall(SYS_clone, SIGCHLD, 0, 0, 0, 0);
-        if (started == 0)
+        if (started == 0) {
+            alarm(20);
             pause();
+        }
     }
     return started;
 }
@@ -970,7 +979,7 @@ static void executed(void) {
     const pid_t child = child_of();
     if (child == 0) {
         take_one(join_it(open_it()));
-        execl("/bin/sleep", "sleep", "100", (char *)NULL);
+        execl("/bin/sleep", "sleep", "20", (char *)NULL);
     }
     for (int tries = 0; reap(file, false) == 0; tries++) {
         EXPECT(tries < 5000);
@@ -1093,7 +1102,7 @@ static void passed(void) {
     part->cmsg_type = SCM_RIGHTS;
     part->cmsg_len = CMSG_LEN(sizeof fd);
     memcpy(CMSG_DATA(part), &fd, sizeof fd);
-    EXPECT(sendmsg(pair[0], &message, 0) == 1);
+    EXPECT(sendmsg(pair[0], &message, 0) == 1 && close(pair[1]) == 0);
     hear(pair[0]);
     EXPECT(info_of(file).alive == 2 && info_of(file).held == 1 && number_of(party) == 0);
     end_killed(child);
@@ -1101,7 +1110,6 @@ static void passed(void) {
     close_it(file);
     close(fd);
     close(pair[0]);
-    close(pair[1]);
 }
 
 static bool is_bucket(const bb_pool_file_figures *figures, bb_place place) {
