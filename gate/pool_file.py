@@ -16,8 +16,10 @@ import re
 import shutil
 import subprocess
 import tempfile
+import time
 from collections.abc import Callable, Iterable, Mapping, Sequence
 from concurrent.futures import ThreadPoolExecutor
+from contextlib import ExitStack
 from functools import partial
 from pathlib import Path
 
@@ -27,7 +29,7 @@ from gate.process import Failed, has, must_run, say
 CRATE = "crates/bb_memory_c"
 FLAGS = ("-O2", "-Wall", "-Wextra", "-Werror", "-pedantic", "-Wshadow", "-Wconversion")
 CHECKERS = ("-fsanitize=address,undefined", "-fno-sanitize-recover=all")
-PROGRAMS = ("cases", "kills")
+PROGRAMS = ("cases", "kills", "shown")
 # A program that hangs is ended after that many seconds.
 LONGEST = "240"
 # Runs of `kills` with each form of the library: words before and after the folder.
@@ -36,8 +38,8 @@ KILLS = {
         ("run", "2500", "0", "1"),
         ("run", "2500", "8", "2"),
         ("make", "600"),
-        ("step", "29"),
-        ("pause", "13"),
+        ("step", "97"),
+        ("pause", "61"),
     ),
     "shared": (
         ("run", "2500", "8", "1"),
@@ -70,9 +72,16 @@ class PoolFile:
         self.prefix = prefix
         self.work = work
         self.environment = environment
-        # Files in memory and on a disk. The first has those of `kills`.
-        folders = [Path("/dev/shm"), Path(tempfile.gettempdir())]
-        self.folders = [folder for folder in folders if folder.is_dir()]
+        # Where the pools' files are: in memory and on a disk. The first has those of most tests.
+        self.folders: list[Path] = []
+
+    def make_folders(self, made: ExitStack) -> None:
+        """Makes folders for the pools' files, which other users may enter."""
+        for place in (Path("/dev/shm"), Path(tempfile.gettempdir())):
+            if place.is_dir():
+                folder = made.enter_context(tempfile.TemporaryDirectory(dir=place))
+                os.chmod(folder, 0o755)
+                self.folders.append(Path(folder))
 
     def compile(self, words: Sequence[str | Path], compiler: str = "cc") -> None:
         """Runs a compiler with the installed headers."""
@@ -108,6 +117,73 @@ class PoolFile:
         flags = ["-std=c11", "-g", "-O1", *CHECKERS]
         self.compile([*flags, "-o", program, *sources, self.work / "bb_memory.o"])
         return f"{self.run_program(program, self.folders)}, under the checkers"
+
+    def run_command(self) -> str:
+        """Runs `bb-pool`, and compares what it prints with shown.txt."""
+        path = self.folders[0] / "shown"
+        shown = subprocess.run(
+            [self.work / "shown.archive", path, self.prefix / "bin/bb-pool"],
+            stdin=subprocess.DEVNULL,
+            stdout=subprocess.PIPE,
+            stderr=subprocess.DEVNULL,
+            text=True,
+            check=False,
+        )
+        expected = (self.sources / "shown.txt").read_text(encoding="utf-8")
+        if shown.returncode != 0 or shown.stdout.replace(str(path), "FILE") != expected:
+            raise Failed(f"bb-pool shows something else than shown.txt:\n{shown.stdout}")
+        return "bb-pool: it shows what shown.txt has"
+
+    def run_examples(self) -> str:
+        """Runs producers and consumers, and kills some of them. Messages that were posted arrive."""
+        path = self.folders[0] / "example"
+        printed = self.work / "printed"
+        examples = self.crate.parent.parent / "examples/c"
+        library = self.prefix / "lib/libbb_memory.a"
+        for name in ("producer", "consumer"):
+            source = examples / f"{name}.c"
+            c99: list[str | Path] = [
+                "-std=c99",
+                "-D_DEFAULT_SOURCE",
+                *FLAGS,
+                "-o",
+                self.work / name,
+            ]
+            self.compile([*c99, source, library])
+            cxx: list[str | Path] = [
+                "-std=c++11",
+                *FLAGS,
+                "-o",
+                self.work / f"{name}.c++",
+                "-x",
+                "c++",
+            ]
+            self.compile([*cxx, source, "-x", "none", library], "c++")
+        with printed.open("w", encoding="utf-8") as output:
+            started = []
+            for form, name in enumerate(["consumer", "producer", "consumer.c++", "producer.c++"]):
+                count = ["1000000"] if "producer" in name else []
+                command = [str(self.work / name), str(path), *count]
+                started.append(subprocess.Popen(command, stdout=output))
+                time.sleep(0.2)
+                if form % 2 == 1:
+                    # A producer and a consumer at work are killed.
+                    for each in started[-2:]:
+                        each.kill()
+            consumer = subprocess.Popen([self.work / "consumer", path], stdout=output)
+            last = subprocess.Popen([self.work / "producer", path, "2000"])
+            status = last.wait(timeout=60)
+            # The consumer ends once it has printed what is left in the slots.
+            time.sleep(2)
+            consumer.kill()
+            for each in [*started, consumer]:
+                each.wait()
+        path.unlink()
+        lines = set(printed.read_text(encoding="utf-8").splitlines())
+        missing = [n for n in range(2000) if f"{last.pid} {n}" not in lines]
+        if status != 0 or missing:
+            raise Failed(f"producer: status {status}, {len(missing)} messages never came")
+        return f"producer and consumer: {len(lines)} messages came, with kills"
 
     def run_model(self, size: Mapping[str, int]) -> str:
         """Looks at each state of the model of this size."""
@@ -147,6 +223,7 @@ class PoolFile:
             stdin=subprocess.DEVNULL,
             stdout=subprocess.DEVNULL,
             stderr=subprocess.DEVNULL,
+            check=False,
         )
         shutil.rmtree(folder)
         if ran.returncode == 0:
@@ -170,13 +247,14 @@ class PoolFile:
             jobs += [partial(self.run_kills, kills, words) for words in tests]
         for form in KILLS:
             jobs.append(partial(self.run_program, self.work / f"cases.{form}", self.folders))
-        jobs.append(self.run_checked)
+        jobs += [self.run_checked, self.run_command, self.run_examples]
         return jobs
 
     def check(self) -> None:
         """Runs all tests. Raises Failed if one fails."""
         self.build()
-        with ThreadPoolExecutor(os.cpu_count()) as pool:
+        with ExitStack() as made, ThreadPoolExecutor(os.cpu_count()) as pool:
+            self.make_folders(made)
             running = [pool.submit(job) for job in self.jobs()]
             for each in running:
                 say(each.result())

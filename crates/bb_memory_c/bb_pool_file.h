@@ -221,8 +221,8 @@ BB_MUST_USE bb_chunk bb_pool_file_attach(bb_pool_file *, bb_pool_party *, uint32
 
 // Gives back what dead parties held, while others work; any number of processes may reap at once.
 // Messages in slots stay, and can be taken. With `detached`, it also gives back what dead parties
-// detached and is in no slot: say so if their numbers can't come any more. `given_back` may be NULL;
-// it gets the number of buckets. BB_UNINITIALIZED in a forked child; BB_FILE_SYSTEM;
+// detached and is in no slot: say so if their numbers can't come any more. That waits as long as a
+// later party has the dead one's number. `given_back` may be NULL; it gets the number of buckets. BB_UNINITIALIZED in a forked child; BB_FILE_SYSTEM;
 // BB_MALLOC_REFUSED.
 uint32_t bb_pool_file_reap(bb_pool_file *, bool detached, uint32_t *given_back);
 

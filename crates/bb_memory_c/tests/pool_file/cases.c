@@ -739,7 +739,7 @@ static void waits(void) {
 // an empty slot, and for a free bucket.
 static void ping(void) {
     enum {
-        ROUNDS = 200
+        ROUNDS = 60
     };
 
     bb_pool_file *file = open_it();
@@ -767,7 +767,7 @@ static void ping(void) {
         EXPECT(bb_pool_file_wait_bucket(file, BB_NO_TIMEOUT) == BB_OK);
         usleep(100);
         // A lost wake costs a tenth of a second each time.
-        EXPECT(milliseconds() - begun < 50 * ROUNDS);
+        EXPECT(milliseconds() - begun < 40 * ROUNDS);
     }
     end(child);
     close_it(file);

@@ -537,9 +537,11 @@ enum {
     LEAVES,
     CLOSES,
     OPERATIONS,
-    // For `pause` only: a take whose code is noted, and a reap of detached buckets.
+    // For `pause` only: a take whose code is noted, a reap of detached buckets, and an open that
+    // notes how many buckets it finds held.
     NOTES_TAKE,
-    REAPS_DETACHED
+    REAPS_DETACHED,
+    NOTES_OPEN
 };
 
 static const char *const NAMES[] = {"open",
@@ -579,14 +581,16 @@ struct prepared {
     uint32_t number;
 };
 
-// The code that NOTES_TAKE found, in shared memory.
+// What NOTES_TAKE or NOTES_OPEN has noted, in shared memory.
 static uint32_t *noted;
 
 static struct prepared prepare(int what, uint32_t number) {
     struct prepared prepared = {NULL, number};
-    if (what != OPENS && what != MAKES)
+    const bool opens = what == OPENS || what == MAKES || what == NOTES_OPEN;
+    if (!opens)
         EXPECT(bb_pool_file_open(&file, path, NULL) == BB_OK);
-    if (what > JOINS)
+    // A process that joined would have the dead party's number.
+    if (!opens && what != JOINS && what != REAPS && what != REAPS_DETACHED)
         EXPECT(bb_pool_file_join(file, &mine) == BB_OK);
     if (what == BURSTS || what == LEAVES)
         EXPECT(bb_pool_party_cache(mine, 8) == BB_OK);
@@ -608,6 +612,13 @@ static void take_many(size_t count) {
     bb_place places[3];
     EXPECT(bb_pool_party_take_many(mine, places, count).number == count);
     EXPECT(bb_pool_party_deallocate_many(mine, places, count).number == count);
+}
+
+static void note_open(void) {
+    bb_pool_file_figures figures;
+    EXPECT(bb_pool_file_open(&file, path, &OPTIONS) == BB_OK);
+    EXPECT(bb_pool_file_info(file, &figures) == BB_OK);
+    *noted = figures.held;
 }
 
 static void operate(int what, struct prepared with) {
@@ -633,6 +644,7 @@ static void operate(int what, struct prepared with) {
     case REAPS: EXPECT(bb_pool_file_reap(file, false, NULL) == BB_OK); break;
     case LEAVES: EXPECT(bb_pool_file_leave(file, mine) == BB_OK); break;
     case NOTES_TAKE: *noted = bb_pool_file_take(file, mine, 0).code; break;
+    case NOTES_OPEN: note_open(); break;
     case REAPS_DETACHED: EXPECT(bb_pool_file_reap(file, true, NULL) == BB_OK); break;
     default: EXPECT(bb_pool_file_close(file) == BB_OK);
     }
@@ -901,13 +913,48 @@ static bool pause_leave(bb_pool_file *ours, bb_pool_party *party, uint32_t steps
     return ended;
 }
 
+static bool is_locked(int fd, off_t byte) {
+    struct flock flock = {.l_type = F_WRLCK, .l_whence = SEEK_SET, .l_start = byte, .l_len = 1};
+    EXPECT(fcntl(fd, F_OFD_GETLK, &flock) == 0);
+    return flock.l_type != F_UNLCK;
+}
+
+// While an open is stopped, another file comes to have the path. If the open had no lock of the old
+// file, it opens the new one.
+static bool pause_open(bb_pool_file *ours, bb_pool_party *party, uint32_t steps) {
+    (void)ours;
+    (void)party;
+    bb_pool_file *other;
+    bb_pool_party *joined;
+    const size_t length = strlen(path);
+    path[length] = '2';
+    EXPECT(bb_pool_file_open(&other, path, &OPTIONS) == BB_OK);
+    EXPECT(bb_pool_file_close(other) == BB_OK);
+    const int fd = open(path, O_RDWR | O_CLOEXEC);
+    EXPECT(fd >= 0);
+    const pid_t child = start(NOTES_OPEN, 0);
+    const bool ended = go(child, steps);
+    const bool has_lock = is_locked(fd, 0) || is_locked(fd, 1);
+    EXPECT(close(fd) == 0 && unlink(path) == 0);
+    EXPECT(bb_pool_file_open(&other, path, &OPTIONS) == BB_OK);
+    EXPECT(bb_pool_file_join(other, &joined) == BB_OK);
+    EXPECT(bb_pool_party_take(joined).code == BB_OK);
+    if (!ended)
+        go_on(child);
+    EXPECT(has_lock || *noted == 1);
+    end_killed(child);
+    EXPECT(bb_pool_file_close(other) == BB_OK && unlink(path) == 0);
+    path[length] = 0;
+    return ended;
+}
+
 static int run_pause(uint32_t long_stride) {
-    bool (*const scenes[])(bb_pool_file *, bb_pool_party *, uint32_t) = {pause_take, pause_leave,
-                                                                         pause_reap};
-    const char *const names[] = {"take", "leave", "reap"};
+    bool (*const scenes[])(bb_pool_file *, bb_pool_party *, uint32_t) = {pause_take, pause_reap,
+                                                                         pause_leave, pause_open};
+    const char *const names[] = {"take", "reap", "leave", "open"};
     noted = mmap(NULL, 4096, PROT_READ | PROT_WRITE, MAP_SHARED | MAP_ANONYMOUS, -1, 0);
     EXPECT(noted != MAP_FAILED);
-    for (int scene = 0; scene < 3; scene++) {
+    for (int scene = 0; scene < 4; scene++) {
         const uint32_t stride = scene == 0 ? 1 : long_stride;
         uint32_t steps = 1;
         for (bool ended = false; !ended; steps += stride) {
