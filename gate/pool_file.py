@@ -231,7 +231,7 @@ class PoolFile:
 
     def check_mutants(self, pool: ThreadPoolExecutor) -> None:
         """Has each mutant be refused."""
-        files = sorted((self.sources / "mutants").glob("*.edit"))
+        files = sorted((self.sources / "mutants").glob("*.mutant"))
         for _ in pool.map(self.check_mutant, files):
             pass
         say(f"mutants of bb_pool_file.c: {len(files)} are refused")
