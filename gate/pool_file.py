@@ -101,7 +101,12 @@ class PoolFile:
         """Builds each program over the archive and over the shared library."""
         library = self.prefix / "lib"
         archive = library / "libbb_memory.a"
-        shared: list[str | Path] = [f"-L{library}", "-lbb_memory", f"-Wl,-rpath,{library}"]
+        shared: list[str | Path] = [
+            f"-L{library}",
+            "-lbb_memory",
+            f"-Wl,-rpath,{library}",
+            "-Wl,-z,now",
+        ]
         must_run(["ar", "x", archive, "bb_memory.o"], self.work)
         for name in PROGRAMS:
             compiled = self.work / f"{name}.o"
@@ -133,6 +138,14 @@ class PoolFile:
         if shown.returncode != 0 or shown.stdout.replace(str(path), "FILE") != expected:
             raise Failed(f"bb-pool shows something else than shown.txt:\n{shown.stdout}")
         return "bb-pool: it shows what shown.txt has"
+
+    def run_owners(self) -> str:
+        """Runs what bb_pool_file.hpp has, under the checkers."""
+        program = self.work / "owners"
+        words: list[str | Path] = ["-std=c++17", "-g", "-O1", *FLAGS[1:], *CHECKERS, "-o", program]
+        archive = self.prefix / "lib/libbb_memory.a"
+        self.compile([*words, self.sources / "owners.cpp", archive], "c++")
+        return self.run_program(program, [self.folders[0] / "owners"])
 
     def run_examples(self) -> str:
         """Runs producers and consumers, and kills some of them. Messages that were posted arrive."""
@@ -241,7 +254,7 @@ class PoolFile:
         jobs: list[Callable[[], str]] = []
         if has("c++", self.environment):
             jobs += [partial(self.run_model, size) for size in SIZES]
-            jobs.append(self.run_wrong_model)
+            jobs += [self.run_wrong_model, self.run_owners]
         for form, tests in KILLS.items():
             kills = self.work / f"kills.{form}"
             jobs += [partial(self.run_kills, kills, words) for words in tests]

@@ -9,6 +9,7 @@ mod error;
 mod ffi;
 mod owned;
 mod owners;
+mod pool_file;
 mod shared;
 
 pub use allocator::{Allocator, BaseAllocator, Pool};
@@ -19,6 +20,9 @@ pub use error::{
 pub use ffi::{BumpInfo, OneChunkInfo, PoolInfo, SharedPoolInfo};
 pub use owned::use_memory;
 pub use owners::{BumpAllocator, OneChunkAllocator, PoolAllocator};
+pub use pool_file::{
+    Message, PoolFile, PoolFileError, PoolFileInfo, PoolFileOptions, PoolFileParty,
+};
 pub use shared::{
     BumpParty, DetachedBucket, Holder, PoolParty, SharedBumpAllocator, SharedPoolAllocator,
 };
