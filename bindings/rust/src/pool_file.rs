@@ -1,5 +1,5 @@
 //! A pool in a file, by `bb_pool_file.h`. Its rules hold here, and types keep those that they can.
-use crate::ffi::{Answer as Chunk, Figure as Number, Handle};
+use crate::ffi::{self, Answer as Chunk, Figure as Number, Handle};
 use core::cell::Cell;
 use core::ffi::{c_char, c_int, c_void};
 use core::fmt;
@@ -14,6 +14,17 @@ use std::io;
 use std::os::fd::{AsRawFd, BorrowedFd};
 use std::os::unix::ffi::OsStrExt;
 use std::path::Path;
+
+// The codes of the header that no other call returns.
+const DETACHED_EMPTY: u32 = 21;
+const FILE_SYSTEM: u32 = 26;
+const FILE_FOREIGN: u32 = 27;
+const FILE_VERSION: u32 = 28;
+const FILE_MISMATCH: u32 = 29;
+const FILE_DAMAGED: u32 = 30;
+const FILE_UNSAFE: u32 = 31;
+const FILE_STALE: u32 = 32;
+const FILE_TIMED_OUT: u32 = 33;
 
 /// The `bb_pool_file` of the header.
 #[repr(C)]
@@ -137,26 +148,26 @@ pub enum PoolFileError {
 impl PoolFileError {
     fn of(code: u32) -> PoolFileError {
         match code {
-            2 => PoolFileError::SizeTooLarge,
-            4 => PoolFileError::NoBucket,
-            11 => PoolFileError::InvalidArgument,
-            12 => PoolFileError::NoParty,
-            14 => PoolFileError::OutOfMemory,
-            20 => PoolFileError::SlotFull,
-            22 => PoolFileError::WrongSlot,
-            26 => PoolFileError::System(io::Error::last_os_error()),
-            27 => PoolFileError::Foreign,
-            28 => PoolFileError::Version,
-            29 => PoolFileError::Mismatch,
-            30 => PoolFileError::Damaged,
-            31 => PoolFileError::Unsafe,
-            32 => PoolFileError::Stale,
+            ffi::SIZE_TOO_LARGE => PoolFileError::SizeTooLarge,
+            ffi::OUT_OF_MEMORY => PoolFileError::NoBucket,
+            ffi::INVALID_ARGUMENT => PoolFileError::InvalidArgument,
+            ffi::NO_PARTY => PoolFileError::NoParty,
+            ffi::MALLOC_REFUSED => PoolFileError::OutOfMemory,
+            ffi::DETACHED_FULL => PoolFileError::SlotFull,
+            ffi::NOT_A_BUCKET => PoolFileError::WrongSlot,
+            FILE_SYSTEM => PoolFileError::System(io::Error::last_os_error()),
+            FILE_FOREIGN => PoolFileError::Foreign,
+            FILE_VERSION => PoolFileError::Version,
+            FILE_MISMATCH => PoolFileError::Mismatch,
+            FILE_DAMAGED => PoolFileError::Damaged,
+            FILE_UNSAFE => PoolFileError::Unsafe,
+            FILE_STALE => PoolFileError::Stale,
             _ => crate::error::no_such_answer(code),
         }
     }
 
     fn unless_ok(code: u32) -> Result<(), PoolFileError> {
-        if code == OK { Ok(()) } else { Err(PoolFileError::of(code)) }
+        if code == ffi::OK { Ok(()) } else { Err(PoolFileError::of(code)) }
     }
 }
 
@@ -183,10 +194,7 @@ impl fmt::Display for PoolFileError {
 
 impl Error for PoolFileError {}
 
-const OK: u32 = 0;
-const NOT_HELD: u32 = 9;
-const DETACHED_EMPTY: u32 = 21;
-const TIMED_OUT: u32 = 33;
+/// Stands for any slot in a wait.
 const ANY_SLOT: u32 = u32::MAX;
 
 /// A pool in a file that this process has opened. Any process opens it by its path, at any address.
@@ -314,7 +322,7 @@ fn milliseconds(time: Duration) -> u32 {
 }
 
 fn waited(code: u32) -> Result<bool, PoolFileError> {
-    if code == TIMED_OUT {
+    if code == FILE_TIMED_OUT {
         return Ok(false);
     }
     PoolFileError::unless_ok(code).map(|()| true)
@@ -343,7 +351,7 @@ impl PoolFileParty<'_> {
         unsafe { ptr::copy_nonoverlapping(bytes.as_ptr(), chunk.place.cast(), bytes.len()) };
         // SAFETY: the party has joined.
         let code = unsafe { bb_pool_file_post(file, party, slot, chunk.place, bytes.len()) };
-        if code != OK {
+        if code != ffi::OK {
             // SAFETY: the party holds the bucket still.
             unsafe { bb_pool_file_deallocate(file, party, chunk.place) };
         }
@@ -356,14 +364,14 @@ impl PoolFileParty<'_> {
         let taken =
             unsafe { bb_pool_file_take(self.file.file.as_ptr(), self.party.as_ptr(), slot) };
         match taken.code {
-            OK => Ok(Some(Message {
+            ffi::OK => Ok(Some(Message {
                 party: self,
                 slot,
                 place: NonNull::new(taken.place.cast()).expect("a bucket's place"),
                 len: taken.len,
                 is_done: false,
             })),
-            DETACHED_EMPTY | NOT_HELD => Ok(None),
+            DETACHED_EMPTY | ffi::NOT_HELD => Ok(None),
             code => Err(PoolFileError::of(code)),
         }
     }
@@ -392,7 +400,7 @@ impl Message<'_> {
         if !self.is_done {
             let (file, party) = (self.party.file.file.as_ptr(), self.party.party.as_ptr());
             // SAFETY: the party holds the bucket that is in the slot.
-            self.is_done = unsafe { bb_pool_file_done(file, party, self.slot) } == OK;
+            self.is_done = unsafe { bb_pool_file_done(file, party, self.slot) } == ffi::OK;
         }
     }
 }
