@@ -147,6 +147,17 @@ class PoolFile:
         self.compile([*words, self.sources / "owners.cpp", archive], "c++")
         return self.run_program(program, [self.folders[0] / "owners"])
 
+    def compile_shown(self) -> str:
+        """Compiles the program at the head of bb_pool_file.h."""
+        header = (self.prefix / "include/bb_pool_file.h").read_text(encoding="utf-8")
+        match = re.search(r"^//     #include.*?^//     \}$", header, re.MULTILINE | re.DOTALL)
+        if match is None:
+            raise Failed("bb_pool_file.h has no program at its head")
+        source = self.work / "hello.c"
+        source.write_text(re.sub(r"(?m)^// {0,5}", "", match[0]) + "\n", encoding="utf-8")
+        self.compile(["-std=c99", *FLAGS, "-c", "-o", self.work / "hello.o", source])
+        return "bb_pool_file.h: the program at its head is compiled"
+
     def run_examples(self) -> str:
         """Runs producers and consumers, and kills some of them. Messages that were posted arrive."""
         path = self.folders[0] / "example"
@@ -260,7 +271,7 @@ class PoolFile:
             jobs += [partial(self.run_kills, kills, words) for words in tests]
         for form in KILLS:
             jobs.append(partial(self.run_program, self.work / f"cases.{form}", self.folders))
-        jobs += [self.run_checked, self.run_command, self.run_examples]
+        jobs += [self.run_checked, self.compile_shown, self.run_command, self.run_examples]
         return jobs
 
     def check(self) -> None:

@@ -397,6 +397,8 @@ static uint32_t map_all(bb_pool_file *file) {
     file->words = (uint64_t *)(void *)words;
     if (mprotect(words, file->words_size, PROT_READ | PROT_WRITE) != 0)
         return BB_FILE_SYSTEM;
+    // Large pages are quicker to make. They are gone once the file is mapped.
+    madvise(words, file->words_size, MADV_HUGEPAGE);
     const uint32_t code = make_pool(file);
     if (code != BB_OK)
         return code;
@@ -713,16 +715,19 @@ static void settle(bb_pool_file *file, bb_pool_party *handle, uint32_t party, bo
         if (holder.state == BB_DETACHED)
             address(file, number, party);
     }
+    uint32_t found = 0;
     for (uint32_t number = 0; number < file->head.buckets; number++) {
         const bb_holder holder = holder_of(file, number);
         if (holder.party != party || holder.state == BB_FREE)
             continue;
         if (holder.state == BB_HELD)
-            *count += 1;
+            found++;
         else if (detached && bb_pool_party_attach_number(handle, number, party).code == BB_OK)
-            *count += 1;
+            found++;
     }
-    bb_pool_party_give_all_back(handle);
+    if (found > 0)
+        bb_pool_party_give_all_back(handle);
+    *count += found;
     wake(&file->events->filled);
     wake(&file->events->freed);
 }

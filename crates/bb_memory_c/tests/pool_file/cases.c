@@ -123,8 +123,10 @@ static bool fails_with(int error, const char *name, const bb_pool_file_options *
 static pid_t child_of(void) {
     const pid_t child = fork();
     EXPECT(child >= 0);
-    if (child == 0)
+    if (child == 0) {
         prctl(PR_SET_PDEATHSIG, SIGKILL);
+        alarm(120);
+    }
     return child;
 }
 

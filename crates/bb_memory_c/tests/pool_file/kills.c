@@ -374,6 +374,12 @@ static int run_worker(char **argv) {
     return 0;
 }
 
+// Has a child end if this test fails.
+static void end_with_parent(void) {
+    prctl(PR_SET_PDEATHSIG, SIGKILL);
+    alarm(120);
+}
+
 // RUN
 
 static pid_t start_worker(uint32_t number) {
@@ -483,7 +489,7 @@ static void make_once(void) {
         makers[at] = fork();
         if (makers[at] != 0)
             continue;
-        prctl(PR_SET_PDEATHSIG, SIGKILL);
+        end_with_parent();
         EXPECT(bb_pool_file_open(&file, path, &OPTIONS) == BB_OK);
         for (int joined = 0; joined < 2; joined++) {
             EXPECT(bb_pool_file_join(file, &mine) == BB_OK);
@@ -655,6 +661,7 @@ static pid_t start(int what, uint32_t number) {
     int status;
     const pid_t child = fork();
     if (child == 0) {
+        end_with_parent();
         move_mappings(4096);
         const struct prepared prepared = prepare(what, number);
         ptrace(PTRACE_TRACEME, 0, NULL, NULL);
