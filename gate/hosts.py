@@ -1,8 +1,8 @@
 """Runs what hosts have of the library for C, FILE or one that `rt lib` proves: `.ci/run-c [FILE]`.
 
-That is its installation, the release in dist, the examples, the Rust crate, and what GUIDE.md
-shows, from a copy. Once a release of the library is made, nothing may ask for `rt`. The release in
-dist has to have the same bytes, if the same kit and tools made it.
+That is its installation, the release in dist, the examples, the Rust crate, and what GUIDE.md and
+README.md show, from a copy. Once a release of the library is made, nothing may ask for `rt`. The
+release in dist has to have the same bytes, if the same kit and tools made it.
 """
 
 import filecmp
@@ -28,10 +28,11 @@ class Hosts:
         self.top = top
         self.work = work
         self.library = work / "given/bb_memory.o"
+        self.memrun = work / "given/memrun.o"
         self.prefix = work / "prefix"
 
     def make_release(self, library: Path | None) -> None:
-        """Makes a release of a library, or of one that is proved and built first."""
+        """Makes a release of a library, or of one that is proved and built first, and of memrun."""
         given = []
         if library is not None:
             # `make` splits a path at a blank, and the path of a checkout may have some.
@@ -55,7 +56,7 @@ class Hosts:
     def check_installation(self, environment: Mapping[str, str]) -> None:
         """Installs the library below the prefix, and checks what is installed and released."""
         must_show(
-            [self.top / "crates/bb_memory_c/check", self.library, self.prefix],
+            [self.top / "crates/bb_memory_c/check", self.library, self.memrun, self.prefix],
             self.top,
             environment,
         )
@@ -96,28 +97,23 @@ class Hosts:
                 "make -C crates/bb_memory_c release"
             )
 
-    def run_guide(self, environment: Mapping[str, str]) -> None:
-        """Runs what GUIDE.md shows for C and Rust, from a fresh copy of the repository."""
+    def run_pages(self, environment: Mapping[str, str]) -> None:
+        """Runs what GUIDE.md and README.md show for C, from a fresh copy of the repository."""
         if not has("pkg-config", environment):
             return
         script = must_run([self.top / ".ci/pages", "--hosts"], self.top)
-        if shutil.which("cargo", path=environment["PATH"]) is None:
-            lines = script.splitlines(keepends=True)
-            script = "".join(line for line in lines if "cargo" not in line)
         shown = self.work / "shown"
         shown.write_text(script, encoding="utf-8")
         copy = self.work / "copy"
         shutil.copytree(self.top, copy, symlinks=True, ignore=shutil.ignore_patterns(*MADE))
         home = self.work / "home"
         home.mkdir()
-        variables = {
-            "RUSTUP_HOME": os.environ.get("RUSTUP_HOME", str(Path.home() / ".rustup")),
-            "CARGO_TARGET_DIR": str(self.work / "target"),
-            "LIBRARY": str(self.library),
-            "HOME": str(home),
-        }
-        must_run(["bash", "-euo", "pipefail", shown], copy, {**environment, **variables})
-        say("GUIDE.md: what it shows for C and Rust runs from a fresh copy")
+        must_run(
+            ["bash", "-euo", "pipefail", shown],
+            copy,
+            {**environment, "HOME": str(home)},
+        )
+        say("GUIDE.md, README.md: what they show for C runs from a fresh copy")
 
 
 def run(library: Path | None) -> None:
@@ -131,7 +127,7 @@ def run(library: Path | None) -> None:
         hosts.check_pool_file(environment)
         hosts.check_rust(environment)
         hosts.compare_release()
-        hosts.run_guide(environment)
+        hosts.run_pages(environment)
 
 
 def main(words: list[str]) -> None:

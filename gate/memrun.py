@@ -1,7 +1,8 @@
 """Runs the proved build of memrun, and reads both of its streams.
 
 `.ci/run-memrun` runs it on its stored script, on the worked scripts of docs/script-format.md, on
-scripts of each exit status, and on scripts of thousands of lines. `.ci/run-memrun REFUSE.SO` runs it
+scripts of each exit status, and on scripts of thousands of lines. The pictures of the pages are those
+of their script. `.ci/run-memrun REFUSE.SO` runs it
 with each request for memory refused in turn (.ci/refuse.c); nothing is written then.
 """
 
@@ -13,12 +14,11 @@ from contextlib import ExitStack
 from dataclasses import dataclass, field
 from pathlib import Path
 
+from gate import picture
 from gate.crates import TOP
+from gate.picture import FIXED_BUCKETS, MEMRUN
 from gate.process import Failed, say
 
-MEMRUN = TOP / "crates/memrun/out/memrun"
-# A fixed pool has no more buckets.
-FIXED_BUCKETS = 512
 # The exit statuses of memrun.
 OK = 0
 REFUSED = 2
@@ -138,7 +138,7 @@ def stored() -> Script:
 def worked() -> list[Script]:
     """Returns the worked scripts of docs/script-format.md, with the lines that stand beside them."""
     page = (TOP / "docs/script-format.md").read_text(encoding="utf-8")
-    part = page.partition("## One script of each kind\n")[2]
+    part = page.partition("## One script of each kind\n")[2].partition("\n## ")[0]
     return [worked_script(block) for block in re.findall(r"(?:^    .*\n)+", part, re.M)]
 
 
@@ -296,6 +296,7 @@ def run_scripts() -> None:
         ended = run(text, Setting(output_file=Path("/dev/full")))
         must_end(Script(text, [], IO_FAILED), ended, "memrun: output failed\n")
         count += 1
+    picture.check_pages()
     say(f"{count} scripts of memrun, of statuses 0, 2 and 3, with both streams as they have to be")
 
 

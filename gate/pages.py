@@ -1,12 +1,13 @@
 """Keeps pages and comments true.
 
     .ci/pages            prints each thing that isn't so; the status is 1 if there is any
-    .ci/pages --hosts    prints a script of what GUIDE.md shows from C
+    .ci/pages --hosts    prints a script of what GUIDE.md and README.md show from C
 
-Each example of README.md and GUIDE.md is in a file that is proved or that tests run. What pages and
-comments name is there, and so is what they link to. PROMISES.md and the edits name calls with
-labels of their clauses. Numbers that a page repeats are right. No text is new by which a call of
-what threads share could wait, and the files that a person has to read are as they were read.
+Each example of README.md and GUIDE.md is in that script, or in a file that is proved or that tests
+run. What pages and comments name is there, and so is what they link to. PROMISES.md and the edits
+name calls with labels of their clauses. Numbers that a page repeats are right. No text is new by
+which a call of what threads share could wait, and the files that a person has to read are as they
+were read.
 """
 
 import re
@@ -25,10 +26,11 @@ from gate.process import Failed, say
 
 # The pages whose examples are in files that are proved or run: page, language, and the files.
 TESTED = (
-    ("README.md", "c", "*/bb_memory.h"),
     ("README.md", "rust", "crates/examples/src/*.rt"),
     ("GUIDE.md", "rust", "crates/examples/src/*.rt"),
 )
+# The pages whose texts of C and shell are run in order, each from the top of a fresh copy.
+HOSTS = ("GUIDE.md", "README.md")
 # Words with which no comment begins: the files, the mark of a comment, and the words.
 FIRST_WORDS = (
     ("crates/*/src/*.rt", "//[/!]", "What|Whether"),
@@ -222,18 +224,17 @@ def findings(tree: Tree) -> Iterator[str]:
     yield from long_subject(tree.top)
 
 
-def hosts(guide: str) -> Iterator[str]:
-    """Yields a script of what GUIDE.md shows from C, in parts.
+def hosts(page: str) -> Iterator[str]:
+    """Yields a script of what a page shows from C, in parts.
 
-    A text of C goes into the file that the line above it names.
+    A text of C goes into the file that the line above it names. Raises Failed if none is named.
     """
-    part = re.search(r"^## From C, .*?^## ", guide, re.M | re.S)
-    if part is None:
-        raise ValueError("GUIDE.md: has no section `From C, ..`")
-    blocks = re.findall(r"(?:`([\w.]+)`:\n\n)?^```(sh|c)\n(.*?)^```$", part[0], re.M | re.S)
+    blocks = re.findall(r"(?:`([\w.]+)`:\n\n)?^```(sh|c)\n(.*?)^```$", page, re.M | re.S)
     for file, language, text in blocks:
         if language == "sh":
             yield text
+        elif not file:
+            raise Failed(f"pages: a program in C whose file isn't named:\n{text}")
         else:
             yield f"cat > {file} <<'END'\n{text}END\n"
 
@@ -241,7 +242,8 @@ def hosts(guide: str) -> Iterator[str]:
 def main(words: list[str]) -> None:
     """Runs `.ci/pages`."""
     if words == ["--hosts"]:
-        print(*hosts((TOP / "GUIDE.md").read_text(encoding="utf-8")), sep="")
+        for page in HOSTS:
+            print(*hosts((TOP / page).read_text(encoding="utf-8")), sep="")
         return
     if words:
         raise Failed("usage: .ci/pages [--hosts]")

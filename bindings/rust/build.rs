@@ -1,15 +1,15 @@
-//! Finds the C library: in the folder that `BB_MEMORY_LIB_DIR` names, else by the first
-//! `bb_memory.pc` of the folders of `PKG_CONFIG_PATH`, of the release in the repository's `dist`,
-//! and of those where systems keep such files. The archive is linked where it is there, with
-//! `BB_MEMORY_LINK=dylib` the shared library. Where no library is found, a warning says so: `cargo
-//! check` and `cargo doc` need none, and a program isn't linked.
+//! Finds the C library: in the folder that `BB_MEMORY_LIB_DIR` names, otherwise by the first
+//! `bb_memory.pc` in the folders of `PKG_CONFIG_PATH`, in the release in the repository's `dist`, and
+//! in the folders where systems keep such files. Links the archive if there is one, and with
+//! `BB_MEMORY_LINK=dylib` the shared library. Fails if no library is found. With `DOCS_RS` set it
+//! looks for none: `cargo check` and `cargo doc` need none.
 use std::env;
 use std::fs;
 use std::iter;
 use std::path::{Path, PathBuf};
 use std::process::Command;
 
-/// Where systems keep the files of `pkg-config`.
+/// The folders where systems keep the files of `pkg-config`.
 const STANDARD_FOLDERS: [&str; 5] = [
     "/usr/local/lib/pkgconfig",
     "/usr/local/lib/x86_64-linux-gnu/pkgconfig",
@@ -18,7 +18,7 @@ const STANDARD_FOLDERS: [&str; 5] = [
     "/usr/lib64/pkgconfig",
 ];
 
-/// The ABI that this crate's declarations are of: `BB_ABI` of the header.
+/// The ABI of this crate's declarations: `BB_ABI` of the header.
 const ABI: &str = "3";
 
 fn main() {
@@ -31,9 +31,9 @@ fn main() {
     let named = env::var_os("BB_MEMORY_LIB_DIR").map(PathBuf::from);
     let Some(folder) = named.or_else(folder_by_pkg_config) else {
         println!(
-            "cargo::warning=the C library bb_memory isn't found, so programs aren't linked: \
-             unpack or install it below DIR, and set PKG_CONFIG_PATH=DIR/lib/pkgconfig \
-             or BB_MEMORY_LIB_DIR=DIR/lib"
+            "cargo::error=the C library bb_memory isn't found. Unpack or install its release below \
+             DIR, and set BB_MEMORY_LIB_DIR=DIR/lib or PKG_CONFIG_PATH=DIR/lib/pkgconfig. To check \
+             or document without it, set DOCS_RS=1."
         );
         return;
     };
@@ -51,8 +51,8 @@ fn main() {
 
 /// The folder of the library that the first `bb_memory.pc` names.
 fn folder_by_pkg_config() -> Option<PathBuf> {
-    let told = env::var_os("PKG_CONFIG_PATH").unwrap_or_default();
-    let folders = env::split_paths(&told)
+    let path = env::var_os("PKG_CONFIG_PATH").unwrap_or_default();
+    let folders = env::split_paths(&path)
         .chain(iter::once_with(unpacked_release).flatten())
         .chain(STANDARD_FOLDERS.map(PathBuf::from));
     folders.map(|folder| folder.join("bb_memory.pc")).find_map(|file| {
@@ -62,7 +62,7 @@ fn folder_by_pkg_config() -> Option<PathBuf> {
     })
 }
 
-/// Unpacks the release of this version into the build's own folder, where the repository round this
+/// Unpacks the release of this version into the build's own folder, if the repository around this
 /// crate has it.
 fn unpacked_release() -> Option<PathBuf> {
     let release = concat!("bb_memory-", env!("CARGO_PKG_VERSION"), "-x86_64-linux");
@@ -79,8 +79,8 @@ fn unpacked_release() -> Option<PathBuf> {
     Some(built.join(release).join("lib/pkgconfig"))
 }
 
-/// The folder that this text of `bb_memory.pc` names. The library has to be of this crate's ABI,
-/// and no older than the crate.
+/// The folder that this text of `bb_memory.pc` names. The library has to have this crate's ABI, and
+/// to be no older than the crate.
 fn folder_of(file: &Path, text: &str) -> PathBuf {
     let value = |name: &str| {
         let found = text.lines().find_map(|line| line.strip_prefix(name));

@@ -1,4 +1,4 @@
-// A pool from Rust, by the header alone: the declarations are those of bb_memory.h.
+// A pool from Rust without the crate: the declarations are those of bb_memory.h.
 #[repr(C)]
 pub struct Pool {
     at: *mut core::ffi::c_void,
@@ -6,7 +6,7 @@ pub struct Pool {
 }
 
 #[repr(C)]
-pub struct Answer {
+pub struct Chunk {
     pub code: u32,
     pub place: usize,
 }
@@ -19,7 +19,7 @@ unsafe extern "C" {
         start: usize,
         size: usize,
     ) -> u32;
-    fn bb_pool_allocate(pool: *mut Pool, size: usize, align: usize) -> Answer;
+    fn bb_pool_allocate(pool: *mut Pool, size: usize, align: usize) -> Chunk;
     fn bb_pool_deallocate(pool: *mut Pool, place: usize) -> u32;
     fn bb_pool_destroy(pool: *mut Pool) -> u32;
 }
@@ -37,11 +37,11 @@ fn main() {
     // The handle is this function's own and passed by its address; the buffer outlives the pool.
     unsafe {
         assert_eq!(bb_pool_init(&mut pool, 128, 8, start, 1024), BB_OK);
-        let given = bb_pool_allocate(&mut pool, 48, 4);
-        assert_eq!(given.code, BB_OK);
-        assert!(start <= given.place && given.place + 48 <= start + 1024);
-        assert_eq!(bb_pool_deallocate(&mut pool, given.place), BB_OK);
-        assert_eq!(bb_pool_deallocate(&mut pool, given.place), BB_NOT_HELD);
+        let chunk = bb_pool_allocate(&mut pool, 48, 4);
+        assert_eq!(chunk.code, BB_OK);
+        assert!(start <= chunk.place && chunk.place + 48 <= start + 1024);
+        assert_eq!(bb_pool_deallocate(&mut pool, chunk.place), BB_OK);
+        assert_eq!(bb_pool_deallocate(&mut pool, chunk.place), BB_NOT_HELD);
         assert_eq!(bb_pool_destroy(&mut pool), BB_OK);
     }
     println!("from_rust: a pool was made, used and freed");

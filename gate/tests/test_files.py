@@ -73,7 +73,7 @@ class TemporaryTest(unittest.TestCase):
                 self.assertEqual(ended.status, 1, command)
                 self.assertIn("No such file or directory: '/nowhere/", ended.text)
             for command in ("crates/bb_memory_c/check", "bindings/rust/check"):
-                ended = run([TOP / command, "library", "prefix"], TOP, environment)
+                ended = run([TOP / command, "library", "memrun", "prefix"], TOP, environment)
                 self.assertEqual(ended.status, 1, command)
                 self.assertIn("mktemp: failed", ended.text)
 

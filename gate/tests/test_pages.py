@@ -232,6 +232,18 @@ def vanishing(walk: Iterable[Step], folder: Path) -> Iterable[Step]:
             shutil.rmtree(folder)
 
 
+class Shown(unittest.TestCase):
+    """The script of what a page shows from C."""
+
+    def test_script(self) -> None:
+        page = "The whole `a.c`:\n\n```c\nint a;\n```\n\n```rust\nfn a() {}\n```\n\n```sh\ncc a.c\n```\n"
+        self.assertEqual(list(pages.hosts(page)), ["cat > a.c <<'END'\nint a;\nEND\n", "cc a.c\n"])
+
+    def test_a_program_without_a_name(self) -> None:
+        with self.assertRaisesRegex(process.Failed, "isn't named:\nint a;"):
+            list(pages.hosts("A program:\n\n```c\nint a;\n```\n"))
+
+
 class Fixes(unittest.TestCase):
     """`--fix` writes what nobody counts by hand."""
 

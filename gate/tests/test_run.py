@@ -59,8 +59,8 @@ class GateTest(CheckoutTest):
 
     def test_it_starts_by_path_and_by_shell(self) -> None:
         """A word that the gate doesn't know ends it at once, so nothing else is run here."""
-        for shell in ([], ["sh"], ["bash"]):
-            ended = process.run([*shell, TOP / ".ci/run", "word"], self.work)
+        for shell in ("", "sh", "bash"):
+            ended = process.run([*shell.split(), TOP / ".ci/run", "word"], self.work)
             self.assertEqual(ended.status, 1, shell)
             self.assertEqual(ended.text, "usage: .ci/run, with no arguments\n")
 

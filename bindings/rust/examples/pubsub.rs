@@ -1,13 +1,14 @@
-//! Publish and subscribe over one pool, without a copy: each message goes to each of several
-//! readers, who read its bucket where it lies. An `Arc` counts them, and with the last reader's
-//! share the `DetachedBucket` ends, which gives the bucket back. A publisher that finds no bucket
-//! waits for a return. A thread of statistics reads the pool's figures.
-use bb_memory::{
-    AllocationError, BaseAllocator, DetachedBucket, Pool, PoolParty, SharedPoolAllocator,
-};
+//! Publish and subscribe over one pool, without a copy: each message goes to several readers, who read
+//! it in its bucket. The message counts its readers, and the last one attaches its bucket and returns
+//! it. A publisher that finds no bucket waits for a return. Another thread reads the pool's figures.
+//!
+//! A message with one reader needs no `unsafe`: `DetachedBox` is one, and an `Arc` of it has several
+//! readers, for an allocation of each message.
+use bb_memory::{AllocationError, BaseAllocator, Pool, PoolParty, SharedPoolAllocator};
 use std::alloc::Layout;
 use std::ops::Deref;
 use std::ptr::NonNull;
+use std::sync::atomic::{AtomicU32, Ordering};
 use std::sync::mpsc::{Receiver, SyncSender, sync_channel};
 use std::sync::{Arc, Condvar, Mutex};
 use std::thread;
@@ -19,6 +20,7 @@ const MESSAGES: u64 = 5_000;
 const BUCKETS: u32 = 12;
 
 struct Message {
+    readers: AtomicU32,
     publisher: usize,
     number: u64,
     text: [u8; 48],
@@ -39,45 +41,51 @@ struct Host {
     returned: Condvar,
 }
 
-/// A message that several read. Its bucket is detached, and goes back when the last share of it
-/// ends.
+/// One reader's share of a message. Its bucket is detached by its number.
 struct Sample {
-    at: NonNull<Message>,
-    host: Arc<Host>,
-    /// Empty once the bucket went back.
-    bucket: Option<DetachedBucket<'static>>,
+    message: NonNull<Message>,
+    bucket: u32,
+    from: u32,
 }
 
-// SAFETY: the message is only read while shares of it are out.
+// SAFETY: until its last share is released, a message is only read, and its count is atomic.
 unsafe impl Send for Sample {}
-unsafe impl Sync for Sample {}
 
 impl Deref for Sample {
     type Target = Message;
 
     fn deref(&self) -> &Message {
-        // SAFETY: the message was written before it was published, and its bucket goes back behind
-        // the last share.
-        unsafe { self.at.as_ref() }
+        // SAFETY: the message was written before its bucket was detached, and the bucket is returned
+        // after its last share is released, of which this is one.
+        unsafe { self.message.as_ref() }
     }
 }
 
-impl Drop for Sample {
-    fn drop(&mut self) {
-        let mut figures = self.host.figures.lock().unwrap();
-        drop(self.bucket.take());
+impl Sample {
+    /// Releases this share. The last one returns the bucket, by a party of its reader.
+    fn release(self, party: &PoolParty<'_>, host: &Host) {
+        // What the other readers read of the message comes before its return.
+        if self.readers.fetch_sub(1, Ordering::AcqRel) > 1 {
+            return;
+        }
+        let mut figures = host.figures.lock().unwrap();
+        // SAFETY: the bucket is detached by `detach_number`, and this was the last share.
+        unsafe {
+            let bucket = party.attach_number(self.bucket, self.from).expect("it is detached");
+            party.try_deallocate(bucket.cast()).expect("this party holds it");
+        }
         figures.held -= 1;
-        self.host.returned.notify_all();
+        host.returned.notify_all();
     }
 }
 
-/// Returns a bucket for a message, which is counted under the lock. A return behind the refusal
-/// ends the wait.
+/// Returns a bucket for a message, which is counted under the lock. A return after the refusal ends
+/// the wait.
 fn take(party: &PoolParty<'_>, host: &Host) -> NonNull<Message> {
     loop {
-        let given = party.allocate(Layout::new::<Message>());
+        let allocated = party.allocate(Layout::new::<Message>());
         let mut figures = host.figures.lock().unwrap();
-        match given {
+        match allocated {
             Ok(chunk) => {
                 figures.held += 1;
                 return chunk.cast();
@@ -90,28 +98,28 @@ fn take(party: &PoolParty<'_>, host: &Host) -> NonNull<Message> {
     }
 }
 
-type Queues = [SyncSender<Arc<Sample>>; SUBSCRIBERS];
+type Queues = [SyncSender<Sample>; SUBSCRIBERS];
 
 fn publish_all(publisher: usize, party: PoolParty<'static>, queues: Queues, host: Arc<Host>) {
     for number in 0..MESSAGES {
-        let at = take(&party, &host);
-        let mut bucket = DetachedBucket::new().expect("memory of malloc");
+        let message = take(&party, &host);
+        let readers = AtomicU32::new(SUBSCRIBERS as u32);
         let text = [(number * 7 + publisher as u64) as u8; 48];
         // SAFETY: the bucket is this party's until it is detached, and then it is only read.
-        unsafe {
-            at.write(Message { publisher, number, text });
-            party.detach(at.cast(), size_of::<Message>(), &mut bucket).expect("it is held");
-        }
-        let sample = Arc::new(Sample { at, host: Arc::clone(&host), bucket: Some(bucket) });
+        let bucket = unsafe {
+            message.write(Message { readers, publisher, number, text });
+            party.detach_number(message.cast()).expect("this party holds it")
+        };
         for queue in &queues {
-            queue.send(Arc::clone(&sample)).expect("a subscriber reads to the end");
+            let sample = Sample { message, bucket, from: party.number() };
+            queue.send(sample).expect("a subscriber reads to the end");
         }
         host.figures.lock().unwrap().published += 1;
     }
 }
 
 /// Reads in place, and returns how many messages came. They come in the order of each publisher.
-fn read_all(queue: Receiver<Arc<Sample>>, host: Arc<Host>) -> u64 {
+fn read_all(queue: Receiver<Sample>, party: PoolParty<'static>, host: Arc<Host>) -> u64 {
     let mut next = [0; PUBLISHERS];
     for sample in queue {
         assert_eq!(sample.number, next[sample.publisher]);
@@ -119,6 +127,7 @@ fn read_all(queue: Receiver<Arc<Sample>>, host: Arc<Host>) -> u64 {
         let byte = (sample.number * 7 + sample.publisher as u64) as u8;
         assert!(sample.text.iter().all(|it| *it == byte));
         host.figures.lock().unwrap().delivered += 1;
+        sample.release(&party, &host);
     }
     next.iter().sum()
 }
@@ -127,7 +136,7 @@ fn watch(pool: SharedPoolAllocator<'static>, host: Arc<Host>) -> u64 {
     let mut looks = 0;
     loop {
         let now = pool.info();
-        assert!(now.pool.held_buckets <= BUCKETS as usize, "{now:?}");
+        assert!(now.held_buckets <= BUCKETS as usize, "{now:?}");
         looks += 1;
         if host.figures.lock().unwrap().ends {
             return looks;
@@ -137,20 +146,20 @@ fn watch(pool: SharedPoolAllocator<'static>, host: Arc<Host>) -> u64 {
 }
 
 fn main() -> Result<(), Box<dyn std::error::Error>> {
-    let parties = PUBLISHERS as u32 + 1;
+    let parties = (PUBLISHERS + SUBSCRIBERS) as u32 + 1;
     let pool = SharedPoolAllocator::with_buckets(Layout::new::<Message>(), BUCKETS, parties)?;
     let host = Arc::new(Host::default());
     let watching = thread::spawn({
         let (pool, host) = (pool.clone(), Arc::clone(&host));
         move || watch(pool, host)
     });
-    let (queues, reading): (Vec<_>, Vec<_>) = (0..SUBSCRIBERS)
-        .map(|_| {
-            let (queue, messages) = sync_channel(4);
-            let host = Arc::clone(&host);
-            (queue, thread::spawn(move || read_all(messages, host)))
-        })
-        .unzip();
+    let (mut queues, mut reading) = (Vec::new(), Vec::new());
+    for _ in 0..SUBSCRIBERS {
+        let (queue, samples) = sync_channel(4);
+        let (party, host) = (pool.join()?, Arc::clone(&host));
+        queues.push(queue);
+        reading.push(thread::spawn(move || read_all(samples, party, host)));
+    }
     let queues: Queues = queues.try_into().map_err(|_| "a queue for each subscriber")?;
     let mut publishing = Vec::new();
     for publisher in 0..PUBLISHERS {

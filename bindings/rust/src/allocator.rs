@@ -6,34 +6,80 @@ use crate::ffi::PoolInfo;
 use core::alloc::Layout;
 use core::ptr::NonNull;
 
-/// Gives chunks of its region, and takes them back.
-pub trait BaseAllocator {
-    /// Returns a chunk of at least `layout.size()` bytes at a multiple of `layout.align()`, which
-    /// overlaps none that is out. Its bytes are as they were in the region.
+/// Allocates chunks of a region, and takes them back.
+///
+/// A type of yours may implement this trait, for example one that counts the requests to the
+/// allocator in it. To implement it is `unsafe`, as for `core::alloc::Allocator`, since other code
+/// writes into the chunks that it returns without a check:
+/// [`allocate_zeroed`](BaseAllocator::allocate_zeroed) does, and [`PoolBox`](crate::PoolBox) for a
+/// [`Pool`].
+///
+/// ```compile_fail,E0200
+/// use bb_memory::{AllocationError, BaseAllocator};
+/// use core::{alloc::Layout, ptr::NonNull};
+///
+/// struct Nowhere;
+///
+/// impl BaseAllocator for Nowhere {
+///     fn allocate(&self, layout: Layout) -> Result<NonNull<[u8]>, AllocationError> {
+///         Ok(NonNull::slice_from_raw_parts(NonNull::dangling(), layout.size()))
+///     }
+///
+///     unsafe fn deallocate(&self, _ptr: NonNull<u8>, _layout: Layout) {}
+/// }
+///
+/// let _ = Nowhere.allocate_zeroed(Layout::new::<[u8; 64]>());
+/// ```
+///
+/// # Safety
+///
+/// A chunk that `allocate` returns has at least `layout.size()` bytes and begins at a multiple of
+/// `layout.align()`. Its bytes may be read and written through the returned pointer, and are in no
+/// other chunk, until the chunk is freed by an `unsafe` call or the allocator is dropped. Moving
+/// the allocator changes nothing.
+pub unsafe trait BaseAllocator {
+    /// Allocates a chunk of at least `layout.size()` bytes at a multiple of `layout.align()`. Its
+    /// bytes are those that the region had there.
+    ///
+    /// # Errors
+    ///
+    /// Each variant of [`AllocationError`] says when it is returned.
     fn allocate(&self, layout: Layout) -> Result<NonNull<[u8]>, AllocationError>;
 
-    /// Returns a chunk as [`allocate`](BaseAllocator::allocate) does, with each byte zero.
+    /// Allocates a chunk as [`allocate`](BaseAllocator::allocate) does, and sets each of its bytes
+    /// to zero.
+    ///
+    /// # Errors
+    ///
+    /// The errors of [`allocate`](BaseAllocator::allocate).
     fn allocate_zeroed(&self, layout: Layout) -> Result<NonNull<[u8]>, AllocationError> {
         let chunk = self.allocate(layout)?;
-        // SAFETY: the chunk lies in the region, whose bytes may be written, and was given to nobody
-        // else.
+        // SAFETY: the chunk's bytes may be written, and are in no other chunk.
         unsafe { chunk.cast::<u8>().write_bytes(0, chunk.len()) };
         Ok(chunk)
     }
 
-    /// Gives back the chunk that begins here; a bump takes all of its chunks back. Where none that
-    /// is out begins here, nothing is done. The layout decides nothing.
+    /// Frees the chunk that begins at `ptr`; a bump frees all its chunks. Does nothing if no
+    /// allocated chunk begins there. The layout may be any.
     ///
     /// # Safety
     ///
-    /// Nothing reads or writes the bytes of what is given back from now on.
+    /// Nothing reads or writes the freed bytes from now on.
     unsafe fn deallocate(&self, ptr: NonNull<u8>, layout: Layout);
 }
 
-/// Resizes chunks, where they are.
-pub trait Allocator: BaseAllocator {
-    /// Gives the chunk that begins here the new size, or more, where as much is reserved for it.
-    /// Its bytes stay.
+/// Resizes chunks in place.
+///
+/// # Safety
+///
+/// A resized chunk is as [`BaseAllocator`] requires of an allocated one. It begins where the chunk
+/// began, and has the chunk's bytes up to the smaller of both lengths.
+pub unsafe trait Allocator: BaseAllocator {
+    /// Grows the chunk at `ptr` to at least `new_layout.size()` bytes.
+    ///
+    /// # Errors
+    ///
+    /// Each variant of [`AllocationGrowError`] says when it is returned. The chunk is unchanged.
     ///
     /// # Safety
     ///
@@ -45,32 +91,40 @@ pub trait Allocator: BaseAllocator {
         new_layout: Layout,
     ) -> Result<NonNull<[u8]>, AllocationGrowError>;
 
-    /// Grows as [`grow`](Allocator::grow) does, with each byte zero that the chunk didn't have.
+    /// Grows a chunk as [`grow`](Allocator::grow) does, and sets each added byte to zero.
+    ///
+    /// # Errors
+    ///
+    /// The errors of [`grow`](Allocator::grow).
     ///
     /// # Safety
     ///
-    /// As of [`grow`](Allocator::grow).
+    /// The conditions of [`grow`](Allocator::grow).
     unsafe fn grow_zeroed(
         &self,
         ptr: NonNull<u8>,
         old_layout: Layout,
         new_layout: Layout,
     ) -> Result<NonNull<[u8]>, AllocationGrowError> {
-        // SAFETY: the caller keeps what `grow` asks.
+        // SAFETY: the caller keeps the conditions of `grow`.
         let chunk = unsafe { self.grow(ptr, old_layout, new_layout)? };
         let (old, added) = (old_layout.size(), chunk.len() - old_layout.size());
-        // SAFETY: the chunk is the caller's, and is longer than it was: a growing to no more is
-        // refused.
+        // SAFETY: the chunk is the caller's, and is longer than before: `grow` refuses a new size
+        // that isn't greater than the old one.
         unsafe { chunk.cast::<u8>().add(old).write_bytes(0, added) };
         Ok(chunk)
     }
 
-    /// Gives the chunk that begins here exactly the new size. Its first bytes stay.
+    /// Shrinks the chunk at `ptr` to exactly `new_layout.size()` bytes.
+    ///
+    /// # Errors
+    ///
+    /// Each variant of [`AllocationShrinkError`] says when it is returned. The chunk is unchanged.
     ///
     /// # Safety
     ///
-    /// The chunk at `ptr` is the caller's, and nothing reads or writes its bytes behind the new
-    /// size from now on.
+    /// The chunk at `ptr` is the caller's, and nothing reads or writes its bytes after the new size
+    /// from now on.
     unsafe fn shrink(
         &self,
         ptr: NonNull<u8>,
@@ -84,6 +138,7 @@ macro_rules! getters {
     ($($figure:ident),*) => {
         $(
             #[doc = concat!("Returns `", stringify!($figure), "` of [`info`](Pool::info).")]
+            #[must_use]
             fn $figure(&self) -> usize {
                 self.info().$figure
             }
@@ -91,54 +146,81 @@ macro_rules! getters {
     };
 }
 
-/// Gives buckets of one layout: a [`PoolAllocator`](crate::PoolAllocator), or a
+/// Allocates buckets of one layout: a [`PoolAllocator`](crate::PoolAllocator), or a
 /// [`PoolParty`](crate::PoolParty) of a pool that threads share. A function over `&impl Pool` takes
 /// either.
-pub trait Pool: BaseAllocator {
-    /// Returns all figures. Of a party each bucket is looked at.
+///
+/// # Safety
+///
+/// A bucket that `take` returns is as [`BaseAllocator`] requires of a chunk of the layout that
+/// `bucket` returns.
+pub unsafe trait Pool: BaseAllocator {
+    /// Returns all figures. A party looks at each bucket for them.
+    #[must_use]
     fn info(&self) -> PoolInfo;
 
-    /// Takes a whole bucket: what [`allocate`](BaseAllocator::allocate) answers to the layout of a
-    /// bucket. It is refused with `OutOfMemory`.
+    /// Takes a whole bucket, as [`allocate`](BaseAllocator::allocate) does for the layout of a
+    /// bucket.
+    ///
+    /// # Errors
+    ///
+    /// [`OutOfMemory`](AllocationError::OutOfMemory) if each bucket is held.
     fn take(&self) -> Result<NonNull<[u8]>, AllocationError>;
 
-    /// Returns whether a held bucket begins here; of a party, one that it holds.
+    /// Returns whether a held bucket begins at `ptr`; for a party, one that it holds.
+    #[must_use]
     fn holds(&self, ptr: NonNull<u8>) -> bool;
 
-    /// Gives back the held bucket that begins here, and refuses where none does; of a party, none
-    /// that it holds.
+    /// Returns the held bucket that begins at `ptr` to the pool; a party, one that it holds.
+    ///
+    /// # Errors
+    ///
+    /// [`NotHeld`](DeallocationError::NotHeld) if no such bucket begins there. Nothing changes.
     ///
     /// # Safety
     ///
     /// Nothing reads or writes its bytes from now on.
     unsafe fn try_deallocate(&self, ptr: NonNull<u8>) -> Result<(), DeallocationError>;
 
-    /// Returns where the bucket of this number begins, from 0 on, held or not; `None` where there
-    /// is no such bucket.
+    /// Returns where the bucket of this number begins, held or not, or `None` if there is no such
+    /// bucket. Numbers begin at 0.
+    #[must_use]
     fn place_at(&self, number: u32) -> Option<NonNull<u8>>;
 
-    /// Returns the number of the bucket that begins here, held or not; `None` where none does.
+    /// Returns the number of the bucket that begins at `ptr`, held or not, or `None` if no bucket
+    /// does.
+    #[must_use]
     fn number_at(&self, ptr: NonNull<u8>) -> Option<u32>;
 
     /// Returns the layout of a bucket.
+    #[must_use]
     fn bucket(&self) -> Layout;
 
+    /// Returns how far a bucket begins after the one before it: its size, rounded up to its
+    /// alignment.
+    #[must_use]
+    fn stride(&self) -> usize {
+        self.bucket().pad_to_align().size()
+    }
+
     getters! {
-        start_address, size, bucket_size, max_alignment, number_of_buckets, held_buckets,
-        greatest_held
+        start_address, size, bucket_size, max_alignment, number_of_buckets, held_buckets
     }
 }
 
-/// Writes how an allocator is made over a region. In brackets stand the parameters in front of the
-/// region and behind it.
+/// Writes how an allocator is made over a region. The brackets have the parameters before the region
+/// and after it.
 macro_rules! over_region {
     (
-        $name:ident [$($front:ident: $front_type:ty)?] [$($last:ident: $last_type:ty = $told:expr)?]
+        $name:ident [$($front:ident: $front_type:ty)?] [$($last:ident: $last_type:ty = $number:expr)?]
         by $init:ident[$($layout:expr),*], $destroy:ident: $owned:ident => $made:expr
     ) => {
         impl<'region> $name<'region> {
-            /// Makes it over this region, which is its own and its parties' as long as one of them
-            /// lives.
+            /// Makes it over this region, which it and its parties borrow.
+            ///
+            /// # Errors
+            ///
+            /// Each variant of [`InitError`] says when it is returned.
             pub fn over(
                 $($front: $front_type,)?
                 region: &'region mut [MaybeUninit<u8>],
@@ -151,17 +233,21 @@ macro_rules! over_region {
 
             /// Makes it over the `size` bytes at `ptr`.
             ///
+            /// # Errors
+            ///
+            /// Each variant of [`InitError`] says when it is returned.
+            ///
             /// # Safety
             ///
-            /// The bytes may be written through `ptr` for all of `'region`, and meanwhile nothing
-            /// else uses them but through chunks that this allocator or its parties gave.
+            /// The bytes may be read and written through `ptr` for all of `'region`. Meanwhile
+            /// nothing else uses them but through chunks of this allocator or its parties.
             pub unsafe fn new(
                 $($front: $front_type,)?
                 ptr: NonNull<u8>,
                 size: usize,
                 $($last: $last_type,)?
             ) -> Result<Self, InitError> {
-                $(let $last = $told;)?
+                $(let $last = $number;)?
                 // SAFETY: both functions are of this kind.
                 let $owned = unsafe {
                     Owned::init(ptr, ffi::$destroy, |handle, start| {
@@ -190,14 +276,16 @@ macro_rules! figures {
     ($name:ident: $info:ident by $call:ident: $($figure:ident: $type:ty),*) => {
         impl $name<'_> {
             /// Returns all figures.
+            #[must_use]
             pub fn info(&self) -> ffi::$info {
                 let mut info = ffi::$info::default();
                 // SAFETY: the function is of this kind, and no other call has the handle.
-                expect_ok(unsafe { ffi::$call(self.owned.handle(), &mut info) });
+                expect_ok(unsafe { ffi::$call(self.owned.handle(), &raw mut info) });
                 info
             }
             $(
                 #[doc = concat!("Returns `", stringify!($figure), "` of [`info`](Self::info).")]
+                #[must_use]
                 pub fn $figure(&self) -> $type {
                     self.info().$figure
                 }
@@ -208,11 +296,13 @@ macro_rules! figures {
     };
 }
 
-/// Writes the calls of what knows a chunk by its place, and has `try_deallocate`. `$whole` makes
-/// the chunk of its place.
+/// Implements the calls of what knows a chunk by its place, and has `try_deallocate`. `$whole`
+/// returns the chunk at a place.
 macro_rules! base {
     ($name:ident: $allocate:ident $($whole:ident)?) => {
-        impl BaseAllocator for $name<'_> {
+        // SAFETY: the contract of the function is proved, and `$name` has lifetimes by which its
+        // region lives as long as it does.
+        unsafe impl BaseAllocator for $name<'_> {
             fn allocate(&self, layout: Layout) -> Result<NonNull<[u8]>, AllocationError> {
                 // SAFETY: the function is of this kind.
                 let chunk = unsafe { self.owned.allocate(ffi::$allocate, layout)? };
@@ -221,28 +311,25 @@ macro_rules! base {
             }
 
             unsafe fn deallocate(&self, ptr: NonNull<u8>, _layout: Layout) {
-                // SAFETY: the caller keeps what `try_deallocate` asks.
+                // SAFETY: the caller keeps the condition of `try_deallocate`.
                 let _ = unsafe { self.try_deallocate(ptr) };
             }
         }
     };
 }
 
-/// Writes the calls of what is cut into buckets.
+/// Implements the calls of what is cut into buckets.
 macro_rules! buckets {
     (
-        $name:ident: $allocate:ident $take:ident $deallocate:ident $holds:ident $info:ident
+        $name:ident: $allocate:ident $take:ident $deallocate:ident $holds:ident
         $place_at:ident $number_at:ident
     ) => {
         base! { $name: $allocate }
 
-        impl Pool for $name<'_> {
+        // SAFETY: the contract of the function is proved.
+        unsafe impl Pool for $name<'_> {
             fn info(&self) -> ffi::PoolInfo {
-                let mut info = ffi::PoolInfo::default();
-                // SAFETY: the function is of this kind, and no other call has the handle, here and
-                // below.
-                expect_ok(unsafe { ffi::$info(self.owned.handle(), &mut info) });
-                info
+                self.figures()
             }
 
             fn take(&self) -> Result<NonNull<[u8]>, AllocationError> {
@@ -251,9 +338,10 @@ macro_rules! buckets {
             }
 
             fn holds(&self, ptr: NonNull<u8>) -> bool {
-                // SAFETY: as above.
-                let told = unsafe { ffi::$holds(self.owned.handle(), ptr.as_ptr().cast()) };
-                number_if(ffi::OK, told) == Some(1)
+                // SAFETY: the function is of this kind, and no other call has the handle, here and
+                // below.
+                let found = unsafe { ffi::$holds(self.owned.handle(), ptr.as_ptr().cast()) };
+                number_if(ffi::OK, found) == Some(1)
             }
 
             unsafe fn try_deallocate(&self, ptr: NonNull<u8>) -> Result<(), DeallocationError> {
@@ -264,18 +352,71 @@ macro_rules! buckets {
 
             fn place_at(&self, number: u32) -> Option<NonNull<u8>> {
                 // SAFETY: as above.
-                let told = unsafe { ffi::$place_at(self.owned.handle(), number) };
-                number_if(ffi::NOT_A_BUCKET, told).map(|place| self.owned.at(place))
+                let found = unsafe { ffi::$place_at(self.owned.handle(), number) };
+                match self.owned.place(found) {
+                    Ok(place) => Some(place),
+                    Err(ffi::NOT_A_BUCKET) => None,
+                    Err(code) => no_such_answer(code),
+                }
             }
 
             fn number_at(&self, ptr: NonNull<u8>) -> Option<u32> {
-                // SAFETY: as above. A bucket's number is a `u32`.
-                let told = unsafe { ffi::$number_at(self.owned.handle(), ptr.as_ptr().cast()) };
-                number_if(ffi::NOT_A_BUCKET, told).map(|number| number as u32)
+                // SAFETY: as above.
+                let found = unsafe { ffi::$number_at(self.owned.handle(), ptr.as_ptr().cast()) };
+                number_if(ffi::NOT_A_BUCKET, found).map(bucket_number)
             }
 
             fn bucket(&self) -> Layout {
                 self.bucket
+            }
+        }
+
+        // SAFETY: a bucket's bytes stay where they are, and a chunk gets no more than its bucket.
+        unsafe impl Allocator for $name<'_> {
+            unsafe fn grow(
+                &self,
+                ptr: NonNull<u8>,
+                old_layout: Layout,
+                new_layout: Layout,
+            ) -> Result<NonNull<[u8]>, AllocationGrowError> {
+                if !self.holds(ptr) {
+                    return Err(AllocationGrowError::NotHeld);
+                }
+                if ptr.addr().get() % old_layout.align() != 0 {
+                    return Err(AllocationGrowError::LayoutMismatch);
+                }
+                if new_layout.size() <= old_layout.size() {
+                    return Err(AllocationGrowError::GrowWouldShrink);
+                }
+                if new_layout.align() > self.bucket.align() {
+                    return Err(AllocationGrowError::AlignmentFailure);
+                }
+                if new_layout.size() > self.bucket.size() {
+                    return Err(AllocationGrowError::OutOfMemory);
+                }
+                Ok(NonNull::slice_from_raw_parts(ptr, new_layout.size()))
+            }
+
+            unsafe fn shrink(
+                &self,
+                ptr: NonNull<u8>,
+                old_layout: Layout,
+                new_layout: Layout,
+            ) -> Result<NonNull<[u8]>, AllocationShrinkError> {
+                if !self.holds(ptr) {
+                    return Err(AllocationShrinkError::NotHeld);
+                }
+                let is_multiple = ptr.addr().get() % old_layout.align() == 0;
+                if !is_multiple || old_layout.size() > self.bucket.size() {
+                    return Err(AllocationShrinkError::LayoutMismatch);
+                }
+                if new_layout.size() >= old_layout.size() {
+                    return Err(AllocationShrinkError::ShrinkWouldGrow);
+                }
+                if new_layout.align() > self.bucket.align() {
+                    return Err(AllocationShrinkError::AlignmentFailure);
+                }
+                Ok(NonNull::slice_from_raw_parts(ptr, new_layout.size()))
             }
         }
 

@@ -1,23 +1,23 @@
-//! `core::alloc::Allocator`, so that `Box`, `Vec` and others lie in a region. A collection's return
-//! to a bump does nothing.
+//! `core::alloc::Allocator`, so that `Box`, `Vec` and others keep their values in a region. A
+//! collection that frees a chunk of a bump changes nothing.
 use crate::{BaseAllocator, BumpAllocator, BumpParty, PoolAllocator, PoolParty, ffi};
 use core::alloc::{AllocError, Allocator, Layout};
 use core::ptr::{self, NonNull};
 
 type Chunk = Result<NonNull<[u8]>, AllocError>;
 
-/// Implements the trait for what gives buckets. A chunk is resized in its bucket, and in no other.
+/// Implements the trait for what allocates buckets. A chunk is only resized in its bucket.
 macro_rules! in_buckets {
     ($name:ident) => {
-        // SAFETY: a bucket is the caller's until it is given back, and its bytes stay as long as
-        // the allocator lives.
+        // SAFETY: a bucket is the caller's until it is returned, and its bytes stay as long as the
+        // allocator lives.
         unsafe impl Allocator for $name<'_> {
             fn allocate(&self, layout: Layout) -> Chunk {
                 BaseAllocator::allocate(self, layout).map_err(|_| AllocError)
             }
 
             unsafe fn deallocate(&self, ptr: NonNull<u8>, layout: Layout) {
-                // SAFETY: the caller gave the chunk back.
+                // SAFETY: the caller doesn't use the chunk any more.
                 unsafe { BaseAllocator::deallocate(self, ptr, layout) }
             }
 
@@ -42,8 +42,8 @@ macro_rules! in_buckets {
     };
 }
 
-/// Implements the trait for what gives one chunk behind another. A grown chunk is a new one, a
-/// shrunk one stays where it is.
+/// Implements the trait for what allocates one chunk after another. A chunk that grows is moved, and
+/// one that shrinks stays where it is.
 macro_rules! in_bump {
     ($name:ident: $allocate:ident) => {
         // SAFETY: a chunk is the caller's until `BumpAllocator::deallocate` or `reset`, which are

@@ -1,15 +1,16 @@
-//! Why nothing was done. What the library can't answer to a call is a fault of its own, and panics.
+//! Errors. A code that the library doesn't return from a call is a fault, and panics.
 use crate::ffi;
 use core::error::Error;
 use core::fmt;
 
-/// An error of the codes that a call answers, with the text of each.
+/// Writes an error: a variant for each code that a call returns, with its text.
 macro_rules! error {
     (
         $(#[$about:meta])*
         $name:ident { $($(#[$when:meta])* $variant:ident = $code:ident: $text:literal,)* }
     ) => {
         $(#[$about])*
+        #[non_exhaustive]
         #[derive(Clone, Copy, Debug, PartialEq, Eq)]
         pub enum $name {
             $($(#[$when])* $variant,)*
@@ -41,36 +42,37 @@ macro_rules! error {
     };
 }
 
-/// The library and this crate aren't of one version.
+/// Panics: the library and this crate aren't of one version.
 #[cold]
 pub(crate) fn no_such_answer(code: u32) -> ! {
-    panic!("bb_memory answered code {code}, which this call doesn't have")
+    panic!("bb_memory returned code {code}, which this call doesn't have")
 }
 
 error! {
     /// Why a request was refused.
     AllocationError {
-        /// Size 0 was asked of a bump. The others serve it.
+        /// The size is 0. Only bumps refuse it.
         SizeIsZero = SIZE_IS_ZERO: "the size is zero",
-        /// More than a bucket was asked of a pool, which never serves it.
+        /// The size is greater than that of the pool's buckets.
         SizeTooLarge = SIZE_TOO_LARGE: "the size is greater than a bucket's",
-        /// More than a bucket's alignment was asked of a pool, which never serves it.
+        /// The alignment is greater than that of the pool's buckets.
         AlignmentFailure = ALIGNMENT_FAILURE: "the alignment is greater than a bucket's",
-        /// No room is left in the region; of a pool, each bucket is held.
+        /// The region has no room left. Each bucket of a pool is held.
         OutOfMemory = OUT_OF_MEMORY: "no room is left in the region",
     }
 }
 
 error! {
-    /// Why a chunk didn't grow. It is as it was.
+    /// Why a chunk didn't grow. It is unchanged.
     AllocationGrowError {
         /// The new size isn't greater than the old one.
         GrowWouldShrink = GROW_WOULD_SHRINK: "the new size is not greater than the old one",
-        /// The new alignment is greater than the old one.
-        AlignmentFailure = ALIGNMENT_FAILURE: "the alignment is greater than the old one",
-        /// The new size is greater than what is reserved.
+        /// The new alignment is greater than the old one, or than that of a pool's buckets.
+        AlignmentFailure = ALIGNMENT_FAILURE: "the alignment is too great",
+        /// The new size is greater than what is reserved: the region from the chunk's place on, or
+        /// the bucket.
         OutOfMemory = MORE_THAN_RESERVED: "the new size is greater than what is reserved",
-        /// No chunk that is out begins at the place.
+        /// No allocated chunk begins at the place.
         NotHeld = NOT_HELD: "nothing is held at the place",
         /// The place isn't a multiple of the old alignment.
         LayoutMismatch = LAYOUT_MISMATCH: "the chunk cannot have the old layout",
@@ -78,13 +80,13 @@ error! {
 }
 
 error! {
-    /// Why a chunk didn't shrink. It is as it was.
+    /// Why a chunk didn't shrink. It is unchanged.
     AllocationShrinkError {
         /// The new size isn't smaller than the old one.
         ShrinkWouldGrow = SHRINK_WOULD_GROW: "the new size is not smaller than the old one",
-        /// The new alignment is greater than the old one.
-        AlignmentFailure = ALIGNMENT_FAILURE: "the alignment is greater than the old one",
-        /// No chunk that is out begins at the place.
+        /// The new alignment is greater than the old one, or than that of a pool's buckets.
+        AlignmentFailure = ALIGNMENT_FAILURE: "the alignment is too great",
+        /// No allocated chunk begins at the place.
         NotHeld = NOT_HELD: "nothing is held at the place",
         /// The place isn't a multiple of the old alignment, or the old size is greater than what is
         /// reserved.
@@ -93,9 +95,9 @@ error! {
 }
 
 error! {
-    /// Why nothing was given back.
+    /// Why no chunk was freed.
     DeallocationError {
-        /// No chunk that is out begins at the place; of a party, no bucket that it holds.
+        /// No allocated chunk begins at the place; for a party, no bucket that it holds.
         NotHeld = NOT_HELD: "nothing is held at the place",
     }
 }
@@ -103,7 +105,7 @@ error! {
 error! {
     /// Why nothing was made.
     InitError {
-        /// The region ends behind the last address, a bucket has no byte, there are `u32::MAX`
+        /// The region ends after the last address, a bucket has no byte, there are `u32::MAX`
         /// buckets or more, or no party.
         InvalidArgument = INVALID_ARGUMENT: "the region, the buckets or the parties are invalid",
         /// The region has no room for one bucket.
@@ -116,8 +118,7 @@ error! {
 error! {
     /// Why no party joined.
     JoinError {
-        /// Each party has joined, and none was dropped since. For a number: its party has joined,
-        /// or there is none.
+        /// Each party has joined. For a number: its party has joined, or there is none.
         NoParty = NO_PARTY: "no party is left to join",
         /// `malloc` failed.
         MallocRefused = MALLOC_REFUSED: "malloc failed",
@@ -125,13 +126,13 @@ error! {
 }
 
 error! {
-    /// Why a bucket wasn't detached. Its party holds it still, if it did.
+    /// Why a bucket wasn't detached. Nothing changed.
     DetachError {
-        /// The place isn't that of a bucket which this party holds.
+        /// The party holds no bucket at the place.
         NotHeld = NOT_HELD: "nothing is held at the place",
         /// The length is greater than the bucket's size.
         SizeTooLarge = SIZE_TOO_LARGE: "the size is greater than a bucket's",
-        /// A detached bucket is there already.
+        /// The `DetachedBucket` has a bucket already.
         DetachedFull = DETACHED_FULL: "a bucket is in the DetachedBucket already",
     }
 }
@@ -139,8 +140,7 @@ error! {
 error! {
     /// Why a bucket wasn't attached by its number. Nothing changed.
     AttachError {
-        /// The party of that number hasn't detached the bucket by its number, or another party has
-        /// attached it since.
+        /// The bucket isn't detached by its number, or another party than the named one detached it.
         NotHeld = NOT_HELD: "the bucket is not detached by its number and by that party",
         /// No bucket has the number.
         NotABucket = NOT_A_BUCKET: "no bucket has the number",
@@ -158,10 +158,10 @@ error! {
 }
 
 error! {
-    /// Why a bump that threads share wasn't reset. It is as it was.
+    /// Why a bump that threads share wasn't reset. It is unchanged.
     ResetError {
-        /// Not each party was dropped.
-        PartiesJoined = PARTIES_JOINED: "not each party has left",
+        /// A party is joined.
+        PartiesJoined = PARTIES_JOINED: "a party is joined",
         /// `malloc` failed.
         MallocRefused = MALLOC_REFUSED: "malloc failed",
     }

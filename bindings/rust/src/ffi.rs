@@ -1,5 +1,5 @@
-//! The functions of `bb_memory.h` that this crate calls. [`crate::owned`] keeps what the header
-//! asks of a caller.
+//! The functions of `bb_memory.h` that this crate calls. [`crate::owned`] keeps the rules that the
+//! header has for a caller.
 use core::ffi::c_void;
 use core::ptr;
 
@@ -12,25 +12,28 @@ pub struct Handle {
 
 impl Handle {
     pub const EMPTY: Handle = Handle { at: ptr::null_mut(), made: false };
-    /// What a host hands in for a lost `bb_detached`: `BB_LOST` of the header.
+    /// Stands for a lost `bb_detached`: `BB_LOST` of the header.
     pub const LOST: Handle = Handle { at: ptr::null_mut(), made: true };
 }
 
-/// A code, and with [`OK`] the place of the chunk that was given.
+/// A code, and with [`OK`] a place: `bb_chunk` of the header.
 #[repr(C)]
-pub struct Answer {
+#[derive(Clone, Copy)]
+pub struct Chunk {
     pub code: u32,
     pub place: *mut c_void,
 }
 
-/// A code, and with [`OK`] the number that was asked for.
+/// A code, and with [`OK`] a number: `bb_number` of the header.
 #[repr(C)]
-pub struct Figure {
+#[derive(Clone, Copy)]
+pub struct Number {
     pub code: u32,
     pub number: usize,
 }
 
-/// The figures of a bump, in bytes. One look finds those of a bump that threads share.
+/// The figures of a bump, in bytes. Those of a party are read by one load.
+#[non_exhaustive]
 #[repr(C)]
 #[derive(Clone, Copy, Debug, Default, PartialEq, Eq)]
 pub struct BumpInfo {
@@ -38,13 +41,14 @@ pub struct BumpInfo {
     pub start_address: usize,
     /// The bytes that are used, the padding between chunks among them.
     pub used_space: usize,
-    /// The bytes behind the last chunk.
+    /// The bytes after the last chunk.
     pub free_space: usize,
     /// The bytes of the region.
     pub total_space: usize,
 }
 
 /// The figures of one chunk.
+#[non_exhaustive]
 #[repr(C)]
 #[derive(Clone, Copy, Debug, Default, PartialEq, Eq)]
 pub struct OneChunkInfo {
@@ -52,41 +56,40 @@ pub struct OneChunkInfo {
     pub start_address: usize,
     /// The bytes of the region.
     pub size: usize,
-    /// Whether no chunk is out.
+    /// Whether the chunk is free.
     pub has_chunk_available: bool,
 }
 
-/// The figures of a pool.
+/// The figures of a pool. Those of a shared pool and of a party look at each bucket, one after the
+/// other, while other parties may take and return buckets.
+#[non_exhaustive]
 #[repr(C)]
 #[derive(Clone, Copy, Debug, Default, PartialEq, Eq)]
 pub struct PoolInfo {
     /// The address of bucket 0: the region's start, rounded up to the bucket's alignment.
     pub start_address: usize,
-    /// The bytes of the region, padding in front included.
+    /// The bytes of the region, with the padding before bucket 0.
     pub size: usize,
-    /// The bytes of a bucket, as they were asked for.
+    /// The bytes of a bucket, as they were requested.
     pub bucket_size: usize,
     /// The greatest alignment that a request may have, which is the bucket's.
     pub max_alignment: usize,
     /// The number of buckets.
     pub number_of_buckets: usize,
-    /// The number of buckets that are held; of a party, that it holds.
+    /// The number of buckets that are held: of a party, those that it holds; of a shared pool, those
+    /// that are held, cached or detached.
     pub held_buckets: usize,
-    /// The greatest number of them at one time; of what threads share, the greatest that was found.
+}
+
+/// The figures of a pool with one owner: `bb_pool_figures` of the header.
+#[repr(C)]
+#[derive(Default)]
+pub struct PoolFigures {
+    pub info: PoolInfo,
     pub greatest_held: usize,
 }
 
-/// The figures of a pool that threads share, each of which was read at a moment of its own.
-#[repr(C)]
-#[derive(Clone, Copy, Debug, Default, PartialEq, Eq)]
-pub struct SharedPoolInfo {
-    /// Those of its buckets. One that is held, cached or detached counts as held.
-    pub pool: PoolInfo,
-    /// The number of requests that were refused for want of a bucket.
-    pub refused: usize,
-}
-
-/// What the flag of a bucket says.
+/// A bucket's flag: `bb_holder` of the header.
 #[repr(C)]
 #[derive(Default)]
 pub struct Holder {
@@ -118,23 +121,23 @@ pub const PARTIES_JOINED: u32 = 18;
 pub const DETACHED_FULL: u32 = 20;
 pub const NOT_A_BUCKET: u32 = 22;
 
-/// Destroys what is behind a handle.
+/// Empties a handle, and frees what it owns.
 pub type Destroy = unsafe extern "C" fn(*mut Handle) -> u32;
-/// Asks for a chunk of this size at a multiple of this alignment.
-pub type Allocate = unsafe extern "C" fn(*mut Handle, usize, usize) -> Answer;
+/// Allocates a chunk of this size at a multiple of this alignment.
+pub type Allocate = unsafe extern "C" fn(*mut Handle, usize, usize) -> Chunk;
 /// Takes a whole bucket.
-pub type Take = unsafe extern "C" fn(*mut Handle) -> Answer;
+pub type Take = unsafe extern "C" fn(*mut Handle) -> Chunk;
 /// Resizes the chunk at this place, of this old size and alignment, to these new ones.
 pub type Resize =
-    unsafe extern "C" fn(*mut Handle, *const c_void, usize, usize, usize, usize) -> Answer;
-/// Makes the party behind the second handle join, or leave.
+    unsafe extern "C" fn(*mut Handle, *const c_void, usize, usize, usize, usize) -> Chunk;
+/// Lets the party of the second handle join, or leave.
 pub type Parties = unsafe extern "C" fn(*mut Handle, *mut Handle) -> u32;
 
-/// What the library calls in the place of `malloc`, of `realloc` and of `free`.
+/// Replaces `malloc`.
 pub type TakeMemory = unsafe extern "C" fn(usize) -> *mut c_void;
-/// As [`TakeMemory`].
+/// Replaces `realloc`.
 pub type ResizeMemory = unsafe extern "C" fn(*mut c_void, usize) -> *mut c_void;
-/// As [`TakeMemory`].
+/// Replaces `free`.
 pub type ReleaseMemory = unsafe extern "C" fn(*mut c_void);
 
 unsafe extern "C" {
@@ -153,62 +156,62 @@ macro_rules! functions {
 functions! {
     bb_bump_init(*const c_void, usize) -> u32;
     bb_bump_destroy() -> u32;
-    bb_bump_allocate(usize, usize) -> Answer;
+    bb_bump_allocate(usize, usize) -> Chunk;
     bb_bump_deallocate() -> u32;
     bb_bump_info(*mut BumpInfo) -> u32;
     bb_one_chunk_init(*const c_void, usize) -> u32;
     bb_one_chunk_destroy() -> u32;
-    bb_one_chunk_allocate(usize, usize) -> Answer;
+    bb_one_chunk_allocate(usize, usize) -> Chunk;
     bb_one_chunk_deallocate(*const c_void) -> u32;
-    bb_one_chunk_grow(*const c_void, usize, usize, usize, usize) -> Answer;
-    bb_one_chunk_shrink(*const c_void, usize, usize, usize, usize) -> Answer;
-    bb_one_chunk_holds(*const c_void) -> Figure;
+    bb_one_chunk_grow(*const c_void, usize, usize, usize, usize) -> Chunk;
+    bb_one_chunk_shrink(*const c_void, usize, usize, usize, usize) -> Chunk;
+    bb_one_chunk_holds(*const c_void) -> Number;
     bb_one_chunk_info(*mut OneChunkInfo) -> u32;
     bb_pool_init(usize, usize, *const c_void, usize) -> u32;
     bb_pool_destroy() -> u32;
-    bb_pool_allocate(usize, usize) -> Answer;
-    bb_pool_take() -> Answer;
+    bb_pool_allocate(usize, usize) -> Chunk;
+    bb_pool_take() -> Chunk;
     bb_pool_deallocate(*const c_void) -> u32;
-    bb_pool_holds(*const c_void) -> Figure;
-    bb_pool_info(*mut PoolInfo) -> u32;
-    bb_pool_place_at(u32) -> Figure;
-    bb_pool_number_at(*const c_void) -> Figure;
+    bb_pool_holds(*const c_void) -> Number;
+    bb_pool_info(*mut PoolFigures) -> u32;
+    bb_pool_place_at(u32) -> Chunk;
+    bb_pool_number_at(*const c_void) -> Number;
     bb_shared_bump_init(*const c_void, usize, u32) -> u32;
-    bb_shared_bump_destroy() -> u32;
+    bb_shared_bump_abandon() -> u32;
     bb_shared_bump_join(*mut Handle) -> u32;
     bb_shared_bump_leave(*mut Handle) -> u32;
     bb_shared_bump_reset() -> u32;
-    bb_bump_party_destroy() -> u32;
-    bb_bump_party_allocate(usize, usize) -> Answer;
+    bb_bump_party_abandon() -> u32;
+    bb_bump_party_allocate(usize, usize) -> Chunk;
     bb_bump_party_info(*mut BumpInfo) -> u32;
     bb_shared_pool_init(usize, usize, *const c_void, usize, u32) -> u32;
-    bb_shared_pool_destroy() -> u32;
-    bb_shared_pool_info(*mut SharedPoolInfo) -> u32;
+    bb_shared_pool_abandon() -> u32;
+    bb_shared_pool_info(*mut PoolInfo) -> u32;
     bb_shared_pool_holder(u32, *mut Holder) -> u32;
     bb_shared_pool_join(*mut Handle) -> u32;
     bb_shared_pool_leave(*mut Handle) -> u32;
     bb_shared_pool_join_number(u32, *mut Handle) -> u32;
     bb_shared_pool_forget(*mut Handle) -> u32;
-    bb_pool_party_destroy() -> u32;
-    bb_pool_party_allocate(usize, usize) -> Answer;
-    bb_pool_party_take() -> Answer;
+    bb_pool_party_abandon() -> u32;
+    bb_pool_party_allocate(usize, usize) -> Chunk;
+    bb_pool_party_take() -> Chunk;
     bb_pool_party_deallocate(*const c_void) -> u32;
-    bb_pool_party_take_many(*mut c_void, usize) -> Figure;
-    bb_pool_party_deallocate_many(*const c_void, usize) -> Figure;
-    bb_pool_party_holds(*const c_void) -> Figure;
+    bb_pool_party_take_many(*mut c_void, usize) -> Number;
+    bb_pool_party_deallocate_many(*const c_void, usize) -> Number;
+    bb_pool_party_holds(*const c_void) -> Number;
     bb_pool_party_info(*mut PoolInfo) -> u32;
-    bb_pool_party_place_at(u32) -> Figure;
-    bb_pool_party_number_at(*const c_void) -> Figure;
-    bb_pool_party_number() -> Figure;
+    bb_pool_party_place_at(u32) -> Chunk;
+    bb_pool_party_number_at(*const c_void) -> Number;
+    bb_pool_party_number() -> Number;
     bb_pool_party_cache(u32) -> u32;
     bb_pool_party_flush() -> u32;
     bb_pool_party_give_all_back() -> u32;
     bb_detached_init() -> u32;
     bb_detached_destroy() -> u32;
     bb_pool_party_detach(*const c_void, usize, *mut Handle) -> u32;
-    bb_pool_party_attach(*mut Handle) -> Answer;
+    bb_pool_party_attach(*mut Handle) -> Chunk;
     bb_pool_party_return_detached(*mut Handle) -> u32;
     bb_pool_party_recover(u32, *mut Handle) -> u32;
-    bb_pool_party_detach_number(*const c_void) -> Figure;
-    bb_pool_party_attach_number(u32, u32) -> Answer;
+    bb_pool_party_detach_number(*const c_void) -> Number;
+    bb_pool_party_attach_number(u32, u32) -> Chunk;
 }

@@ -3,6 +3,7 @@
 #![deny(missing_docs)]
 
 mod allocator;
+mod boxes;
 #[cfg(feature = "allocator_api")]
 mod core_api;
 mod error;
@@ -13,11 +14,12 @@ mod pool_file;
 mod shared;
 
 pub use allocator::{Allocator, BaseAllocator, Pool};
+pub use boxes::{DetachedBox, PartyBox, PoolBox, TryNewError};
 pub use error::{
     AllocationError, AllocationGrowError, AllocationShrinkError, AttachError, DeallocationError,
     DetachError, InitError, JoinError, RecoverError, ResetError,
 };
-pub use ffi::{BumpInfo, OneChunkInfo, PoolInfo, SharedPoolInfo};
+pub use ffi::{BumpInfo, OneChunkInfo, PoolInfo};
 pub use owned::use_memory;
 pub use owners::{BumpAllocator, OneChunkAllocator, PoolAllocator};
 pub use pool_file::{

@@ -1,5 +1,5 @@
-//! What the library made, behind a handle that this crate owns: what `bb_memory.h` asks of a caller
-//! is kept here.
+//! Handles that this crate owns, and the objects of the library in them. The rules that `bb_memory.h`
+//! has for a caller are kept here.
 use crate::error::{AllocationError, InitError, JoinError, no_such_answer};
 use crate::ffi::{self, Handle};
 use core::alloc::Layout;
@@ -12,7 +12,7 @@ use core::ptr::NonNull;
 use std::alloc;
 use std::sync::{Arc, Mutex, MutexGuard, PoisonError};
 
-/// Has the library call these functions in the place of `malloc`, `realloc` and `free`.
+/// Makes the library call these functions instead of `malloc`, `realloc` and `free`.
 ///
 /// # Safety
 ///
@@ -27,9 +27,9 @@ pub unsafe fn use_memory(
     unsafe { ffi::bb_use_memory(take, resize, release) };
 }
 
-/// A handle that isn't empty, where its region starts, and how it is destroyed. A call writes what
-/// is behind the handle, so no two threads may call at once: the cell makes it `!Sync`. What is
-/// behind it belongs to no thread.
+/// A handle that isn't empty, where its region starts, and how it is emptied. A call writes what the
+/// handle owns, so no two threads may call at once: the cell makes it `!Sync`. What it owns belongs
+/// to no thread.
 pub struct Owned<'region> {
     handle: UnsafeCell<Handle>,
     start: NonNull<u8>,
@@ -38,22 +38,23 @@ pub struct Owned<'region> {
     region: PhantomData<&'region mut [MaybeUninit<u8>]>,
 }
 
-// SAFETY: no function of the library asks which thread calls it; those that threads share are made
-// for it.
+// SAFETY: no function of the library depends on the thread that calls it.
 unsafe impl Send for Owned<'_> {}
 
-impl<'region> Owned<'region> {
-    /// Returns what `init` makes behind an empty handle, over a region that starts here.
+impl Owned<'_> {
+    /// Returns what `init` makes in an empty handle, over a region that begins at `start`.
+    ///
     /// # Safety
-    /// `init` calls the `init` of a kind with the handle that it is handed, and `destroy` is of
-    /// that kind.
+    ///
+    /// `init` calls the `init` of a kind with the handle that it gets, and `destroy` is of that
+    /// kind.
     pub unsafe fn init(
         start: NonNull<u8>,
         destroy: ffi::Destroy,
         init: impl FnOnce(*mut Handle, *const c_void) -> u32,
     ) -> Result<Self, InitError> {
         let mut handle = Handle::EMPTY;
-        InitError::unless_ok(init(&mut handle, start.as_ptr().cast()))?;
+        InitError::unless_ok(init(&raw mut handle, start.as_ptr().cast()))?;
         Ok(Owned::of(handle, start, destroy))
     }
 
@@ -62,8 +63,10 @@ impl<'region> Owned<'region> {
         Owned { handle, start, destroy, memory: None, region: PhantomData }
     }
 
-    /// Returns a party of what threads share, which `join` makes behind an empty handle.
+    /// Returns a party of what threads share, which `join` makes in an empty handle.
+    ///
     /// # Safety
+    ///
     /// `join` calls a function of this kind with the two handles that it is passed, and `destroy`
     /// is of its parties' kind.
     pub unsafe fn join(
@@ -72,11 +75,11 @@ impl<'region> Owned<'region> {
         join: impl FnOnce(*mut Handle, *mut Handle) -> u32,
     ) -> Result<Self, JoinError> {
         let mut handle = Handle::EMPTY;
-        JoinError::unless_ok(join(self.handle(), &mut handle))?;
+        JoinError::unless_ok(join(self.handle(), &raw mut handle))?;
         Ok(Owned::of(handle, self.start, destroy))
     }
 
-    /// Takes the region's memory along, which is freed behind what is over it.
+    /// Keeps the region's memory, which is freed after what is over it.
     pub fn keep(&mut self, memory: Memory) {
         self.memory = Some(memory);
     }
@@ -86,20 +89,21 @@ impl<'region> Owned<'region> {
         self.handle.get()
     }
 
-    /// Returns a place of the region, by the pointer with which the region was handed in.
+    /// Returns a place of the region, by the pointer by which the region was passed.
     pub fn at(&self, place: usize) -> NonNull<u8> {
         let place = self.start.as_ptr().with_addr(place);
         NonNull::new(place).unwrap_or_else(|| no_such_answer(ffi::OK))
     }
 
-    /// Returns where the chunk is that was given, by the pointer with which the region was handed
-    /// in.
-    pub fn place(&self, answer: ffi::Answer) -> Result<NonNull<u8>, u32> {
+    /// Returns the place of a chunk, by the pointer by which the region was passed, or the code.
+    pub fn place(&self, answer: ffi::Chunk) -> Result<NonNull<u8>, u32> {
         if answer.code == ffi::OK { Ok(self.at(answer.place.addr())) } else { Err(answer.code) }
     }
 
-    /// Asks for a chunk of the layout's size.
+    /// Allocates a chunk of the layout's size.
+    ///
     /// # Safety
+    ///
     /// `allocate` is of this kind.
     pub unsafe fn allocate(
         &self,
@@ -113,7 +117,9 @@ impl<'region> Owned<'region> {
     }
 
     /// Takes a whole bucket of this layout.
+    ///
     /// # Safety
+    ///
     /// `take` is of this kind.
     pub unsafe fn take(
         &self,
@@ -129,8 +135,8 @@ impl<'region> Owned<'region> {
 
 impl Drop for Owned<'_> {
     fn drop(&mut self) {
-        // SAFETY: the function is of this kind, and the handle isn't used again. Of a party that
-        // left it is empty.
+        // SAFETY: the function is of this kind, and the handle isn't used again. The handle of a
+        // party that left is empty.
         unsafe { (self.destroy)(self.handle.get_mut()) };
     }
 }
@@ -145,8 +151,8 @@ pub struct Memory {
 unsafe impl Send for Memory {}
 
 impl Memory {
-    /// Returns memory for just so many buckets, with `InvalidArgument` where there is no such
-    /// region.
+    /// Returns memory for exactly this number of buckets, or `InvalidArgument` if no region has that
+    /// size.
     pub fn of_buckets(bucket: Layout, buckets: u32) -> Result<Memory, InitError> {
         let bytes = bucket.pad_to_align().size().checked_mul(buckets as usize);
         Memory::of_bytes(bytes.unwrap_or(0), bucket.align())
@@ -167,7 +173,7 @@ impl Memory {
 
 impl Drop for Memory {
     fn drop(&mut self) {
-        // SAFETY: it was allocated by this layout, and what was over it is destroyed.
+        // SAFETY: the memory was allocated with this layout, and what was over it is gone.
         unsafe { alloc::dealloc(self.start.as_ptr(), self.layout) };
     }
 }
@@ -179,23 +185,27 @@ pub struct Joining {
     pub destroy: ffi::Destroy,
 }
 
-/// A bump or a pool that threads share. A pool has a party of its own, which gives back buckets
-/// that nobody attaches.
+/// A bump or a pool that threads share. A pool has a party of its own, which returns buckets that
+/// nobody attached.
+///
+/// Each party and each detached bucket has a share of it, so none is left when it is dropped, unless
+/// it was forgotten, and then it isn't dropped. So it is abandoned, which is never refused: a bucket
+/// that was detached by its number is left if nobody attached it, and `destroy` would be refused.
 pub struct Common<'region> {
     pub keeper: Option<Owned<'region>>,
     pub owned: Owned<'region>,
 }
 
-/// Shares what threads share. Parties join and leave under the lock.
+/// A share of it. Parties join and leave under the lock.
 pub type Shared<'region> = Arc<Mutex<Common<'region>>>;
 
-/// Returns what is shared, for calls that one thread at a time makes. None of them panics behind a
-/// half of its work.
+/// Locks what is shared, for calls that one thread at a time makes. None of them panics halfway, so
+/// a poisoned lock is as good as another.
 pub fn lock<'lock, 'region>(shared: &'lock Shared<'region>) -> MutexGuard<'lock, Common<'region>> {
     shared.lock().unwrap_or_else(PoisonError::into_inner)
 }
 
-/// A party, which is ended when it is dropped: it leaves what it joined.
+/// A party, which leaves what it joined when it is dropped.
 pub struct Member<'region> {
     owned: Owned<'region>,
     pub of: Shared<'region>,
@@ -204,7 +214,9 @@ pub struct Member<'region> {
 
 impl<'region> Member<'region> {
     /// Joins.
+    ///
     /// # Safety
+    ///
     /// The functions are of the kind that is shared.
     pub unsafe fn join(of: &Shared<'region>, by: &Joining) -> Result<Self, JoinError> {
         // SAFETY: the function is of this kind, no other call has one of the handles, and they are
@@ -213,7 +225,9 @@ impl<'region> Member<'region> {
     }
 
     /// Joins by another function than the one of `by`.
+    ///
     /// # Safety
+    ///
     /// The functions are of the kind that is shared, and `join` calls one with the two handles that
     /// it is passed.
     pub unsafe fn join_with(
@@ -227,7 +241,9 @@ impl<'region> Member<'region> {
     }
 
     /// Ends the party by this function, and not by leaving.
+    ///
     /// # Safety
+    ///
     /// The function is of the kind that is shared, and empties the party's handle.
     pub unsafe fn end_by(mut self, end: ffi::Parties) {
         self.end = end;
@@ -251,16 +267,21 @@ impl Drop for Member<'_> {
     }
 }
 
-/// Returns the number that was asked for, or `None` where the answer is this code.
-pub fn number_if(none: u32, figure: ffi::Figure) -> Option<usize> {
-    match figure.code {
-        ffi::OK => Some(figure.number),
+/// Returns the number of an answer, or `None` if its code is this one.
+pub fn number_if(none: u32, answer: ffi::Number) -> Option<usize> {
+    match answer.code {
+        ffi::OK => Some(answer.number),
         code if code == none => None,
         code => no_such_answer(code),
     }
 }
 
-/// Panics on an answer that the call doesn't have.
+/// Returns the number of a bucket, each of which is a `u32`.
+pub fn bucket_number(number: usize) -> u32 {
+    u32::try_from(number).unwrap_or_else(|_| no_such_answer(ffi::OK))
+}
+
+/// Panics on a code that the call doesn't return.
 pub fn expect_ok(code: u32) {
     if code != ffi::OK {
         no_such_answer(code)

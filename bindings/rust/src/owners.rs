@@ -2,15 +2,16 @@
 use crate::allocator::{Allocator, Pool, base, buckets, figures, over_region, shown};
 use crate::error::{
     AllocationError, AllocationGrowError, AllocationShrinkError, DeallocationError, InitError,
+    no_such_answer,
 };
-use crate::owned::{Memory, Owned, expect_ok, number_if};
+use crate::owned::{Memory, Owned, bucket_number, expect_ok, number_if};
 use crate::{BaseAllocator, ffi};
 use core::alloc::Layout;
 use core::fmt;
 use core::mem::MaybeUninit;
 use core::ptr::NonNull;
 
-/// Gives one chunk after another, and takes all of them back at once. It refuses size 0.
+/// Allocates one chunk after another, and frees all of them at once. It refuses size 0.
 ///
 /// ```
 /// use bb_memory::{BaseAllocator, BumpAllocator};
@@ -26,7 +27,7 @@ use core::ptr::NonNull;
 /// # Ok::<(), Box<dyn std::error::Error>>(())
 /// ```
 ///
-/// It doesn't outlive its region, and no two threads may see it at once:
+/// It doesn't outlive its region, and only one thread may use it at a time:
 ///
 /// ```compile_fail,E0597
 /// # use bb_memory::BumpAllocator;
@@ -58,7 +59,8 @@ figures! {
     start_address: usize, used_space: usize, free_space: usize, total_space: usize
 }
 
-impl BaseAllocator for BumpAllocator<'_> {
+// SAFETY: the contract of `bb_bump_allocate` is proved, and the region lives as long as the bump.
+unsafe impl BaseAllocator for BumpAllocator<'_> {
     fn allocate(&self, layout: Layout) -> Result<NonNull<[u8]>, AllocationError> {
         // SAFETY: the function is of this kind.
         unsafe { self.owned.allocate(ffi::bb_bump_allocate, layout) }
@@ -70,8 +72,8 @@ impl BaseAllocator for BumpAllocator<'_> {
     }
 }
 
-/// Gives all of its region, from the first multiple of the asked alignment on, to one request at a
-/// time.
+/// Allocates one chunk at a time: all of its region, from the first multiple of the requested
+/// alignment on.
 ///
 /// ```
 /// use bb_memory::{Allocator, BaseAllocator, OneChunkAllocator};
@@ -79,11 +81,11 @@ impl BaseAllocator for BumpAllocator<'_> {
 ///
 /// let mut region = Box::new_uninit_slice(1024);
 /// let one = OneChunkAllocator::over(&mut region)?;
-/// let (asked, less) = (Layout::new::<[u64; 6]>(), Layout::new::<[u64; 4]>());
-/// let chunk = one.allocate(asked)?;
+/// let (large, small) = (Layout::new::<[u64; 6]>(), Layout::new::<[u64; 4]>());
+/// let chunk = one.allocate(large)?;
 /// assert!(chunk.len() >= 48 && !one.has_chunk_available());
-/// // The chunk is ours, and what is behind the new size isn't used again.
-/// let shrunk = unsafe { one.shrink(chunk.cast(), asked, less)? };
+/// // The chunk is ours, and its bytes after the new size aren't used again.
+/// let shrunk = unsafe { one.shrink(chunk.cast(), large, small)? };
 /// assert_eq!(shrunk.len(), 32);
 /// # Ok::<(), Box<dyn std::error::Error>>(())
 /// ```
@@ -104,14 +106,19 @@ figures! {
 base! { OneChunkAllocator: bb_one_chunk_allocate whole }
 
 impl OneChunkAllocator<'_> {
-    /// Returns whether the chunk that is out begins here.
+    /// Returns whether the allocated chunk begins at `ptr`.
+    #[must_use]
     pub fn holds(&self, ptr: NonNull<u8>) -> bool {
         // SAFETY: the function is of this kind, and no other call has the handle, here and below.
-        let told = unsafe { ffi::bb_one_chunk_holds(self.owned.handle(), ptr.as_ptr().cast()) };
-        number_if(ffi::OK, told) == Some(1)
+        let found = unsafe { ffi::bb_one_chunk_holds(self.owned.handle(), ptr.as_ptr().cast()) };
+        number_if(ffi::OK, found) == Some(1)
     }
 
-    /// Gives back the chunk that begins here, and refuses where none does.
+    /// Frees the chunk that begins at `ptr`.
+    ///
+    /// # Errors
+    ///
+    /// [`NotHeld`](DeallocationError::NotHeld) if no allocated chunk begins there. Nothing changes.
     ///
     /// # Safety
     ///
@@ -123,7 +130,7 @@ impl OneChunkAllocator<'_> {
         DeallocationError::unless_ok(code)
     }
 
-    /// Returns the chunk that begins here, up to the region's end.
+    /// Returns the chunk that begins at `place`, up to the region's end.
     fn whole(&self, place: NonNull<u8>) -> NonNull<[u8]> {
         let end = self.start_address() + self.size();
         NonNull::slice_from_raw_parts(place, end - place.addr().get())
@@ -137,14 +144,15 @@ impl OneChunkAllocator<'_> {
         new: Layout,
     ) -> Result<NonNull<u8>, u32> {
         let (handle, place) = (self.owned.handle(), place.as_ptr().cast());
-        // SAFETY: as of `holds`: `grow` and `shrink` hand in functions of this kind.
+        // SAFETY: `grow` and `shrink` pass functions of this kind, and no other call has the handle.
         self.owned.place(unsafe {
             resize(handle, place, old.size(), old.align(), new.size(), new.align())
         })
     }
 }
 
-impl Allocator for OneChunkAllocator<'_> {
+// SAFETY: the contracts of `bb_one_chunk_grow` and `bb_one_chunk_shrink` are proved.
+unsafe impl Allocator for OneChunkAllocator<'_> {
     unsafe fn grow(
         &self,
         ptr: NonNull<u8>,
@@ -168,7 +176,8 @@ impl Allocator for OneChunkAllocator<'_> {
     }
 }
 
-/// Gives buckets of one layout. What it knows of its buckets is in memory of `malloc`.
+/// Allocates buckets of one layout. What it knows of its buckets is in memory of `malloc`.
+/// [`PoolBox`](crate::PoolBox) owns a value in a bucket, without `unsafe`; this is a raw chunk:
 ///
 /// ```
 /// use bb_memory::{BaseAllocator, Pool, PoolAllocator};
@@ -192,8 +201,13 @@ pub struct PoolAllocator<'region> {
 }
 
 impl PoolAllocator<'static> {
-    /// Makes a pool of just so many buckets in memory of its own, which is freed with it: no chunk
-    /// is used behind its end. `InvalidArgument` where there are none, or no such memory can be.
+    /// Makes a pool of exactly this number of buckets in memory of its own. The memory is freed when
+    /// the pool is dropped: no chunk is used then.
+    ///
+    /// # Errors
+    ///
+    /// [`InvalidArgument`](InitError::InvalidArgument) if the number or the bucket's size is 0, or
+    /// if no memory has room for them. [`MallocRefused`](InitError::MallocRefused).
     pub fn with_buckets(bucket: Layout, buckets: u32) -> Result<Self, InitError> {
         let memory = Memory::of_buckets(bucket, buckets)?;
         let (start, size) = (memory.start, memory.layout.size());
@@ -211,6 +225,25 @@ over_region! {
 }
 
 buckets! {
-    PoolAllocator: bb_pool_allocate bb_pool_take bb_pool_deallocate bb_pool_holds bb_pool_info
+    PoolAllocator: bb_pool_allocate bb_pool_take bb_pool_deallocate bb_pool_holds
     bb_pool_place_at bb_pool_number_at
+}
+
+impl PoolAllocator<'_> {
+    fn all_figures(&self) -> ffi::PoolFigures {
+        let mut figures = ffi::PoolFigures::default();
+        // SAFETY: the function is of this kind, and no other call has the handle.
+        expect_ok(unsafe { ffi::bb_pool_info(self.owned.handle(), &raw mut figures) });
+        figures
+    }
+
+    fn figures(&self) -> ffi::PoolInfo {
+        self.all_figures().info
+    }
+
+    /// Returns the greatest number of buckets that were held at one time.
+    #[must_use]
+    pub fn greatest_held(&self) -> usize {
+        self.all_figures().greatest_held
+    }
 }

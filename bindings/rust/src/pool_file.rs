@@ -1,5 +1,5 @@
 //! A pool in a file, by `bb_pool_file.h`. Its rules hold here, and types keep those that they can.
-use crate::ffi::{self, Answer as Chunk, Figure as Number, Handle};
+use crate::ffi::{self, Chunk, Handle, Number};
 use core::cell::Cell;
 use core::ffi::{c_char, c_int, c_void};
 use core::fmt;

@@ -1,11 +1,13 @@
 //! Bumps and pools that threads share: each thread is a party, which joins, and leaves when it is
 //! dropped.
-use crate::allocator::{Pool, base, buckets, figures, over_region, shown};
+use crate::allocator::{Allocator, Pool, base, buckets, figures, over_region, shown};
 use crate::error::{
-    AllocationError, AttachError, DeallocationError, DetachError, InitError, JoinError,
-    RecoverError, ResetError, no_such_answer,
+    AllocationError, AllocationGrowError, AllocationShrinkError, AttachError, DeallocationError,
+    DetachError, InitError, JoinError, RecoverError, ResetError, no_such_answer,
 };
-use crate::owned::{Common, Joining, Member, Memory, Owned, Shared, expect_ok, lock, number_if};
+use crate::owned::{
+    Common, Joining, Member, Memory, Owned, Shared, bucket_number, expect_ok, lock, number_if,
+};
 use crate::{BaseAllocator, ffi};
 use core::alloc::Layout;
 use core::fmt;
@@ -17,19 +19,19 @@ use std::sync::{Arc, Mutex};
 static BUMP_PARTIES: Joining = Joining {
     join: ffi::bb_shared_bump_join,
     leave: ffi::bb_shared_bump_leave,
-    destroy: ffi::bb_bump_party_destroy,
+    destroy: ffi::bb_bump_party_abandon,
 };
 
 static POOL_PARTIES: Joining = Joining {
     join: ffi::bb_shared_pool_join,
     leave: ffi::bb_shared_pool_leave,
-    destroy: ffi::bb_pool_party_destroy,
+    destroy: ffi::bb_pool_party_abandon,
 };
 
-/// A bump that threads share: it is made for some number of parties, each of which can join. No
-/// call of a party waits for another's. A party leaves when it is dropped, and then one can join
-/// again. Chunks go back all at once, by [`reset`](SharedBumpAllocator::reset), when each party has
-/// left. A clone is of the same bump.
+/// A bump that threads share. It is made for a number of parties, and each thread joins as one. No
+/// call of a party waits for another's. A party leaves when it is dropped, and then one more can
+/// join. [`reset`](SharedBumpAllocator::reset) frees all chunks at once, after each party has left.
+/// A clone is of the same bump.
 #[derive(Clone)]
 pub struct SharedBumpAllocator<'region> {
     shared: Shared<'region>,
@@ -37,7 +39,7 @@ pub struct SharedBumpAllocator<'region> {
 
 over_region! {
     SharedBumpAllocator [] [parties: u32 = number_of(parties, 0)?]
-    by bb_shared_bump_init[], bb_shared_bump_destroy: owned => Ok(Self::shared(owned))
+    by bb_shared_bump_init[], bb_shared_bump_abandon: owned => Ok(Self::shared(owned))
 }
 
 impl<'region> SharedBumpAllocator<'region> {
@@ -46,19 +48,26 @@ impl<'region> SharedBumpAllocator<'region> {
         SharedBumpAllocator { shared: Arc::new(Mutex::new(common)) }
     }
 
-    /// Makes a party, with [`NoParty`](JoinError::NoParty) where each has joined.
+    /// Joins as a party.
+    ///
+    /// # Errors
+    ///
+    /// Each variant of [`JoinError`] says when it is returned.
     pub fn join(&self) -> Result<BumpParty<'region>, JoinError> {
         // SAFETY: the functions are of this kind and its parties'.
         let owned = unsafe { Member::join(&self.shared, &BUMP_PARTIES)? };
         Ok(BumpParty { owned })
     }
 
-    /// Starts again over the region, with as many parties: nothing is used. Each party has to have
-    /// left.
+    /// Frees all chunks. The bump is then as it was made.
+    ///
+    /// # Errors
+    ///
+    /// Each variant of [`ResetError`] says when it is returned. The bump is unchanged.
     ///
     /// # Safety
     ///
-    /// No chunk is used that was given before.
+    /// No chunk that was allocated before is used from now on.
     pub unsafe fn reset(&self) -> Result<(), ResetError> {
         // SAFETY: the function is of this kind, and no other call has the handle.
         let code = unsafe { ffi::bb_shared_bump_reset(lock(&self.shared).owned.handle()) };
@@ -67,9 +76,13 @@ impl<'region> SharedBumpAllocator<'region> {
 }
 
 impl SharedBumpAllocator<'static> {
-    /// Makes a bump of so many bytes, from a multiple of 64 on, in memory of its own. That is freed
-    /// behind the bump and its parties: no chunk is used then. `InvalidArgument` where there is no
-    /// byte, or no such memory can be.
+    /// Makes a bump of `size` bytes in memory of its own, which begins at a multiple of 64. The
+    /// memory is freed when the bump and its parties are dropped: no chunk is used then.
+    ///
+    /// # Errors
+    ///
+    /// [`InvalidArgument`](InitError::InvalidArgument) if the size is 0, if no memory has that
+    /// size, or if `parties` is 0. [`MallocRefused`](InitError::MallocRefused).
     pub fn with_bytes(size: usize, parties: u32) -> Result<Self, InitError> {
         let memory = Memory::of_bytes(size, 64)?;
         // SAFETY: nothing else uses the memory, which lives as long as the bump and its parties.
@@ -85,15 +98,21 @@ impl fmt::Debug for SharedBumpAllocator<'_> {
     }
 }
 
-/// A party of a [`SharedBumpAllocator`], for one thread at a time, which leaves when it is dropped.
-/// It refuses size 0.
+/// A party of a [`SharedBumpAllocator`], for one thread at a time. It leaves when it is dropped. It
+/// refuses size 0.
+#[must_use = "a party leaves when it is dropped"]
 pub struct BumpParty<'region> {
     pub(crate) owned: Member<'region>,
 }
 
 impl BumpParty<'_> {
-    /// Returns a chunk of exactly `layout.size()` bytes at the least multiple of `layout.align()`
-    /// behind what is used.
+    /// Allocates a chunk of exactly `layout.size()` bytes at the least multiple of `layout.align()`
+    /// after what is used.
+    ///
+    /// # Errors
+    ///
+    /// [`SizeIsZero`](AllocationError::SizeIsZero), or
+    /// [`OutOfMemory`](AllocationError::OutOfMemory) if the chunk has no room.
     pub fn allocate(&self, layout: Layout) -> Result<NonNull<[u8]>, AllocationError> {
         // SAFETY: the function is of this kind.
         unsafe { self.owned.allocate(ffi::bb_bump_party_allocate, layout) }
@@ -105,23 +124,20 @@ figures! {
     start_address: usize, used_space: usize, free_space: usize, total_space: usize
 }
 
-/// A pool that threads share: it is made for some number of parties, each of which can join. No
-/// call of a party waits for another's. A party leaves when it is dropped, with what it holds, and
-/// then one can join again. A clone is of the same pool.
+/// A pool that threads share. It is made for a number of parties, and each thread joins as one. No
+/// call of a party waits for another's. A party leaves when it is dropped, returns what it holds,
+/// and then one more can join. A clone is of the same pool.
 ///
 /// ```
-/// use bb_memory::{BaseAllocator, SharedPoolAllocator};
+/// use bb_memory::{PartyBox, SharedPoolAllocator};
 /// use core::alloc::Layout;
 ///
 /// let pool = SharedPoolAllocator::with_buckets(Layout::new::<u64>(), 16, 2)?;
 /// let threads = [pool.join()?, pool.join()?].map(|party| {
 ///     std::thread::spawn(move || {
-///         let chunk = party.allocate(Layout::new::<u64>()).unwrap();
-///         // The chunk is this thread's until it gives it back.
-///         unsafe {
-///             chunk.cast::<u64>().write(7);
-///             party.deallocate(chunk.cast(), Layout::new::<u64>());
-///         }
+///         let mut number = PartyBox::try_new(&party, 7u64).unwrap();
+///         *number += 1;
+///         assert_eq!(*number, 8);
 ///     })
 /// });
 /// for thread in threads {
@@ -137,12 +153,12 @@ pub struct SharedPoolAllocator<'region> {
 
 over_region! {
     SharedPoolAllocator [bucket: Layout] [parties: u32 = number_of(parties, 1)?]
-    by bb_shared_pool_init[bucket.size(), bucket.align()], bb_shared_pool_destroy:
+    by bb_shared_pool_init[bucket.size(), bucket.align()], bb_shared_pool_abandon:
     owned => Self::kept(owned, bucket)
 }
 
-/// Returns how many parties something is made for: a pool has one more, which gives back what
-/// nobody attaches.
+/// Returns how many parties something is made for: a pool has one more, which returns buckets that
+/// nobody attached.
 fn number_of(parties: u32, keepers: u32) -> Result<u32, InitError> {
     let number = parties.checked_add(keepers).ok_or(InitError::InvalidArgument)?;
     if parties > 0 { Ok(number) } else { Err(InitError::InvalidArgument) }
@@ -160,17 +176,25 @@ impl<'region> SharedPoolAllocator<'region> {
         Ok(SharedPoolAllocator { shared: Arc::new(Mutex::new(Common { keeper, owned })), bucket })
     }
 
-    /// Makes a party, with [`NoParty`](JoinError::NoParty) where each has joined.
+    /// Joins as a party.
+    ///
+    /// # Errors
+    ///
+    /// Each variant of [`JoinError`] says when it is returned.
     pub fn join(&self) -> Result<PoolParty<'region>, JoinError> {
         // SAFETY: the functions are of this kind and its parties'.
         let owned = unsafe { Member::join(&self.shared, &POOL_PARTIES)? };
         Ok(PoolParty { owned, bucket: self.bucket })
     }
 
-    /// Makes the party of this number, from 0 up to the number of parties, as
-    /// [`number`](PoolParty::number) returns it. It holds what an earlier party of its number held
-    /// when that was [forgotten](PoolParty::forget). Refused with [`NoParty`](JoinError::NoParty)
-    /// if this party has joined, or if there is none of that number.
+    /// Joins as the party of this number, as [`number`](PoolParty::number) returns it. The first
+    /// number is 0, and the last one is the number of parties. The party holds what an earlier one
+    /// of its number held when it was [forgotten](PoolParty::forget).
+    ///
+    /// # Errors
+    ///
+    /// [`NoParty`](JoinError::NoParty) if the party of this number has joined, or if there is none.
+    /// [`MallocRefused`](JoinError::MallocRefused).
     pub fn join_number(&self, number: u32) -> Result<PoolParty<'region>, JoinError> {
         // SAFETY: the functions are of this kind and its parties'; no other call has one of the two
         // handles.
@@ -182,20 +206,27 @@ impl<'region> SharedPoolAllocator<'region> {
         Ok(PoolParty { owned, bucket: self.bucket })
     }
 
-    /// Returns figures, in any thread and while parties call. A party of the crate's own gives back
-    /// what nobody attached.
-    pub fn info(&self) -> ffi::SharedPoolInfo {
-        let mut info = ffi::SharedPoolInfo::default();
+    /// Returns all figures, in any thread and while parties call.
+    #[must_use]
+    pub fn info(&self) -> ffi::PoolInfo {
+        let mut info = ffi::PoolInfo::default();
         // SAFETY: the function is of this kind, and writes nothing that another call may read.
         expect_ok(unsafe {
-            ffi::bb_shared_pool_info(lock(&self.shared).owned.handle(), &mut info)
+            ffi::bb_shared_pool_info(lock(&self.shared).owned.handle(), &raw mut info)
         });
         info
     }
+
+    /// Returns how far a bucket begins after the one before it: its size, rounded up to its
+    /// alignment.
+    #[must_use]
+    pub fn stride(&self) -> usize {
+        self.bucket.pad_to_align().size()
+    }
 }
 
-/// What the flag of a pool's bucket says. A party's [`number`](PoolParty::number) is that by which
-/// flags name it.
+/// Who holds a bucket of a shared pool. A party is named by its [`number`](PoolParty::number).
+#[non_exhaustive]
 #[derive(Clone, Copy, Debug, PartialEq, Eq)]
 pub enum Holder {
     /// No party holds the bucket.
@@ -207,29 +238,36 @@ pub enum Holder {
 }
 
 impl SharedPoolAllocator<'_> {
-    /// Returns what the flag of this bucket says, in any thread and while parties call, or `None`
-    /// where no bucket has the number.
+    /// Returns who holds the bucket of this number, in any thread and while parties call, or `None`
+    /// if no bucket has the number.
+    #[must_use]
     pub fn holder(&self, number: u32) -> Option<Holder> {
-        let mut told = ffi::Holder::default();
+        let mut found = ffi::Holder::default();
         let pool = lock(&self.shared);
         // SAFETY: the function is of this kind, and writes nothing that another call may read.
-        match unsafe { ffi::bb_shared_pool_holder(pool.owned.handle(), number, &mut told) } {
+        match unsafe { ffi::bb_shared_pool_holder(pool.owned.handle(), number, &raw mut found) } {
             ffi::NOT_A_BUCKET => return None,
             code => expect_ok(code),
         }
-        Some(match told.state {
+        Some(match found.state {
             ffi::Holder::FREE => Holder::Free,
-            ffi::Holder::HELD => Holder::HeldBy(told.party),
-            ffi::Holder::DETACHED => Holder::DetachedBy(told.party),
+            ffi::Holder::HELD => Holder::HeldBy(found.party),
+            ffi::Holder::DETACHED => Holder::DetachedBy(found.party),
             state => no_such_answer(state),
         })
     }
 }
 
 impl SharedPoolAllocator<'static> {
-    /// Makes a pool of just so many buckets in memory of its own, so that its parties go into any
-    /// thread. The memory is freed behind the pool, its parties and its detached buckets: no chunk
-    /// is used then. `InvalidArgument` where there is no bucket, or no such memory can be.
+    /// Makes a pool of exactly this number of buckets in memory of its own, so that its parties may
+    /// be moved to any thread. The memory is freed when the pool, its parties and its detached
+    /// buckets are dropped: no chunk is used then.
+    ///
+    /// # Errors
+    ///
+    /// [`InvalidArgument`](InitError::InvalidArgument) if `buckets`, `parties` or the bucket's size
+    /// is 0, or if no memory has room for the buckets.
+    /// [`MallocRefused`](InitError::MallocRefused).
     pub fn with_buckets(bucket: Layout, buckets: u32, parties: u32) -> Result<Self, InitError> {
         let memory = Memory::of_buckets(bucket, buckets)?;
         let (start, size) = (memory.start, memory.layout.size());
@@ -242,22 +280,25 @@ impl SharedPoolAllocator<'static> {
 
 shown! { SharedPoolAllocator }
 
-/// A party of a [`SharedPoolAllocator`], for one thread at a time. A bucket is given back through
-/// the party that holds it: the one that took it, or one that attached it. Dropped, also by a
-/// panic, it leaves: each bucket that it holds is given back, and its chunks aren't used any more.
+/// A party of a [`SharedPoolAllocator`], for one thread at a time. A bucket is returned through the
+/// party that holds it: the one that took it, or one that attached it. When a party is dropped, also
+/// by a panic, it leaves: it returns each bucket that it holds, and their chunks aren't used then.
+///
+/// [`PartyBox`](crate::PartyBox) owns a value in a bucket of a party, without `unsafe`.
+#[must_use = "a party leaves when it is dropped"]
 pub struct PoolParty<'region> {
-    owned: Member<'region>,
+    pub(crate) owned: Member<'region>,
     pub(crate) bucket: Layout,
 }
 
 buckets! {
     PoolParty: bb_pool_party_allocate bb_pool_party_take bb_pool_party_deallocate
-    bb_pool_party_holds bb_pool_party_info bb_pool_party_place_at bb_pool_party_number_at
+    bb_pool_party_holds bb_pool_party_place_at bb_pool_party_number_at
 }
 
-/// A detached bucket, or none: what carries a bucket from one party of a [`SharedPoolAllocator`] to
-/// another, which gives it back. It is made once, and serves one bucket after another, along with
-/// messages. The bucket in a dropped one is given back.
+/// Carries a raw chunk from one party of a [`SharedPoolAllocator`] to another, or is empty. It is
+/// made once, and serves one bucket after another. When it is dropped, the bucket in it is returned.
+/// [`DetachedBox`](crate::DetachedBox) carries a value, without `unsafe`.
 ///
 /// ```
 /// use bb_memory::{BaseAllocator, DetachedBucket, SharedPoolAllocator};
@@ -279,7 +320,7 @@ buckets! {
 ///     full.send(detached).unwrap();
 /// });
 /// let chunk = receiver.attach(&mut taken.recv()?).unwrap();
-/// // Now it is this thread's, which gives it back.
+/// // Now it is this thread's, which returns it.
 /// unsafe {
 ///     assert_eq!(chunk.cast::<u64>().read(), 7);
 ///     receiver.deallocate(chunk.cast(), message);
@@ -289,12 +330,16 @@ buckets! {
 /// ```
 pub struct DetachedBucket<'region> {
     owned: Owned<'static>,
-    /// The pool of which the bucket is that is in it, and the length of its chunk.
+    /// The pool of the bucket that is in it, and the length of its chunk.
     of: Option<(Shared<'region>, usize)>,
 }
 
 impl DetachedBucket<'_> {
-    /// Makes a `DetachedBucket` with no bucket in it, for a bucket of any pool.
+    /// Makes an empty one, for buckets of any pool.
+    ///
+    /// # Errors
+    ///
+    /// [`MallocRefused`](InitError::MallocRefused).
     pub fn new() -> Result<Self, InitError> {
         // SAFETY: both functions are of this kind.
         let owned = unsafe {
@@ -306,11 +351,12 @@ impl DetachedBucket<'_> {
     }
 
     /// Returns whether a bucket is in it.
+    #[must_use]
     pub fn is_full(&self) -> bool {
         self.of.is_some()
     }
 
-    /// Returns the chunk of `len` bytes that is attached by a party of the bucket's pool.
+    /// Attaches the bucket by a party of its pool, and returns its chunk of `len` bytes.
     fn attach_by(&mut self, party: &Owned<'_>, len: usize) -> NonNull<[u8]> {
         // SAFETY: both handles are of their kinds, no other call has one of them, and the bucket is
         // of the party's pool.
@@ -331,31 +377,34 @@ impl Drop for DetachedBucket<'_> {
         let Some((of, len)) = self.of.take() else { return };
         if let Some(keeper) = &lock(&of).keeper {
             let place = self.attach_by(keeper, len).cast::<u8>().as_ptr().cast();
-            // SAFETY: the function is of this kind; and no party holds the bucket, so nobody uses
-            // its chunk any more.
+            // SAFETY: the function is of this kind. No party holds the bucket, so nobody uses its
+            // chunk any more.
             expect_ok(unsafe { ffi::bb_pool_party_deallocate(keeper.handle(), place) });
         }
     }
 }
 
 impl<'region> PoolParty<'region> {
-    /// Has the party cache at most `most` of the buckets that it gives back from now on, and never
-    /// more than the pool has: its next requests take the one that was cached last, without an
-    /// atomic step. To other parties a cached bucket is held. What was cached before is given back.
-    /// `MallocRefused` changes nothing.
+    /// Makes the party cache up to `most` of the buckets that are returned through it from now on. Its
+    /// next requests take the one that was cached last, without an atomic step. To other parties a
+    /// cached bucket is held. What was cached before is returned to the pool.
+    ///
+    /// # Errors
+    ///
+    /// [`MallocRefused`](InitError::MallocRefused). Nothing changes.
     pub fn cache(&self, most: u32) -> Result<(), InitError> {
         // SAFETY: the function is of this kind, and no other call has the handle.
         InitError::unless_ok(unsafe { ffi::bb_pool_party_cache(self.owned.handle(), most) })
     }
 
-    /// Gives back what is cached.
+    /// Returns what is cached to the pool.
     pub fn flush(&self) {
-        // SAFETY: as above.
+        // SAFETY: the function is of this kind, and no other call has the handle.
         expect_ok(unsafe { ffi::bb_pool_party_flush(self.owned.handle()) });
     }
 
-    /// Takes whole buckets, as that many calls of [`take`](Pool::take) do, until each slot has the
-    /// place of one or a taking is refused. Returns the slots that have one.
+    /// Takes whole buckets, as repeated calls of [`take`](Pool::take) do, until each slot has the place
+    /// of one or a taking is refused. Returns the slots that have one.
     ///
     /// ```
     /// use bb_memory::{Pool, SharedPoolAllocator};
@@ -378,8 +427,8 @@ impl<'region> PoolParty<'region> {
         let (first, len) = (slots.as_mut_ptr(), slots.len());
         // SAFETY: the function is of this kind, no other call has the handle, and it writes places
         // into the slots.
-        let told = unsafe { ffi::bb_pool_party_take_many(self.owned.handle(), first.cast(), len) };
-        let taken = number_if(ffi::OK, told).unwrap_or(0);
+        let taken = unsafe { ffi::bb_pool_party_take_many(self.owned.handle(), first.cast(), len) };
+        let taken = number_if(ffi::OK, taken).unwrap_or(0);
         for slot in &mut slots[..taken] {
             // SAFETY: a place was written here, as a number.
             let place = unsafe { slot.as_ptr().cast::<usize>().read() };
@@ -389,29 +438,34 @@ impl<'region> PoolParty<'region> {
         unsafe { slice::from_raw_parts_mut(first.cast(), taken) }
     }
 
-    /// Gives back the buckets at these places, as that many calls of
-    /// [`try_deallocate`](Pool::try_deallocate) do, up to the first that is refused. Returns how
-    /// many.
+    /// Returns the buckets at these places to the pool, as repeated calls of
+    /// [`try_deallocate`](Pool::try_deallocate) do, up to the first that is refused. The result is
+    /// how many were returned.
     ///
     /// # Safety
     ///
     /// Nothing reads or writes their bytes from now on.
+    #[must_use = "fewer buckets may be returned than there are places"]
     pub unsafe fn try_deallocate_many(&self, places: &[NonNull<u8>]) -> usize {
         let (first, len) = (places.as_ptr().cast(), places.len());
         // SAFETY: the function is of this kind, no other call has the handle, and there are that
         // many places.
-        let told = unsafe { ffi::bb_pool_party_deallocate_many(self.owned.handle(), first, len) };
-        number_if(ffi::OK, told).unwrap_or(0)
+        let count = unsafe { ffi::bb_pool_party_deallocate_many(self.owned.handle(), first, len) };
+        number_if(ffi::OK, count).unwrap_or(0)
     }
 
-    /// Detaches the bucket at this place, which this party holds, with a chunk of `len` bytes. It
-    /// is then in `detached`, which has to have none. Whoever has that attaches it. Meanwhile
-    /// several threads may read the chunk.
+    /// Detaches the bucket at `ptr`, which this party holds, with a chunk of `len` bytes. The bucket
+    /// is then in `detached`, and whoever has that attaches it. Meanwhile several threads may read
+    /// the chunk.
+    ///
+    /// # Errors
+    ///
+    /// Each variant of [`DetachError`] says when it is returned. Nothing changes.
     ///
     /// # Safety
     ///
-    /// The chunk isn't written any more by who doesn't attach it, and isn't read behind the end of
-    /// `detached`.
+    /// From now on only the thread that attaches the bucket writes its chunk. The chunk isn't read
+    /// after `detached` is dropped or its bucket is returned.
     pub unsafe fn detach(
         &self,
         ptr: NonNull<u8>,
@@ -426,12 +480,13 @@ impl<'region> PoolParty<'region> {
         Ok(())
     }
 
-    /// Attaches the bucket that is in `detached`: this party holds it, with the chunk that is
-    /// returned. Returns `None` where none is in it.
+    /// Attaches the bucket that is in `detached`, and returns its chunk: this party holds it then.
+    /// Returns `None` if `detached` is empty.
     ///
     /// # Panics
     ///
-    /// Where the bucket is another pool's, which stays in `detached`.
+    /// If the bucket is another pool's. It stays in `detached`.
+    #[must_use = "the party holds the bucket, and its place is returned only here"]
     pub fn attach(&self, detached: &mut DetachedBucket<'region>) -> Option<NonNull<[u8]>> {
         let &(ref pool, len) = detached.of.as_ref()?;
         assert!(Arc::ptr_eq(pool, &self.owned.of), "the bucket is another pool's");
@@ -439,16 +494,17 @@ impl<'region> PoolParty<'region> {
         Some(detached.attach_by(&self.owned, len))
     }
 
-    /// Gives back the bucket that is in `detached`, without attaching it. Returns `false` where
-    /// none is in it.
-    ///
-    /// # Safety
-    ///
-    /// The chunk isn't used any more.
+    /// Returns the bucket that is in `detached` to the pool, without attaching it. The result is
+    /// `false` if `detached` is empty.
     ///
     /// # Panics
     ///
-    /// Where the bucket is another pool's, which stays in `detached`.
+    /// If the bucket is another pool's. It stays in `detached`.
+    ///
+    /// # Safety
+    ///
+    /// The chunk isn't used from now on.
+    #[must_use = "`false` means that there was no bucket"]
     pub unsafe fn return_detached(&self, detached: &mut DetachedBucket<'region>) -> bool {
         let Some((pool, _)) = detached.of.as_ref() else { return false };
         assert!(Arc::ptr_eq(pool, &self.owned.of), "the bucket is another pool's");
@@ -461,27 +517,29 @@ impl<'region> PoolParty<'region> {
         true
     }
 
-    /// Gives back the bucket of this number, which was detached into a [`DetachedBucket`].
+    /// Returns the bucket of this number, which was detached into a [`DetachedBucket`], to the pool.
+    ///
+    /// # Errors
+    ///
+    /// Each variant of [`RecoverError`] says when it is returned. Nothing changes.
     ///
     /// # Safety
     ///
-    /// Nobody has or will use the bucket's [`DetachedBucket`], which was forgotten or a dead
-    /// process's. Its chunk isn't used any more.
+    /// The bucket's [`DetachedBucket`] was forgotten, or was a dead process's: nobody uses it from
+    /// now on, nor the chunk.
     pub unsafe fn recover(&self, number: u32) -> Result<(), RecoverError> {
         let mut lost = ffi::Handle::LOST;
-        // SAFETY: the function is of this kind, no other call has the handle, and the bucket's
-        // token is nobody's.
+        // SAFETY: the function is of this kind, no other call has the handle, and nobody has the
+        // bucket's token.
         RecoverError::unless_ok(unsafe {
-            ffi::bb_pool_party_recover(self.owned.handle(), number, &mut lost)
+            ffi::bb_pool_party_recover(self.owned.handle(), number, &raw mut lost)
         })
     }
 
-    /// Detaches the bucket at this place, which this party holds, and returns the bucket's number.
-    /// The number goes to another party in any way, with this party's
-    /// [`number`](PoolParty::number), and that party attaches the bucket by
-    /// [`attach_number`](PoolParty::attach_number). Refused with [`NotHeld`](DetachError::NotHeld)
-    /// if this party doesn't hold the bucket. A bucket that nobody attaches stays detached: no
-    /// [`DetachedBucket`] gives it back when it is dropped.
+    /// Detaches the bucket at `ptr`, which this party holds, and returns the bucket's number. Send it
+    /// to another party in any way, with this party's [`number`](PoolParty::number). That party
+    /// attaches the bucket by [`attach_number`](PoolParty::attach_number). A bucket that nobody
+    /// attaches stays detached.
     ///
     /// ```
     /// use bb_memory::{Pool, SharedPoolAllocator};
@@ -492,12 +550,17 @@ impl<'region> PoolParty<'region> {
     /// let place = sender.take()?.cast();
     /// // The chunk isn't used by the sender any more.
     /// let number = unsafe { sender.detach_number(place)? };
-    /// let received = receiver.attach_number(number, sender.number())?;
+    /// // The numbers are those of `detach_number`.
+    /// let received = unsafe { receiver.attach_number(number, sender.number())? };
     /// assert_eq!(received.cast(), place);
     /// // One party gets the bucket.
-    /// assert!(receiver.attach_number(number, sender.number()).is_err());
+    /// assert!(unsafe { receiver.attach_number(number, sender.number()) }.is_err());
     /// # Ok::<(), Box<dyn std::error::Error>>(())
     /// ```
+    ///
+    /// # Errors
+    ///
+    /// [`NotHeld`](DetachError::NotHeld) if this party holds no bucket at `ptr`.
     ///
     /// # Safety
     ///
@@ -505,47 +568,64 @@ impl<'region> PoolParty<'region> {
     pub unsafe fn detach_number(&self, ptr: NonNull<u8>) -> Result<u32, DetachError> {
         let place = ptr.as_ptr().cast();
         // SAFETY: the function is of this kind, and no other call has the handle.
-        let figure = unsafe { ffi::bb_pool_party_detach_number(self.owned.handle(), place) };
-        DetachError::unless_ok(figure.code)?;
-        // A bucket's number is a `u32`.
-        Ok(figure.number as u32)
+        let detached = unsafe { ffi::bb_pool_party_detach_number(self.owned.handle(), place) };
+        DetachError::unless_ok(detached.code)?;
+        Ok(bucket_number(detached.number))
     }
 
     /// Attaches the bucket of this number if the party of number `from` has detached it by
-    /// [`detach_number`](PoolParty::detach_number), by one exchange: this party holds the bucket,
-    /// which is returned whole. Of any number of callers at most one gets it. The others are
-    /// refused with [`NotHeld`](AttachError::NotHeld), and nothing changes. Both numbers may be
-    /// any.
-    pub fn attach_number(&self, number: u32, from: u32) -> Result<NonNull<[u8]>, AttachError> {
+    /// [`detach_number`](PoolParty::detach_number), and returns the whole bucket: this party holds
+    /// it then. However many parties try, at most one gets it.
+    ///
+    /// # Errors
+    ///
+    /// Each variant of [`AttachError`] says when it is returned. Nothing changes.
+    ///
+    /// # Safety
+    ///
+    /// The bucket isn't in a [`DetachedBox`](crate::DetachedBox), which is detached by its number,
+    /// too.
+    pub unsafe fn attach_number(
+        &self,
+        number: u32,
+        from: u32,
+    ) -> Result<NonNull<[u8]>, AttachError> {
         // SAFETY: the function is of this kind, and no other call has the handle.
         let answer = unsafe { ffi::bb_pool_party_attach_number(self.owned.handle(), number, from) };
         let place = self.owned.place(answer).map_err(AttachError::of)?;
         Ok(NonNull::slice_from_raw_parts(place, self.bucket.size()))
     }
 
-    /// Gives back each bucket that this party holds, cached ones too, as dropping the party does.
-    /// The party stays.
+    /// Returns each bucket that this party holds to the pool, cached ones too. The party stays.
     ///
     /// # Safety
     ///
-    /// No chunk of these buckets is used any more.
+    /// No chunk of these buckets is used from now on.
     pub unsafe fn give_all_back(&self) {
         // SAFETY: the function is of this kind, and no other call has the handle.
         expect_ok(unsafe { ffi::bb_pool_party_give_all_back(self.owned.handle()) });
     }
 
-    /// Ends the party without giving anything back. The next party that joins [by its
+    /// Ends the party without returning a bucket. The next party that joins [by its
     /// number](SharedPoolAllocator::join_number), or happens to get it, holds what this one held.
     pub fn forget(self) {
         // SAFETY: the function is of this kind, and empties the party's handle.
         unsafe { self.owned.end_by(ffi::bb_shared_pool_forget) };
     }
 
-    /// Returns the number by which flags name this party.
+    /// Returns the number of this party, by which [`Holder`] names it.
+    #[must_use]
     pub fn number(&self) -> u32 {
         // SAFETY: the function is of this kind, and no other call has the handle.
-        let figure = unsafe { ffi::bb_pool_party_number(self.owned.handle()) };
-        let number = number_if(ffi::NOT_HELD, figure).and_then(|it| u32::try_from(it).ok());
+        let number = unsafe { ffi::bb_pool_party_number(self.owned.handle()) };
+        let number = number_if(ffi::NOT_HELD, number).and_then(|it| u32::try_from(it).ok());
         number.unwrap_or_else(|| no_such_answer(ffi::OK))
+    }
+
+    fn figures(&self) -> ffi::PoolInfo {
+        let mut info = ffi::PoolInfo::default();
+        // SAFETY: the function is of this kind, and no other call has the handle.
+        expect_ok(unsafe { ffi::bb_pool_party_info(self.owned.handle(), &raw mut info) });
+        info
     }
 }

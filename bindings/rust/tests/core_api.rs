@@ -58,7 +58,7 @@ fn boxes_lie_in_what_threads_share() {
             (*Box::new_in(number, party), kept.iter().sum::<u64>())
         })
     });
-    let told = threads.map(|thread| thread.join().unwrap());
-    assert_eq!(told, [(7, 700), (8, 800)]);
+    let found = threads.map(|thread| thread.join().unwrap());
+    assert_eq!(found, [(7, 700), (8, 800)]);
     assert_eq!(pool.join().unwrap().held_buckets(), 0);
 }

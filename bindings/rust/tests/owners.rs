@@ -17,15 +17,15 @@ impl Region {
     }
 }
 
-fn refuses<T, E: PartialEq + std::fmt::Debug>(told: Result<T, E>, why: E) {
-    assert_eq!(told.err(), Some(why));
+fn refuses<T, E: PartialEq + std::fmt::Debug>(result: Result<T, E>, why: E) {
+    assert_eq!(result.err(), Some(why));
 }
 
 fn layout(size: usize, align: usize) -> Layout {
     Layout::from_size_align(size, align).unwrap()
 }
 
-/// Returns how far behind this address the chunk begins, and its length.
+/// Returns how far after this address the chunk begins, and its length.
 fn at(chunk: NonNull<[u8]>, start: usize) -> (usize, usize) {
     (chunk.cast::<u8>().addr().get() - start, chunk.len())
 }
@@ -36,7 +36,7 @@ fn is_zero(chunk: NonNull<[u8]>) -> bool {
 }
 
 #[test]
-fn a_bump_gives_one_chunk_behind_another() {
+fn a_bump_allocates_one_chunk_after_another() {
     let mut region = Region::new();
     let bump = BumpAllocator::over(&mut region.0).unwrap();
     let start = bump.start_address();
@@ -68,7 +68,7 @@ fn what_was_written_is_read_through_the_region() {
 }
 
 #[test]
-fn one_chunk_is_out_at_a_time() {
+fn one_chunk_is_allocated_at_a_time() {
     let mut region = Region::new();
     let one = OneChunkAllocator::over(&mut region.0[1..]).unwrap();
     assert_eq!((one.size(), one.has_chunk_available()), (1023, true));
@@ -77,8 +77,8 @@ fn one_chunk_is_out_at_a_time() {
     let place = chunk.cast::<u8>();
     assert_eq!(at(chunk, one.start_address()), (3, 1020));
     refuses(one.allocate(layout(1, 1)), AllocationError::OutOfMemory);
-    let wild = place.map_addr(|address| address.checked_add(1).unwrap());
-    assert_eq!((one.holds(place), one.holds(wild)), (true, false));
+    let other = place.map_addr(|address| address.checked_add(1).unwrap());
+    assert_eq!((one.holds(place), one.holds(other)), (true, false));
     // SAFETY: the chunk is ours, and nothing else uses it.
     unsafe {
         let shrunk = one.shrink(place, layout(48, 4), layout(32, 4)).unwrap();
@@ -106,8 +106,8 @@ fn one_chunk_is_out_at_a_time() {
             one.grow(place, layout(64, 1 << 40), layout(65, 4)),
             AllocationGrowError::LayoutMismatch,
         );
-        refuses(one.grow(wild, layout(1, 1), layout(2, 1)), AllocationGrowError::NotHeld);
-        refuses(one.try_deallocate(wild), DeallocationError::NotHeld);
+        refuses(one.grow(other, layout(1, 1), layout(2, 1)), AllocationGrowError::NotHeld);
+        refuses(one.try_deallocate(other), DeallocationError::NotHeld);
         assert_eq!(one.try_deallocate(place), Ok(()));
     }
     assert!(one.has_chunk_available());
@@ -138,6 +138,57 @@ fn a_pool_gives_buckets() {
     }
     assert_eq!((pool.held_buckets(), pool.greatest_held()), (7, 8));
     assert!(is_zero(pool.allocate_zeroed(layout(128, 8)).unwrap()));
+}
+
+#[test]
+fn a_chunk_of_a_pool_is_resized_in_its_bucket() {
+    let mut region = Region::new();
+    let pool = PoolAllocator::over(layout(100, 8), &mut region.0).unwrap();
+    assert_eq!((pool.stride(), pool.number_of_buckets()), (104, 9));
+    let place = pool.allocate(layout(48, 4)).unwrap().cast::<u8>();
+    let free = pool.take().unwrap().cast::<u8>();
+    // SAFETY: both chunks are ours, and nothing else uses them.
+    unsafe {
+        pool.deallocate(free, layout(100, 8));
+        let grown = pool.grow_zeroed(place, layout(48, 4), layout(100, 8)).unwrap();
+        assert_eq!((grown.cast(), grown.len()), (place, 100));
+        assert!(is_zero(NonNull::slice_from_raw_parts(place.add(48), 52)));
+        refuses(pool.grow(free, layout(1, 1), layout(2, 1)), AllocationGrowError::NotHeld);
+        refuses(
+            pool.grow(place, layout(8, 1 << 40), layout(9, 1)),
+            AllocationGrowError::LayoutMismatch,
+        );
+        refuses(
+            pool.grow(place, layout(48, 4), layout(48, 16)),
+            AllocationGrowError::GrowWouldShrink,
+        );
+        refuses(
+            pool.grow(place, layout(48, 4), layout(101, 16)),
+            AllocationGrowError::AlignmentFailure,
+        );
+        refuses(pool.grow(place, layout(48, 4), layout(101, 1)), AllocationGrowError::OutOfMemory);
+        let shrunk = pool.shrink(place, layout(100, 8), layout(0, 8)).unwrap();
+        assert_eq!((shrunk.cast(), shrunk.len()), (place, 0));
+        refuses(pool.shrink(free, layout(2, 1), layout(1, 1)), AllocationShrinkError::NotHeld);
+        refuses(
+            pool.shrink(place, layout(101, 1), layout(1, 1)),
+            AllocationShrinkError::LayoutMismatch,
+        );
+        refuses(
+            pool.shrink(place, layout(8, 1 << 40), layout(1, 1)),
+            AllocationShrinkError::LayoutMismatch,
+        );
+        refuses(
+            pool.shrink(place, layout(8, 1), layout(8, 16)),
+            AllocationShrinkError::ShrinkWouldGrow,
+        );
+        refuses(
+            pool.shrink(place, layout(8, 1), layout(7, 16)),
+            AllocationShrinkError::AlignmentFailure,
+        );
+        assert_eq!(pool.try_deallocate(place), Ok(()));
+        refuses(pool.shrink(place, layout(2, 1), layout(1, 1)), AllocationShrinkError::NotHeld);
+    }
 }
 
 #[test]
@@ -172,17 +223,17 @@ fn a_pool_lies_in_a_chunk_of_a_bump() {
     // SAFETY: the chunk is ours, serves nothing else, and isn't given back.
     let pool = unsafe { PoolAllocator::new(layout(64, 8), chunk.cast(), chunk.len()) }.unwrap();
     assert_eq!((pool.number_of_buckets(), pool.held_buckets()), (8, 0));
-    let (behind, len) = at(pool.allocate(layout(64, 8)).unwrap(), bump.start_address());
-    assert!(behind + len <= 512 && pool.held_buckets() == 1);
+    let (offset, len) = at(pool.allocate(layout(64, 8)).unwrap(), bump.start_address());
+    assert!(offset + len <= 512 && pool.held_buckets() == 1);
 }
 
 #[test]
-fn what_cannot_be_is_refused() {
+fn an_invalid_argument_is_refused() {
     let mut region = Region::new();
     refuses(PoolAllocator::over(layout(0, 8), &mut region.0), InitError::InvalidArgument);
     refuses(PoolAllocator::over(layout(1025, 1), &mut region.0), InitError::NoBucket);
     let start = NonNull::from(&mut region.0).cast();
-    // SAFETY: nothing is made, since such a region would end behind the last address.
+    // SAFETY: nothing is made, since such a region would end after the last address.
     refuses(unsafe { BumpAllocator::new(start, usize::MAX) }, InitError::InvalidArgument);
     assert_eq!(InitError::MallocRefused.to_string(), "malloc failed");
     refuses(PoolAllocator::with_buckets(layout(8, 8), 0), InitError::InvalidArgument);
@@ -204,9 +255,7 @@ fn what_is_made_shows_its_figures() {
     assert!(pool.allocate(layout(1, 1)).is_ok());
     let shown = format!("{pool:?}");
     assert!(
-        shown.ends_with(
-            "max_alignment: 16, number_of_buckets: 3, held_buckets: 1, greatest_held: 1 })"
-        ),
+        shown.ends_with("max_alignment: 16, number_of_buckets: 3, held_buckets: 1 })"),
         "{shown}"
     );
 }

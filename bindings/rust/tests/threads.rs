@@ -13,8 +13,8 @@ use std::thread;
 const THREADS: u32 = 4;
 const ROUNDS: u64 = 20_000;
 
-fn refuses<T, E: PartialEq + std::fmt::Debug>(told: Result<T, E>, why: E) {
-    assert_eq!(told.err(), Some(why));
+fn refuses<T, E: PartialEq + std::fmt::Debug>(result: Result<T, E>, why: E) {
+    assert_eq!(result.err(), Some(why));
 }
 
 fn bucket() -> Layout {
@@ -79,7 +79,7 @@ fn use_bump(party: &BumpParty<'_>, number: u64) -> usize {
 fn every_byte_of_a_shared_bump_is_given_once() {
     let mut region: Box<[std::mem::MaybeUninit<u64>]> = Box::new_uninit_slice(80_000);
     let start = NonNull::from(&mut *region).cast::<u8>();
-    // SAFETY: the region is this function's, and used through chunks alone.
+    // SAFETY: the region is this function's, and is used only through chunks.
     let bump = unsafe { SharedBumpAllocator::new(start, 640_000, THREADS) }.unwrap();
     let parties: Vec<BumpParty<'_>> = (0..THREADS).map(|_| bump.join().unwrap()).collect();
     refuses(bump.join(), JoinError::NoParty);
@@ -111,23 +111,22 @@ fn a_shared_bump_is_reset_when_each_party_has_left() {
 }
 
 #[test]
-fn any_thread_is_told_what_is_held() {
+fn any_thread_sees_how_many_buckets_are_held() {
     let pool = SharedPoolAllocator::with_buckets(bucket(), 3, 2).unwrap();
-    let told = |pool: &SharedPoolAllocator<'_>| {
+    let counts = |pool: &SharedPoolAllocator<'_>| {
         let info = pool.info();
-        assert_eq!(info.pool.number_of_buckets, 3);
-        (info.pool.held_buckets, info.pool.greatest_held, info.refused)
+        (info.number_of_buckets, info.held_buckets)
     };
-    assert_eq!(told(&pool), (0, 0, 0));
-    let party = pool.join().unwrap();
+    assert_eq!((counts(&pool), pool.stride()), ((3, 0), 64));
+    let (party, other) = (pool.join().unwrap(), pool.join().unwrap());
     assert!((0..3).all(|_| party.allocate(bucket()).is_ok()));
     refuses(party.allocate(bucket()), AllocationError::OutOfMemory);
     let elsewhere = pool.clone();
-    assert_eq!(thread::spawn(move || told(&elsewhere)).join().unwrap(), (3, 3, 1));
-    assert_eq!(party.greatest_held(), 3);
+    assert_eq!(thread::spawn(move || counts(&elsewhere)).join().unwrap(), (3, 3));
+    assert_eq!((party.held_buckets(), other.held_buckets()), (3, 0));
     drop(party);
-    assert_eq!(told(&pool), (0, 3, 1));
-    assert!(format!("{pool:?}").contains("refused: 1"));
+    assert_eq!(counts(&pool), (3, 0));
+    assert!(format!("{pool:?}").contains("held_buckets: 0"));
 }
 
 #[test]
@@ -261,16 +260,17 @@ fn a_flag_says_who_holds_a_bucket() {
     let mut detached = DetachedBucket::new().unwrap();
     let chunk = mine.allocate(bucket()).unwrap().cast();
     let number = mine.number_at(chunk).unwrap();
-    let told = |number| thread::scope(|scope| scope.spawn(|| pool.holder(number)).join().unwrap());
-    let says = [told(number), told(1 - number), told(2)];
+    let holder_of =
+        |number| thread::scope(|scope| scope.spawn(|| pool.holder(number)).join().unwrap());
+    let says = [holder_of(number), holder_of(1 - number), holder_of(2)];
     assert_eq!(says, [Some(Holder::HeldBy(mine.number())), Some(Holder::Free), None]);
     // SAFETY: no chunk is used, and what is recovered was forgotten.
     unsafe {
         assert!(!other.return_detached(&mut detached));
         mine.detach(chunk, 64, &mut detached).unwrap();
-        assert_eq!(told(number), Some(Holder::DetachedBy(mine.number())));
+        assert_eq!(holder_of(number), Some(Holder::DetachedBy(mine.number())));
         assert!(other.return_detached(&mut detached) && !detached.is_full());
-        assert_eq!(told(number), Some(Holder::Free));
+        assert_eq!(holder_of(number), Some(Holder::Free));
         refuses(other.recover(number), RecoverError::NotHeld);
         refuses(other.recover(2), RecoverError::NotABucket);
         let chunk = mine.allocate(bucket()).unwrap().cast();
@@ -278,12 +278,12 @@ fn a_flag_says_who_holds_a_bucket() {
         mine.detach(chunk, 64, &mut detached).unwrap();
         let mut attached = DetachedBucket::new().unwrap();
         let taken = other.attach(&mut detached).unwrap().cast();
-        assert_eq!(told(number), Some(Holder::HeldBy(other.number())));
+        assert_eq!(holder_of(number), Some(Holder::HeldBy(other.number())));
         other.detach(taken, 64, &mut attached).unwrap();
         std::mem::forget(attached);
         drop(other);
         assert_eq!(mine.recover(number), Ok(()));
-        assert_eq!(told(number), Some(Holder::Free));
+        assert_eq!(holder_of(number), Some(Holder::Free));
     }
 }
 
@@ -297,7 +297,7 @@ fn a_bucket_is_not_attached_at_another_pool() {
     let chunk = party.allocate(bucket()).unwrap().cast::<u8>();
     // SAFETY: the chunk isn't used.
     unsafe { party.detach(chunk, 64, &mut detached).unwrap() };
-    other.join().unwrap().attach(&mut detached);
+    let _ = other.join().unwrap().attach(&mut detached);
 }
 
 #[test]
@@ -390,7 +390,7 @@ fn a_bucket_goes_by_its_number_to_one_party() {
         assert_eq!(sender.attach(&mut detached).unwrap().cast(), chunk);
         assert_eq!(sender.try_deallocate(chunk), Ok(()));
     }
-    assert_eq!(pool.info().pool.held_buckets, 0);
+    assert_eq!(pool.info().held_buckets, 0);
 }
 
 #[test]
@@ -403,8 +403,9 @@ fn of_two_threads_one_attaches_a_bucket() {
         let mut won = 0;
         for _ in 0..ROUNDS {
             start.wait();
-            if let Ok(chunk) = party.attach_number(0, 2) {
-                // SAFETY: the chunk isn't used.
+            // SAFETY: the bucket is detached by `detach_number`, and its chunk isn't used.
+            if let Ok(chunk) = unsafe { party.attach_number(0, 2) } {
+                // SAFETY: as above.
                 won += u64::from(unsafe { party.try_deallocate(chunk.cast()) }.is_ok());
             }
             start.wait();
@@ -441,15 +442,30 @@ fn a_party_of_a_forgotten_number_holds_what_was_held() {
     // SAFETY: the chunk isn't used any more.
     unsafe { party.try_deallocate(chunks[0]).unwrap() };
     party.forget();
-    assert_eq!(pool.info().pool.held_buckets, 2);
+    assert_eq!(pool.info().held_buckets, 2);
     let next = pool.join_number(1).unwrap();
     assert!(chunks.iter().all(|chunk| next.holds(*chunk)));
     // SAFETY: no chunk is used any more.
     unsafe { next.give_all_back() };
-    assert_eq!((next.held_buckets(), pool.info().pool.held_buckets), (0, 0));
+    assert_eq!((next.held_buckets(), pool.info().held_buckets), (0, 0));
     assert!((0..3).all(|_| next.take().is_ok()));
     drop(next);
-    assert_eq!(pool.info().pool.held_buckets, 0);
+    assert_eq!(pool.info().held_buckets, 0);
+}
+
+#[test]
+fn a_pool_ends_while_a_bucket_is_detached_by_its_number() {
+    let mut region = Box::new_uninit_slice(64 * 2);
+    for _ in 0..3 {
+        let pool = SharedPoolAllocator::over(bucket(), &mut region, 1).unwrap();
+        let party = pool.join().unwrap();
+        assert_eq!((pool.info().number_of_buckets, pool.info().held_buckets), (2, 0));
+        let chunk = party.take().unwrap().cast();
+        // SAFETY: no chunk is used.
+        let number = unsafe { party.detach_number(chunk) }.unwrap();
+        drop(party);
+        assert!(matches!(pool.holder(number), Some(Holder::DetachedBy(_))));
+    }
 }
 
 #[test]

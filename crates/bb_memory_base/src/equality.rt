@@ -19,8 +19,8 @@ use crate::allocator::{
 use crate::layout::{Chunk, Layout, LayoutError};
 use crate::steps::{BumpOutcome, BumpStep, PoolOutcome, PoolStep};
 
-/// `==` is true exactly where the two values are the same: of one variant, with the same fields. It does nothing: its contract
-/// is the law.
+/// `==` is true exactly if the two values are the same: of one variant, with the same fields. The function does nothing: its
+/// contract is the law.
 pub fn equality_law()
     ensures layout { (one other : Layout)
         → IsTrue (⟦<Layout as PartialEq>⟧.eq one other) ↔ (one ≡ other) }

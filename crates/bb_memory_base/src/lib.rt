@@ -1,9 +1,9 @@
-//! The ground of the allocators, passed on from the crates that have its parts, and what `==` says.
+//! Passes on what the allocators share from the crates that have its parts, and says when `==` is true.
 //!
 //! - `allocator`: of `bb_memory_traits` and `bb_memory_runs`.
 //! - `layout`, `region`: of `bb_memory_traits`. `lists`: of `bb_memory_lists`.
 //! - `steps`: of `bb_memory_bump_machine` and `bb_memory_pool_machine`.
-//! - `equality`: what `==` says of the types of these crates.
+//! - `equality`: what `==` says for the types of these crates.
 #![tactic(auto)]
 
 pub use bb_memory_lists::lists;

@@ -35,7 +35,7 @@ counted_found : (scene : BumpScene) (log : BumpLog) (met : ℕ) (added : BumpLog
     party.allocator.scene ≡ scene → log ≡ party.log → met ≡ party.met → IsFoundBy party added
 counted_found scene log met added party counted scene_is log_is met_is = grind arith
 
--- where no step was made
+-- if no step was made
 pub nothing_found : (party : BumpParty) (added : BumpLog) → party ≡ with_entries party added → IsFoundBy party added
 nothing_found party added same = grind (arith, nothing_added)
 

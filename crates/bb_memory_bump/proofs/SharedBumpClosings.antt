@@ -25,7 +25,7 @@ closes scene seat view words homes position last at =
     subst (AfterMeetingLoad scene view.parties (met_by view)) found (told_by scene state rule seat view last.1.1)
 
 -- The last position, to a party with this log: it is at least what the party had seen and what its last meeting had found, and
--- at most the size. Some interleaving leaves it, and it is exactly what the party had seen where there is no other.
+-- at most the size. Some interleaving leaves it, and it is exactly what the party had seen if there is no other.
 pub record AfterLast (scene : BumpScene) (number : ℕ) (log : BumpLog) (met last : ℕ)
     : Type 0 where
   pub interleaved : Interleaving scene number log last
@@ -35,7 +35,7 @@ pub record AfterLast (scene : BumpScene) (number : ℕ) (log : BumpLog) (met las
   pub exact : scene.parties ≡ 1 → last ≡ seen_in scene log
   pub chunks : HasChunksWithin scene.region log last
 
--- what it says to a party alone
+-- what it says to the only party
 pub last_known : (scene : BumpScene) (number : ℕ) (log : BumpLog) (met last : ℕ) →
     AfterMeetingLoad scene (numbered number log ∷ []) met last → AfterLast scene number log met last
 last_known scene number log met last told =

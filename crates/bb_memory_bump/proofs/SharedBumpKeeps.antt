@@ -24,7 +24,7 @@ use prog.Atomic.{either}
 
 -- ONE STEP
 
--- what the rule says of a party whose log this is
+-- what the rule says about a party with this log
 pub record IsKnown (scene : BumpScene) (state : State ℕ SeatView) (rule : WordsAndLogsAgree scene state) (party : ℕ)
     (log : BumpLog) : Type 0 where
   pub there : party < scene.parties
@@ -75,7 +75,7 @@ step_keeps scene state rule seat party log met kind outcome left at agree risen 
       met = met_set state.views seat new rule.position left rule.met risen (omega (arith, most, risen));
     }
 
--- where there is one party, the position is what it has seen
+-- if there is one party, the position is what it has seen
 only_one : (scene : BumpScene) (state : State ℕ SeatView) (rule : WordsAndLogsAgree scene state) (party : ℕ) (log : BumpLog) →
     IsKnown scene state rule party log → scene.parties ≡ 1 → rule.position ≡ seen_in scene log
 only_one scene state rule party log know one =

@@ -1,4 +1,4 @@
--- Parties that come to one seat, and what their meeting says of their logs.
+-- Parties that come to one seat, and what their meeting says about their logs.
 use Rattle.atomic_table.specs.Seated.{TableId}
 use Rattle.atomic_table.specs.Table.{Me}
 use Rattle.bb_memory_bump.specs.SharedBump.{AgreeAt, BumpParty, HaveMet, IsSharedScene, SharedBump, floor_of, greatest_seen, meeting_at, seen_by}
@@ -20,7 +20,7 @@ use Rattle.std.specs.Prelude.{Contains, map}
 
 -- GATHERING
 
--- a party's seat stands for it alone
+-- a party's seat stands only for it
 pub parties_of : (table : TableId) (number : ℕ) (me : Me ℕ SeatView) (party : BumpParty) → IsPartySeat number me →
     party_in table number me.0 ≡ party → me.0.parties ≡ numbered_of party ∷ []
 parties_of table number me party fields view_is =
@@ -51,7 +51,7 @@ greatest_below : (items : List BumpParty) (most : ℕ) → AllByRecursion (λ pa
 greatest_below [] most below = omega arith
 greatest_below (party ∷ items) most below = let rest = greatest_below items most below.1 in omega (arith, rest, below.0)
 
--- parties of one bump that met where this position was found
+-- parties of one bump that met and found this position
 module _ (bump : SharedBump) (items : List BumpParty) (met found : ℕ) (theirs : All (λ party. party.allocator ≡ bump) items)
     (told : AfterMeetingLoad bump.scene (map numbered_of items) met found) where
   abbrev scene : BumpScene

@@ -15,7 +15,7 @@ pub party_seat : (scene : BumpScene) (number : ℕ) (log : BumpLog) (me : Me ℕ
     number < scene.parties → IsSharedScene scene → met_by me.0 ≤ scene.region.size → IsPartySeat number me
 party_seat scene number log me of below shared met = grind arith
 
--- a party's fields stay those of its seat where a call has ended
+-- a party's fields are still those of its seat after a call
 pub party_kept : (scene : BumpScene) (number : ℕ) (added : BumpLog) (old new : Me ℕ SeatView) → IsPartySeat number old →
     scene_of old.0 ≡ scene → AfterCall scene (number_of old.0) (view_log old.0) (met_by old.0) added new → IsPartySeat number new
 party_kept scene number added old new fields same ended = grind arith

@@ -69,7 +69,7 @@ module _ (scene : BumpScene) (position : ℕ) (parties : List BumpParty) (met : 
       (λ party logged. held_in_list scene live position party.number party.log (interleaving_of party logged))
       parties met_logged
 
-  -- an entry whose step is that of a number stands in the log of the party with this number
+  -- an entry whose step is that of a number is in the log of the party with this number
   numbered : (entry : BumpEntry) (number : ℕ) → length parties ≡ scene.parties → Contains history entry →
       is_by number entry.step ≡ true → Any (λ party. Contains party.log entry) parties
   numbered entry number all there by =

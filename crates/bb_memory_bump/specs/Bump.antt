@@ -34,7 +34,7 @@ pub record Takes (old : Bump) (layout : Layout) (answer : Result Chunk Allocatio
   pub begins : IfOk answer (λ chunk. chunk.place ≡ least_place (old.region.start + old.used) layout.align)
   pub exact_size : IfOk answer (λ chunk. chunk.len ≡ layout.size)
   pub behind : IfOk answer (λ chunk. old.region.start + old.used ≤ chunk.place)
-  -- the used part then ends where the chunk does; a refusal changes nothing
+  -- the used part then ends at the chunk's end; a refusal changes nothing
   pub used : IfOk answer (λ chunk. new.region.start + new.used ≡ chunk_end chunk)
   pub unchanged : OnErr answer (new ≡ old)
 

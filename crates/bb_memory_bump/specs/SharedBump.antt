@@ -172,12 +172,12 @@ pub record AreBothOf (allocator : SharedBump) (one other : BumpParty) : Type 0 w
   pub a : one.allocator ≡ allocator
   pub b : other.allocator ≡ allocator
 
--- the logs of both parties have an interleaving with some logs of the others
+-- the logs of the two parties have an interleaving with some logs of the others
 abbrev pub AreInterleaved : BumpParty → BumpParty → Type 0
 AreInterleaved a b = (position : ℕ) × CommonInterleaving a.allocator.scene a.number a.log b.number b.log position
 
 -- Two parties met, and found this position: at least what either knew, at most the region's size,
--- and left by some interleaving of both logs.
+-- and left by some interleaving of their logs.
 pub record MeetAt (bump : SharedBump) (a b : BumpParty) (found : ℕ) : Type 0 where
   pub differ : a.number ≢ b.number
   pub interleaved : AreInterleaved a b

@@ -172,7 +172,7 @@ pub record AfterMeetingLoad (scene : BumpScene) (parties : List NumberedLog) (me
   pub once : (number : ℕ) → number < scene.parties → times_in number parties ≤ 1
 
 -- Two parties met, and found this position. They are different ones, no chunk of one overlaps a
--- chunk of the other, and some interleaving of both logs leaves the position.
+-- chunk of the other, and some interleaving of their logs leaves the position.
 pub record AfterMeeting (scene : BumpScene) (number : ℕ) (log : BumpLog) (other : ℕ) (other_log : BumpLog) (found : ℕ) : Type 0
   where
     pub differ : number ≢ other
@@ -220,7 +220,7 @@ pub record IsFor (region : Region) (position : ℕ) (layout : Layout) (chunk : C
   pub above : region.start + position ≤ chunk.place
 
 -- The entries that were added to a log: each of their positions is at least the party's floor and
--- at most the region's size, and at most as many exchanges were lost as the region has bytes.
+-- at most the region's size, and at most one exchange was lost for each byte of the region.
 pub record IsCounted (scene : BumpScene) (log : BumpLog) (met : ℕ) (added : BumpLog) : Type 0 where
   pub seen : All (HasPositionFrom (max (seen_in scene log) met) scene.region) added
   pub within : All (HasPositionUpTo scene.region.size scene.region) added

@@ -16,14 +16,14 @@ use std::alloc::{AllocError, Global};
 use std::fmt;
 use std::marker::Model;
 
-/// Gives chunks in order, each at the first suitable place behind the one before. All are given back at once.
+/// Gives chunks in order, each at the first suitable place after the one before. All are given back at once.
 ///
 /// Example: `comments::bump` of `crates/examples`.
 #[derive(Debug, Drop)]
 pub struct BumpAllocator {
     start: usize,
     size: usize,
-    /// The address before the unused bytes, behind which the next chunk begins.
+    /// The address before the unused bytes, after which the next chunk begins.
     last: usize,
 }
 
@@ -91,7 +91,7 @@ impl BumpAllocator {
         self.last + 1 - self.start
     }
 
-    /// Returns the bytes behind the last chunk.
+    /// Returns the number of bytes after the last chunk.
     #[inline]
     pub fn free_space(&self) -> usize
         ensures { self.now.used + result ≡ self.now.region.size }
@@ -108,8 +108,8 @@ impl BumpAllocator {
     }
 
     /// Shares the bump among that many parties, at least one: what was used stays used, and each party begins with an empty
-    /// log. The only refusal is `OutOfMemory`, where the memory for the word or for the parties was refused; the allocator
-    /// then comes back as it was.
+    /// log. The only error is `OutOfMemory`, if memory for the word or for the parties ran out; the allocator then comes back
+    /// as it was.
     pub fn share(
         self,
         alloc: Global,
@@ -121,7 +121,7 @@ impl BumpAllocator {
         ensures scene { IfOk result (λ shared.
             shared.0.scene ≡ scene_at self.region self.used parties) }
 
-        // There are as many parties as asked, all of this shared bump, numbered from 0, with empty logs.
+        // The parties are of the requested number, all of this shared bump, numbered from 0, with empty logs.
         ensures parties { IfOk result (λ shared. shared.0.scene.parties ≡ parties) }
         ensures as_many { IfOk result (λ shared. length shared.1.items ≡ parties) }
         ensures fresh { IfOk result (λ shared. (number : ℕ) → number < parties
@@ -183,8 +183,8 @@ impl BaseAllocator for BumpAllocator {
 
     ghost frees = { λ bump _ _ new. Frees bump new };
 
-    /// Allocates a chunk of exactly `layout.size()` bytes, at the least multiple of `layout.align()` behind what is used. Size 0
-    /// is refused with `SizeIsZero`, and a chunk that would end behind the region with `OutOfMemory`. A refusal leaves the
+    /// Allocates a chunk of exactly `layout.size()` bytes, at the least multiple of `layout.align()` after what is used. Size 0
+    /// is refused with `SizeIsZero`, and a chunk that would end after the region with `OutOfMemory`. A refusal leaves the
     /// allocator as it was.
     #[inline(always)]
     fn allocate(&mut self, layout: Layout) -> Result<Chunk, AllocationError> {
@@ -219,10 +219,10 @@ impl BaseAllocator for BumpAllocator {
     ghost sound = { λ bump live stands. stands.sound };
 }
 
-/// Says what the definition of the bump object comes to for every region and every list of commands. There is exactly one answer
-/// to each request. A chunk that is given begins at a multiple of the asked alignment, has exactly the asked size, and begins at
-/// or after the end of every chunk of the list, where that is in order. Each run from a live list that a bump stands for leads to
-/// such a list again, which is sound. It does nothing: its contract is the law.
+/// Says what the definition of the bump object means for every region and every list of commands. There is exactly one answer to
+/// each request. A chunk that is given begins at a multiple of the requested alignment, has exactly the requested size, and
+/// begins at or after the end of every chunk of the list, if that is in order. Each run from a live list that a bump stands for
+/// leads to such a list again, which is sound. The function does nothing: its contract is the law.
 pub fn bump_object_law()
     ensures some_answer { (region : Region) → AnswersAll (bump_object region) }
     ensures one_answer { (region : Region) → AnswersOnce (bump_object region) }

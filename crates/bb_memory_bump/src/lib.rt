@@ -1,4 +1,4 @@
-//! Bump allocators over a region that is handed in as numbers, a start and a size in bytes: for one owner, and for threads.
+//! Bump allocators over a region that is passed as numbers, a start and a size in bytes: for one owner, and for threads.
 //!
 //! The modules, in the order in which to read them:
 //!

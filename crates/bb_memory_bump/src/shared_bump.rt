@@ -81,13 +81,13 @@ impl SharedBumpAllocator {
         Ok((shared, all))
     }
 
-    /// Asks for a chunk of exactly `layout.size()` bytes, at the least multiple of `layout.align()` behind what is used.
+    /// Allocates a chunk of exactly `layout.size()` bytes, at the least multiple of `layout.align()` after what is used.
     ///
-    /// Size 0 is refused with `SizeIsZero`, and no step is made. Else the party reads the position; where the layout
-    /// doesn't fit there, the answer is `OutOfMemory`. Else it puts the end of its chunk in the position's place, where
-    /// that is still what it has seen. Where it isn't, the party goes on from the position that it found: it rounds anew,
-    /// or answers `OutOfMemory` where the layout doesn't fit there. There is no other refusal. Each loss raises what the
-    /// party has seen, so a request loses at most as many exchanges as the region has bytes. The party has to be this bump's.
+    /// Size 0 is refused with `SizeIsZero`, and no step is made. Otherwise the party reads the position. If the layout doesn't
+    /// fit there, the request fails with `OutOfMemory`. Otherwise an exchange replaces the position by the end of the chunk, if
+    /// the position is still what the party has seen. If it isn't, the party goes on from the position that it found: it rounds
+    /// anew, or fails with `OutOfMemory` if the layout doesn't fit there. There is no other refusal. Each loss raises what the
+    /// party has seen, so a request loses at most one exchange for each byte of the region. The party has to be this bump's.
     pub fn allocate(&self, party: &mut BumpParty, layout: Layout) -> Result<Chunk, AllocationError>
         requires party { party.old.allocator ≡ self.now }
 
@@ -112,11 +112,11 @@ impl SharedBumpAllocator {
         ensures floor { IfOk result (λ chunk.
             self.now.scene.region.start + floor_of party.old ≤ chunk.place) }
 
-        // Where the party is the only one, the answer is the bump object's at what it had seen.
+        // If the party is the only one, the answer is the bump object's at what it had seen.
         ensures alone { self.now.scene.parties ≡ 1
             → IsAnsweredAt self.now.scene.region (seen_by party.old) layout result }
 
-        // It loses at most as many exchanges as the region has bytes.
+        // It loses at most one exchange for each byte of the region.
         ensures losses { (added : BumpLog) → party.new ≡ with_entries party.old added
             → losses_in added ≤ self.now.scene.region.size }
 
@@ -155,7 +155,7 @@ impl SharedBumpAllocator {
     }
 
     /// All these parties meet: no chunk of one overlaps a chunk of another. One interleaving has all their logs, and leaves the
-    /// position that the meeting finds. Where these are all the bump's parties, it has no other steps, and the position is the
+    /// position that the meeting finds. If these are all the bump's parties, it has no other steps, and the position is the
     /// greatest that one of them has seen. The position found raises the floor of each, and nothing else changes. The meeting
     /// loads a word, which is in no log. The parties have to be this bump's.
     pub fn meet_all(&self, parties: &mut Vec<BumpParty>)
@@ -191,7 +191,8 @@ impl SharedBumpAllocator {
         self.position.load(&mut party.seat)
     }
 
-    /// Returns the bytes behind the last chunk: the total less what one load found to be used. The party has to be this bump's.
+    /// Returns the number of bytes after the last chunk: the total less what one load found to be used. The party has to be this
+    /// bump's.
     pub fn free_space(&self, party: &mut BumpParty) -> usize
         requires party { party.old.allocator ≡ self.now }
         ensures party { party.new.allocator ≡ self.now }
@@ -212,8 +213,8 @@ impl SharedBumpAllocator {
     }
 
     /// Returns the bump again, for one owner: of the same region, at the position that the parties' steps left (with several
-    /// parties that is tested, and no clause). It is at least what this party has seen, and exactly that where it was the only
-    /// party ever. The party has to be this bump's.
+    /// parties that is tested, and no clause says so). It is at least what this party has seen, and exactly that if it was the
+    /// only party ever. The party has to be this bump's.
     pub fn into_owner(self, party: BumpParty) -> BumpAllocator
         requires party { party.allocator ≡ self }
         ensures region { result.region ≡ self.scene.region }
@@ -237,8 +238,8 @@ impl SharedBumpAllocator {
     }
 
     /// Returns the bump again, for one owner who has all its parties: of the same region, and at exactly the greatest position
-    /// that one of them has seen. It stands for the list that was live before the bump was shared, with the chunks that were won
-    /// since behind it, in the order of an interleaving of all logs. The parties have to be this bump's, and as many as it has.
+    /// that one of them has seen. It stands for the list that was live before the bump was shared, followed by the chunks that
+    /// were won since, in the order of an interleaving of all logs. The parties have to be all of this bump's parties.
     pub fn into_owner_all(self, mut parties: Vec<BumpParty>) -> BumpAllocator
         requires parties { All (λ party. party.allocator ≡ self) parties.items }
         requires all { length parties.items ≡ self.scene.parties }
@@ -296,7 +297,7 @@ pub fn shared_bump_law()
         OpensWith scene live
         → IsCallRun scene.region live (calls_of scene steps) (live_after scene live steps) }
 
-    // The run leads to that list with the chunks that were won since behind it.
+    // The run leads to that list followed by the chunks that were won since.
     ensures since { (party : BumpParty) (position : ℕ) (live : List Chunk)
         (history : IsInterleaved party position) → let scene = party.allocator.scene in
         let steps = history.steps in
@@ -307,7 +308,7 @@ pub fn shared_bump_law()
         (history : IsInterleaved party position) → let scene = party.allocator.scene in
         All (Contains (live_after scene live history.steps)) (chunks_won party.log) }
 
-    // A bump that has used as much as the history leaves stands for that list.
+    // A bump whose used space is what the history leaves stands for that list.
     ensures stands { (party : BumpParty) (position : ℕ) (live : List Chunk)
         (history : IsInterleaved party position) → let scene = party.allocator.scene in
         OpensWith scene live

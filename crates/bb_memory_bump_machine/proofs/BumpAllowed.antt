@@ -66,7 +66,7 @@ owner_of region state step move (loads party idle) allowed = owned state step pa
 owner_of region state step move clears allowed = absurd allowed
 owner_of region state step move (passes other) allowed = absurd allowed
 
--- a step is one party's alone
+-- a step is one party's only
 pub not_by : (party other : ℕ) (step : BumpStep) → party ≢ other → is_by party step ≡ true → is_by other step ≡ false
 not_by party other (Read p layout) apart own = ne_eqb p other (λ same. apart (sym (eqb-true p party own) ∙ same))
 not_by party other (Exchange p) apart own = ne_eqb p other (λ same. apart (sym (eqb-true p party own) ∙ same))

@@ -1,4 +1,4 @@
--- A party's log says what the party is in, and a step adds to it alone.
+-- A party's log says what the party is in, and a step adds only to the log of its party.
 use Rattle.bb_memory_bump_machine.proofs.BumpAllowed.{none_allowed}
 use Rattle.bb_memory_bump_machine.proofs.BumpSteps.{ExchangeView, ReadView, StepView, exchange_move_view, exchanges, loses, others_stay, read_move_view, reads, refuses_loss, refuses_read, sees, step_view, wins, written}
 use Rattle.bb_memory_bump_machine.specs.BumpLogs.{AllAllowed, BumpEntry, BumpLog, HasLog, IsAllowed, LogsAgree, bump_history, call_after, call_in, call_through, entries_by, entry_at, entry_of, history_of, is_by, log_of, with_entry}
@@ -75,7 +75,7 @@ after-push : (region : Region) (state : BumpState) (steps : List BumpStep) (step
 after-push region state [] step = refl
 after-push region state (first ∷ steps) step = after-push region (bump_step region state first).state steps step
 
--- WHERE LOGS AGREE
+-- IF LOGS AGREE
 
 module _ (scene : BumpScene) (position : ℕ) (logs : List BumpLog) (party : ℕ) (log : BumpLog)
     (agree : LogsAgree scene position logs) (at : HasLog logs party log) where
@@ -100,7 +100,7 @@ module _ (scene : BumpScene) (position : ℕ) (logs : List BumpLog) (party : ℕ
             (λ o apart. by o ∙ ne_eqb party o apart) agree.each other found there;
       }
 
-  -- the same where the step moves the party by the position that it finds
+  -- the same if the step moves the party by the position that it finds
   turn_agrees : (step : BumpStep) → ((other : ℕ) → is_by other step ≡ (party == other)) → (turn : ℕ → PartyMove) →
       ((found : ℕ) → IsAllowed (turn found).outcome) → bump_step scene.region (left_by scene agree.steps) step ≡
       moved (left_by scene agree.steps) party (turn (left_by scene agree.steps).position) →

@@ -15,7 +15,7 @@ use Rattle.std.specs.Prelude.{if◌then◌else◌}
 
 -- FACTS OF EACH CHUNK
 
--- what holds of all holds of the first ones, and of those behind them
+-- what holds for all holds for the first ones, and for those after them
 pub all_parts : (P : Chunk → Type 0) (xs ys : List Chunk) → All P (xs ++ ys) → All P xs × All P ys
 all_parts P [] ys all = (All-nil P, all)
 all_parts P (x ∷ xs) ys all =
@@ -83,14 +83,14 @@ logs_apart v party other (entry ∷ history) apart ordered =
     (λ own others. true≢false (sym others ∙ not_by party other entry.step apart own))
     (behind other) (behind party) (logs_apart end party other history apart rest)
 
--- allowed steps leave a position that stands for the chunks of before and those won since
+-- allowed steps leave a position that stands for the earlier chunks and those won since
 pub allowed_stands : (scene : BumpScene) (live : List Chunk) (steps : List BumpStep) → AllAllowed (history_of scene steps) →
     OpensWith scene live → StandsFor scene.region (left_by scene steps).position (live ++ chunks_won (history_of scene steps))
 allowed_stands scene live steps allowed opens =
     let none = no_clear_when_allowed scene.region (opening_state scene) steps allowed in
     stretch_stands scene.region (opening_state scene) live steps none opens (fitting_at_opening scene)
 
--- where one interleaving has both logs, their chunks are apart
+-- if one interleaving has both logs, their chunks are apart
 pub common_apart : (scene : BumpScene) (position party : ℕ) (log : BumpLog) (other : ℕ) (other_log : BumpLog) →
     scene.opening ≤ scene.region.size → CommonInterleaving scene party log other other_log position → party ≢ other →
     AllApart (chunks_won log) (chunks_won other_log)

@@ -156,7 +156,7 @@ pub calls_beginning : (scene : BumpScene) (before stretch : List BumpStep) →
     calls_of scene (before ++ stretch) ≡ calls_of scene before ++ calls_after scene before stretch
 calls_beginning scene before stretch = bump_calls-append scene.region (opening_state scene) before stretch
 
--- the calls behind a beginning are a run from the list that the beginning leaves
+-- the calls after a beginning are a run from the list that the beginning leaves
 pub run_at_step : (scene : BumpScene) (live : List Chunk) (before stretch : List BumpStep) → OpensWith scene live →
     IsCallRun scene.region (live_after scene live before) (calls_after scene before stretch)
     (live_after scene live (before ++ stretch))

@@ -103,7 +103,7 @@ pub written : (state : BumpState) (other party : ℕ) (was now : Option OngoingC
     slice_get state.calls other ≡ Some was → slice_get (slice_set state.calls other now) party ≡ Some now
 written state other party was now by is = grind (arith, eqb-true, slice_get-set_same)
 
--- a party is in one thing alone
+-- a party is in one call only, or idle
 pub one_there : (state : BumpState) (other party : ℕ) (one now : Option OngoingCall) → (other == party) ≡ true →
     slice_get state.calls other ≡ Some one → slice_get state.calls party ≡ Some now → one ≡ now
 one_there state other party one now by is at =
@@ -111,7 +111,7 @@ one_there state other party one now by is at =
 
 -- CALLS THAT FIT
 
--- a fact of each call that a party may be in holds of it afterwards, where it holds of what is written
+-- a fact about each call that a party may be in holds afterwards, if it holds for what is written
 pub each_call-set : (P : OngoingCall → Type 0) (calls : List (Option OngoingCall)) (party other : ℕ) (now : Option OngoingCall) →
     ((call : OngoingCall) → slice_get calls other ≡ Some (Some call) → P call) → IfSome now P →
     (call : OngoingCall) → slice_get (slice_set calls party now) other ≡ Some (Some call) → P call

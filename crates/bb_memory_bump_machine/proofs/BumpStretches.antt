@@ -91,7 +91,7 @@ stretch_grows region state live (step ∷ steps) none =
     ∙ ap (λ (list : List Chunk). list ++ later) (step_grows region state live step move (step_view region state step) parts.0)
     ∙ append_assoc live (won_at move.outcome) later
 
--- a position that stands for a list then stands for it with the chunks won behind it
+-- a position that stands for a list then stands for the list followed by the chunks won
 pub stretch_stands : (region : Region) (state : BumpState) (live : List Chunk) (steps : List BumpStep) → HasNoClear steps →
     StandsFor region state.position live → AllFitting region state →
     StandsFor region (bump_after region state steps).position (live ++ chunks_won (bump_history region state steps))

@@ -70,7 +70,7 @@ rest_own : (P : BumpEntry → Type 0) (own : Bool) (entry : BumpEntry) (log : Bu
 rest_own P true entry log all = all.1
 rest_own P false entry log all = all
 
--- where no log of a party that is there has a greater position, none is left
+-- if no log of a party that was made has a greater position, none is left
 stays_below : (region : Region) (state : BumpState) (steps : List BumpStep) (bound : ℕ) →
     AllAllowed (bump_history region state steps) → state.position ≤ bound → ((party : ℕ) → party < length state.calls →
     AllByRecursion (HasPositionUpTo bound region) (entries_by party (bump_history region state steps))) →
@@ -92,7 +92,7 @@ stays_below region state (step ∷ steps) bound allowed below logs =
     (λ party there. rest_own (HasPositionUpTo bound region) (is_by party step) entry (entries_by party later)
     (logs party (omega (arith, there, parties_stay region state step move view))))
 
--- Where every party's log is in the list, the position is at most the opening or the greatest that one of them has seen.
+-- If every party's log is in the list, the position is at most the opening or the greatest that one of them has seen.
 pub whole_bounds : (scene : BumpScene) (position bound : ℕ) (logs : List BumpLog) → LogsAgree scene position logs →
     scene.opening ≤ bound →
     ((party : ℕ) → party < scene.parties → (log : BumpLog) × HasLog logs party log × (seen_in scene log ≤ bound)) →
@@ -108,7 +108,7 @@ whole_bounds scene position bound logs agree opened each =
     (up_to_greatest scene.region scene.opening bound log.0 log.2)) in
     omega (arith, most, agree.leaves)
 
--- where there is one party, its log has seen just the position
+-- if there is one party, its log has seen exactly the position
 pub alone_exact : (scene : BumpScene) (position : ℕ) (logs : List BumpLog) (log : BumpLog) → scene.parties ≡ 1 →
     LogsAgree scene position logs → HasLog logs 0 log → position ≡ seen_in scene log
 alone_exact scene position logs log one agree at =

@@ -72,7 +72,7 @@ interleaved_older scene position party log live opens own =
     apart_behind v live (chunks_won log) below
     (subst (λ l. All (λ y. v ≤ y.place) (chunks_won l)) own.logged (all_in_log (λ y. v ≤ y.place) party history above))
 
--- the object's list is the one before with the chunks won behind it
+-- the object's list is the earlier one followed by the chunks won
 pub interleaved_since : (scene : BumpScene) (position party : ℕ) (log : BumpLog) (live : List Chunk)
     (own : Interleaving scene party log position) →
     live_after scene live own.steps ≡ live ++ chunks_won (history_of scene own.steps)

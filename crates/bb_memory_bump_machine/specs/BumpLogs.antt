@@ -202,7 +202,7 @@ pub record Interleaving (scene : BumpScene) (party : ℕ) (log : BumpLog) (posit
   pub leaves : (left_by scene steps).position ≡ position
   pub logged : log_of scene steps party ≡ log
 
--- An interleaving of both parties' logs with some logs of the others, which leaves this position.
+-- An interleaving of the two parties' logs with some logs of the others, which leaves this position.
 pub record CommonInterleaving (scene : BumpScene) (party : ℕ) (log : BumpLog) (other : ℕ)
     (other_log : BumpLog) (position : ℕ) : Type 0 where
   pub steps : List BumpStep

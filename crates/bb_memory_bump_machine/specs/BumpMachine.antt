@@ -13,7 +13,7 @@ use Rattle.std.specs.Prelude.{Bool, List, None, Option, Some, [], if◌then◌el
 
 -- STATES
 
--- a call in progress: the layout that it asked for, and the position that it has seen
+-- a call in progress: the layout that it requested, and the position that it has seen
 abbrev pub OngoingCall : Type 0
 OngoingCall = declared.OngoingCall
 

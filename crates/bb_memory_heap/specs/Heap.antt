@@ -9,14 +9,14 @@ use Rattle.bb_memory_traits.specs.declared.allocator.AllocationShrinkError.TheVa
 use Rattle.bb_memory_traits.specs.declared.layout.Layout.{Layout}
 use Rattle.std.specs.Prelude.{Err, List, Ok, Result, replicate, take, ℕ, ◌++◌, ◌-◌, ◌<◌, ◌≡◌, ◌≤◌}
 
--- a new block has the asked length and is all zero
+-- a new block has the requested length and is all zero
 abbrev pub MayAllocate : Layout → Result (List ℕ) AllocationError → Type 0
 MayAllocate layout (Ok block) = (0 < layout.size) × (block ≡ replicate layout.size 0)
 MayAllocate layout (Err SizeIsZero) = layout.size ≡ 0
 MayAllocate layout (Err OutOfMemory) = 0 < layout.size
 MayAllocate layout answer = ⊥
 
--- a grown block has the old bytes in front and zeros behind; a refusal hands the block back as it was
+-- a grown block begins with the old bytes, followed by zeros; a refusal returns the block as it was
 abbrev pub MayGrow : List ℕ → Layout → Layout → Result (List ℕ) (List ℕ × AllocationGrowError) → Type 0
 MayGrow block old new (Ok grown) = (old.size < new.size) × (grown ≡ block ++ replicate (new.size - old.size) 0)
 MayGrow block old new (Err (back, grow.GrowWouldShrink)) = (new.size ≤ old.size) × (back ≡ block)

@@ -3,7 +3,7 @@ use Rattle.bb_memory_heap.specs.contracts.heap_allocator.HeapBlock.{the_row}
 use Rattle.std.specs.Borrow.{Array, Fml, Lends, MutBor, u8}
 use Rattle.std.specs.Prelude.{List, drop, length, take, ℕ, ◌++◌}
 
--- the bytes that were written, cut to the block's length, since a borrower writes as many bytes as it was lent
+-- the bytes that were written, cut to the block's length, since a borrower writes exactly the bytes that it was lent
 abbrev pub written : List ℕ → List ℕ → List ℕ
 written block bytes = take (length block) (bytes ++ drop (length bytes) block)
 

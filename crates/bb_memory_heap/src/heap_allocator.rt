@@ -67,8 +67,8 @@ impl HeapAllocator {
         HeapAllocator { alloc }
     }
 
-    /// Allocates a block of `layout.size()` zero bytes. It is refused, in this order, with `SizeIsZero` where the size is 0, and
-    /// with `OutOfMemory` where memory was refused.
+    /// Allocates a block of `layout.size()` zero bytes. It fails, in this order, with `SizeIsZero` if the size is 0, and with
+    /// `OutOfMemory` if memory ran out.
     #[inline]
     pub fn allocate(&self, layout: Layout) -> Result<HeapBlock, AllocationError>
         ensures answer { MayAllocate layout result }
@@ -94,9 +94,9 @@ impl HeapAllocator {
     #[inline]
     pub fn deallocate(&self, _block: HeapBlock, _layout: Layout) {}
 
-    /// Returns the block with zero bytes behind its own, up to the new size. The old size has to be the block's length. It is
-    /// refused, in this order, with `GrowWouldShrink` where the new size isn't greater than the old one, and with
-    /// `OutOfMemory` where memory was refused. A refusal hands the block back as it was.
+    /// Returns the block with zero bytes after its own, up to the new size. The old size has to be the block's length. It
+    /// fails, in this order, with `GrowWouldShrink` if the new size isn't greater than the old one, and with `OutOfMemory` if
+    /// memory ran out. A refusal returns the block as it was.
     #[inline]
     pub fn grow(
         &self,
@@ -135,9 +135,9 @@ impl HeapAllocator {
         self.grow(block, old, new)
     }
 
-    /// Returns the first bytes of the block, up to the new size. The old size has to be the block's length. It is refused, in
-    /// this order, with `ShrinkWouldGrow` where the new size isn't smaller than the old one, and with `SizeIsZero` where the new
-    /// size is 0. A refusal hands the block back as it was. It takes no memory.
+    /// Returns the first bytes of the block, up to the new size. The old size has to be the block's length. It fails, in this
+    /// order, with `ShrinkWouldGrow` if the new size isn't smaller than the old one, and with `SizeIsZero` if the new size is 0.
+    /// A refusal returns the block as it was. The call allocates nothing.
     #[inline]
     pub fn shrink(
         &self,
@@ -160,8 +160,8 @@ impl HeapAllocator {
     }
 }
 
-/// Says in plain words what [`HeapBlock::as_mut_slice`] promises of the bytes that it lends: once bytes as many as the block's
-/// are written there, they are the block's. It does nothing: its contract is the law.
+/// Says in plain words what [`HeapBlock::as_mut_slice`] promises about the bytes that it lends: bytes that were written there
+/// are the block's afterwards, if they have the block's length. The function does nothing: its contract is the law.
 pub fn heap_law()
     ensures written { (block bytes : List ℕ) → length bytes ≡ length block
         → written block bytes ≡ bytes }

@@ -1,4 +1,4 @@
-//! Blocks of bytes from the language's allocator, behind the traits of `bb_memory_traits`.
+//! Blocks of bytes from the language's allocator, with the traits of `bb_memory_traits`.
 #![tactic(auto)]
 
 pub mod heap_allocator;

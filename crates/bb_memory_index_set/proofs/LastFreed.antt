@@ -25,12 +25,12 @@ others_in : (numbers : List Bool) (last_freed number : ℕ) → number ≢ last_
     Has (less_last_freed numbers last_freed) number
 others_in numbers last_freed number apart has = slice_get-set_other numbers last_freed number false apart ∙ has
 
--- a number whose bit is set is in the set where it wasn't freed last, and only there
+-- a number whose bit is set is in the set if and only if it wasn't freed last
 pub apart_in : (numbers : List Bool) (last_freed number : ℕ) → Has numbers number →
     IsTrue (not (eqb last_freed number)) ↔ Has (less_last_freed numbers last_freed) number
 apart_in numbers last_freed number has = grind (arith, others_in, others_have)
 
--- where no number is freed last, each number whose bit is set is in the set
+-- if no number is freed last, each number whose bit is set is in the set
 pub less_none : (bound : ℕ) (words : List ℕ) (last_freed : ℕ) → bound ≤ last_freed →
     less_last_freed (numbers_of bound words) last_freed ≡ numbers_of bound words
 less_none bound words last_freed past =
@@ -38,7 +38,7 @@ less_none bound words last_freed past =
 
 -- THE SET `held`: THE NUMBERS WHOSE BIT IS SET, LESS THE ONE THAT IS ASIDE
 
--- there are as many numbers in `held`
+-- `held` has this many numbers
 length-held : (bound : ℕ) (words : List ℕ) (held : List Bool) (last_freed : ℕ) →
     less_last_freed (numbers_of bound words) last_freed ≡ held →
     length held ≡ bound
@@ -46,7 +46,7 @@ length-held bound words held last_freed is =
     ap (λ (l : List Bool). length l) (sym is) ∙ length-set (numbers_of bound words) last_freed false
     ∙ length-numbers_of bound words
 
--- there are as many words as the numbers need
+-- there are just the words that the numbers need
 pub word_count : (bound : ℕ) (words : List ℕ) (held : List Bool) (last_freed : ℕ) →
     less_last_freed (numbers_of bound words) last_freed ≡ held →
     AreIndexWords bound words → length words ≡ index_words (length held)
@@ -75,7 +75,7 @@ pub swapped : (numbers held : List Bool) (last_freed number : ℕ) → less_last
     less_last_freed (less_last_freed numbers number) last_freed ≡ less_last_freed held number
 swapped numbers held last_freed number is has = grind (arith, set_comm)
 
--- the words where a number of the set was put back: its bit is cleared, and `last_freed` stays there
+-- the words after a number of the set was put back: its bit is cleared, and `last_freed` is unchanged
 pub record IsPutBack (bound : ℕ) (words new : List ℕ) (last_freed number : ℕ) : Type 0 where
   pub are : AreIndexWords bound new
   pub still_last_freed : IsLastFreed (numbers_of bound new) last_freed

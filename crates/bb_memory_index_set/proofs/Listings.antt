@@ -23,7 +23,7 @@ few xs n below once =
     let value : get_or xs at.0 0 ≡ q = get_or_default xs at.0 0 q at.1 ∙ at.2 in
     omega (arith, below at.0 at.1, value))
 
--- numbers below n, each once, are fewer than n where another number below n isn't one of them
+-- numbers below n, each once, are fewer than n if another number below n isn't one of them
 pub few_more : (named : ℕ → ℕ) (count n at : ℕ) → ((k : ℕ) → k < count → named k < n) →
     ((i k : ℕ) → i < k → k < count → named i ≢ named k) → at < n → ((k : ℕ) → k < count → named k ≢ at) → count < n
 few_more named count n at below once within apart =
@@ -49,7 +49,7 @@ few_more named count n at below once within apart =
     ]) in
     omega (arith, fits, len)
 
--- where a number isn't open, the listed ones are fewer than all
+-- if a number isn't open, the listed ones are fewer than all
 pub room_left : (bound : ℕ) (Open : ℕ → Type 0) (named : ℕ → ℕ) (open_count at : ℕ) → IsListing bound Open named open_count →
     at < bound →
     (Open at → ⊥) → open_count < bound
@@ -68,7 +68,7 @@ module _ (bound : ℕ) (Open Now : ℕ → Type 0) (named now : ℕ → ℕ) (op
   pub still : Open at → Now at → IsListing bound Now named open_count
   still was_open is_open = grind arith
 
-  -- a number that wasn't open is, and is listed behind the others
+  -- a number that wasn't open is, and is listed after the others
   pub opened : at < bound → (Open at → ⊥) → Now at → now open_count ≡ at → ((k : ℕ) → k < open_count → now k ≡ named k) →
       IsListing bound Now now (open_count + 1)
   opened within full is_open last same =

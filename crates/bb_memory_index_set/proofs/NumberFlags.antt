@@ -32,7 +32,7 @@ module _ (room bound : ℕ) (held : List Bool) (free : List ℕ) (left : ℕ) (i
   pub all_held : left ≡ 0 → IsFull (take bound held)
   all_held none n below = grind (arith, length-flags, has_or_lacks, slice_get-take)
 
-  -- else the last entry is a number that isn't in it
+  -- otherwise the last entry is a number that isn't in it
   pub lacked : 0 < left → (get_or free (left - 1) 0 < bound) × Lacks (take bound held) (get_or free (left - 1) 0)
   lacked some = grind (arith, slice_get-take)
 
@@ -49,7 +49,7 @@ module _ (room bound : ℕ) (held : List Bool) (free : List ℕ) (left : ℕ) (i
             number is.listing (others held number true) some refl (has_not_lacks (set held number true) number has) (λ k h. refl);
       }
 
-  -- a number of the set is put behind the entries, and its flag is cleared
+  -- a number of the set is put after the entries, and its flag is cleared
   pub put_behind : (number : ℕ) → Has (take bound held) number →
       (number < bound) × (left < bound) × AreFlags room bound (set held number false) (set free left number) (left + 1)
   put_behind number has =

@@ -150,7 +150,7 @@ has_bit-zeros : (count n : ℕ) → n / 64 < count → has_bit (zeros count) n �
 has_bit-zeros count n within =
     ap (λ x. eqb (bit_at x (n % 64)) 1) (get_or-replicate count (n / 64) 0 0 within) ∙ ap (λ x. eqb x 1) (bit_at-zero (n % 64))
 
--- words of zeros are the empty set where the bound is a multiple of 64
+-- words of zeros are the empty set if the bound is a multiple of 64
 pub fresh_whole : (bound count : ℕ) → count ≡ index_words bound → bound % 64 ≡ 0 →
     AreIndexWords bound (zeros count) × NoneIsFull (zeros count) × (numbers_of bound (zeros count) ≡ replicate bound false)
 fresh_whole bound count is whole =
@@ -166,7 +166,7 @@ fresh_whole bound count is whole =
 abbrev pub last_word : ℕ → ℕ
 last_word bound = (2 ^ 64 - 1) * 2 ^ (bound % 64) % 2 ^ 64
 
--- words of zeros with that last word are the empty set where it isn't
+-- words of zeros with that last word are the empty set if it isn't
 pub fresh_part : (bound count : ℕ) → count ≡ index_words bound → bound % 64 ≢ 0 →
     let words = set (zeros count) (count - 1) (last_word bound) in
     AreIndexWords bound words × NoneIsFull words × (numbers_of bound words ≡ replicate bound false)

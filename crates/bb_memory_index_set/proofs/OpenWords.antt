@@ -23,13 +23,13 @@ under_word : (listed : List ℕ) (current open_count k : ℕ) → k + 1 ≢ open
 under_word listed current open_count k other =
     ap (λ b. if b then current else get_or listed k 0) (ne_eqb (k + 1) open_count other)
 
--- where none is open, every number is in the set
+-- if none is open, every number is in the set
 pub none_open : (bound : ℕ) (words listed : List ℕ) (current open_count : ℕ) → IsWordSet bound words listed current open_count →
     open_count ≡ 0 →
     IsFull (numbers_of bound words)
 none_open bound words listed current open_count is none = grind (arith, full_words)
 
--- else the current word is open
+-- otherwise the current word is open
 pub current_open : (words listed : List ℕ) (current open_count : ℕ) →
     IsListing (length words) (IsOpen words) (open_word listed current open_count) open_count → 0 < open_count →
     (current < length words) × (get_or words current 0 ≢ 2 ^ 64 - 1)
@@ -61,7 +61,7 @@ stay_open : (words new : List ℕ) (at : ℕ) → PutsAt words at new → (other
 stay_open words new at puts other apart =
     let same = puts.others other apart in (λ clear full. clear (sym same ∙ full), λ clear full. clear (same ∙ full))
 
--- another word in place of one
+-- one word replaced by another
 put_word : (words : List ℕ) (at word : ℕ) → PutsAt words at (set words at word)
 put_word words at word =
     record { len = length-set words at word; others = λ other apart. get_or-set_other words at other word 0 apart }

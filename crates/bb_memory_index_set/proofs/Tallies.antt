@@ -29,7 +29,7 @@ member_count-fresh zero = refl
 member_count-fresh (suc bound) =
     let rest = member_count-fresh bound in omega (arith, sum_by-cons weight false (replicate bound false))
 
--- where one is counted, it is a number of the set
+-- if one is counted, it is a number of the set
 pub some_member : (numbers : List Bool) → 0 < member_count numbers → (i : ℕ) × Has numbers i
 some_member [] some = absurd (omega arith)
 some_member (true ∷ numbers) some = (zero, refl)
@@ -41,7 +41,7 @@ pub tally-taken : (numbers : List Bool) (count most i : ℕ) → IsTally numbers
     IsTally (set numbers i true) (count + 1) (max most (count + 1))
 tally-taken numbers count most i is lacks = grind (arith, member_count-taken, length-set, count_by-le-length)
 
--- where a number isn't in the set, not all are counted
+-- if a number isn't in the set, not all are counted
 pub tally-room : (numbers : List Bool) (count most i : ℕ) → IsTally numbers count most → Lacks numbers i →
     count < length numbers
 tally-room numbers count most i is lacks =
@@ -52,7 +52,7 @@ pub tally-released : (numbers : List Bool) (count most i : ℕ) → IsTally numb
     IsTally (set numbers i false) (count - 1) most
 tally-released numbers count most i is has = grind (arith, member_count-released, length-set)
 
--- where it has a member, it is counted
+-- if it has a member, that is counted
 pub tally-some : (numbers : List Bool) (count most i : ℕ) → IsTally numbers count most → Has numbers i → 1 ≤ count
 tally-some numbers count most i is has = omega (arith, is.members, member_count-released numbers i has)
 
@@ -63,7 +63,7 @@ tally-most numbers count most is = omega (arith, is.members, is.few)
 pub tally-fresh : (bound : ℕ) → IsTally (replicate bound false) 0 0
 tally-fresh bound = record { members = sym (member_count-fresh bound); few = omega arith; within = omega arith }
 
--- OF A BOUND, ALL BUT SO MANY THAT ARE LEFT, AND NEVER FEWER THAN THE LEAST
+-- OF A BOUND, ALL BUT THOSE THAT ARE LEFT, AND NEVER FEWER THAN THE LEAST
 
 -- one of them is taken
 module _ (bound left least now i : ℕ) (numbers new : List Bool) (is : IsTally numbers (bound - left) (bound - least))

@@ -74,7 +74,7 @@ less_last_freed numbers last_freed = slice_set numbers last_freed false
 abbrev pub IsLastFreed : List Bool → ℕ → Type 0
 IsLastFreed numbers last_freed = last_freed ≢ 2 ^ 64 - 1 → Has numbers last_freed
 
--- the words are as many as the bound needs, and their bits from the bound on are set
+-- there are just the words that the bound needs, and their bits from the bound on are set
 pub record AreIndexWords (bound : ℕ) (words : List ℕ) : Type 0 where
   pub count : length words ≡ index_words bound
   pub past : (number : ℕ) → bound ≤ number → number < 64 * length words → has_bit words number ≡ true

@@ -1,8 +1,8 @@
 //! A set of numbers below a bound, from which any number that isn't in it can be taken.
 //!
-//! [`words::Words`] takes memory once, for a bit a number and a list of the words that have a clear bit; [`flags::Flags`] takes
-//! none, and has an array with a flag a number. Both keep a list of where a number is free, so that no taking looks further than
-//! one place.
+//! [`words::Words`] allocates once, for a bit for each number and a list of the words that have a clear bit; [`flags::Flags`]
+//! doesn't allocate, and has an array with a flag for each number. Both keep a list of where a number is free, so no taking
+//! searches.
 ghost use Rattle.bb_memory_index_set.specs.IndexSets.{Has, IsFull, Lacks, member_count};
 ghost use Rattle.std.specs.Prelude.{Bool, IfNone, IfSome, IsTrue, List, false, length, max, min, slice_set, true, ℕ, ◌<◌, ◌↔◌, ◌≡◌, ◌≤◌};
 
@@ -23,8 +23,8 @@ pub trait IndexSet: Drop {
     /// The number of words of a set of this bound that are read through a counter.
     ghost words: { ℕ → ℕ };
 
-    /// Puts a number that isn't in the set into it, and answers that number. There is none exactly where every number is
-    /// in the set. The counter has to stand at 0, and ends at how many words were read: one, or none where there is none.
+    /// Puts a number that isn't in the set into it, and returns that number. Returns `None` exactly if every number is in
+    /// the set. The counter has to be 0, and ends at the number of words that were read: one, or none if there is no word.
     fn take(&mut self, counter: &mut Counter) -> Option<usize>
         requires { counter.old ≡ 0 }
         ensures lacked { IfSome result (Lacks (numbers self.old)) }

@@ -1,4 +1,4 @@
--- Items of a list: behind others, in a part that is kept, and by a number of their own.
+-- Items of a list: after others, in a part that is kept, and by a number of their own.
 use Rattle.std.proofs.Common.{Bool, List, Some, [], ap, arith, inl, inr, refl, subst, suc, sym, true, zero, ℕ, ◌<◌, ◌∙◌, ◌∷◌, ◌≡◌, ◌≤◌}
 use Rattle.std.proofs.lemmas.Bool.{cases_lt, cond_both}
 use Rattle.std.proofs.lemmas.List.Elements.{All-contains}
@@ -12,7 +12,7 @@ module _ {X : Type 0} where
   pub contains-behind : (x y : X) (xs : List X) → Contains xs y → Contains (x ∷ xs) y
   contains-behind x y xs has = (suc has.0, omega (arith, has.1), has.2)
 
-  -- what has a position stands there
+  -- an item with a position is at that position
   pub contains_at : (xs : List X) (i : ℕ) (x : X) → slice_get xs i ≡ Some x → Contains xs x
   contains_at [] i x at = absurd (cc)
   contains_at (y ∷ xs) zero x at = contains-first y x xs (same_Some y x at)
@@ -21,7 +21,7 @@ module _ {X : Type 0} where
   pub contains-none : (x : X) → Contains [] x → ⊥
   contains-none x has = absurd (omega (arith, has.1))
 
-  -- what holds of one that stands there holds of some that stands there
+  -- what holds for one item of the list holds for some item of it
   pub any_contained : (P : X → Type 0) (xs : List X) (x : X) → Contains xs x → P x → Any P xs
   any_contained P xs x has holds = (has.0, x, has.1, has.2, holds)
 
@@ -38,7 +38,7 @@ module _ {X : Type 0} (test : X → Bool) where
       (λ is. contains-behind x y (filter test xs) kept) (λ is. kept)
 
 module _ {X : Type 0} (figure : X → ℕ) where
-  -- one that stands in the list has this figure
+  -- an item of the list has this figure
   pub record HasOne (xs : List X) (n : ℕ) : Type 0 where
     pub one : X
     pub there : Contains xs one
@@ -51,7 +51,7 @@ module _ {X : Type 0} (figure : X → ℕ) where
       let rest = one_of_figure xs n (k, omega (arith, below), same) in
       record { one = rest.one; there = contains-behind x rest.one xs rest.there; its = rest.its }
 
--- An entry of a list, each part of which one number keeps, stands in the log of the one that has its number.
+-- An entry of a list, each part of which one number keeps, is in the log of the one that has its number.
 module _ {X E : Type 0} (figure : X → ℕ) (log : X → List E) (by : ℕ → E → Bool) (list : List E) (made : ℕ) (xs : List X)
     (numbers : (n : ℕ) → n < made → Contains (map figure xs) n) (logged : All (λ x. filter (by (figure x)) list ≡ log x) xs)
     (nobody : (n : ℕ) → made ≤ n → filter (by n) list ≡ []) where

@@ -30,7 +30,7 @@ AllPairs-at R xs all i j x y before at_i at_j =
 
 -- A REMOVAL
 
--- what stands in the list after a removal stood in it before, elsewhere
+-- an item of the list after a removal was in it before, at some position
 pub slice_get-removed : {X : Type 0} (xs : List X) (n i : ℕ) (x : X) → slice_get (remove xs n) i ≡ Some x →
     (j : ℕ) × (j ≢ n) × (slice_get xs j ≡ Some x)
 slice_get-removed [] zero i x at = absurd (cc)

@@ -43,13 +43,13 @@ slice_get-replicate zero i x within = absurd (omega arith)
 slice_get-replicate (suc n) zero x within = refl
 slice_get-replicate (suc n) (suc i) x within = slice_get-replicate n i x (omega arith)
 
--- what stands in a list of one value is that value
+-- each item of a list of one value is that value
 pub slice_get-replicated : {X : Type 0} (n i : ℕ) (x y : X) → slice_get (replicate n x) i ≡ Some y → x ≡ y
 slice_get-replicated zero i x y is = absurd (cc)
 slice_get-replicated (suc n) zero x y is = cc
 slice_get-replicated (suc n) (suc i) x y is = slice_get-replicated n i x y is
 
--- a figure is that of nothing at each place of such a list where it is that at its value
+-- if a figure is that of nothing at the value, it is so at each position of such a list
 pub replicated-figure : {X Y : Type 0} (figure : Option X → Y) (n i : ℕ) (x : X) → figure (Some x) ≡ figure None →
     figure (slice_get (replicate n x) i) ≡ figure None
 replicated-figure figure zero i x same = refl
@@ -67,7 +67,7 @@ slice_get-some [] i some = cc
 slice_get-some (y ∷ ys) zero some = omega arith
 slice_get-some (y ∷ ys) (suc i) some = omega (arith, slice_get-some ys i some)
 
--- what stood in a list stands there still once one is put behind it, and that one stands behind the others
+-- appending an item keeps the others at their positions, and puts the new one last
 pub slice_get-push : {X : Type 0} (xs : List X) (i : ℕ) (x y : X) → slice_get xs i ≡ Some x → slice_get (xs ++ y ∷ []) i ≡ Some x
 slice_get-push [] i x y at = absurd (cc)
 slice_get-push (z ∷ xs) zero x y at = at
@@ -77,7 +77,7 @@ pub slice_get-last : {X : Type 0} (xs : List X) (y : X) → slice_get (xs ++ y �
 slice_get-last [] y = refl
 slice_get-last (z ∷ xs) y = slice_get-last xs y
 
--- what stands there stood there, or is the new one
+-- each item was in the list before, or is the new one
 pub slice_get-pushed : {X : Type 0} (xs : List X) (i : ℕ) (x y : X) → slice_get (xs ++ y ∷ []) i ≡ Some x →
     (slice_get xs i ≡ Some x) ⊎ (y ≡ x)
 slice_get-pushed [] zero x y at = inr (cc)

@@ -2,7 +2,7 @@
 //! body, it puts its clauses in reach there.
 ghost use Rattle.std.specs.Prelude.{Bool, IsSome, List, Some, [], if◌then◌else◌, length, map, position, remove, slice_get, slice_index_or, slice_set, sum, sum_by, true, ℕ, ◌++◌, ◌+◌, ◌-◌, ◌<◌, ◌==◌, ◌∷◌, ◌≡◌, ◌≤◌};
 
-/// One more item behind the others.
+/// One more item, after the others.
 pub fn append_law<T>()
     ensures last { (items : List T) (item : T)
         → slice_get (items ++ item ∷ []) (length items) ≡ Some item }
@@ -14,7 +14,7 @@ pub fn append_law<T>()
         → remove (items ++ item ∷ []) (length items) ≡ items }
 {}
 
-/// An item taken out, so that those behind it move up.
+/// An item removed, so that those after it move up.
 pub fn remove_law<T>()
     ensures before { (items : List T) (position other : ℕ) → other < position
         → slice_get (remove items position) other ≡ slice_get items other }

@@ -7,7 +7,7 @@ use Rattle.bb_memory_traits.specs.PoolObject.{IsPoolGeometry, PoolGeometry}
 use Rattle.std.proofs.Common.{Bool, List, ap, arith, false, length, replicate, ℕ, ◌∙◌, ◌≡◌, ◌≤◌}
 use Rattle.std.proofs.lemmas.List.{length-replicate}
 
--- a set of as many numbers as there are buckets, with none in it
+-- a set below the number of buckets, with no number in it
 module _ (geometry : PoolGeometry) (held : List Bool) (count : ℕ) (none : held ≡ replicate count false)
     (all : count ≡ geometry.buckets) where
   pub fresh-counted : (reads greatest : ℕ) → reads ≡ 0 → greatest ≡ 0 →

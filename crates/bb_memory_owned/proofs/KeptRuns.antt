@@ -9,7 +9,7 @@ use Rattle.bb_memory_traits.specs.declared.allocator.Reply.{Reply}
 use Rattle.bb_memory_traits.specs.declared.allocator.Reply.TheVariants as reply
 use Rattle.std.proofs.Common.{List, Ok, [], length, slice_set, subst, sym, ℕ, ◌++◌, ◌<◌, ◌∷◌, ◌≡◌}
 
--- the property goes on where a chunk is given, is given back, or is resized
+-- the property goes on if a chunk is given, is given back, or is resized
 pub record IsKept (object : ResizableObject) (P : List Chunk → Type 0) : Type 0 where
   pub given : (live : List Chunk) (layout : Layout) (chunk : Chunk) → P live →
       object.base.may_allocate live layout (Ok chunk) → P (live ++ chunk ∷ [])

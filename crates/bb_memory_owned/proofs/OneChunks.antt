@@ -1,4 +1,4 @@
--- Answers of the one-chunk object, and the live lists of at most one chunk that it goes on to.
+-- Answers of the one-chunk object, and the live lists of at most one chunk to which they lead.
 use Rattle.bb_memory_owned.proofs.KeptRuns as kept_runs
 use Rattle.bb_memory_owned.specs.OneChunk.{AllocationError, HasByteAt, IsKept, IsOneChunk, Layout, OneChunk, StandsFor}
 use Rattle.bb_memory_traits.proofs.LeastPlaces.{least_place-is, least_place-multiple}
@@ -18,11 +18,11 @@ use Rattle.std.specs.Option.{ForSome}
 abbrev one_of : Region → Option ℕ → OneChunk
 one_of region kept = record { region = region; kept = kept }
 
--- nothing is out
+-- no chunk is in use
 StandsFor-empty : (region : Region) → StandsFor (one_of region None) []
 StandsFor-empty region = record { sound = sound_from_order region region.start [] (omega arith) tt (omega arith); keeps = refl }
 
--- a chunk inside is out
+-- a chunk inside is in use
 StandsFor-one : (region : Region) (chunk : Chunk) → IsInside region chunk →
     StandsFor (one_of region (Some chunk.place)) (chunk ∷ [])
 StandsFor-one region chunk inside = grind arith
@@ -31,7 +31,7 @@ StandsFor-one region chunk inside = grind arith
 rest-inside : (region : Region) (place : ℕ) → HasByteAt region place → IsInside region (rest_from region place)
 rest-inside region place byte = record { above = byte.above; below = omega (arith, byte.below) }
 
--- each one chunk stands for some list: of nothing, or of all of the region from the place that is kept
+-- each one chunk stands for some list: the empty one, or all of the region from the place that is kept
 some_list : (region : Region) (kept : Option ℕ) → ForSome kept (HasByteAt region) →
     (live : List Chunk) × StandsFor (one_of region kept) live
 some_list region None within = ([], StandsFor-empty region)
@@ -56,7 +56,7 @@ some_answer region [] layout =
       ]
     ]
 
--- where there is a chunk to give, none is refused
+-- if there is a chunk to give, none is refused
 gives_or_refuses : (region : Region) (live : List Chunk) (layout : Layout) (chunk : Chunk) →
     MayAllocate region live layout (Ok chunk) → MayAllocate region live layout (Err OutOfMemory) → ⊥
 gives_or_refuses region live layout chunk given (inl out) = out given.0
@@ -83,7 +83,7 @@ answer-byte : (region : Region) (live : List Chunk) (layout : Layout) (chunk : C
     MayAllocate region live layout (Ok chunk) → HasByteAt region chunk.place
 answer-byte region live layout chunk told = grind (arith, common_steps, least_place-is)
 
--- it isn't empty, and ends where the region does
+-- it isn't empty, and ends at the region's end
 pub answer-whole : (region : Region) (live : List Chunk) (layout : Layout) (chunk : Chunk) →
     MayAllocate region live layout (Ok chunk) → (0 < chunk.len) × (chunk_end chunk ≡ region_end region)
 answer-whole region live layout chunk told = grind arith
@@ -92,7 +92,7 @@ pub answer-inside : (region : Region) (live : List Chunk) (layout : Layout) (chu
     MayAllocate region live layout (Ok chunk) → IsInside region chunk
 answer-inside region live layout chunk told = grind (arith, common_steps, answer-byte, answer-whole)
 
--- it has at least the asked size
+-- it has at least the requested size
 pub answer-long : (region : Region) (live : List Chunk) (layout : Layout) (chunk : Chunk) →
     MayAllocate region live layout (Ok chunk) → layout.size ≤ chunk.len
 answer-long region live layout chunk told =

@@ -66,13 +66,13 @@ some_answer geometry live layout =
       ]
     ]
 
--- there is one refusal alone
+-- there is only one refusal
 pub one_cause : (geometry : PoolGeometry) (live : List Chunk) (layout : Layout) (one other : AllocationError) →
     MayAllocate geometry live layout (Err one) → MayAllocate geometry live layout (Err other) → one ≡ other
 one_cause geometry live layout SizeTooLarge SizeTooLarge first second = refl
 one_cause geometry live layout one other first second = grind (arith, first, second)
 
--- where a chunk may be given, there is no refusal
+-- if a chunk may be given, there is no refusal
 pub given_or_refused : (geometry : PoolGeometry) (live : List Chunk) (layout : Layout) (chunk : Chunk)
     (error : AllocationError) → MayAllocate geometry live layout (Ok chunk) → ¬ MayAllocate geometry live layout (Err error)
 given_or_refused geometry live layout chunk OutOfMemory given refused =

@@ -165,7 +165,7 @@ pub number-held : (pool : Pool) (place first number : ℕ) → HoldsPlace pool p
     0 < stride pool.geometry.bucket → Has pool.held number × (place ≡ bucket_place pool.geometry number)
 number-held pool place first number holds begins divided some =
     let (i, has, there) = bucket_held_at pool place holds in
-    let same = number-counted pool.geometry i place first number begins divided some there in
+    let same = number-counted pool.geometry i place (place - first) number (ap (λ n. place - n) begins) divided some there in
     (subst (Has pool.held) same has, there ∙ ap (bucket_place pool.geometry) same)
 
 -- of bucket i, which is held and begins at the place

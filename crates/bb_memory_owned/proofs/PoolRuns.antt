@@ -59,7 +59,7 @@ places-a_stride_apart pool live stands =
 
 -- RELEASES
 
--- where a chunk was just given back, each request that fits a bucket gets one
+-- if a chunk was just given back, each request that fits a bucket gets one
 pub released-room : (pool : Pool) (live : List Chunk) (position : ℕ) (layout : Layout) (answer : Result Chunk AllocationError) →
     IsPool pool → StandsFor pool live → position < length live → IsWithin pool.geometry.bucket layout →
     MayAllocate pool.geometry (remove live position) layout answer → IsOk answer

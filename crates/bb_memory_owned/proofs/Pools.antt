@@ -63,7 +63,7 @@ held_bucket_below pool place flags holds =
 
 -- LISTS
 
--- a list stands for what is held where its chunks are in held buckets, no two in one, and each held bucket has one
+-- a list stands for what is held if its chunks are in held buckets, no two in one, and each held bucket has one
 pub stands_from : (pool : Pool) → IsPool pool → (live : List Chunk) → All (λ chunk. (i : ℕ) × Fills pool chunk i) live →
     PlacesDiffer live → ((i : ℕ) → Has pool.held i → IsHeld pool.geometry live i) → StandsFor pool live
 stands_from pool is live filled differ held =
@@ -85,7 +85,7 @@ places-apart live differ i j one other apart at_i at_j same =
       | inr above ↦ AllPairs-at R live differ j i other one (omega arith) at_j at_i (sym same)
     ]
 
--- no chunk stands in a bucket that isn't held
+-- no chunk is in a bucket that isn't held
 pub lacked-free : (pool : Pool) (live : List Chunk) → IsPool pool → StandsFor pool live → (i : ℕ) → Lacks pool.held i →
     ¬ IsHeld pool.geometry live i
 lacked-free pool live is stands i lacks (position, at) =
@@ -110,7 +110,7 @@ fresh-stands geometry =
 
 -- ONE MORE
 
--- a number that was in the set stays in it where another is put in
+-- a number that was in the set is still in it after another is put in
 pub Has-set_true : (held : List Bool) (i j : ℕ) → Lacks held i → Has held j → Has (slice_set held i true) j
 Has-set_true held i j lacks has = elim (cases_eq j i) [
   | inl same ↦ absurd (let e : Some true ≡ Some false = sym has ∙ (ap (slice_get held) same ∙ lacks) in cc)
@@ -158,7 +158,7 @@ stands-given pool live layout i is stands within lacks =
       )
     ])
 
--- each pool stands for some list: a chunk as long as a bucket in each that is held
+-- each pool stands for some list: a chunk of a bucket's length in each bucket that is held
 stands_for_count : (n : ℕ) (pool : Pool) → IsPool pool → held_count pool ≡ n → (live : List Chunk) × StandsFor pool live
 stands_for_count zero pool is none =
     ([], empty-stands pool (λ i has. absurd (omega (arith, none, member_count-released pool.held i has))))

@@ -14,7 +14,7 @@ pub record Takes (old : OneChunk) (layout : Layout) (answer : Result Chunk Alloc
   -- each outcome, both ways
   pub accepted : IsOk answer ↔ ((old.kept ≡ None) × HasRoom old.region layout)
   pub refused : (answer ≡ Err OutOfMemory) ↔ (IsSome old.kept ⊎ LacksRoom old.region layout)
-  -- the chunk begins at the layout's first place, which is then kept, and ends where the region does
+  -- the chunk begins at the layout's first place, which is then kept, and ends at the region's end
   pub begins : IfOk answer (λ chunk. chunk.place ≡ first_place old.region layout)
   pub ends : IfOk answer (λ chunk. chunk_end chunk ≡ region_end old.region)
   pub keeps_place : IfOk answer (λ chunk. new.kept ≡ Some chunk.place)

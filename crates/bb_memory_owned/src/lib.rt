@@ -1,4 +1,4 @@
-//! Allocators with one owner over a region that is handed in as numbers: a start and a size in bytes.
+//! Allocators with one owner over a region that is passed as numbers: a start and a size in bytes.
 //!
 //! The modules, in the order in which to read them:
 //!
@@ -7,7 +7,7 @@
 //!   - `bucket_pool`: buckets, with the set of those that are held, which is one of `bb_memory_index_set`.
 //!   - `fixed_size`: the pool with an array of its own. `laws`: what the definitions come to.
 //!
-//! The bump stands in crate `bb_memory_bump`, beside the one that threads share. Crate `bb_memory` passes all of it on.
+//! The bump is in crate `bb_memory_bump`, with the one that threads share. Crate `bb_memory` passes all of it on.
 #![tactic(auto)]
 
 pub mod one_chunk_allocator;

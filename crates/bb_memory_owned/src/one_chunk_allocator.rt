@@ -57,7 +57,7 @@ impl OneChunkAllocator {
         region::Region::can_make(start, size)
     }
 
-    /// Tests that no chunk is out.
+    /// Returns whether no chunk is in use.
     #[inline(always)]
     pub fn has_chunk_available(&self) -> bool
         ensures value { IsTrue result ↔ (self.now.kept ≡ None) }
@@ -67,8 +67,8 @@ impl OneChunkAllocator {
         self.kept_place.is_none()
     }
 
-    /// Tests that the chunk that is out has this place, so that it may be given back: true exactly where `deallocate` may be
-    /// called with the place.
+    /// Returns whether the chunk in use has this place, so that it may be given back: true exactly if `deallocate` may be called
+    /// with the place.
     ///
     /// Example: `comments::one_chunk_held` of `crates/examples`.
     #[inline(always)]
@@ -125,9 +125,9 @@ impl BaseAllocator for OneChunkAllocator {
 
     ghost frees = { λ one _ _ new. Frees one new };
 
-    /// Allocates a chunk at the least multiple of `layout.align()` from the region's start on, up to the region's end. It is
-    /// refused, with `OutOfMemory`, exactly where a chunk is out, or where that place is at or behind the region's end,
-    /// or less than `layout.size()` bytes are left there. A refusal leaves the allocator as it was.
+    /// Allocates a chunk at the least multiple of `layout.align()` from the region's start on, up to the region's end. It fails,
+    /// with `OutOfMemory`, exactly if a chunk is in use, if that place is at or after the region's end, or if less than
+    /// `layout.size()` bytes are left there. A refusal leaves the allocator as it was.
     #[inline(always)]
     fn allocate(&mut self, layout: Layout) -> Result<Chunk, AllocationError> {
         if self.kept_place.is_some() {
@@ -144,7 +144,7 @@ impl BaseAllocator for OneChunkAllocator {
         Ok(chunk_between(asked.place(), end))
     }
 
-    /// Gives back the chunk that is out, which has to be at this place. The layout decides nothing.
+    /// Gives back the chunk in use, which has to be at this place. The layout decides nothing.
     #[inline(always)]
     fn deallocate(&mut self, _place: usize, _layout: Layout) {
         self.kept_place = None;
@@ -180,7 +180,7 @@ impl Allocator for OneChunkAllocator {
 
     ghost shrinks = { λ _ place old new answer _. MayShrink place old new answer };
 
-    /// Returns the bytes from the chunk's place to the region's end. The place has to be that of the chunk that is out.
+    /// Returns the number of bytes from the chunk's place to the region's end. The place has to be that of the chunk in use.
     #[inline]
     fn reserved(&self, place: usize) -> usize
         requires { self.now.kept ≡ Some place }
@@ -191,10 +191,10 @@ impl Allocator for OneChunkAllocator {
         end - place
     }
 
-    /// Gives the chunk all that is reserved for it. It is refused in this order: with `GrowWouldShrink` where the new size
-    /// isn't greater than the old one, with `AlignmentFailure` where the new alignment is greater than the old one, and
-    /// with `OutOfMemory` where less than the new size is reserved. The allocator stays as it was. The place has to be that of
-    /// the chunk that is out and a multiple of the old alignment.
+    /// Gives the chunk all that is reserved for it. It fails, in this order, with `GrowWouldShrink` if the new size isn't greater
+    /// than the old one, with `AlignmentFailure` if the new alignment is greater than the old one, and with `OutOfMemory` if
+    /// less than the new size is reserved. The allocator doesn't change. The place has to be that of the chunk in use and a
+    /// multiple of the old alignment.
     #[inline]
     fn grow(
         &mut self,
@@ -215,10 +215,10 @@ impl Allocator for OneChunkAllocator {
         Ok(chunk_between(place, end))
     }
 
-    /// Gives the chunk exactly the new size. It is refused in this order: with `ShrinkWouldGrow` where the new size isn't
-    /// smaller than the old one, and with `AlignmentFailure` where the new alignment is greater than the old one. The
-    /// allocator stays as it was. The place has to be that of the chunk that is out and a multiple of the old alignment, and the
-    /// old size at most what is reserved.
+    /// Gives the chunk exactly the new size. It fails, in this order, with `ShrinkWouldGrow` if the new size isn't smaller than
+    /// the old one, and with `AlignmentFailure` if the new alignment is greater than the old one. The allocator doesn't change.
+    /// The place has to be that of the chunk in use and a multiple of the old alignment, and the old size at most what is
+    /// reserved.
     #[inline]
     fn shrink(
         &mut self,
@@ -248,10 +248,10 @@ impl Allocator for OneChunkAllocator {
         kept_is_live one.kept live place stands.keeps out };
 }
 
-/// Says what the definition of the one-chunk object says of every region and every list of commands. There is exactly one answer
-/// to each request, and to each resize. A chunk that is given begins at a multiple of the asked alignment, has at least the asked
-/// size, isn't empty, and ends where the region does. Each run from a live list that a one chunk stands for, with resizes or
-/// without, leads to such a list again, which is sound. It does nothing: its contract is the law.
+/// Says what the definition of the one-chunk object means for every region and every list of commands. There is exactly one
+/// answer to each request, and to each resize. A chunk that is given begins at a multiple of the requested alignment, has at
+/// least the requested size, isn't empty, and ends at the region's end. Each run from a live list that a one chunk stands for,
+/// with resizes or without, leads to such a list again, which is sound. The function does nothing: its contract is the law.
 pub fn one_chunk_object_law()
     ensures some_answer { (region : Region) → AnswersAll (one_chunk_object region).base }
     ensures one_answer { (region : Region) → AnswersOnce (one_chunk_object region).base }

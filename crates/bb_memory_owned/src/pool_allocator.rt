@@ -44,8 +44,8 @@ impl Model for UninitPoolAllocator {
 }
 
 impl UninitPoolAllocator {
-    /// Takes memory for the index words, and makes a pool with no bucket held. Its only refusal is `OutOfMemory`, where a
-    /// request for memory was refused, and it hands the uninitialised pool back unchanged.
+    /// Allocates memory for the index words, and makes a pool with no bucket held. Its only error is `OutOfMemory`, if memory
+    /// ran out, and then it returns the uninitialized pool unchanged.
     pub fn init<A: LanguageAllocator>(
         self,
         alloc: A,
@@ -71,7 +71,7 @@ impl UninitPoolAllocator {
 /// Example: `comments::pool` of `crates/examples`.
 pub type PoolAllocator<A> = BucketPool<Words<A>>;
 
-// Functions that have no part in index words stand on one instance, so that callers name the type alone.
+// Functions that don't involve index words belong to one instance, so that callers name only the type.
 impl PoolAllocator<Global> {
     /// Makes a pool over the region of `size` bytes at `start`, cut into buckets of this layout, whose index words
     /// [`UninitPoolAllocator::init`] makes. The start has to be greater than 0; start plus size, and the start rounded up to
@@ -118,7 +118,7 @@ impl PoolAllocator<Global> {
 }
 
 impl<A: LanguageAllocator> PoolAllocator<A> {
-    /// Returns where the first bucket is: the region's start, rounded up to the bucket's alignment.
+    /// Returns the place of the first bucket: the region's start, rounded up to the bucket's alignment.
     #[inline]
     pub fn start_address(&self) -> usize
         ensures { result ≡ first_place self.now.pool.geometry.region self.now.pool.geometry.bucket }
@@ -126,8 +126,8 @@ impl<A: LanguageAllocator> PoolAllocator<A> {
         self.geometry.first()
     }
 
-    /// Returns the index words that the last `allocate` or `allocate_zeroed` read: one where it looked for a free bucket in a
-    /// pool that has a bucket, and 0 before the first, and where the size or the alignment was refused. It is never more than an
+    /// Returns how many index words the last `allocate` or `allocate_zeroed` read: one if it looked for a free bucket in a pool
+    /// that has a bucket, and 0 before the first call, and if the size or the alignment was refused. It is never more than an
     /// eighth of [`PoolAllocator::memory_size`], nor than the number of buckets divided by 64, rounded up.
     #[inline]
     pub fn last_reads(&self) -> u32

@@ -38,7 +38,7 @@ detached_set state at bucket sender before after there another now =
 abbrev detaching_entry : ℕ → ℕ → PoolEntry
 detaching_entry sender bucket = entry_of (Detach sender bucket) (Detaches bucket)
 
--- by the step the sender detaches this bucket, where there are two parties at least
+-- by the step the sender detaches this bucket, if there are at least two parties
 record DetachesThis (state : PoolState) (step : PoolStep) (move : PoolMove) (bucket sender : ℕ) : Type 0 where
   entry : entry_of step move.outcome ≡ detaching_entry sender bucket
   others : 1 < length state.calls
@@ -70,7 +70,7 @@ detached_step state step move bucket sender (gives_detached other at idle (from,
     inl (detached_set state at bucket sender (DetachedBy from) Free detached (λ sender same. absurd (cc)) now)
 detached_step state step move bucket sender _ now = inl now
 
--- WHERE THERE IS NO OTHER PARTY
+-- IF THERE IS NO OTHER PARTY
 
 -- a machine with one party detaches no bucket
 detached_alone : (state : PoolState) (steps : List PoolStep) (bucket : ℕ) → length state.calls ≤ 1 →

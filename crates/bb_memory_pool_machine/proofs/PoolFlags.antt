@@ -46,7 +46,7 @@ there_is : (state : PoolState) (party : ℕ) (pass : Option ℕ) → slice_get s
     party < length state.calls
 there_is state party pass at = slice_get_within state.calls party pass at
 
--- so is each that a flag names, as many as the parties are
+-- so is each party that a flag names
 named_step : (state : PoolState) (step : PoolStep) (move : PoolMove) → StepKind state step move → AllNameMade state →
     (bucket : ℕ) (flag : Flag) → slice_get move.state.flags bucket ≡ Some flag → NamesMade (length state.calls) flag
 named_step state step move (takes party bucket next free) named =

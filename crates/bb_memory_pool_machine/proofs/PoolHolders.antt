@@ -1,4 +1,4 @@
--- Who holds a bucket stands in the logs.
+-- The logs say who holds a bucket.
 use Rattle.bb_memory_lists.proofs.Logs.{fold-own}
 use Rattle.bb_memory_lists.proofs.SliceGets.{replicated-figure, slice_get-same, slice_get-set_apart, slice_get-set_at}
 use Rattle.bb_memory_pool_machine.proofs.PoolSteps.{StepKind, attaches, attaches_from, detaches, gives, gives_detached, kind_of, takes, takes_at, test_apart, test_same}
@@ -14,7 +14,7 @@ abbrev pub is_holder : ℕ → Option Flag → Bool
 is_holder party (Some (HeldBy holder)) = holder == party
 is_holder party _ = false
 
--- whether a party holds a bucket after entries of its log, where it held it before them or not
+-- whether a party holds a bucket after entries of its log, by whether it held it before them
 abbrev pub held_through : ℕ → Bool → PoolLog → Bool
 held_through bucket held log = fold (λ held entry. held_after bucket held entry.outcome) held log
 
@@ -22,7 +22,7 @@ pub either_way : {X : Type 0} (mine : Bool) (x : X) → (if mine then x else x) 
 either_way true x = refl
 either_way false x = refl
 
--- where a flag is set, and at its own bucket the same holds, whether a party holds a bucket changes as the flags do
+-- if a flag is set, and at its own bucket the same holds, then whether a party holds a bucket changes as the flags do
 held_set : (state : PoolState) (at bucket party other : ℕ) (held now : Bool) (before after : Flag) → IsFlag state at before →
     (held ≡ is_holder party (Some before) → (if other == party then now else held) ≡ is_holder party (Some after)) →
     held ≡ is_holder party (slice_get state.flags bucket) →
@@ -43,7 +43,7 @@ when_returned : (mine held : Bool) → held ≡ mine → (if mine then false els
 when_returned true held e = refl
 when_returned false held e = e
 
--- whether a party holds a bucket after any step, where it held it before that or not
+-- whether a party holds a bucket after any step, by whether it held it before
 abbrev held_by : ℕ → ℕ → Bool → PoolStep → PoolOutcome → Bool
 held_by party bucket held step outcome = if is_by party step then held_after bucket held outcome else held
 
@@ -67,7 +67,7 @@ step_holds state step move party bucket held (gives_detached other at idle (send
     held_set state at bucket party other held false (DetachedBy sender) Free detached (when_unheld (other == party) held)
 step_holds state step move party bucket held _ = λ before. either_way (is_by party step) held ∙ before
 
--- what each step changes by the entry of its own party alone is, after steps, what that party's log makes of it
+-- a figure that each step changes only by the entry of its own party is, after steps, what that party's log makes of it
 pub steps_fold : {F : Type 0} (Is : PoolState → F → Type 0) (after : F → PoolEntry → F) (party : ℕ) →
     ((state : PoolState) (step : PoolStep) (now : F) → Is state now → let move = pool_step state step in
     Is move.state (if is_by party step then after now (entry_of step move.outcome) else now)) →

@@ -1,4 +1,4 @@
--- A party's log says where its pass is, and a step of the party adds to it alone.
+-- A party's log says where its pass is, and a step of the party adds only to that log.
 use Rattle.bb_memory_lists.proofs.Logs.{logs-push}
 use Rattle.bb_memory_lists.proofs.SliceGets.{slice_get-replicate, slice_get-set_apart, slice_get-set_at}
 use Rattle.bb_memory_pool_machine.proofs.PoolHolders.{either_way, steps_fold}
@@ -34,7 +34,7 @@ step_pass state step move party pass (takes_at other bucket idle free) there =
     pass-set state other party 0 pass None (next_of_idle state other idle) there
 step_pass state step move party pass _ there = there ∙ ap Some (sym (either_way (is_by party step) pass))
 
--- the pass of a party that was made stands in its log
+-- the log of a party that was made says where its pass is
 pub log_pass : (scene : PoolScene) (steps : List PoolStep) (party : ℕ) → party < scene.parties →
     slice_get (left_by scene steps).calls party ≡ Some (pass_in (log_of scene steps party))
 log_pass scene steps party made =

@@ -89,7 +89,7 @@ first_kind scene step move (gives_detached party bucket idle detached) allowed =
     absurd (none_detached_at_opening scene bucket detached)
 first_kind scene step move (passes other) allowed = absurd allowed
 
--- where all steps are allowed, the first takes a bucket
+-- if all steps are allowed, the first takes a bucket
 pub first_takes : (scene : PoolScene) (step : PoolStep) (steps : List PoolStep) → AllAllowed (history_of scene (step ∷ steps)) →
     (party : ℕ) × (bucket : ℕ) × ((step ≡ Try party) ⊎ (step ≡ TryAt party bucket))
     × ((pool_step (opening_state scene) step).outcome ≡ Takes bucket)
@@ -97,7 +97,7 @@ first_takes scene step steps allowed =
     let each = recursion_from_All (λ (e : PoolEntry). IsAllowed e.outcome) (history_of scene (step ∷ steps)) allowed in
     first_kind scene step (pool_step (opening_state scene) step) (kind_of (opening_state scene) step) each.0
 
--- WHAT FLAGS AND LOGS SAY OF EACH OTHER
+-- WHAT FLAGS AND LOGS SAY ABOUT EACH OTHER
 
 module _ (scene : PoolScene) (flags : List Flag) (logs : List PoolLog) (bucket : ℕ) (agree : LogsAgree scene flags logs) where
   -- the flags are those of the machine
@@ -124,7 +124,7 @@ module _ (scene : PoolScene) (flags : List Flag) (logs : List PoolLog) (bucket :
             let held : IsHeldAfter [] bucket = subst (λ (l : PoolLog). IsHeldAfter l bucket) none holds in absurd (cc)
       ]
 
-  -- where each party's log is in the list, a bucket that is taken is held after one of them, or is detached
+  -- if each party's log is in the list, a bucket that is taken is held after one of them, or is detached
   pub taken_is_held_whole : ((party : ℕ) → party < scene.parties → (log : PoolLog) × HasLog logs party log) →
       IsTaken (left_by scene agree.steps) bucket →
       ((party : ℕ) × (log : PoolLog) × (party < scene.parties) × HasLog logs party log × IsHeldAfter log bucket)
@@ -139,7 +139,7 @@ module _ (scene : PoolScene) (flags : List Flag) (logs : List PoolLog) (bucket :
             inl (held.0, own.0, made.0, own.1, holds)
       ]
 
--- a party's log holds a bucket exactly where the flag names the party
+-- a party's log holds a bucket exactly if the flag names the party
 module _ (scene : PoolScene) (flags : List Flag) (logs : List PoolLog) (party : ℕ) (log : PoolLog) (bucket : ℕ)
     (agree : LogsAgree scene flags logs) (at : HasLog logs party log) where
   pub named_from_log : IsHeldAfter log bucket → slice_get flags bucket ≡ Some (HeldBy party)
@@ -200,7 +200,7 @@ pub interleaved_log : (scene : PoolScene) (flags : List Flag) (logs : List PoolL
 interleaved_log scene flags logs party log agree at =
     record { steps = agree.steps; allowed = agree.allowed; logged = agree.each party log at }
 
--- and of both of two
+-- and for two parties
 pub interleaved_logs : (scene : PoolScene) (flags : List Flag) (logs : List PoolLog) (party : ℕ) (log : PoolLog)
     (other : ℕ) (other_log : PoolLog) → LogsAgree scene flags logs → HasLog logs party log →
     HasLog logs other other_log → CommonInterleaving scene party log other other_log

@@ -10,7 +10,7 @@ use Rattle.std.proofs.lemmas.List.Elements.{All-nil}
 use Rattle.std.proofs.lemmas.Option.{get_or_from_slice_get, slice_get_within}
 use Rattle.std.specs.Prelude.{All, [], if◌then◌else◌, nat_lt, slice_get, slice_set}
 
--- A party was made, its log stands in the list, and flags and logs agree.
+-- A party was made, its log is in the list, and flags and logs agree.
 module _ (scene : PoolScene) (flags : List Flag) (logs : List PoolLog) (party : ℕ) (log : PoolLog) (bucket : ℕ)
     (agree : LogsAgree scene flags logs) (made : party < scene.parties) (at : HasLog logs party log) where
   abbrev state : PoolState
@@ -29,7 +29,7 @@ module _ (scene : PoolScene) (flags : List Flag) (logs : List PoolLog) (party : 
 
   -- STEPS OF AN IDLE PARTY, OR OF ONE IN A PASS
 
-  -- the party tries the bucket that its log says, or one bucket where it is idle
+  -- the party tries the bucket that its log says, or one bucket if it is idle
   tries : next_bucket log ≡ bucket → (flag : Flag) → slice_get flags bucket ≡ Some flag →
       pool_step state (Try party) ≡ try_flag state party bucket (Some flag)
   tries next flag is =
@@ -132,7 +132,7 @@ module _ (scene : PoolScene) (flags : List Flag) (logs : List PoolLog) (party : 
       agree_on scene flags logs party log agree at (GiveBack party bucket) (λ other. refl) (return_of state bucket)
       (ap (give_flag state party bucket) found ∙ same) tt (slice_set flags bucket Free) (becomes Free)
 
-  -- where there is another party
+  -- if there is another party
   pub detach_agrees : 1 < scene.parties → IsHeldAfter log bucket →
       LogsAgree scene (slice_set flags bucket (DetachedBy party))
       (with_entry logs party log (entry_of (Detach party bucket) (Detaches bucket)))

@@ -176,14 +176,14 @@ length-step state step move (attaches_from party bucket from idle detached) = le
 length-step state step move (gives_detached party bucket idle detached) = length-set state.flags bucket Free
 length-step state step move _ = refl
 
--- steps leave as many flags as there were
+-- steps leave the number of flags unchanged
 pub length-after : (state : PoolState) (steps : List PoolStep) → length (pool_after state steps).flags ≡ length state.flags
 length-after state [] = refl
 length-after state (step ∷ steps) =
     let move : PoolMove = pool_step state step in
     length-after move.state steps ∙ length-step state step move (kind_of state step)
 
--- there are always as many flags as buckets
+-- there is always one flag for each bucket
 pub length-left_by : (scene : PoolScene) (steps : List PoolStep) → length (left_by scene steps).flags ≡ scene.geometry.buckets
 length-left_by scene steps = length-after (opening_state scene) steps ∙ length-replicate {A = Flag} scene.geometry.buckets Free
 
@@ -203,6 +203,6 @@ calls-after state (step ∷ steps) =
     let move : PoolMove = pool_step state step in
     calls-after move.state steps ∙ calls-step state step move (kind_of state step)
 
--- there are always as many parties as were made
+-- the number of parties never changes
 pub calls-left_by : (scene : PoolScene) (steps : List PoolStep) → length (left_by scene steps).calls ≡ scene.parties
 calls-left_by scene steps = calls-after (opening_state scene) steps ∙ length-replicate {A = Option ℕ} scene.parties None

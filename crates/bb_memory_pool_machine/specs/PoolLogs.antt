@@ -157,7 +157,7 @@ pub record CommonInterleaving (scene : PoolScene) (party : ℕ) (log : PoolLog) 
 
 -- The call of the object that a step with this outcome is; the object goes from `old` to `new`.
 abbrev pub PoolCall : PoolGeometry → List Chunk → Layout → PoolOutcome → List Chunk → Type 0
--- a taking is a request for the layout, which is answered with the bucket's chunk
+-- a taking is a request for the layout, which gets the bucket's chunk
 PoolCall geometry old layout (Takes bucket) new =
     Allocates (pool_object geometry).base old layout (Ok (chunk_in geometry bucket layout)) new
 -- a return is the release of the chunk at the bucket's place
@@ -203,7 +203,7 @@ abbrev pub IsOnePass : PoolScene → List PoolStep → ℕ → ℕ → ℕ → T
 IsOnePass scene steps party k last =
     (j : ℕ) → k < j → j ≤ last → (bucket : ℕ) × IsInCall (left_by scene (take j steps)) party bucket
 
--- after these steps the bucket is held in the run, whichever layouts were asked for
+-- after these steps the bucket is held in the run, whichever layouts were requested
 abbrev pub IsHeldInRun : PoolScene → List PoolStep → ℕ → Type 0
 IsHeldInRun scene steps bucket =
     (layouts : List Layout) (live : List Chunk) → IsPoolRun scene steps layouts live → IsHeld scene.geometry live bucket

@@ -16,8 +16,8 @@ EachGiven Suits commands replies =
     (i : ℕ) (layout : Layout) (chunk : Chunk) → slice_get commands i ≡ Some (Allocate layout) →
     slice_get replies i ≡ Some (reply.Chunk chunk) → Suits layout chunk
 
--- The value of an allocator after a command on this live list. A request leaves what `takes` says of its answer. A release
--- leaves what `frees` says of the chunk's place, with some layout. Every other command leaves the value as it was.
+-- The value of an allocator after a command on this live list. A request leaves what `takes` says for its answer. A release
+-- leaves what `frees` says for the chunk's place, with some layout. Every other command leaves the value as it was.
 abbrev pub ValueStep : {Allocator : Type 0} → (Allocator → Layout → Result Chunk AllocationError → Allocator → Type 0) →
     (Allocator → ℕ → Layout → Allocator → Type 0) → List Chunk → Command → Reply → Allocator → Allocator → Type 0
 ValueStep takes frees live (Allocate layout) (reply.Chunk chunk) old new = takes old layout (Ok chunk) new

@@ -1,5 +1,5 @@
--- The numbers of parties that stand in one list: where no number that was made stands there twice, they are different ones, and
--- where the parties are as many as were made, each number stands there.
+-- The numbers of the parties in one list: if no number that was made is in it twice, they are different ones, and if the list has
+-- the number of parties that were made, it has each number.
 use Rattle.bb_memory_lists.proofs.ListEntries.{HasOne, contains-behind, contains-first, one_of_figure}
 use Rattle.bb_memory_seats.proofs.Seatings.{one_apart, one_same}
 use Rattle.bb_memory_seats.specs.Seats.{HaveLogs, Numbered, times_in}
@@ -69,7 +69,7 @@ counted-few (suc made) missing parties below none once =
           omega arith
     ]
 
--- a list of as many parties as were made, no two of which are one, has each
+-- a list of the number of parties that were made, all different, has each party
 pub all_there : {E : Type 0} (made : ℕ) (logs : List (List E)) (parties : List (Numbered E)) → HaveLogs made logs parties →
     ((number : ℕ) → number < made → times_in number parties ≤ 1) → length parties ≡ made →
     (number : ℕ) → number < made → 1 ≤ times_in number parties
@@ -81,7 +81,7 @@ module _ {P E : Type 0} (of : P → Numbered E) where
   abbrev number : P → ℕ
   number party = (of party).number
 
-  -- a party stands in the list, and two at different places that have one number stand there twice
+  -- a party is in the list, and two at different positions with the same number are in it twice
   stands_once : (items : List P) (i : ℕ) (one : P) → slice_get items i ≡ Some one → 1 ≤ times_in (number one) (map of items)
   stands_once [] i one at = absurd (cc)
   stands_once (party ∷ items) zero one at =
@@ -118,7 +118,7 @@ module _ {P E : Type 0} (of : P → Numbered E) where
   logs_had made logs [] have = tt
   logs_had made logs (party ∷ items) have = (have.1, logs_had made logs items have.2)
 
-  -- a number that stands in the list is that of one of its parties
+  -- a number in the list is that of one of its parties
   pub has_number : (items : List P) (n : ℕ) → 1 ≤ times_in n (map of items) → Contains (map number items) n
   has_number [] n some = absurd (omega arith)
   has_number (party ∷ items) n some = elim (cases_eq (number party) n) [

@@ -1,4 +1,4 @@
--- How parties stand in the views of seats: each in one, while seats are split, joined and split, and while one party steps.
+-- How parties are spread over the views of seats: each in one, while seats are split and joined, and while one party steps.
 use Rattle.atomic_table.proofs.Lists.{at_set, at_snoc}
 use Rattle.bb_memory_lists.proofs.SliceGets.{slice_get-replicate, slice_get-set_other, slice_get-set_same}
 use Rattle.bb_memory_seats.specs.Seats.{AreSeated, HaveLogs, Numbered, View, alone, first_of, fresh_from, head_of, numbered, one_if, others_of, seat_of, standing_for, tail_of, times_in, total}
@@ -8,9 +8,9 @@ use Rattle.std.specs.Prelude.{slice_get, slice_set}
 use lib.ListN.{get_elem?}
 use mathlib.Core.Option.{some, some-injective, some-ne-none}
 
--- HOW OFTEN A PARTY STANDS IN VIEWS
+-- HOW OFTEN A PARTY IS IN VIEWS
 
--- a figure of all views, where one of them becomes another, and with one view more
+-- a figure of all views, if one of them becomes another, and with one more view
 module _ {V : Type 0} (figure : V → ℕ) where
   pub total-set : (views : List V) (seat : ℕ) (old new : V) → get_elem? views seat ≡ some old →
       total figure (set views seat new) + figure old ≡ total figure views + figure new
@@ -47,7 +47,7 @@ times_in-append : {E : Type 0} (number : ℕ) (xs ys : List (Numbered E)) →
 times_in-append number [] ys = omega arith
 times_in-append number (x ∷ xs) ys = let rest = times_in-append number xs ys in omega arith
 
--- the test of two numbers counts as one where they are the same
+-- the test of two numbers counts as one if they are the same
 pub one_same : (number other : ℕ) → number ≡ other → one_if (eqb number other) ≡ 1
 one_same number other same = ap one_if (eq-eqb number other same)
 
@@ -57,7 +57,7 @@ one_apart number other apart = ap one_if (ne_eqb number other apart)
 times_in-own : {E : Type 0} (number : ℕ) (log : List E) → times_in number (numbered number log ∷ []) ≡ 1
 times_in-own number log = let one = one_same number number refl in omega arith
 
--- two parties that each stand once in a list are two
+-- two parties that are each once in a list are two
 pub two_parties : {E : Type 0} (one other : Numbered E) (parties : List (Numbered E)) →
     times_in one.number (one ∷ other ∷ parties) ≤ 1 → one.number ≢ other.number
 two_parties one other parties most same = grind arith
@@ -125,7 +125,7 @@ module _ {S E : Type 0} (made : ℕ) (logs : List (List E)) (views : List (View 
             let one = seated.once party below in omega arith;
       }
 
-  -- the same of a party that stands alone in its seat
+  -- the same for the only party of a seat
   pub seated_step : (scene : S) (number : ℕ) (log new : List E) →
       AreSeated made logs views → get_elem? views seat ≡ some (alone scene number log) →
       AreSeated made (slice_set logs number new) (set views seat (alone scene number new))
@@ -133,12 +133,12 @@ module _ {S E : Type 0} (made : ℕ) (logs : List (List E)) (views : List (View 
 
   -- SPLITS AND JOINS
 
-  -- where a view is set whose parties have their logs, those of each have theirs
+  -- if a view is set whose parties have their logs, the parties of each view have theirs
   set_known : (new : View S E) → AreSeated made logs views → Known new → (other : ℕ) (found : View S E) →
       get_elem? (set views seat new) other ≡ some found → Known found
   set_known new seated is other found there = grind (arith, at_set)
 
-  -- a view is split in two where each party goes to one of the two
+  -- a view is split in two if each party goes to one of the two
   pub seated_split : (view left right : View S E) →
       ((number : ℕ) → times_in number left.parties + times_in number right.parties ≡ times_in number view.parties) →
       (Known view → Known left × Known right) → AreSeated made logs views → get_elem? views seat ≡ some view →
@@ -151,7 +151,7 @@ module _ {S E : Type 0} (made : ℕ) (logs : List (List E)) (views : List (View 
       (λ number. let parts = times_in-parts number view.parties in omega arith)
       (λ have. let parts = have-parts made logs view.parties have in (parts.1, parts.0))
 
-  -- two views are joined: one has the parties of both, and the other none
+  -- two views are joined: one gets all parties of the two, and the other has none
   pub seated_joined : (view : View S E) (other : ℕ) (guest : View S E) (scene none : S) (items : List ℕ) →
       let both = seat_of scene (guest.parties ++ view.parties) items in
       AreSeated made logs views → get_elem? views seat ≡ some view → other ≢ seat →
@@ -165,14 +165,14 @@ module _ {S E : Type 0} (made : ℕ) (logs : List (List E)) (views : List (View 
       AreSeated made logs (set views seat (standing_for scene view.parties))
   seated_again view scene seated at = grind (arith, set_known, total-set)
 
-  -- no party stands twice in one view
+  -- no party is twice in one view
   pub once_in : (view : View S E) → AreSeated made logs views → get_elem? views seat ≡ some view → (number : ℕ) →
       number < made → times_in number view.parties ≤ 1
   once_in view seated at number below =
       let within = total-at (standing number) views seat view at in
       let one = seated.once number below in omega arith
 
--- a view more, which stands for no party
+-- one more view, which stands for no party
 pub seated_entered : {S E : Type 0} (made : ℕ) (logs : List (List E)) (views : List (View S E)) (view : View S E) →
     HaveLogs made logs view.parties → ((number : ℕ) → times_in number view.parties ≡ 0) → AreSeated made logs views →
     AreSeated made logs (views ++ view ∷ [])
@@ -208,19 +208,19 @@ fresh_once E number from (suc count) low high =
           let rest = fresh_once E number (from + 1) count (omega arith) (omega arith) in omega arith
     ]
 
--- all parties stand in the first seat
+-- all parties are in the first seat
 pub seated_opening : {S : Type 0} (E : Type 0) (made : ℕ) (scene : S) →
     AreSeated {S = S} {E = E} made (replicate made []) (standing_for scene (fresh_from 0 made) ∷ [])
 seated_opening {S = S} E made scene = grind (arith, fresh_once, fresh_have)
 
 -- DEALING
 
--- the next party stands first, and those behind it
+-- the next party is first, followed by those after it
 pub fresh_more : {E : Type 0} (number count : ℕ) → number < count →
     fresh_from {E = E} number (count - number) ≡ numbered number [] ∷ fresh_from (number + 1) (count - (number + 1))
 fresh_more number count below = let is : count - number ≡ suc (count - (number + 1)) = omega arith in ap (fresh_from number) is
 
--- what was split stands in its place, with one more
+-- a split seat is replaced by its remainder, with one more seat
 pub given_more : {A : Type 0} (f : ℕ → A) (xs : List A) (x : A) →
     ((k : ℕ) → k < length xs → slice_get xs k ≡ Some (f k)) → x ≡ f (length xs) →
     (k : ℕ) → k < length xs + 1 → slice_get (xs ++ x ∷ []) k ≡ Some (f k)

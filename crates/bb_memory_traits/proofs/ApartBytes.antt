@@ -14,7 +14,7 @@ part-before xs i n m within =
     let cut : take (i + n) (take m xs) ≡ take (i + n) xs = take-take (i + n) m xs within in
     one ∙ (ap (λ l. drop i l) (sym cut) ∙ drop-take i n (take m xs))
 
--- a part that begins at or behind m is a part of what is behind m
+-- a part that begins at or after m is a part of the bytes after m
 part-behind : (xs : List ℕ) (i n m : ℕ) → m ≤ i → take n (drop i xs) ≡ take n (drop (i - m) (drop m xs))
 part-behind xs i n m after = grind (arith, drop-drop)
 
@@ -44,7 +44,7 @@ either one other apart =
     (λ none. inr (inl (omega (arith, none)))) (cases_lt 0 other.len))
     (λ none. inl (omega (arith, none))) (cases_lt 0 one.len)
 
--- a chunk's bytes, as many as it is long
+-- a chunk's bytes, of its length
 pub span : (held : HeldBytes) (chunk : Chunk) → bytes_in held chunk ≡ take chunk.len (drop (chunk.place - held.start) held.bytes)
 span held chunk = grind arith
 
@@ -88,7 +88,7 @@ split-bytes held place n m above =
     span held whole ∙ (take-add n m (drop i held.bytes)
     ∙ (ap (λ l. l ++ take m (drop n (drop i held.bytes))) (sym (span held one)) ∙ ap (λ l. bytes_in held one ++ l) (sym second)))
 
--- what is written behind a chunk's bytes goes on with them
+-- a text that begins with a chunk's bytes goes on after them
 pub extended-bytes : (old new : HeldBytes) (place n : ℕ) (chunk : Chunk) (bytes : List ℕ) → IsInside (held_region old) chunk →
     ChangesOnly old new chunk bytes → old.start ≤ place → place + n ≡ chunk.place →
     bytes_in new (record { place = place; len = n + chunk.len }) ≡ bytes_in old (record { place = place; len = n }) ++ bytes

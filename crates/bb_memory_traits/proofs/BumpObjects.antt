@@ -1,4 +1,4 @@
--- Answers of the bump object, and the lists that it goes on to.
+-- Answers of the bump object, and the lists to which they lead.
 use Rattle.bb_memory_traits.proofs.LeastPlaces.{least_place-is, least_place-multiple}
 use Rattle.bb_memory_traits.proofs.LiveLists.{StandsFor-empty, StandsFor-push, all_end_by, end_of_last-above}
 use Rattle.bb_memory_traits.proofs.Runs.{IsRun-keeps}
@@ -53,12 +53,12 @@ pub answer-aligned : (region : Region) (live : List Chunk) (layout : Layout) (ch
     MayAllocate region live layout (Ok chunk) → chunk.place % layout.align ≡ 0
 answer-aligned region live layout chunk told = grind (arith, least_place-multiple)
 
--- it has the asked size
+-- it has the requested size
 pub answer-len : (region : Region) (live : List Chunk) (layout : Layout) (chunk : Chunk) →
     MayAllocate region live layout (Ok chunk) → chunk.len ≡ layout.size
 answer-len region live layout chunk told = ap (λ (k : Chunk). k.len) told.2
 
--- it is inside the region, where the list is in order
+-- it is inside the region, if the list is in order
 pub answer-inside : (region : Region) (live : List Chunk) (layout : Layout) (chunk : Chunk) →
     IsInOrder region.start live → MayAllocate region live layout (Ok chunk) → IsInside region chunk
 answer-inside region live layout chunk ordered told = grind (arith, answer-after, end_of_last-above)
@@ -73,7 +73,7 @@ answer-after_all region live layout chunk ordered told =
 abbrev IsBumpList : Region → List Chunk → Type 0
 IsBumpList region live = (position : ℕ) × StandsFor region position live
 
--- a list stays one that a bump stands for
+-- a list remains one that a bump stands for
 same_list : (region : Region) (old new : List Chunk) → new ≡ old → IsBumpList region old → IsBumpList region new
 same_list region old new same stands = subst (IsBumpList region) (sym same) stands
 

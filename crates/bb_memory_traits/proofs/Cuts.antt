@@ -1,18 +1,14 @@
 -- Regions that are cut into buckets: how many there are, and where each one is.
 use Rattle.bb_memory_traits.proofs.PoolGeometries.{first_place-above, room-quotient, stride-above}
-use Rattle.bb_memory_traits.proofs.PowersOfTwo.{power_of_two-from_test}
 use Rattle.bb_memory_traits.specs.Chunk.{IsRegion, Region, first_place, region_end}
-use Rattle.bb_memory_traits.specs.Geometry.{MayBeCut, Shifts}
+use Rattle.bb_memory_traits.specs.Geometry.{MayBeCut}
 use Rattle.bb_memory_traits.specs.LeastPlace.{least_place}
 use Rattle.bb_memory_traits.specs.PoolObject.{FillsRegion, IsCut, IsPoolGeometry, PoolGeometry, bucket_place, pool_geometry, stride}
 use Rattle.bb_memory_traits.specs.declared.layout.Layout.{Layout}
-use Rattle.std.proofs.Common.{IsSome, IsTrue, None, Option, Some, ap, arith, inl, inr, pow_pos, refl, rules, subst, sym, w64, ℕ, ◌%◌, ◌*◌, ◌+◌, ◌-◌, ◌/◌, ◌<◌, ◌^◌, ◌∙◌, ◌≡◌, ◌≢◌, ◌≤◌}
-use Rattle.std.proofs.Math.Nat.{add-mul, div-one, le-mul_of_pos_right, mod-eq_of_lt, mod-lt, mul-div_cancel, mul-le-mul_left, mul-lt-mul_of_pos_right, mul-mod_left, mul-one, mul_assoc, mul_comm, zero-mul}
-use Rattle.std.proofs.lemmas.Bool.{cases_eq, cases_lt}
-use Rattle.std.proofs.lemmas.Nat.{le-div, le_or_r, mod-mul-add, pow-add, shr_split}
-use Rattle.std.proofs.lemmas.Nat.Bits.{bit_at-pow_other, bit_at-trailing_zeros, bit_at_or, same_from_bits}
-use Rattle.std.specs.Int.{is_power_of_two, rotate_right, trailing_zeros}
-use Rattle.std.specs.Int.Bits.{bit_or, or_zero_r}
+use Rattle.std.proofs.Common.{IsSome, None, Option, Some, ap, arith, inl, inr, refl, subst, sym, ℕ, ◌%◌, ◌*◌, ◌+◌, ◌-◌, ◌/◌, ◌<◌, ◌^◌, ◌∙◌, ◌≡◌, ◌≤◌}
+use Rattle.std.proofs.Math.Nat.{mod-eq_of_lt, mul-div_cancel, mul-le-mul_left, mul-mod_left}
+use Rattle.std.proofs.lemmas.Bool.{cases_lt}
+use Rattle.std.proofs.lemmas.Nat.{le-div, mod-mul-add}
 use Rattle.std.specs.Option.{SomeIff}
 
 -- STRIDES
@@ -101,76 +97,6 @@ cut-most region bucket geometry filled cut =
       | inr none ↦ omega arith
     ]
 
--- SHIFTS
-
--- a power of two has as many zeros at its end as its exponent
-zeros-power : (k : ℕ) → 2 ^ k < 2 ^ 64 → (trailing_zeros w64 (2 ^ k) < 64) × (trailing_zeros w64 (2 ^ k) ≡ k)
-zeros-power k small =
-    let zeros : ℕ = trailing_zeros w64 (2 ^ k) in
-    let lowest = bit_at-trailing_zeros w64 (2 ^ k) (pow_pos k) small in (
-      lowest.0,
-      elim (cases_eq zeros k) [
-        | inl same ↦ same
-        | inr other ↦ absurd (omega (arith, bit_at-pow_other k zeros other, lowest.1))
-      ],
-    )
-
--- to divide by a power of two is to shift by the zeros at its end
-pub shifts-zeros : (n : ℕ) → IsTrue (is_power_of_two n) → n < 2 ^ 64 → Shifts n (Some (trailing_zeros w64 n))
-shifts-zeros n test small =
-    let power = power_of_two-from_test n test in
-    let zeros = zeros-power power.0 (omega (arith, power.1)) in
-    subst (λ (m : ℕ). (trailing_zeros w64 m < 64) × (m ≡ 2 ^ trailing_zeros w64 m)) (sym power.1)
-    (zeros.0, ap (λ e. 2 ^ e) (sym zeros.1))
-
--- ROTATIONS
-
--- a number or-ed with itself
-or-same : (n : ℕ) → bit_or n n ≡ n
-or-same n = same_from_bits (bit_or n n) n (λ i. bit_at_or n n i ∙ search rules)
-
--- what a rotation brings to the top is the rest of the division by this power of two
-rest-at-top : (n k : ℕ) → 0 < k → k < 64 → n * 2 ^ ((64 - k % 64) % 64) % 2 ^ 64 ≡ n % 2 ^ k * 2 ^ (64 - k)
-rest-at-top n k some below =
-    let own : k % 64 ≡ k = mod-eq_of_lt below in
-    let up : (64 - k % 64) % 64 ≡ 64 - k = ap (λ i. (64 - i) % 64) own ∙ mod-eq_of_lt (omega arith) in
-    let top : ℕ = 2 ^ (64 - k) in
-    let both : 64 ≡ k + (64 - k) = omega arith in
-    let parts : 2 ^ 64 ≡ 2 ^ k * top = ap (λ i. 2 ^ i) both ∙ pow-add 2 k (64 - k) in
-    let small : n % 2 ^ k * top < 2 ^ k * top = mul-lt-mul_of_pos_right (mod-lt n (pow_pos k)) (pow_pos (64 - k)) in
-    let split : n * top ≡ n / 2 ^ k * (2 ^ k * top) + n % 2 ^ k * top =
-    ap (λ m. m * top) (sym (shr_split n k)) ∙ add-mul (n / 2 ^ k * 2 ^ k) (n % 2 ^ k) top
-    ∙ ap (λ m. m + n % 2 ^ k * top) (mul_assoc (n / 2 ^ k) (2 ^ k) top) in
-    ap (λ i. n * 2 ^ i % 2 ^ 64) up ∙ ap (λ m. n * top % m) parts ∙ ap (λ m. m % (2 ^ k * top)) split
-    ∙ mod-mul-add (n / 2 ^ k) (2 ^ k * top) (n % 2 ^ k * top) small
-
--- a multiple of a power of two is divided by a rotation
-pub rotated-whole : (n k : ℕ) → k < 64 → n < 2 ^ 64 → n % 2 ^ k ≡ 0 → rotate_right w64 n k ≡ n / 2 ^ k
-rotated-whole n k below small whole = elim (cases_lt 0 k) [
-  | inl some ↦
-      ap (λ i. bit_or (n / 2 ^ i) (n * 2 ^ ((64 - k % 64) % 64) % 2 ^ 64)) (mod-eq_of_lt below)
-      ∙ ap (bit_or (n / 2 ^ k)) (rest-at-top n k some below ∙ ap (λ r. r * 2 ^ (64 - k)) whole ∙ zero-mul (2 ^ (64 - k)))
-      ∙ or_zero_r (n / 2 ^ k)
-  | inr none ↦
-      let zero : k ≡ 0 = omega arith in
-      let same : n * 1 % 2 ^ 64 ≡ n = ap (λ m. m % 2 ^ 64) (mul-one n) ∙ mod-eq_of_lt small in
-      subst (λ i. rotate_right w64 n i ≡ n / 2 ^ i) (sym zero)
-      (ap (bit_or (n / 1)) (same ∙ sym (div-one n)) ∙ or-same (n / 1))
-]
-
--- any other number is greater then than all these multiples
-pub rotated-part : (n k : ℕ) → k < 64 → n % 2 ^ k ≢ 0 → 2 ^ (64 - k) ≤ rotate_right w64 n k
-rotated-part n k below part = elim (cases_lt 0 k) [
-  | inl some ↦
-      let rest : 0 < n % 2 ^ k = omega (arith, part) in
-      let low = le-mul_of_pos_right (2 ^ (64 - k)) rest in
-      let turned = mul_comm (2 ^ (64 - k)) (n % 2 ^ k) in
-      omega (arith, low, turned, rest-at-top n k some below, le_or_r (n / 2 ^ (k % 64)) (n * 2 ^ ((64 - k % 64) % 64) % 2 ^ 64))
-  | inr none ↦
-      let zero : k ≡ 0 = omega arith in
-      absurd (part (subst (λ i. n % 2 ^ i ≡ 0) (sym zero) (let low : n % 1 < 1 = mod-lt n (omega arith) in omega arith)))
-]
-
 -- WHERE A BUCKET IS
 
 -- the number of the bucket at a place
@@ -188,14 +114,32 @@ whole-at geometry i place at =
     ap (λ n. n % stride geometry.bucket) past ∙ mul-mod_left i (stride geometry.bucket)
 
 -- the number of whole strides up to a place is that of each bucket at the place
-pub number-counted : (geometry : PoolGeometry) (i place first number : ℕ) → first ≡ first_place geometry.region geometry.bucket →
-    ((place - first) % stride geometry.bucket ≡ 0 → number ≡ (place - first) / stride geometry.bucket) →
+pub number-counted : (geometry : PoolGeometry) (i place distance number : ℕ) →
+    distance ≡ place - first_place geometry.region geometry.bucket →
+    (distance % stride geometry.bucket ≡ 0 → number ≡ distance / stride geometry.bucket) →
     0 < stride geometry.bucket → place ≡ bucket_place geometry i → i ≡ number
-number-counted geometry i place first number begins divided some at =
-    let whole = ap (λ n. (place - n) % stride geometry.bucket) begins ∙ whole-at geometry i place at in
-    sym (number-at geometry i place some at)
-    ∙ ap (λ n. (place - n) / stride geometry.bucket) (sym begins)
-    ∙ sym (divided whole)
+number-counted geometry i place distance number is divided some at =
+    let whole = ap (λ n. n % stride geometry.bucket) is ∙ whole-at geometry i place at in
+    sym (number-at geometry i place some at) ∙ ap (λ n. n / stride geometry.bucket) (sym is) ∙ sym (divided whole)
+
+-- the distance from a place that isn't after another doesn't wrap
+pub distance-after : (first place : ℕ) → first ≤ place → place < 2 ^ 64 → (place + (2 ^ 64 - first)) % 2 ^ 64 ≡ place - first
+distance-after first place above small =
+    let round : place + (2 ^ 64 - first) ≡ 1 * 2 ^ 64 + (place - first) = omega (arith, above, small) in
+    ap (λ n. n % 2 ^ 64) round ∙ mod-mul-add 1 (2 ^ 64) (place - first) (omega (arith, small))
+
+-- a bucket begins at a place whose distance, wrapped, is fewer strides than there are buckets
+pub number-leads : (geometry : PoolGeometry) (first place number : ℕ) → IsRegion geometry.region → IsPoolGeometry geometry →
+    first ≡ first_place geometry.region geometry.bucket → place < 2 ^ 64 → number < geometry.buckets →
+    (place + (2 ^ 64 - first)) % 2 ^ 64 ≡ number * stride geometry.bucket → place ≡ bucket_place geometry number
+number-leads geometry first place number region is begins small below strides =
+    let room = is.room number below in
+    elim (cases_lt place first) [
+      | inl before ↦
+          let wrapped : (place + (2 ^ 64 - first)) % 2 ^ 64 ≡ place + (2 ^ 64 - first) = mod-eq_of_lt (omega (arith, before)) in
+          absurd (omega (arith, wrapped, strides, room, region.end, begins, before))
+      | inr after ↦ omega (arith, distance-after first place after small, strides, begins, after)
+    ]
 
 -- TESTS THAT ANSWER A VALUE
 

@@ -17,7 +17,7 @@ cut-parts region bucket geometry cut =
     ap (λ (r : Region). pool_geometry r geometry.bucket geometry.buckets) cut.region
     ∙ ap (λ (b : Layout). pool_geometry region b geometry.buckets) cut.bucket
 
--- there is one cut alone
+-- there is only one cut
 pub one_cut : (region : Region) (bucket : Layout) (one other : PoolGeometry) → IsCut region bucket one →
     IsCut region bucket other → one ≡ other
 one_cut region bucket one other first second =

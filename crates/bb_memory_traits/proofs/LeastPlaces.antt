@@ -8,7 +8,7 @@ use Rattle.std.proofs.lemmas.Nat.{and_mask, le-div, mod-mul-add}
 use Rattle.std.specs.Int.{IsPowerOfTwo}
 use Rattle.std.specs.Int.Bits.{or_add_and}
 
--- a multiple stays where it is
+-- a multiple is its own least place
 least_place-stays : (v align : ℕ) → 0 < align → v % align ≡ 0 → least_place v align ≡ v
 unfolding least_place
 least_place-stays v align positive none = grind arith
@@ -49,7 +49,7 @@ least_place-is v align positive = record {
   least = λ k above. least_place-below v align k positive above;
 }
 
--- there is one least multiple alone
+-- there is only one least multiple
 pub least_place-unique : (v align p : ℕ) → 0 < align → IsLeastPlace v align p → p ≡ least_place v align
 least_place-unique v align p positive is = grind (arith, least_place-is)
 
@@ -78,7 +78,7 @@ least_place-masked v align power small fits =
     let rounds = least_place-rounds v align (power_of_two-positive align power) in
     (omega (arith, rounds), power_of_two-clears (v + (align - 1)) align power small fits ∙ sym rounds)
 
--- where the sum doesn't fit the machine, the least place doesn't either
+-- if the sum doesn't fit the machine, the least place doesn't either
 pub least_place-too_far : (v align : ℕ) → IsPowerOfTwo align → align < 2 ^ 64 →
     2 ^ 64 ≤ v + (align - 1) → 2 ^ 64 ≤ least_place v align
 least_place-too_far v align power small far =

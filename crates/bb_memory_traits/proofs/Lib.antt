@@ -1,6 +1,7 @@
 mod ApartBytes
 pub mod BumpObjects
 pub mod Cuts
+pub mod Factors
 pub mod Geometries
 pub mod Layouts
 pub mod LeastPlaces

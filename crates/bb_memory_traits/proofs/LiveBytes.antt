@@ -88,7 +88,7 @@ last_two_apart region live one other sound = λ shared.
     let each = given_apart region (live ++ one ∷ []) other sound (length live) one (omega (arith, length_push live one)) in
     subst (AreApart other) (get_or_push live one one (length live) refl) each (shared.0, shared.2, shared.1)
 
--- so what is written in it goes behind the contents of the others
+-- so what is written in it comes after the contents of the others
 pub contents_given : (old new : HeldBytes) (live : List Chunk) (chunk : Chunk) (bytes : List ℕ) →
     IsSound (held_region old) (live ++ chunk ∷ []) → ChangesOnly old new chunk bytes →
     map (bytes_in new) (live ++ chunk ∷ []) ≡ map (bytes_in old) live ++ bytes ∷ []

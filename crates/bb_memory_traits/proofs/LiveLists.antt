@@ -19,7 +19,7 @@ pub in_order-append : (v : ℕ) (xs ys : List Chunk) → IsInOrder v xs → IsIn
 in_order-append v [] ys first then = then
 in_order-append v (x ∷ xs) ys (here, rest) then = (here, in_order-append (chunk_end x) xs ys rest then)
 
--- what comes first of chunks in order, and what comes behind it
+-- a beginning of chunks in order, and the chunks after it
 pub in_order-front : (v : ℕ) (xs ys : List Chunk) → IsInOrder v (xs ++ ys) → IsInOrder v xs
 in_order-front v [] ys ordered = tt
 in_order-front v (x ∷ xs) ys (here, rest) = (here, in_order-front (chunk_end x) xs ys rest)
@@ -34,7 +34,7 @@ all_above v w [] le ordered = tt
 all_above v w (chunk ∷ live) le (here, rest) =
     (omega (arith, here), all_above v (chunk_end chunk) live (omega (arith, here)) rest)
 
--- where the last one ends at or below w, each does
+-- if the last one ends at or below w, each does
 all_ended : (v w : ℕ) (live : List Chunk) → IsInOrder v live → end_of_last v live ≤ w →
     AllByRecursion (λ chunk. chunk_end chunk ≤ w) live
 all_ended v w [] ordered end = tt
@@ -76,7 +76,7 @@ sound_from_order region v live le ordered end = record {
   apart = apart_from_order v live ordered;
 }
 
--- where the list ends is what is used, from the region's start on
+-- the end of the list is what is used, from the region's start on
 pub StandsFor-end : (region : Region) (position : ℕ) (live : List Chunk) → StandsFor region position live →
     region.start + position ≡ end_of_last region.start live
 StandsFor-end region position live stands = omega (arith, stands.used, end_of_last-above region.start live stands.in_order)
@@ -111,7 +111,7 @@ StandsFor-push region position live chunk stands after below =
 pub StandsFor-empty : (region : Region) → StandsFor region 0 []
 StandsFor-empty region = grind arith
 
--- a position inside the region stands for the list of nothing, or of one chunk that is all of what is used
+-- a position inside the region stands for the empty list, or for one chunk that is all that is used
 pub stands_for_some : (region : Region) (position : ℕ) → position ≤ region.size →
     (live : List Chunk) × StandsFor region position live
 stands_for_some region position within =

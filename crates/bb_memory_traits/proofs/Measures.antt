@@ -5,7 +5,7 @@ use Rattle.bb_memory_traits.specs.Chunk.{Chunk, IsChunk, IsInside}
 use Rattle.bb_memory_traits.specs.Geometry.{IsMeasured, IsPlaceOfBucket}
 use Rattle.bb_memory_traits.specs.PoolObject.{IsPoolGeometry, PoolGeometry, bucket_place}
 use Rattle.bb_memory_traits.specs.declared.layout.Layout.{Layout}
-use Rattle.std.proofs.Common.{Option, ap, arith, div-add-mod', inl, inr, pow-add, pow-suc, pow_mono, pow_pos, suc, sym, ℕ, ◌%◌, ◌*◌, ◌+◌, ◌-◌, ◌/◌, ◌<◌, ◌^◌, ◌∙◌, ◌≡◌, ◌≤◌}
+use Rattle.std.proofs.Common.{ap, arith, div-add-mod', inl, inr, pow-add, pow-suc, pow_mono, pow_pos, suc, sym, ℕ, ◌%◌, ◌*◌, ◌+◌, ◌-◌, ◌/◌, ◌<◌, ◌^◌, ◌∙◌, ◌≡◌, ◌≤◌}
 use Rattle.std.proofs.Math.Nat.{mul_assoc}
 use Rattle.std.proofs.lemmas.Bool.{cases_lt}
 use Rattle.std.proofs.lemmas.Nat.{mod-mul-add}
@@ -26,7 +26,7 @@ bucket-inside geometry i len is below short =
     }
 
 -- a geometry with the numbers that are kept of it
-module _ (geometry : PoolGeometry) (first step : ℕ) (shift : Option ℕ) (measured : IsMeasured geometry first step shift) where
+module _ (geometry : PoolGeometry) (first step shift inverse : ℕ) (measured : IsMeasured geometry first step shift inverse) where
   -- the first bytes at the place of a bucket are a chunk, and lie in the region
   pub placed : (place len : ℕ) → IsPlaceOfBucket geometry place → len ≤ geometry.bucket.size →
       IsChunk (record { place = place; len = len }) × IsInside geometry.region (record { place = place; len = len })

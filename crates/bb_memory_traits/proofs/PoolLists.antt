@@ -76,7 +76,7 @@ AreInBuckets-empty geometry = record {
   apart = λ i j d before within. absurd (omega arith);
 }
 
--- the chunk that is given is in a bucket, and apart from those that are out
+-- the chunk that is given is in a bucket, and apart from those in use
 pub AreInBuckets-push : (geometry : PoolGeometry) (live : List Chunk) (layout : Layout) (i : ℕ) →
     MayGive geometry live layout i → AreInBuckets geometry live → AreInBuckets geometry (live ++ chunk_in geometry i layout ∷ [])
 AreInBuckets-push geometry live layout i may buckets =
@@ -164,7 +164,7 @@ pub count_at-remove_other : (place q position : ℕ) (live : List Chunk) → IsA
 count_at-remove_other place q position live at apart =
     omega (arith, count_at-without place q position live at, one_if-apart q place apart)
 
--- a chunk has the place just where their number isn't 0
+-- a chunk has the place if and only if their number isn't 0
 pub at_from_count : (place : ℕ) (live : List Chunk) → 0 < count_at place live → (position : ℕ) × IsAt live position place
 at_from_count place [] some = absurd (omega arith)
 at_from_count place (c ∷ live) some = elim (cases_eq c.place place) [

@@ -4,16 +4,16 @@ use Rattle.bb_memory_traits.specs.LeastPlace.{least_place}
 use Rattle.bb_memory_traits.specs.Object.{Object, object_of}
 use Rattle.std.specs.Prelude.{Err, List, Ok, Result, [], true, ℕ, ◌-◌, ◌<◌, ◌∷◌, ◌≡◌, ◌≤◌}
 
--- the end of the last chunk, or v where the list is empty
+-- the end of the last chunk, or v if the list is empty
 abbrev pub end_of_last : ℕ → List Chunk → ℕ
 end_of_last v [] = v
 end_of_last v (chunk ∷ live) = end_of_last (chunk_end chunk) live
 
--- the chunk of the asked size at the least place at or after v
+-- the chunk of the requested size at the least place at or after v
 abbrev pub chunk_at_or_after : ℕ → Layout → Chunk
 chunk_at_or_after v layout = record { place = least_place v layout.align; len = layout.size }
 
--- the chunk that a request gets on a live list, where it ends inside the region
+-- the chunk that a request gets on a live list, if it ends inside the region
 abbrev pub next_chunk : Region → List Chunk → Layout → Chunk
 next_chunk region live layout = chunk_at_or_after (end_of_last region.start live) layout
 

@@ -44,7 +44,7 @@ pub record IsChunk (chunk : Chunk) : Type 0 where
 abbrev pub Covers : Chunk → ℕ → Type 0
 Covers chunk n = (chunk.place ≤ n) × (n < chunk_end chunk)
 
--- a part of a chunk begins at or behind the chunk's place, and ends at or before its end
+-- a part of a chunk begins at or after the chunk's place, and ends at or before its end
 abbrev pub IsPart : Chunk → Chunk → Type 0
 IsPart part whole = (whole.place ≤ part.place) × (chunk_end part ≤ chunk_end whole)
 
@@ -61,14 +61,14 @@ pub record IsInside (region : Region) (chunk : Chunk) : Type 0 where
   pub above : region.start ≤ chunk.place
   pub below : chunk_end chunk ≤ region_end region
 
--- Live lists: what is out, in the order in which it was given. A position counts from 0.
+-- Live lists: the chunks in use, in the order in which they were given. A position counts from 0.
 
 -- each chunk is inside the region, and no two at different positions overlap
 pub record IsSound (region : Region) (live : List Chunk) : Type 0 where
   pub inside : All (IsInside region) live
   pub apart : AllPairs AreApart live
 
--- the chunk is inside the region, at a multiple of the asked alignment, and at least as long as asked
+-- the chunk is inside the region, at a multiple of the requested alignment, and at least as long as requested
 pub record Fits (region : Region) (layout : Layout) (chunk : Chunk) : Type 0 where
   pub inside : IsInside region chunk
   pub aligned : chunk.place % layout.align ≡ 0

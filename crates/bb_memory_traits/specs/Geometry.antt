@@ -4,7 +4,7 @@ use Rattle.bb_memory_traits.specs.PoolObject.{IsCut, IsPoolGeometry, IsWithin, P
 use Rattle.bb_memory_traits.specs.declared.allocator.AllocationError.{AllocationError}
 use Rattle.bb_memory_traits.specs.declared.allocator.AllocationError.TheVariants.{AlignmentFailure, SizeTooLarge}
 use Rattle.bb_memory_traits.specs.declared.layout.Layout.{Layout}
-use Rattle.std.specs.Prelude.{Err, IfNone, IfSome, Ok, Option, Result, ℕ, ◌+◌, ◌-◌, ◌<◌, ◌^◌, ◌≡◌, ◌≤◌, ◌⊎◌}
+use Rattle.std.specs.Prelude.{Err, IfNone, IfSome, Ok, Option, Result, ℕ, ◌%◌, ◌*◌, ◌+◌, ◌-◌, ◌<◌, ◌^◌, ◌≡◌, ◌≤◌, ◌⊎◌}
 
 -- CUTS OF A REGION
 
@@ -31,17 +31,21 @@ Admits bucket layout (Err error) = ⊥
 
 -- WHERE BUCKETS ARE
 
--- to divide by the number is to shift to the right by this, if there is a shift
-abbrev pub Shifts : ℕ → Option ℕ → Type 0
-Shifts divisor shift = IfSome shift (λ k. (k < 64) × (divisor ≡ 2 ^ k))
+-- The stride is an odd number times a power of two. Modulo 2 ^ 64 the inverse times the odd number is 1, so that a product with
+-- the inverse divides a multiple of the odd number by it.
+pub record IsFactored (step shift inverse : ℕ) : Type 0 where
+  pub odd : ℕ
+  pub factors : step ≡ odd * 2 ^ shift
+  pub short : shift < 64
+  pub inverted : odd * inverse % 2 ^ 64 ≡ 1
 
--- the first bucket's place, the stride and its shift are these, and the buckets lie in a region
-pub record IsMeasured (geometry : PoolGeometry) (first step : ℕ) (shift : Option ℕ) : Type 0 where
+-- the first bucket's place and the stride are these, with the factors of the stride, and the buckets lie in a region
+pub record IsMeasured (geometry : PoolGeometry) (first step shift inverse : ℕ) : Type 0 where
   pub is_region : IsRegion geometry.region
   pub is_geometry : IsPoolGeometry geometry
   pub begins : first ≡ first_place geometry.region geometry.bucket
   pub strides : step ≡ stride geometry.bucket
-  pub shifts : Shifts step shift
+  pub factored : IsFactored step shift inverse
 
 -- some bucket begins at the place
 abbrev pub IsPlaceOfBucket : PoolGeometry → ℕ → Type 0

@@ -39,12 +39,12 @@ ZeroesOnly old new chunk = ChangesOnly old new chunk (replicate chunk.len 0)
 abbrev pub first_part : ℕ → Chunk → Chunk
 first_part size chunk = record { place = chunk.place; len = size }
 
--- an answered chunk has this part of it zeroed, and nothing else; a refusal leaves every byte
+-- exactly this part of the answered chunk is zeroed; a refusal leaves every byte
 pub record ZeroesAnswered {Error : Type 0} (part : Chunk → Chunk) (old new : HeldBytes)
     (answer : Result Chunk Error) : Type 0 where
   pub zeroed : IfOk answer (λ chunk. ZeroesOnly old new (part chunk))
   pub unchanged : OnErr answer (new ≡ old)
 
--- the rest of a chunk behind its first bytes
+-- the rest of a chunk after its first bytes
 abbrev pub part_behind : ℕ → Chunk → Chunk
 part_behind size chunk = record { place = chunk.place + size; len = chunk.len - size }

@@ -5,8 +5,8 @@ use Rattle.bb_memory_traits.specs.contracts.region.Region.{the_row}
 use Rattle.std.specs.Borrow.{Array, Fml, Lends, MutBor, u8}
 use Rattle.std.specs.Prelude.{List, drop, length, take, ℕ, ◌++◌, ◌+◌, ◌-◌}
 
--- the bytes before the chunk, those that were written in it, and those behind it, cut to the old length, since a
--- borrower writes as many bytes as it was lent
+-- the bytes before the chunk, those that were written in it, and those after it, cut to the old length, since a
+-- borrower writes exactly the bytes that it was lent
 abbrev pub written : HeldBytes → Chunk → List ℕ → HeldBytes
 written held chunk bytes = record {
   start = held.start;

@@ -1,4 +1,4 @@
--- Objects that hold live chunks and nothing else: what they may answer, what that makes of the live list, and their runs.
+-- Objects that hold only live chunks: what they may answer, how that changes the live list, and their runs.
 use Rattle.bb_memory_traits.specs.Chunk.{AllocationError, Chunk, Layout}
 pub use Rattle.bb_memory_traits.specs.declared.allocator.AllocationGrowError.{AllocationGrowError}
 use Rattle.bb_memory_traits.specs.declared.allocator.AllocationGrowError.TheVariants as grow
@@ -10,7 +10,7 @@ pub use Rattle.bb_memory_traits.specs.declared.allocator.Reply.{Reply}
 use Rattle.bb_memory_traits.specs.declared.allocator.Reply.TheVariants as reply
 use Rattle.std.specs.Prelude.{AllPairs, Bool, Err, List, Ok, Result, Some, [], false, fold, length, remove, slice_get, slice_set, true, ℕ, ◌%◌, ◌++◌, ◌<◌, ◌∷◌, ◌≡◌, ◌≢◌, ◌≤◌}
 
--- an object on live lists: which answers it may give to a request, and what a release takes out
+-- an object on live lists: which answers it may give to a request, and what a release removes
 pub record Object : Type 1 where
   -- a release gives back all chunks at once, or one
   pub release_empties : Bool
@@ -54,7 +54,7 @@ abbrev pub AnswersOnce : Object → Type 0
 AnswersOnce object = (live : List Chunk) (layout : Layout) (one other : Result Chunk AllocationError) →
     object.may_allocate live layout one → object.may_allocate live layout other → one ≡ other
 
--- each chunk that it may give is to the asked layout as this says
+-- each chunk that it may give has this relation to the requested layout
 abbrev pub GivesOnly : Object → (Layout → Chunk → Type 0) → Type 0
 GivesOnly object Suits = (live : List Chunk) (layout : Layout) (chunk : Chunk) →
     object.may_allocate live layout (Ok chunk) → Suits layout chunk
@@ -81,7 +81,7 @@ IsRun {S = S} step old (command ∷ commands) (reply ∷ replies) new =
 IsRun step old [] (reply ∷ replies) new = ⊥
 IsRun step old (command ∷ commands) [] new = ⊥
 
--- An allocator's note after a command, where a request makes `after` of it: no other command changes it.
+-- An allocator's note after a command: a request changes it to `after`, and no other command changes it.
 abbrev pub note_after_command : {Note : Type 0} → (Layout → Note → Note) → Note → Command → Note
 note_after_command after note (Allocate layout) = after layout note
 note_after_command after note other = note
@@ -90,7 +90,7 @@ note_after_command after note other = note
 abbrev pub note_after_run : {Note : Type 0} → (Layout → Note → Note) → Note → List Command → Note
 note_after_run after note commands = fold (note_after_command after) note commands
 
--- RESIZABLE OBJECTS: chunks are resized in place, and a release takes out one chunk alone
+-- RESIZABLE OBJECTS: chunks are resized in place, and a release removes only one chunk
 
 -- no two chunks have the same place
 abbrev pub PlacesDiffer : List Chunk → Type 0
@@ -105,7 +105,7 @@ pub record ResizableObject : Type 1 where
   pub may_grow : List Chunk → ℕ → Layout → Layout → Result Chunk AllocationGrowError → Type 0
   pub may_shrink : List Chunk → ℕ → Layout → Layout → Result Chunk AllocationShrinkError → Type 0
 
--- the object with these answers to requests and resizes, whose release takes out one chunk
+-- the object with these answers to requests and resizes, whose release removes one chunk
 abbrev pub resizable_object_of :
     (List Chunk → Layout → Result Chunk AllocationError → Type 0) → (ℕ → ℕ) →
     (List Chunk → ℕ → Layout → Layout → Result Chunk AllocationGrowError → Type 0) →
@@ -117,7 +117,7 @@ resizable_object_of may_allocate reserved may_grow may_shrink = record {
   may_shrink = may_shrink;
 }
 
--- Answers where a chunk is to grow at its place, from an old layout to a new one, and when. `reserved` bytes are reserved for the
+-- Answers if a chunk is to grow at its place, from an old layout to a new one, and when. `reserved` bytes are reserved for the
 -- chunk, the greatest alignment is `most`, and a chunk that grows has `len` bytes then.
 abbrev pub MayGrowAt : (reserved most len place : ℕ) → Layout → Layout → Result Chunk AllocationGrowError → Type 0
 MayGrowAt reserved most len place old new (Ok grown) =
@@ -127,7 +127,7 @@ MayGrowAt reserved most len place old new (Err grow.AlignmentFailure) = (old.siz
 MayGrowAt reserved most len place old new (Err grow.OutOfMemory) =
     (old.size < new.size) × (new.align ≤ most) × (reserved < new.size)
 
--- Answers where a chunk is to shrink at its place, and when: it has exactly the new size then.
+-- Answers if a chunk is to shrink at its place, and when: it has exactly the new size then.
 abbrev pub MayShrinkAt : (most place : ℕ) → Layout → Layout → Result Chunk AllocationShrinkError → Type 0
 MayShrinkAt most place old new (Ok shrunk) =
     (new.size < old.size) × (new.align ≤ most) × (shrunk ≡ record { place = place; len = new.size })
@@ -146,7 +146,7 @@ pub record MayBeShrunk (reserved : ℕ → ℕ) (live : List Chunk) (position : 
   pub grown : MayBeGrown live position old chunk
   pub within : old.size ≤ reserved chunk.place
 
--- a resize keeps the place, and changes that chunk's length alone
+-- a resize keeps the place, and changes only that chunk's length
 pub record Resizes (live : List Chunk) (position : ℕ) (chunk resized : Chunk) (new : List Chunk) : Type 0 where
   pub place : resized.place ≡ chunk.place
   pub leaves : new ≡ slice_set live position resized

@@ -17,7 +17,7 @@ pub record HasRoom (region : Region) (layout : Layout) : Type 0 where
   pub begins : first_place region layout < region_end region
   pub ends : first_place region layout + layout.size ≤ region_end region
 
--- the layout's place is at or behind the region's end, or its size ends behind it
+-- the layout's place is at or after the region's end, or its size ends after it
 abbrev pub LacksRoom : Region → Layout → Type 0
 LacksRoom region layout =
     (region_end region ≤ first_place region layout) ⊎ (region_end region < first_place region layout + layout.size)
@@ -47,7 +47,7 @@ one_chunk_object region =
 
 -- STANDS FOR
 
--- the allocator's region, and the place of the chunk that is out
+-- the allocator's region, and the place of the chunk in use
 pub record OneChunk : Type 0 where
   pub region : Region
   pub kept : Option ℕ
@@ -66,7 +66,7 @@ pub record IsOneChunk (one : OneChunk) : Type 0 where
   pub region : IsRegion one.region
   pub kept : ForSome one.kept (HasByteAt one.region)
 
--- nothing is out where no place is kept, and otherwise one chunk, at that place
+-- no chunk is in use if no place is kept, and otherwise one chunk, at that place
 abbrev pub IsKept : Option ℕ → List Chunk → Type 0
 IsKept None live = live ≡ []
 IsKept (Some place) live = (chunk : Chunk) × (live ≡ chunk ∷ []) × (chunk.place ≡ place)

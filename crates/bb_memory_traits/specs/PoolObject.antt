@@ -1,4 +1,4 @@
--- The geometry of a pool, and the pool object: chunks in buckets, each resized in its bucket and given back alone.
+-- The geometry of a pool, and the pool object: chunks in buckets, each resized in its bucket and given back by itself.
 use Rattle.bb_memory_traits.specs.Chunk.{AlignmentFailure, AllocationError, Chunk, Layout, OutOfMemory, Region, SizeIsZero, SizeTooLarge, first_place, region_end}
 use Rattle.bb_memory_traits.specs.LeastPlace.{least_place}
 use Rattle.bb_memory_traits.specs.Object.{AllocationGrowError, AllocationShrinkError, MayGrowAt, MayShrinkAt, ResizableObject, resizable_object_of}
@@ -32,7 +32,7 @@ HasBucket region bucket i = first_place region bucket + (i + 1) * stride bucket 
 abbrev pub FillsRegion : PoolGeometry → Type 0
 FillsRegion geometry = (i : ℕ) → (i < geometry.buckets) ↔ HasBucket geometry.region geometry.bucket i
 
--- the region is cut into as many of these buckets as it has room for
+-- the region is cut into all of these buckets that it has room for
 pub record IsCut (whole : Region) (layout : Layout) (geometry : PoolGeometry) : Type 0 where
   pub region : geometry.region ≡ whole
   pub bucket : geometry.bucket ≡ layout

@@ -12,18 +12,18 @@ use thiserror::Error;
 /// Why a request was refused.
 #[derive(Debug, Clone, Copy, PartialEq, Eq, Error)]
 pub enum AllocationError {
-    /// The size is 0: of a bump or the heap alone.
+    /// The size is 0: only for a bump or the heap.
     #[error("the requested size is zero")]
     SizeIsZero,
-    /// The size is greater than the bucket's: of a pool alone.
+    /// The size is greater than the bucket's: only for a pool.
     #[error("the requested size is greater than the bucket size")]
     SizeTooLarge,
-    /// The alignment is greater than the bucket's: of a pool alone.
+    /// The alignment is greater than the bucket's: only for a pool.
     #[error("the requested alignment is not supported")]
     AlignmentFailure,
-    /// Of a bump: the chunk would end behind the region. Of the one chunk: a chunk is out, or the region has too little from
-    /// the least place of the alignment on. Of a pool: every bucket is held, or, of a shared one, each was found held at some
-    /// step of the pass. Of the heap and of makers: memory was refused.
+    /// For a bump: the chunk would end after the region. For the one chunk: a chunk is in use, or the region has too little
+    /// from the least place of the alignment on. For a pool: every bucket is held or, if it is shared, each was found held at
+    /// some step of the pass. For the heap and for makers: memory ran out.
     #[error("there is not enough memory available")]
     OutOfMemory,
 }
@@ -51,7 +51,7 @@ pub enum AllocationShrinkError {
     /// The new alignment is greater than the bucket's, of a pool, or than the old one, of the one chunk.
     #[error("the requested alignment is not supported")]
     AlignmentFailure,
-    /// The new size is 0: of the heap alone.
+    /// The new size is 0: only for the heap.
     #[error("the requested size is zero")]
     SizeIsZero,
 }
@@ -74,7 +74,7 @@ pub enum Command {
 pub enum Reply {
     /// The chunk that was given, or the resized one.
     Chunk(Chunk),
-    /// The chunk at the position was given back, or all chunks where a release gives back all at once.
+    /// The chunk at the position was given back, or all chunks if a release gives back all at once.
     Released,
     /// The command was passed over: the live list has no such position, or the run makes no such resize.
     Passed,
@@ -88,14 +88,14 @@ pub enum Reply {
 
 /// An allocator over one region, with one owner.
 ///
-/// Its contract speaks of live lists: the chunks that are out, in the order in which they were given. An allocator
-/// *stands for* a live list where its state may be the result of having given exactly those chunks. Every clause holds
-/// for each list that the allocator stands for, and each allocator stands for at least one.
+/// Its contract speaks of live lists: the chunks in use, in the order in which they were given. An allocator *stands for* a
+/// live list if its state may be the result of having given exactly those chunks. Every clause holds for each list that the
+/// allocator stands for, and each allocator stands for at least one.
 ///
-/// The answers that it may give are stated by an object that holds live chunks alone (`geometry`, `may_allocate`), so that a
+/// The answers that it may give are stated by an object that holds only live chunks (`geometry`, `may_allocate`), so that a
 /// crate may bring an allocator with an object of its own.
 pub trait BaseAllocator {
-    /// True where a release gives back all chunks at once.
+    /// True if a release gives back all chunks at once.
     const RELEASE_EMPTIES: bool;
 
     ghost RELEASE_EMPTIES: { Bool };
@@ -116,8 +116,8 @@ pub trait BaseAllocator {
     /// The chunk at this place may be given back.
     ghost may_release: { Self → ℕ → Type 0 };
 
-    /// The note that an allocator keeps of the requests that were made of it, beside the chunks that are out. One that promises
-    /// nothing of the kind has `Unit {0}` here.
+    /// The note that an allocator keeps about past requests, besides the chunks in use. An allocator that promises nothing of
+    /// the kind has `Unit {0}` here.
     ghost Note: { Type 0 };
 
     ghost note: { Self → Note };
@@ -125,17 +125,17 @@ pub trait BaseAllocator {
     /// The note after a request for a layout, whatever is answered to it.
     ghost note_after: { Geometry → Layout → Note → Note };
 
-    /// The promise of a request by the value alone: of the allocator as it was, the layout, the answer, and the allocator as it
-    /// is then. One that leaves it out says no more than the clauses below.
+    /// The promise of a request that is only by the value: about the allocator as it was, the layout, the answer, and the
+    /// allocator as it is then. An allocator that leaves it out says no more than the clauses below.
     ghost takes: { Self → Layout → Result Chunk AllocationError → Self
         → Type 0 } = { λ old layout result new. Unit {0} };
 
-    /// The promise of a release by the value alone: of the allocator as it was, the place, the layout, and the allocator as it is
-    /// then.
+    /// The promise of a release that is only by the value: about the allocator as it was, the place, the layout, and the
+    /// allocator as it is then.
     ghost frees: { Self → ℕ → Layout → Self → Type 0 } = { λ old place layout new. Unit {0} };
 
-    /// Asks for a chunk of at least `layout.size()` bytes, at a place that is a multiple of `layout.align()`. After a
-    /// refusal the allocator stands for the lists for which it stood before.
+    /// Allocates a chunk of at least `layout.size()` bytes, at a place that is a multiple of `layout.align()`. After a refusal
+    /// the allocator stands for the same lists as before.
     fn allocate(&mut self, layout: Layout) -> Result<Chunk, AllocationError>
         ensures answer { (live : List Chunk) → stands_for self.old live
             → may_allocate (geometry self.old) live layout result }
@@ -151,8 +151,8 @@ pub trait BaseAllocator {
         ensures note { note self.new ≡ note_after (geometry self.old) layout (note self.old) }
         ensures value { takes self.old layout result self.new };
 
-    /// Gives back the chunk at this place, or all chunks where `RELEASE_EMPTIES` is true. A chunk that is out has to begin at
-    /// the place (a bump asks for nothing). The layout decides nothing.
+    /// Gives back the chunk at this place, or all chunks if `RELEASE_EMPTIES` is true. A chunk in use has to begin at the place
+    /// (a bump accepts any place). The layout decides nothing.
     fn deallocate(&mut self, place: usize, layout: Layout)
         requires { may_release self.old place }
         ensures released { (live : List Chunk) (position : ℕ) (chunk : Chunk)
@@ -187,12 +187,12 @@ pub trait BaseAllocator {
         Ok(chunk)
     }
 
-    /// Does nothing. It is the proof that each value stands for some live list, so that no clause holds for want of one.
+    /// Does nothing. It is the proof that each value stands for some live list, so that no clause is empty.
     fn stands_for_some_list(&self)
         ensures { (live : List Chunk) × stands_for self.now live };
 
-    /// Does nothing. It is the proof that whatever may be answered to a request as a chunk is inside the region, at a multiple
-    /// of the asked alignment, and at least as long as asked.
+    /// Does nothing. It is the proof that each chunk that a request may get is inside the region, at a multiple of the
+    /// requested alignment, and at least as long as requested.
     fn answers_fit(&self)
         ensures inside { (live : List Chunk) (layout : Layout) (chunk : Chunk)
             → stands_for self.now live → may_allocate (geometry self.now) live layout (Ok chunk)
@@ -214,11 +214,11 @@ pub trait BaseAllocator {
         → IsSound (region_of (geometry allocator)) live };
 }
 
-/// An allocator whose chunks can be resized in place. A release takes out its chunk alone and closes up, and no two
-/// chunks of a list that it stands for have the same place. A resize never changes the allocator: what may be used of
-/// the part that is reserved for a chunk stands in the answer alone.
+/// An allocator whose chunks can be resized in place. A release removes only its chunk from the list, and no two chunks of
+/// a list that it stands for have the same place. A resize never changes the allocator: only the answer says how much of
+/// the part that is reserved for a chunk may be used.
 pub trait Allocator: BaseAllocator {
-    /// Whatever the answers to resizes depend on. The geometry fixes it, by the law `fixed`.
+    /// The facts on which the answers to resizes depend. The geometry fixes them, by the law `fixed`.
     ghost ResizeKey: { Type 0 };
 
     ghost resize_key: { Self → ResizeKey };
@@ -234,8 +234,8 @@ pub trait Allocator: BaseAllocator {
     ghost may_shrink: { ResizeKey → List Chunk → ℕ → Layout → Layout
         → Result Chunk AllocationShrinkError → Type 0 };
 
-    /// The promise of `grow` by the value alone: of the allocator as it was, the place, the old layout and the new one, the
-    /// answer, and the allocator as it is then. One that leaves it out says no more than the clauses below.
+    /// The promise of `grow` that is only by the value: about the allocator as it was, the place, the old layout and the new
+    /// one, the answer, and the allocator as it is then. An allocator that leaves it out says no more than the clauses below.
     ghost grows: { Self → ℕ → Layout → Layout → Result Chunk AllocationGrowError → Self
         → Type 0 } = { λ one place old new result after. Unit {0} };
 
@@ -293,9 +293,9 @@ pub trait Allocator: BaseAllocator {
         ensures unchanged { self.new ≡ self.old }
         ensures value { shrinks self.old place old new result self.new };
 
-    /// Grows a chunk as `grow` does, with all that it promises (`Grown`), and makes the bytes behind its old size zero, up to the
-    /// end of what is answered. Every other byte of the region stays, and after a refusal all do. The region's start and size
-    /// have to be those of the allocator's maker.
+    /// Grows a chunk as `grow` does, with all that it promises (`Grown`), and zeroes the bytes after its old size, up to the end
+    /// of the answered chunk. Every other byte of the region is unchanged, and after a refusal all are. The region's start and
+    /// size have to be those of the allocator's maker.
     fn grow_zeroed(
         &mut self,
         place: usize,
@@ -324,7 +324,7 @@ pub trait Allocator: BaseAllocator {
     ghost fixed: { (one other : Self) → Self.geometry one ≡ Self.geometry other
         → resize_key one ≡ resize_key other };
 
-    /// A release takes out the chunk at its place alone.
+    /// A release removes only the chunk at its place.
     ghost closes_up: { Self.RELEASE_EMPTIES ≡ false };
 
     /// No two chunks of a list that it stands for have the same place.
@@ -336,7 +336,7 @@ pub trait Allocator: BaseAllocator {
         → Self.stands_for allocator live → slice_get live position ≡ Some chunk
         → chunk.len ≤ reserved_at (resize_key allocator) chunk.place };
 
-    /// A chunk that may be given back stands in each such list.
+    /// A chunk that may be given back is in each such list.
     ghost only_live: { (allocator : Self) (live : List Chunk) (place : ℕ)
         → Self.stands_for allocator live → Self.may_release allocator place
         → (position : ℕ) × (chunk : Chunk)

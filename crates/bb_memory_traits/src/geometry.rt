@@ -1,8 +1,8 @@
 //! Where the buckets of a region are.
 ghost use Rattle.bb_memory_traits.specs.Chunk.{Chunk, IsInside, IsRegion, first_place, region_at};
-ghost use Rattle.bb_memory_traits.specs.Geometry.{Admits, IsCutAtMost, IsPlaceOfBucket, MayBeCut, Shifts, TellsPlace};
+ghost use Rattle.bb_memory_traits.specs.Geometry.{Admits, IsCutAtMost, IsPlaceOfBucket, MayBeCut, TellsPlace};
 ghost use Rattle.bb_memory_traits.specs.PoolObject.{IsCut, IsPoolGeometry, MayGrow, MayShrink, bucket_place, pool_geometry, stride};
-ghost use Rattle.std.specs.Prelude.{IfNone, IfOk, IfSome, ℕ, ◌%◌, ◌/◌, ◌<◌, ◌≡◌, ◌≢◌, ◌≤◌};
+ghost use Rattle.std.specs.Prelude.{IfNone, IfOk, IfSome, ℕ, ◌%◌, ◌*◌, ◌/◌, ◌<◌, ◌^◌, ◌≡◌, ◌≢◌, ◌≤◌};
 
 use crate::allocator::{AllocationError, AllocationGrowError, AllocationShrinkError};
 use crate::layout::{Chunk, Layout, round_up};
@@ -15,18 +15,23 @@ pub fn stride(bucket_layout: Layout) -> usize
     round_up(bucket_layout.size(), bucket_layout.align()).unwrap()
 }
 
-/// Returns how many bits to shift to the right to divide by a power of two, and `None` for any other number.
-fn shift_of(divisor: usize) -> Option<u32>
-    ensures { Shifts divisor result }
+/// Returns the inverse of an odd number modulo 2^64: the product of both, wrapped, is 1.
+fn inverse_of(odd: usize) -> usize
+    requires { odd % 2 ≡ 1 }
+    ensures { odd * result % 2 ^ 64 ≡ 1 }
 {
-    if !divisor.is_power_of_two() {
-        return None;
+    let mut inverse: usize = 1;
+    // `odd * inverse + rest` is 1 modulo 2^64, before and after each step. The rest is even, and six squares of it are 0.
+    let mut rest = 1usize.wrapping_sub(odd);
+    for _step in 0..6u32 {
+        inverse = inverse.wrapping_mul(rest.wrapping_add(1));
+        rest = rest.wrapping_mul(rest);
     }
-    Some(divisor.trailing_zeros())
+    inverse
 }
 
-/// A region cut into buckets of one layout: all that it has room for, or the first of them. There is a shift where the stride
-/// is a power of two.
+/// A region cut into buckets of one layout: all that it has room for, or the first of them. The stride is an odd number times
+/// two to the power of `shift`, and `inverse` is the odd number's modulo 2^64.
 #[derive(Debug, Drop)]
 pub struct Geometry {
     region_start: usize,
@@ -34,7 +39,8 @@ pub struct Geometry {
     bucket: Layout,
     first: usize,
     stride: usize,
-    shift: Option<u32>,
+    inverse: usize,
+    shift: u32,
     buckets: u32,
 }
 
@@ -49,7 +55,7 @@ impl Model for Geometry {
 
     ghost invariant = { λ a. IsMeasured
         (pool_geometry (region_at a.region_start a.region_size) a.bucket a.buckets)
-        a.first a.stride a.shift };
+        a.first a.stride a.shift a.inverse };
 }
 
 impl Geometry {
@@ -60,6 +66,7 @@ impl Geometry {
     {
         let first = round_up(start, bucket_layout.align()).unwrap();
         let stride = stride(bucket_layout);
+        let shift = stride.trailing_zeros();
         let room = (start + size).saturating_sub(first);
         Geometry {
             region_start: start,
@@ -67,7 +74,8 @@ impl Geometry {
             bucket: bucket_layout,
             first,
             stride,
-            shift: shift_of(stride),
+            inverse: inverse_of(stride >> shift),
+            shift,
             buckets: (room / stride) as u32,
         }
     }
@@ -130,8 +138,9 @@ impl Geometry {
         Ok(())
     }
 
-    /// Returns the number of strides in a distance that is a multiple of the stride, and else a number that no bucket has. Where
-    /// the stride is a power of two, a rotation brings the bits of the rest to the top.
+    /// Returns the number of strides in a distance that is a multiple of the stride, and otherwise a number that no bucket has.
+    /// The product with the inverse divides by the stride's odd factor, and the rotation by its power of two. Both can be undone
+    /// modulo 2^64, so no two distances have the same result.
     #[inline(always)]
     pub fn whole_strides(&self, distance: usize) -> usize
         ensures whole { distance % stride self.now.bucket ≡ 0
@@ -139,11 +148,7 @@ impl Geometry {
         ensures part { distance % stride self.now.bucket ≢ 0 → self.now.buckets ≤ result }
         ensures some { 0 < stride self.now.bucket }
     {
-        match self.shift {
-            Some(shift) => distance.rotate_right(shift),
-            None if distance % self.stride == 0 => distance / self.stride,
-            None => usize::MAX,
-        }
+        distance.wrapping_mul(self.inverse).rotate_right(self.shift)
     }
 
     /// Returns the number of the bucket at this place, or `None` where no bucket begins there.
@@ -155,11 +160,8 @@ impl Geometry {
             → place ≡ bucket_place self.now other → other ≡ number) }
         ensures none { IfNone result (¬ IsPlaceOfBucket self.now place) }
     {
-        let first = self.first();
-        if place < first {
-            return None;
-        }
-        let number = self.whole_strides(place - first);
+        // The distance of a place before the first bucket wraps, to more strides than there are buckets.
+        let number = self.whole_strides(place.wrapping_sub(self.first()));
         if number >= self.count() as usize {
             return None;
         }

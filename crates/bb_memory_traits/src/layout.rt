@@ -1,4 +1,4 @@
-//! Layouts, which are what is asked for, and chunks, which are what is given. Sizes and lengths are in bytes.
+//! Layouts, which are requested, and chunks, which are given. Sizes and lengths are in bytes.
 ghost use Rattle.bb_memory_traits.specs.LeastPlace.{IsLeastPlace, IsUsual, least_place};
 ghost use Rattle.std.specs.Align.{IsLayout};
 ghost use Rattle.std.specs.Int.{IsPowerOfTwo};
@@ -27,8 +27,8 @@ pub struct Layout {
 pub struct LayoutError {}
 
 impl Layout {
-    /// Returns the layout of this size and alignment. It is refused exactly where the alignment is no power of two, or the size
-    /// rounded up to a multiple of the alignment exceeds `isize::MAX`.
+    /// Returns the layout of this size and alignment. It fails exactly if the alignment isn't a power of two, or the size rounded
+    /// up to a multiple of the alignment exceeds `isize::MAX`.
     #[inline]
     pub fn from_size_align(size: usize, align: usize) -> Result<Layout, LayoutError>
         ensures accepted { IsOk result ↔ IsLayout size align }
@@ -44,8 +44,8 @@ impl Layout {
         Ok(Layout { size, align })
     }
 
-    /// Returns the layout of this size and alignment where both are at most this layout's. That leaves to test that the
-    /// alignment is a power of two. It is `None` where it isn't, or where one of them is greater.
+    /// Returns the layout of this size and alignment if both are at most this layout's. Then only the alignment has to be tested
+    /// to be a power of two. Returns `None` if it isn't, or if one of the two numbers is greater.
     #[inline(always)]
     pub fn within(self, size: usize, align: usize) -> Option<Layout>
         ensures some { IsSome result
@@ -98,8 +98,8 @@ pub fn layout_law()
         → place % wider.align ≡ 0 → place % layout.align ≡ 0 }
 {}
 
-/// Returns the least multiple of `align` that isn't below `v`, or `None` where that exceeds `usize::MAX`. The alignment has to be
-/// a power of two, as that of a [`Layout`] is.
+/// Returns the least multiple of `align` that is at least `v`, or `None` if that exceeds `usize::MAX`. The alignment has to be a
+/// power of two, as that of a [`Layout`] is.
 ///
 /// Example: `comments::rounding` of `crates/examples`.
 #[inline(always)]
@@ -113,8 +113,8 @@ pub fn round_up(v: usize, align: usize) -> Option<usize>
     Some(v.checked_add(mask)? & !mask)
 }
 
-/// The least place is what its name says: the least multiple of the alignment that isn't below the number, and there is
-/// one alone. It does nothing: its contract is the law.
+/// The least place is what its name says: the least multiple of the alignment that is at least the number, and there is only
+/// one. The function does nothing: its contract is the law.
 pub fn least_place_law()
     ensures is_least { (v align : ℕ) → 0 < align → IsLeastPlace v align (least_place v align) }
     ensures one { (v align place : ℕ) → 0 < align → IsLeastPlace v align place

@@ -140,9 +140,9 @@ impl Region {
     }
 }
 
-/// Says in plain words what [`Region::chunk_mut`] promises of the bytes that it lends: once bytes as many as the chunk's are
+/// Says in plain words what [`Region::chunk_mut`] promises about the bytes that it lends: if bytes of the chunk's length are
 /// written there, the chunk has these, and every other byte is as it was, so each chunk inside that is apart from it keeps its
-/// bytes. It does nothing: its contract is the law.
+/// bytes. The function does nothing: its contract is the law.
 pub fn region_law()
     ensures written { (held : HeldBytes) (chunk : Chunk) (bytes : List ℕ)
         → IsInside (held_region held) chunk → length bytes ≡ chunk.len
@@ -175,7 +175,7 @@ pub fn live_bytes_law()
         → map (bytes_in new) live ≡ slice_set (map (bytes_in old) live) i bytes }
 {}
 
-/// A chunk's bytes are those of its parts, one behind the other. It does nothing: its contract is the law.
+/// A chunk's bytes are those of its parts, one after the other. The function does nothing: its contract is the law.
 pub fn split_bytes_law()
     ensures { (held : HeldBytes) (place n m : ℕ) → held.start ≤ place
         → bytes_in held (record { place = place; len = n + m })

@@ -1,4 +1,4 @@
-//! The examples that the doc comments of the libraries name. Contracts alone decide each `prove!`.
+//! The examples that the doc comments of the libraries name. Only contracts decide each `prove!`.
 #![tactic(auto, unfolding(bb_memory_traits::specs::LeastPlace::least_place))]
 
 ghost use Rattle.bb_memory.specs.Chunk.{region_at};

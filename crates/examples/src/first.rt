@@ -4,7 +4,7 @@
 use bb_memory::bump_allocator::{AllocationError, BaseAllocator, BumpAllocator};
 use bb_memory::layout::Layout;
 
-/// The second chunk begins behind the first.
+/// The second chunk begins after the first.
 pub fn first_two() -> Result<(), AllocationError> {
     let layout = Layout::from_size_align(48, 4).unwrap();
     let mut bump = BumpAllocator::new(4096, 1024);

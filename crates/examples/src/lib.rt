@@ -1,4 +1,4 @@
-//! Examples of the documents, proved: straight-line calls with literals. Contracts alone decide each `prove!`, and this crate has
+//! Examples of the documents, proved: straight-line calls with literals. Only contracts decide each `prove!`, and this crate has
 //! no proof files.
 //!
 //! The modules: `first`, `bump`, `one_chunk`, `pools` and `tenants_and_vectors`, and `comments`, the examples of the libraries' comments.

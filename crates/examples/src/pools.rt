@@ -9,7 +9,7 @@ use bb_memory::pool_allocator::{
 };
 use std::alloc::Global;
 
-/// A pool over a region that is known at run time alone.
+/// A pool over a region that is known only at run time.
 pub fn tested(bucket: Layout, start: usize, size: usize) -> Option<FixedSizePoolAllocator<16>> {
     if !FixedSizePoolAllocator::<16>::can_make(bucket, start, size) {
         return None;
@@ -35,7 +35,7 @@ pub fn room_told(pool: &mut FixedSizePoolAllocator<16>) {
     }
 }
 
-/// A place of which nothing is known is given back where it is a held bucket's, and once.
+/// A place about which nothing is known is given back if it is a held bucket's, and once.
 pub fn back_if_held(pool: &mut FixedSizePoolAllocator<16>) -> Result<(), AllocationError> {
     let chunk = pool.allocate(Layout::empty())?;
     let given_back = pool.deallocate_if_held(chunk.place());
@@ -119,7 +119,7 @@ fn give_two(pool: &mut FixedSizePoolAllocator<16>, one: usize, other: usize)
     pool.deallocate(other, Layout::empty());
 }
 
-/// Two chunks are out at once, and both go back.
+/// Two chunks are in use at once, and both go back.
 pub fn two_out(
     pool: &mut FixedSizePoolAllocator<16>,
     layout: Layout,

@@ -15,8 +15,8 @@ pub record Limited (G : Type 0) : Type 0 where
   pub inner : G
   pub budget : ℕ
 
--- A request by the value, where the allocator below promises so: a spent budget is as it was, and else the allocator below was
--- asked.
+-- A request by the value, if the allocator below promises so: a spent budget is as it was; otherwise the allocator below got the
+-- request.
 pub record TakesWithin {A : Type 0} (takes : A → Layout → Result Chunk AllocationError → A → Type 0) (old : Budgeted A)
     (layout : Layout) (answer : Result Chunk AllocationError) (new : Budgeted A) : Type 0 where
   pub spent : old.budget ≤ old.out → new ≡ old

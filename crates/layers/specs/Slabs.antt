@@ -17,7 +17,7 @@ pub record IsOfBytes (layout : Layout) (size : ℕ) : Type 0 where
   pub many : layout.size ≡ size
   pub align : layout.align ≡ 1
 
--- a request for `size` bytes may be answered so: not every layout of them rules it out
+-- a request for `size` bytes may have this answer: not every layout of them rules it out
 pub record MayAnswer (may_answer : Answers) (size : ℕ) (answer : Result Chunk AllocationError) : Type 0 where
   pub may : ¬ ((layout : Layout) → IsOfBytes layout size → ¬ may_answer layout answer)
 
@@ -26,7 +26,7 @@ pub record IsAskedOnce {Note : Type 0} (note_after : Layout → Note → Note) (
   pub some : IsLayout size 1
   pub once : (layout : Layout) → IsOfBytes layout size → new ≡ note_after layout old
 
--- a request may be answered by a longer chunk
+-- a request may get a longer chunk
 pub record MayGiveLonger (may_answer : Answers) (size : ℕ) : Type 0 where
   pub may : ¬ ((layout : Layout) (chunk : Chunk) → IsOfBytes layout size → size < chunk.len → ¬ may_answer layout (Ok chunk))
 
@@ -39,19 +39,19 @@ InsertFails may_answer size (insert.List error) = IsLayout size 1
 InsertFails may_answer size (insert.Refused error) = MayAnswer may_answer size (Err error)
 InsertFails may_answer size insert.NoExactChunk = MayGiveLonger may_answer size
 
--- the refusal is the layer's own: the allocator isn't asked
+-- the refusal is the layer's own: the allocator gets no request
 abbrev pub IsUnasked : InsertError → Type 0
 IsUnasked (insert.Layout error) = Unit {0}
 IsUnasked (insert.List error) = Unit {0}
 IsUnasked _ = ⊥
 
--- the allocator's note after an answer: it is asked once, and not where the refusal is the layer's own
+-- the allocator's note after an answer: it gets one request, and none if the refusal is the layer's own
 abbrev pub NotesRequest : {Note : Type 0} → (Layout → Note → Note) → ℕ → Result (Unit {0}) InsertError → Note → Note → Type 0
 NotesRequest note_after size (Err (insert.Layout error)) old new = new ≡ old
 NotesRequest note_after size (Err (insert.List error)) old new = new ≡ old
 NotesRequest note_after size answer old new = IsAskedOnce note_after size old new
 
--- a further chunk is out, of exactly `size` bytes, which the allocator may give
+-- a further chunk is in use, of exactly `size` bytes, which the allocator may give
 pub record HasOneMore (may_answer : Answers) (size : ℕ) (old new : List Chunk) : Type 0 where
   pub chunk : Chunk
   pub exact : chunk.len ≡ size
@@ -64,12 +64,12 @@ pub record HasOneMore (may_answer : Answers) (size : ℕ) (old new : List Chunk)
 abbrev pub records_in : HeldBytes → List Chunk → List (List ℕ)
 records_in held chunks = map (bytes_in held) chunks
 
--- a region then has these records in these chunks, and begins and ends where it did
+-- a region then has these records in these chunks, and begins and ends at the same places
 pub record HoldsThen (old new : HeldBytes) (chunks : List Chunk) (records : List (List ℕ)) : Type 0 where
   pub written : records_in new chunks ≡ records
   pub region : held_region new ≡ held_region old
 
--- the allocator below, the chunks that are out, and the record in each
+-- the allocator below, the chunks that are in use, and the record in each
 pub record Records (A : Type 0) : Type 0 where
   pub allocator : A
   pub chunks : List Chunk

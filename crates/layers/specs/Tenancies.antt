@@ -51,12 +51,12 @@ AdmitFails old limit admit.OverWhole = old.whole < sum old.limits + limit
 -- the memory for the limits was refused, which nothing here foretells
 AdmitFails old limit (admit.List error) = sum old.limits + limit ≤ old.whole
 
--- a tenant has this number, and as many bytes are left of its limit
+-- a tenant has this number, and this many bytes are left of its limit
 pub record HasLeft {A : Type 0} (old : Tenancy A) (tenant size : ℕ) : Type 0 where
   pub known : tenant < length old.limits
   pub within : used_by tenant old.leases + size ≤ limit_of old.limits tenant
 
--- why a tenant wasn't given a chunk, where an allocator may answer so
+-- why a tenant wasn't given a chunk, if an allocator may answer so
 abbrev pub LeaseFails : {A : Type 0} → Answers → Tenancy A → ℕ → Layout → LeaseError → Type 0
 LeaseFails may_answer old tenant layout lease.NoTenant = length old.limits ≤ tenant
 LeaseFails may_answer old tenant layout lease.OverLimit =
@@ -68,7 +68,7 @@ LeaseFails may_answer old tenant layout lease.TooLong =
     HasLeft old tenant layout.size × ((chunk : Chunk) × may_answer layout (Ok chunk)
     × (limit_of old.limits tenant < used_by tenant old.leases + chunk.len))
 
--- the refusal is the layer's own: the allocator isn't asked
+-- the refusal is the layer's own: the allocator gets no request
 abbrev pub IsRefusedUnasked : LeaseError → Type 0
 IsRefusedUnasked lease.NoTenant = Unit {0}
 IsRefusedUnasked lease.OverLimit = Unit {0}

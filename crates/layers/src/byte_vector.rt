@@ -75,8 +75,8 @@ impl ByteVec {
         region.bytes()[self.offset + at]
     }
 
-    /// Makes room for another byte, where there is none, by growing the chunk in place. It is refused only where there is no
-    /// room: with `TooLong` where no layout has a byte more, else as the allocator refuses to grow the chunk.
+    /// Makes room for another byte, if there is none, by growing the chunk in place. It fails only if there is no room: with
+    /// `TooLong` if no layout has one more byte, otherwise as the allocator refuses to grow the chunk.
     pub fn reserve<A: Allocator>(
         &mut self,
         allocator: &mut A,
@@ -101,8 +101,8 @@ impl ByteVec {
         Ok(())
     }
 
-    /// Appends a byte, for which a full chunk is grown. A refusal keeps all, and comes only where the chunk is full,
-    /// as `reserve` refuses.
+    /// Appends a byte, for which a full chunk is grown. It fails only if the chunk is full, with the errors of `reserve`.
+    /// A refusal changes nothing.
     pub fn push<A: Allocator>(
         &mut self,
         allocator: &mut A,
@@ -128,7 +128,7 @@ impl ByteVec {
         Ok(())
     }
 
-    /// Writes a byte behind the last one.
+    /// Writes a byte after the last one.
     fn write_behind(&self, region: &mut Region, byte: u8)
         requires room { self.now.len < self.now.capacity }
         requires inside { self.now.offset + self.now.capacity ≤ length region.old.bytes }
@@ -166,7 +166,7 @@ impl ByteVec {
     }
 }
 
-/// Asks for one byte more at the end of a live chunk, and answers how many bytes it then has.
+/// Requests one more byte at the end of a live chunk, and returns how many bytes it then has.
 fn grow_by_one<A: Allocator>(
     allocator: &mut A,
     place: usize,

@@ -44,7 +44,7 @@ impl<A: BaseAllocator + Drop> ChunkBudget<A> {
         }
     }
 
-    /// Returns the number of chunks that are out: as many as each live list has that it stands for, and at most the budget.
+    /// Returns the number of chunks that are in use: the length of each live list that it stands for, and at most the budget.
     pub fn out(&self) -> usize
         ensures value { result ≡ self.now.out }
         ensures within { result ≤ self.now.budget }
@@ -72,7 +72,7 @@ impl<A: BaseAllocator + Drop> BaseAllocator for ChunkBudget<A> {
 
     ghost region_of = { λ g. A.region_of g.inner };
 
-    // Where fewer chunks are out than the budget, it answers as the allocator below; else it refuses.
+    // If fewer chunks are in use than the budget, it answers as the allocator below; otherwise it refuses.
     ghost may_allocate = { λ g live layout answer.
         ((length live < g.budget) × A.may_allocate g.inner live layout answer)
         ⊎ ((g.budget ≤ length live) × (answer ≡ Err OutOfMemory)) };
@@ -93,7 +93,7 @@ impl<A: BaseAllocator + Drop> BaseAllocator for ChunkBudget<A> {
 
     ghost frees = { λ old place layout new. A.frees old.inner place layout new.inner };
 
-    /// Allocates from the allocator below. It fails with `OutOfMemory` where the budget is spent, and then asks nothing.
+    /// Allocates from the allocator below. It fails with `OutOfMemory` if the budget is spent, and then makes no request.
     fn allocate(&mut self, layout: Layout) -> Result<Chunk, AllocationError> {
         if self.out == self.budget {
             return Err(AllocationError::OutOfMemory);

@@ -1,4 +1,4 @@
-//! Layers that stand on the traits by their contracts alone, as users write them: this crate has no proof files.
+//! Layers that use only the contracts of the traits, as users write them: this crate has no proof files.
 //!
 //! The modules, in the order in which to read them:
 //!

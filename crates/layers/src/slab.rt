@@ -75,9 +75,9 @@ impl<A: Allocator + Drop> Slab<A> {
         self.chunks.len()
     }
 
-    /// Stores one more record, behind the others. A refusal keeps all. It is refused in this order: with `Layout` where no layout
-    /// has as many bytes, with `List` where memory was, with `Refused` as the allocator refuses to give as many, and with
-    /// `NoExactChunk` where it gives more. The allocator is asked once, and only behind the first two tests.
+    /// Stores one more record, after the others. It fails, in this order, with `Layout` if no layout has this many bytes, with
+    /// `List` if memory ran out, with `Refused` if the allocator refuses, and with `NoExactChunk` if it gives a longer chunk.
+    /// A refusal changes nothing. The allocator gets one request, and only after the first two tests.
     #[tactic(auto, using(bb_memory_traits::proofs::Layouts::same_layout))]
     pub fn insert(&mut self, bytes: &[u8]) -> Result<(), InsertError>
         ensures stores { Stores A.geometry A.may_allocate self.old bytes.now result self.new }
@@ -108,7 +108,7 @@ impl<A: Allocator + Drop> Slab<A> {
         self.region.chunk(chunk_at(&self.chunks, position))
     }
 
-    /// Writes a record whole, with as many bytes as it has. The others keep theirs.
+    /// Writes a whole record, with bytes of the record's length. The other records keep theirs.
     pub fn write(&mut self, position: usize, bytes: &[u8])
         requires { (old : List ℕ) × (slice_get self.old.records position ≡ Some old)
             × (length bytes.now ≡ length old) }
@@ -119,7 +119,7 @@ impl<A: Allocator + Drop> Slab<A> {
         overwrite(&mut self.region, &self.chunks, position, bytes);
     }
 
-    /// Takes a record out, and gives its chunk back. Those behind it move up. The allocator is asked for nothing.
+    /// Removes a record, and gives its chunk back. Those after it move up. The allocator gets no request.
     pub fn remove(&mut self, position: usize)
         requires { position < length self.old.records }
         ensures leaves { self.new ≡ record {

@@ -41,7 +41,7 @@ pub enum LeaseError {
 #[error("the tenant holds no chunk at this place")]
 pub struct NotHeld {}
 
-/// A chunk that is out, and the number of the tenant that holds it.
+/// A chunk that is in use, and the number of the tenant that holds it.
 #[derive(Clone, Copy)]
 pub struct Lease {
     pub tenant: usize,
@@ -115,8 +115,8 @@ impl<A: Allocator + Drop> Tenants<A> {
         }
     }
 
-    /// Admits a tenant with a limit in bytes, and answers its number. It is refused with `OverWhole` exactly where all limits
-    /// together would exceed the whole, and else with `List` where memory was.
+    /// Admits a tenant with a limit in bytes, and returns its number. It fails with `OverWhole` exactly if all limits together
+    /// would exceed the whole, and otherwise with `List` if memory ran out.
     pub fn admit(&mut self, limit: usize) -> Result<usize, AdmitError>
         ensures number { IfOk result (λ number. number ≡ length self.old.limits) }
         ensures within { OnOk result (sum self.old.limits + limit ≤ self.old.whole) }
@@ -165,8 +165,8 @@ impl<A: Allocator + Drop> Tenants<A> {
             .sum()
     }
 
-    /// Returns how many bytes are out: those of all chunks that the allocator has given. Whatever list has what each tenant uses,
-    /// this is its sum; and it is within the whole.
+    /// Returns how many bytes are in use: those of all chunks that the allocator has given. It is the sum of what each tenant
+    /// uses, and at most the whole.
     pub fn out(&self) -> usize
         ensures value { result ≡ bytes_out self.now.leases }
         ensures within { result ≤ self.now.whole }
@@ -185,11 +185,10 @@ impl<A: Allocator + Drop> Tenants<A> {
         lease_of(&self.leases, tenant, place).is_some()
     }
 
-    /// Asks for a chunk for a tenant. It is refused in this order: with `NoTenant` where no tenant has the number, with
-    /// `OverLimit` exactly where the asked bytes would exceed the tenant's limit, with `List` where memory was refused, with
-    /// `Refused` as the allocator refuses the layout, and with `TooLong` where it gives a chunk so much longer that the limit
-    /// would be exceeded, which goes back. A refusal keeps all. The allocator is asked once, and only behind the first three
-    /// tests.
+    /// Requests a chunk for a tenant. It fails, in this order, with `NoTenant` if no tenant has the number, with `OverLimit`
+    /// exactly if the requested bytes would exceed the tenant's limit, with `List` if memory ran out, with `Refused` if the
+    /// allocator refuses the layout, and with `TooLong` if it gives a chunk so much longer that the limit would be exceeded,
+    /// which then goes back. A refusal changes nothing. The allocator gets one request, and only after the first three tests.
     pub fn allocate(&mut self, tenant: usize, layout: Layout) -> Result<Chunk, LeaseError>
         ensures given { IfOk result (λ chunk. A.may_allocate (A.geometry self.old.allocator)
             (chunks_of self.old.leases) layout (Ok chunk)) }
@@ -227,7 +226,7 @@ impl<A: Allocator + Drop> Tenants<A> {
         Ok(chunk)
     }
 
-    /// Returns how many bytes are left of a tenant's limit, where these are enough for a layout.
+    /// Returns how many bytes are left of a tenant's limit, if these are enough for a layout.
     fn left_for(&self, tenant: usize, layout: Layout) -> Result<usize, LeaseError>
         ensures left { IfOk result
             (λ left. used_by tenant self.now.leases + left ≡ limit_of self.now.limits tenant) }
@@ -247,8 +246,8 @@ impl<A: Allocator + Drop> Tenants<A> {
         Ok(left)
     }
 
-    /// Gives back the chunk at a place, which the tenant holds. Else it is refused, and changes nothing. The allocator is asked
-    /// for nothing.
+    /// Gives back the chunk at a place, if the tenant holds it. Otherwise it is refused, and changes nothing. The allocator
+    /// gets no request.
     pub fn deallocate(&mut self, tenant: usize, place: usize) -> Result<(), NotHeld>
         ensures held { IsOk result ↔ IsSome (lease_at tenant place self.old.leases) }
         ensures returned { IfSome (lease_at tenant place self.old.leases) (λ position.
@@ -277,8 +276,8 @@ impl<A: Allocator + Drop> Tenants<A> {
         self.leases.remove(position);
     }
 
-    /// Does nothing. It is the proof that the allocator stands for exactly the chunks that the tenants hold, which so lie
-    /// inside its region and are apart.
+    /// Does nothing. It is the proof that the allocator stands for exactly the chunks that the tenants hold, which therefore
+    /// lie inside its region and are apart.
     pub fn law(&self)
         ensures stands { A.stands_for self.now.allocator (chunks_of self.now.leases) }
         ensures sound { IsSound (A.region_of (A.geometry self.now.allocator))
@@ -298,7 +297,7 @@ fn out_within(leases: &Vec<Lease>, promised: usize) -> usize
     leases.iter().map(|lease| lease.chunk.len()).sum()
 }
 
-/// Returns the position of the lease of the chunk at a place, where the tenant holds it.
+/// Returns the position of the lease of the chunk at a place, if the tenant holds it.
 fn lease_of(leases: &Vec<Lease>, tenant: usize, place: usize) -> Option<usize>
     ensures first { result ≡ lease_at tenant place leases.now.items }
     ensures there { IfSome result (λ position. (lease : Lease)

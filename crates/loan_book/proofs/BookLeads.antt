@@ -9,12 +9,12 @@ use Rattle.loan_book.specs.declared.run.LoanReply.TheVariants as reply
 use Rattle.std.proofs.Common.{None, arith, refl, subst, sym, ℕ, ◌-◌, ◌<◌, ◌≡◌}
 use Rattle.std.proofs.lemmas.Option.{slice_get_within}
 
--- a call that gives back a sample that is out
+-- a call that gives back a sample that is in use
 abbrev pub Returns : Book → LoanCall → Type 0
 Returns old (call.GiveBack id) = IsOut old id
 Returns old other = ⊥
 
--- the call changes the book in one of these ways, where it changes it
+-- the call changes the book in one of these ways, if it changes it
 pub data Change (old : Book) : LoanCall → LoanReply → Book → Type 0 where
   no_change : (call : LoanCall) (reply : LoanReply) → id_of reply ≡ None → ¬ Returns old call → Change old call reply old
   one_loan : (size id : ℕ) (chunk : Chunk) → id ≡ old.loaned →

@@ -1,4 +1,4 @@
--- One sample that is out, after a run of calls, and one that a call of the run loans or publishes.
+-- One sample that is in use, after a run of calls, and one that a call of the run loans or publishes.
 use Rattle.bb_memory_traits.specs.Chunk.{Chunk}
 use Rattle.bb_memory_traits.specs.Object.{IsRun}
 use Rattle.loan_book.proofs.BookLeads.{Change, change_of, last_one, no_change, one_less, one_loan, one_publish, step-sound}
@@ -17,7 +17,7 @@ use Rattle.std.specs.Prelude.{◌↔◌}
 abbrev once : Bool → ℕ
 once counts = cond counts 1 0
 
--- a published sample that waits for n returns, where it is gone once that is none
+-- a published sample that waits for n returns, and is gone once n is 0
 abbrev after : ℕ → Option (Option ℕ)
 after zero = None
 after (suc n) = Some (Some (suc n))
@@ -52,7 +52,7 @@ module _ (old : Book) (is : IsBook old) (id : ℕ) where
       let there : HasReturns old id None = (i, sample, record { at = at.at; has_id = at.has_id ∙ same }, fresh) in
       elsewhere (grind (arith, nat_tests)) (ap Some (one_returns old id returns None is kept there))) kept
 
-  -- a return of the sample itself, which is out
+  -- a return of the sample itself, which is in use
   change-own : {new : Book} {made : LoanCall} {told : LoanReply} (returns : Option ℕ) → Change old made told new →
       is_return_of id made ≡ true → HasReturns old id returns → HasOrIsGone new id (after (returns_to_come returns - 1))
   change-own returns (no_change (call.GiveBack other) told no_id none) own has = grind arith
@@ -111,7 +111,7 @@ module _ (may : Answers) (new : Book) (id : ℕ) where
   out-waits zero (gone, used) = (λ out. absurd (gone out), λ some. absurd (omega arith))
   out-waits (suc n) (i, sample, at, waits) = (λ out. omega arith, λ some. (i, sample, at))
 
-  -- a sample that waits for `returns` returns is out after a run exactly where fewer of its calls return it
+  -- a sample that waits for `returns` returns is in use after a run exactly if fewer of its calls return it
   pub run-returns : (old : Book) (calls : List LoanCall) (replies : List LoanReply) (returns : ℕ) → IsBook old →
       HasReturns old id (Some returns) → IsRun (BookStep may) old calls replies new →
       IsOut new id ↔ (returns_in id calls < returns)
@@ -146,7 +146,7 @@ module _ (may : Answers) (new : Book) (id : ℕ) where
       (change_of may old mid made told step) other (λ publish. absurd (cc)) unpublished) in
       (λ there. let left = out.0 there in omega arith, λ nothing. out.1 (omega arith))
 
-  -- a sample that was never published is out after a run that doesn't publish it exactly where none of its calls returns it
+  -- a sample that was never published is in use after a run that doesn't publish it exactly if none of its calls returns it
   pub run-unpublished : (old : Book) (calls : List LoanCall) (replies : List LoanReply) → IsBook old → IsUnpublished old id →
       publishes_in id calls ≡ 0 → IsRun (BookStep may) old calls replies new → IsOut new id ↔ (returns_in id calls ≡ 0)
   run-unpublished old [] [] is unpublished none same =
@@ -158,7 +158,7 @@ module _ (may : Answers) (new : Book) (id : ℕ) where
   run-unpublished old [] (told ∷ replies) is unpublished none other = absurd other
   run-unpublished old (made ∷ calls) [] is unpublished none other = absurd other
 
-  -- The calls behind a publish or a loan are a run, too.
+  -- The calls after a publish or a loan are a run, too.
 
   -- the publish at position i of a run
   pub run-published : (old : Book) (calls : List LoanCall) (replies : List LoanReply) (i readers : ℕ) → IsBook old →

@@ -17,7 +17,7 @@ not_before book id i j one other is here there before =
     let below : one.id < other.id = rw (first, second) at rises in
     omega (arith, here.has_id, there.has_id)
 
--- so it stands at one position alone
+-- so it is at only one position
 pub one_position : (book : Book) (id i j : ℕ) (one other : Sample) → IsBook book → IsAt book id i one → IsAt book id j other →
     i ≡ j
 one_position book id i j one other is here there =
@@ -32,7 +32,7 @@ one_sample book id i j one other is here there =
     let at = subst (λ k. slice_get book.out k ≡ Some one) same here.at in
     cc
 
--- a sample that is out has its own returns to come alone
+-- a sample that is in use waits for its own returns only
 pub one_returns : (book : Book) (id : ℕ) (one other : Option ℕ) → IsBook book → HasReturns book id one →
     HasReturns book id other → one ≡ other
 one_returns book id one other is (i, sample, here, is_one) (j, found, there, is_other) =
@@ -43,7 +43,7 @@ pub unpublished-nowhere : (book : Book) (id : ℕ) → IsBook book → IsUnpubli
 unpublished-nowhere book id is unpublished (returns, published) =
     let same = one_returns book id None (Some returns) is unpublished published in cc
 
--- a sample that is out was loaned
+-- a sample that is in use was loaned
 pub loaned_before_now : (book : Book) (id position : ℕ) (sample : Sample) → IsBook book → IsAt book id position sample →
     id < book.loaned
 loaned_before_now book id position sample is here =
@@ -52,7 +52,7 @@ loaned_before_now book id position sample is here =
     let given : sample.id < book.loaned = rw read at below in
     omega (arith, here.has_id)
 
--- the sample of this id is out with such returns to come; where there are none such, it is gone, and its id was used up
+-- the sample of this id is in use with such returns to come; if there are none such, it is gone, and its id was used up
 abbrev pub HasOrIsGone : Book → ℕ → Option (Option ℕ) → Type 0
 HasOrIsGone book id None = (¬ IsOut book id) × (id < book.loaned)
 HasOrIsGone book id (Some returns) = HasReturns book id returns
@@ -71,7 +71,7 @@ own-push book id chunk its_id =
     let fresh : Sample = record { id = book.loaned; chunk = chunk; returns = None } in
     (length book.out, fresh, record { at = slice_get-last book.out fresh; has_id = sym its_id }, refl)
 
--- a sample that is out after a change of one was out before it
+-- a sample that is in use after a change of one was in use before it
 was_out_before_set : (book : Book) (id other position : ℕ) (sample : Sample) (returns : ℕ) → IsAt book other position sample →
     IsOut (with_returns book position sample returns) id → IsOut book id
 was_out_before_set book id other position sample returns here (i, found, there) = grind (arith, slice_get-set)
@@ -97,7 +97,7 @@ own-set book id position sample returns here =
     let waiting : Sample = record sample { returns = Some returns } in
     (position, waiting, record { at = slice_get-set_same book.out position waiting sample here.at; has_id = here.has_id }, refl)
 
--- a sample that was taken out is out no more
+-- a sample that was removed is not in use any more
 pub removed-is-gone : (book : Book) (id position : ℕ) (sample : Sample) → IsBook book → IsAt book id position sample →
     ¬ IsOut (without book position) id
 removed-is-gone book id position sample is here (k, found, there) =

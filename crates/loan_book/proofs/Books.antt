@@ -1,4 +1,4 @@
--- Books: the chunks of their samples, what each change keeps, and that the allocator stands for the chunks that are out.
+-- Books: the chunks of their samples, what each change keeps, and that the allocator stands for the chunks in use.
 use Rattle.bb_memory_lists.proofs.SliceGets.{length-set_at}
 use Rattle.bb_memory_traits.specs.Chunk.{Chunk}
 use Rattle.loan_book.specs.Book.{Book, IsBook, IsLoanBook, Sample, book_of, chunks_of, loaned_before, returns_to_come}
@@ -29,12 +29,12 @@ pub map-kept : {X : Type 0} (f : Sample → X) (samples : List Sample) (i : ℕ)
 map-kept f samples i old new at same =
     map-set_same f samples i new old (same ∙ ap f (sym (get_or_from_slice_get samples i old old at)))
 
--- the chunk of a sample stands where the sample does
+-- the chunk of a sample is at the sample's position
 pub chunk-at : (samples : List Sample) (i : ℕ) (sample : Sample) → slice_get samples i ≡ Some sample →
     slice_get (chunks_of samples) i ≡ Some sample.chunk
 chunk-at samples i sample at = slice_get-map (λ (s : Sample). s.chunk) samples i ∙ ap (option_map (λ (s : Sample). s.chunk)) at
 
--- the ids stay where a sample is set to one of its own id
+-- the ids stay if a sample is replaced by one with the same id
 id-set : (samples : List Sample) (i : ℕ) (old new : Sample) → slice_get samples i ≡ Some old → new.id ≡ old.id →
     (k : ℕ) (d : Sample) → (get_or (slice_set samples i new) k d).id ≡ (get_or samples k d).id
 id-set samples i old new at same k d =
@@ -93,7 +93,7 @@ unpublished_from (Some n) none = cc
 pub positive : (n : ℕ) → (n ≡ 0 → ⊥) → 0 < n
 positive n not_zero = omega (arith, not_zero)
 
--- the next id after a loan: there is none where the greatest one was loaned
+-- the next id after a loan: there is none if the greatest one was loaned
 pub next_loaned : (id : ℕ) (after : Option ℕ) → id < 2 ^ 64 → SomeIff after (id + 1 < 2 ^ 64) (id + 1) →
     loaned_before after ≡ id + 1
 next_loaned id None within none = omega arith

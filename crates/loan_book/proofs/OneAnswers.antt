@@ -1,4 +1,4 @@
--- Each call has one answer alone, or leads to one book at least.
+-- Each call has only one answer, or leads to at least one book.
 use Rattle.bb_memory_traits.specs.Chunk.{Chunk}
 use Rattle.loan_book.proofs.BookSteps.{one_position, one_sample, unpublished-nowhere}
 use Rattle.loan_book.specs.Book.{Book, IsAt, IsBook, IsOut, IsPublished, IsUnpublished, LoanError, Sample, returns_to_come}
@@ -70,7 +70,7 @@ module _ (book : Book) (is : IsBook book) (id readers : ℕ) where
       grind (arith, to_come, same-set)
   give-one one other new next first second = grind (arith, first, second)
 
--- each refusal comes exactly where its cause holds
+-- each refusal comes exactly if its cause holds
 pub publish-refusal : (book : Book) (is : IsBook book) (id readers : ℕ) (answer : Result (Unit {0}) LoanError) (new : Book) →
     Publishes book id readers answer new → (error : LoanError) →
     (answer ≡ Err error) ↔ PublishCause book id readers (Err error)

@@ -1,4 +1,4 @@
--- Books: how many samples were loaned so far, and those that are out. Loan books: an allocator, and its book.
+-- Books: how many samples were loaned so far, and those that are in use. Loan books: an allocator, and its book.
 use Rattle.bb_memory_traits.specs.Chunk.{Chunk}
 use Rattle.bb_memory_traits.specs.declared.layout.Layout.{Layout}
 use Rattle.loan_book.specs.declared.book.Sample as declared
@@ -27,7 +27,7 @@ pub record Book : Type 0 where
 abbrev pub chunks_of : List Sample → List Chunk
 chunks_of samples = map (λ sample. sample.chunk) samples
 
--- the chunks of the samples that are out
+-- the chunks of the samples that are in use
 abbrev pub chunks_out : Book → List Chunk
 chunks_out book = chunks_of book.out
 
@@ -43,19 +43,19 @@ pub record IsAt (book : Book) (id position : ℕ) (sample : Sample) : Type 0 whe
   pub at : slice_get book.out position ≡ Some sample
   pub has_id : sample.id ≡ id
 
--- the sample of this id is out
+-- the sample of this id is in use
 abbrev pub IsOut : Book → ℕ → Type 0
 IsOut book id = (position : ℕ) × (sample : Sample) × IsAt book id position sample
 
--- the sample of this id is out, and `returns` says how many of its returns are to come
+-- the sample of this id is in use, and `returns` says for how many returns it waits
 abbrev pub HasReturns : Book → ℕ → Option ℕ → Type 0
 HasReturns book id returns = (position : ℕ) × (sample : Sample) × IsAt book id position sample × (sample.returns ≡ returns)
 
--- the sample of this id is out, and is published
+-- the sample of this id is in use, and is published
 abbrev pub IsPublished : Book → ℕ → Type 0
 IsPublished book id = (returns : ℕ) × HasReturns book id (Some returns)
 
--- the sample of this id is out, and isn't published
+-- the sample of this id is in use, and isn't published
 abbrev pub IsUnpublished : Book → ℕ → Type 0
 IsUnpublished book id = HasReturns book id None
 
@@ -70,19 +70,19 @@ abbrev pub loaned_before : Option ℕ → ℕ
 loaned_before None = 2 ^ 64
 loaned_before (Some id) = id
 
--- the book with this next id, in which these samples are out
+-- the book with this next id, in which these samples are in use
 abbrev pub book_of : Option ℕ → List Sample → Book
 book_of next out = record { loaned = loaned_before next; out = out }
 
 -- The invariant of a loan book: the allocator stands for exactly the chunks of the samples that are
--- out, and the book is one that calls can lead to.
+-- in use, and the book is one that calls can lead to.
 pub record IsLoanBook {A : Type 0} (stands_for : A → List Chunk → Type 0) (allocator : A) (next : Option ℕ)
     (out : List Sample) : Type 0 where
   pub stands : stands_for allocator (chunks_of out)
   pub book : IsBook (book_of next out)
   pub next_fits : ForSome next (λ id. id < 2 ^ 64)
 
--- after every call the allocator stands for exactly the chunks of the samples that are out, and has
+-- after every call the allocator stands for exactly the chunks of the samples that are in use, and has
 -- its old geometry
 pub record StillStands {A Geometry : Type 0} (stands_for : A → List Chunk → Type 0) (geometry_of : A → Geometry)
     (old new : LoanBook A) : Type 0 where

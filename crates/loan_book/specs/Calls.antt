@@ -1,4 +1,4 @@
--- The answers that a loan book may give to each call, and the book after it. A refusal is by the first cause that applies.
+-- The answers that a loan book may give to each call, and the book after it. A refusal names the first cause that applies.
 use Rattle.bb_memory_traits.specs.Chunk.{Chunk}
 use Rattle.bb_memory_traits.specs.declared.allocator.AllocationError.{AllocationError}
 use Rattle.bb_memory_traits.specs.declared.layout.Layout.{Layout}
@@ -15,7 +15,7 @@ abbrev pub Answers : Type 1
 Answers = List Chunk → Layout → Result Chunk AllocationError → Type 0
 
 -- the allocator may give this answer to a request for `n` bytes, at any place, while these samples
--- are out
+-- are in use
 abbrev pub MayAnswer : Answers → Book → ℕ → Result Chunk AllocationError → Type 0
 MayAnswer may book n answer = (layout : Layout) × (layout.size ≡ n) × (layout.align ≡ 1) × may (chunks_out book) layout answer
 
@@ -76,8 +76,8 @@ BookStep may_allocate old (call.GiveBack id) (Refused error) new = GivesBack old
 BookStep may_allocate old (call.IsOut id) (Out answer) new = (IsTrue answer ↔ IsOut old id) × (new ≡ old)
 BookStep may_allocate old made reply new = ⊥
 
--- What the allocator noted before a call and after its reply. A loan that the allocator answered asked it once. No other call
--- asked it for anything.
+-- What the allocator noted before a call and after its reply. A loan that the allocator answered made one request to it. No
+-- other call made a request to it.
 abbrev pub NotesCall : {Note : Type 0} → (Layout → Note → Note) → LoanCall → LoanReply → Note → Note → Type 0
 NotesCall note_after (call.Loan size) (Loaned id chunk) old new = IsAskedOnce note_after size old new
 NotesCall note_after (call.Loan size) (Refused (refused.Allocation error)) old new = IsAskedOnce note_after size old new
@@ -89,7 +89,7 @@ abbrev pub NotedStep : {Note : Type 0} → Answers → (Layout → Note → Note
 NotedStep may_allocate note_after old made reply new =
     BookStep may_allocate old.0 made reply new.0 × NotesCall note_after made reply old.1 new.1
 
--- the chunk of each loan has at least as many bytes as the loan asked for
+-- the chunk of each loan has at least the size that the loan requested
 abbrev pub AreLongEnough : List LoanCall → List LoanReply → Type 0
 AreLongEnough calls replies = (i size id : ℕ) (chunk : Chunk) → slice_get calls i ≡ Some (call.Loan size)
     → slice_get replies i ≡ Some (Loaned id chunk) → size ≤ chunk.len

@@ -11,7 +11,7 @@ use std::alloc::Global;
 use std::collections::VecDeque;
 use std::marker::Model;
 
-/// A sample that is out.
+/// A sample that is in use.
 #[derive(Drop)]
 struct Sample {
     id: u64,
@@ -20,17 +20,17 @@ struct Sample {
     returns: Option<u32>,
 }
 
-/// The samples that are out, over an allocator that it owns. A sample's id is the number of samples that were loaned before
-/// it. Its chunk goes back to the allocator when the last of its readers has returned it.
+/// The samples that are in use, over an allocator that the book owns. A sample's id is the number of samples that were loaned
+/// before it. Its chunk goes back to the allocator when the last of its readers has returned it.
 ///
-/// The samples are kept in the order of their ids, which is the order of the loans, so a sample is found by halving. One
-/// that leaves moves those before it or those behind it, whichever are fewer: the oldest and the newest move none.
+/// The samples are kept in the order of their ids, which is the order of the loans, so a sample is found by binary search.
+/// One that leaves moves those before it or those after it, whichever are fewer: the oldest and the newest move none.
 ///
 /// Example: `comments::loans` of `crates/examples`.
 #[derive(Drop)]
 pub struct LoanBook<A: Allocator> {
     allocator: A,
-    /// The next sample's id, or `None` where the greatest one was loaned.
+    /// The next sample's id, or `None` if the greatest one was loaned.
     next: Option<u64>,
     out: VecDeque<Sample>,
 }
@@ -58,13 +58,12 @@ impl<A: Allocator> LoanBook<A> {
         }
     }
 
-    /// Loans a chunk of at least `size` bytes, at any place, and answers the sample's id and its chunk. Ids count up from 0
+    /// Loans a chunk of at least `size` bytes, at any place, and returns the sample's id and its chunk. Ids count up from 0
     /// in the order of the loans, and the id of a refused loan isn't used up.
     ///
-    /// It is refused in this order: with `Size` where `size` exceeds `isize::MAX`, with `IdsExhausted` where the greatest
-    /// id was loaned before, with `Memory` where the memory for the sample's record was refused, and with `Allocation`
-    /// where the allocator refused. A refusal leaves the book as it was. The allocator is asked once, and only behind the
-    /// first three tests.
+    /// It fails, in this order, with `Size` if `size` exceeds `isize::MAX`, with `IdsExhausted` if the greatest id was loaned
+    /// before, with `Memory` if memory for the sample's record ran out, and with `Allocation` if the allocator refused. A
+    /// refusal leaves the book as it was. The allocator gets one request, and only after the first three tests.
     pub fn loan(&mut self, size: usize) -> Result<(u64, Chunk), LoanError>
         ensures answer { Loans (A.may_allocate (A.geometry self.old.allocator))
             self.old.book size result self.new.book }
@@ -78,7 +77,7 @@ impl<A: Allocator> LoanBook<A> {
         ensures kept { OnErr result ((live : List Chunk) → A.stands_for self.old.allocator live
             → A.stands_for self.new.allocator live) }
 
-        // The allocator is asked once, and not where the refusal is the book's own.
+        // The allocator gets one request, and none if the refusal is the book's own.
         ensures unasked { IfErr result (λ error. (¬ IsAllocators error) → self.new ≡ self.old) }
         ensures asked_once { IfOk result (λ loaned. IsAskedOnce
             (A.note_after (A.geometry self.old.allocator)) size
@@ -112,10 +111,10 @@ impl<A: Allocator> LoanBook<A> {
         }
     }
 
-    /// Publishes a sample that is out: it then waits for as many returns as it has readers.
+    /// Publishes a sample that is in use: it then waits for one return of each of its readers.
     ///
-    /// It is refused in this order: with `UnknownSample` where no sample of this id is out, with `AlreadyPublished` where it
-    /// was published before, and with `NoReaders` where `readers` is 0. A refusal leaves everything as it was.
+    /// It fails, in this order, with `UnknownSample` if no sample of this id is in use, with `AlreadyPublished` if it was
+    /// published before, and with `NoReaders` if `readers` is 0. A refusal leaves everything as it was.
     pub fn publish(&mut self, id: u64, readers: u32) -> Result<(), LoanError>
         ensures answer { Publishes self.old.book id readers result self.new.book }
         ensures unknown_sample { (result ≡ Err LoanError.UnknownSample)
@@ -143,11 +142,10 @@ impl<A: Allocator> LoanBook<A> {
         Ok(())
     }
 
-    /// Returns a sample once. Where that was the last return that it waited for, its chunk goes back to the allocator, and
-    /// the answer is true. A sample that was never published waits for one return. The allocator is asked for nothing.
+    /// Returns a sample once. If that was the last return that it waited for, its chunk goes back to the allocator, and the
+    /// result is true. A sample that was never published waits for one return. The allocator gets no request.
     ///
-    /// It is refused, with `UnknownSample`, exactly where no sample of this id is out. A refusal leaves everything as it
-    /// was.
+    /// It fails, with `UnknownSample`, exactly if no sample of this id is in use. A refusal leaves everything as it was.
     pub fn give_back(&mut self, id: u64) -> Result<bool, LoanError>
         ensures answer { GivesBack self.old.book id result self.new.book }
         ensures unknown_sample { (result ≡ Err LoanError.UnknownSample)
@@ -173,7 +171,7 @@ impl<A: Allocator> LoanBook<A> {
         Ok(true)
     }
 
-    /// Tests that a sample of this id is out.
+    /// Returns whether a sample of this id is in use.
     pub fn is_out(&self, id: u64) -> bool
         ensures answer { IsTrue result ↔ IsOut self.now.book id }
         ensures stands { A.stands_for self.now.allocator (chunks_out self.now.book) }
@@ -182,8 +180,8 @@ impl<A: Allocator> LoanBook<A> {
         self.find(id).is_some()
     }
 
-    /// Does nothing. It is the proof of what holds of every loan book: the allocator stands for exactly the chunks of the
-    /// samples that are out, these are sound (each lies inside the allocator's region, and no two overlap), the ids of
+    /// Does nothing. It is the proof of what holds for every loan book: the allocator stands for exactly the chunks of the
+    /// samples that are in use, these are sound (each lies inside the allocator's region, and no two overlap), the ids of
     /// the samples rise, and each sample waits for a return. Each answer that a loan may have leads to one book.
     pub fn law(&self)
         ensures stands { A.stands_for self.now.allocator (chunks_out self.now.book) }
@@ -199,7 +197,7 @@ impl<A: Allocator> LoanBook<A> {
         let _ = &self.next;
     }
 
-    /// Finds the sample of this id: its position, and how many returns it waits for, or `None` where it wasn't published yet.
+    /// Finds the sample of this id: its position, and how many returns it waits for, or `None` if it wasn't published yet.
     fn find(&self, id: u64) -> Option<(usize, Option<u32>)>
         ensures found { IfSome result (λ found. (sample : Sample)
             × IsAt self.now.book id found.0 sample × (sample.returns ≡ found.1)) }

@@ -17,7 +17,7 @@ pub enum LoanError {
     /// The allocator refused, with this error.
     #[error(transparent)]
     Allocation(AllocationError),
-    /// No sample of this id is out.
+    /// No sample of this id is in use.
     #[error("the sample is not out")]
     UnknownSample,
     /// The sample was published before.

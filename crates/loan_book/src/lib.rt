@@ -1,13 +1,13 @@
 //! Samples that are loaned from an allocator and have several readers: a sample goes back to the allocator when the last
-//! of its readers has returned it. The crate stands on the trait [`Allocator`](bb_memory_traits::allocator::Allocator)
-//! alone, and names no allocator.
+//! of its readers has returned it. The crate depends only on the trait
+//! [`Allocator`](bb_memory_traits::allocator::Allocator), and names no allocator.
 //!
 //! The modules, in the order in which to read them:
 //!
 //! - `error`: why a loan book refuses.
 //! - `book`: the loan book and its calls.
 //! - `run`: calls one after the other, and what a list of them does.
-//! - `laws`: what holds of every book and every answer.
+//! - `laws`: what holds for every book and every answer.
 #![tactic(auto)]
 
 mod book;

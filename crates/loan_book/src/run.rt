@@ -23,7 +23,7 @@ pub enum LoanCall {
     Publish(u64, u32),
     /// The sample of this id is returned once.
     GiveBack(u64),
-    /// Asks whether the sample of this id is out.
+    /// Asks whether the sample of this id is in use.
     IsOut(u64),
 }
 
@@ -38,7 +38,7 @@ pub enum LoanReply {
     Returned,
     /// Further returns are to come.
     Kept,
-    /// True where the sample is out.
+    /// True if the sample is in use.
     Out(bool),
     /// The call was refused, and the book is as it was.
     Refused(LoanError),
@@ -71,13 +71,14 @@ fn apply<A: Allocator>(book: &mut LoanBook<A>, call: LoanCall) -> LoanReply
     }
 }
 
-/// Makes the calls in order, and answers one reply a call. Afterwards the allocator stands for exactly the chunks of the
-/// samples that are out. The allocator is asked once for each loan that it answers, and for nothing by any other call. The ids that are given count up from the number of samples that were loaned before. A published
-/// sample that waited for returns is still out exactly where fewer of the calls return it. So one that a call publishes
-/// for r readers goes back at the r-th return behind that call, and not before; one that a call loans, and none publishes, at
-/// its first return.
+/// Makes the calls in order, and returns one reply for each call. Afterwards the allocator stands for exactly the chunks of
+/// the samples that are in use. The allocator gets one request for each loan that it answers, and none from any other call.
+/// The ids that are given count up from the number of samples that were loaned before. A published sample that waited for
+/// returns is still in use exactly if fewer of the calls return it. So a sample that a call publishes for r readers goes
+/// back at the r-th return after that call, and not before. A sample that a call loans, and none publishes, goes back at its
+/// first return.
 ///
-/// Memory for the replies is reserved first, from `alloc`. Where it is refused, no call is made, and everything is as before.
+/// Memory for the replies is reserved first, from `alloc`. If it runs out, no call is made, and everything is as before.
 pub fn run_loans<A: Allocator>(
     alloc: Global,
     book: &mut LoanBook<A>,

@@ -1,5 +1,5 @@
 //! Reads a script from standard input, drives an allocator, a machine of steps or a loan book by it, and writes a line for
-//! each reply. What a script is and how it is answered, the library `script_kinds` has; here are the standard streams and the
+//! each reply. The library `script_kinds` says what a script is and what its replies are; here are the standard streams and the
 //! exit status.
 #![tactic(auto)]
 

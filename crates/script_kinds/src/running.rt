@@ -1,4 +1,4 @@
-//! From the bytes of a script to the bytes that it is answered.
+//! From the bytes of a script to the bytes of its replies.
 ghost use Rattle.script_kinds.specs.Kinds.{kinds};
 ghost use Rattle.scripts.specs.Scripts.{BeginsOutput, IsAnswered, IsLeft, IsUnreadable};
 ghost use Rattle.scripts.specs.Words.{unreadable_text};
@@ -17,7 +17,7 @@ use scripts::status::Status;
 use std::alloc::Global;
 use std::io::{ErrorKind, Read, Write};
 
-/// The kinds of scripts, in the order in which a header is tried: each, and those behind it.
+/// The kinds of scripts, in the order in which a header is tried: each, and those after it.
 type AllKinds = (
     WithLiveList<BumpAllocator>,
     (
@@ -32,9 +32,9 @@ type AllKinds = (
     ),
 );
 
-/// Reads a script to its end, checks every line of it, and then runs it: what it drives is made, takes the commands in order,
-/// and a line for each reply goes to the writer, which is then flushed. `docs/script-format.md` says what the lines of a script
-/// are, what each is answered, and which [`Status`] comes when; its scripts are examples.
+/// Reads a script to its end, checks every line of it, and then runs it: makes what it drives, gives it the commands in order,
+/// and writes a line for each reply to the writer, which is then flushed. `docs/script-format.md` defines the lines of a
+/// script, the reply to each, and when each [`Status`] is returned; its scripts are examples.
 pub fn run<R: Read + Drop, W: Write>(alloc: Global, mut reader: R, writer: &mut W) -> Status
     ensures done { result ≡ Status.Done → (input : List ℕ) × (text : List ℕ)
         × IsLeft input (R.remaining reader) × IsAnswered kinds input text

@@ -79,7 +79,7 @@ words_same one other line are also =
     let lists = numbers_same ns ms are.stand.numbers also.stand.numbers parts.1 in
     (parts.0, sym (numbers_of-list one.numbers) ∙ (ap numbers_of lists ∙ numbers_of-list other.numbers))
 
--- a field behind numbers is one of the line's numbers, and the line has more than those
+-- a field after numbers is one of the line's numbers, and the line has more than those
 one_more : (ns all field after : List ℕ) → AreNumbers ns → AreNumbers all → Without 32 field → StartsWith 32 after
     → numbers_text all ≡ numbers_text ns ++ 32 ∷ (field ++ after)
     → (n : ℕ) × (n < 2 ^ 64) × (field ≡ decimal n) × (length ns < length all)
@@ -120,13 +120,13 @@ pub at_most_five : (ns : Numbers) → 5 < length (list_of ns) → ⊥
 at_most_five Zero h = omega (arith, h)
 at_most_five ns h = omega (arith, h)
 
--- a rest with a byte is a space and what is behind it
+-- a rest with a byte is a space and what follows it
 pub space_first : (rest front after : List ℕ) → StartsWith 32 rest → false ≡ (length rest == 0)
     → take (length rest - 1) (drop 1 rest) ≡ front ++ after → rest ≡ 32 ∷ (front ++ after)
 space_first [] front after s some e = absurd (cc)
 space_first (b ∷ rest) front after s some e = ap₂ ◌∷◌ s (sym (take_all (length (b ∷ rest) - 1) rest (omega arith)) ∙ e)
 
--- a number behind others is written behind them
+-- a number after others is written after them
 numbers_push : (ns : List ℕ) (n : ℕ) (after : List ℕ)
     → numbers_text ns ++ 32 ∷ (decimal n ++ after) ≡ numbers_text (ns ++ n ∷ []) ++ after
 numbers_push [] n after = ap (λ l. 32 ∷ (l ++ after)) (sym (append-nil (decimal n)))

@@ -9,7 +9,7 @@ use Rattle.std.proofs.lemmas.List.Elements.{All-map, All-weaker}
 use Rattle.std.proofs.lemmas.Option.{none-some}
 use Rattle.std.specs.Prelude.{slice_get}
 
--- what stands after a list
+-- the items after a list
 slice_get_at : {X : Type 0} (xs : List X) (y : X) (ys : List X) → slice_get (xs ++ y ∷ ys) (length xs) ≡ Some y
 slice_get_at [] y ys = refl
 slice_get_at (x ∷ xs) y ys = slice_get_at xs y ys
@@ -39,7 +39,7 @@ lines_more text_of before grown value lines rest line same text longer =
     rw longer
     (rw (map-append text_of before (value ∷ []), append_assoc (map text_of before) (text_of value ∷ []) rest, ← text) same)
 
--- words that are read as no command are no line, where the line isn't a show
+-- words that are read as no command are no line, if the line isn't a show
 pub unread_line : {S O C R : Type 0} (rules : Rules S O C R) (one : Words) (text : List ℕ) → AreWords one text
     → ((command : C) → rules.is_command command → one.name ≡ (rules.command_words command).name
     → one.numbers ≡ (rules.command_words command).numbers → None ≡ Some command)

@@ -32,7 +32,7 @@ pub sent_more : (bytes sent left rest : List ℕ) (count : ℕ) → bytes ≡ se
 sent_more bytes sent left rest count whole same =
     rw (same, take_rest left count, append_assoc sent (take count left) (drop count left), take-append-drop count left) whole
 
--- nothing changes where nothing is written
+-- nothing changes if nothing is written
 pub keeps_same : (known : Option (List ℕ)) → Keeps known known
 keeps_same None = tt
 keeps_same (Some a) = refl
@@ -48,7 +48,7 @@ kept_by_none (Some a) (Some b) left count none wrote = (rw none at wrote) ∙ ap
 abbrev pub Sent : List ℕ → List ℕ → Option (List ℕ) → Option (List ℕ) → Type 0
 Sent text left old new = (sent : List ℕ) × (text ≡ sent ++ left) × Appends old new sent
 
--- nothing is left, and nothing is written behind it
+-- nothing is left, and nothing is written after it
 pub all_sent : (old mid new : Option (List ℕ)) (text left : List ℕ) (status : Status) → Sent text left old mid
     → true ≡ (length left == 0) → Keeps mid new → Sends old new text status status
 all_sent old mid new text [] status (sent, whole, wrote) none kept =
@@ -72,7 +72,7 @@ ends_failed input old new text (sent, begins, wrote) output = record {
   output_failed = λ is. (sent, (text, output, begins), wrote);
 }
 
--- a script is answered, or a write fails
+-- all replies to a script are written, or a write fails
 pub ends_done : {table : List Kind} (input : List ℕ) (old new : Option (List ℕ)) (text : List ℕ) (ends : Status)
     → IsAnswered table input text → Sends old new text Done ends → Ends table input old new ends
 ends_done input old new text ends answered (inl (is, wrote)) = rw is (record {

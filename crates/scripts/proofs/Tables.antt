@@ -27,13 +27,13 @@ some-none [] P f h = h
 some-none (one ∷ others) P f (inl p) = f one p
 some-none (one ∷ others) P f (inr later) = some-none others P f later
 
--- what stands first is the words of a header
+-- the first words are those of a header
 header_first : (one : Kind) (first : List ℕ) (rest : List (List ℕ)) (header : one.Header) (after : List (List ℕ))
     → HasHeader one (first ∷ rest) header after → first ≡ words_text (header_words one.rules header)
 header_first one first rest header after starts =
     let cut : first ∷ rest ≡ words_text (header_words one.rules header) ∷ after = starts.cut in cc
 
--- the lines up to some number are a script of a kind only where the first is of that kind
+-- the lines up to some number are a script of a kind only if the first is of that kind
 script_header : (first : List ℕ) (rest : List (List ℕ)) (number : ℕ) (one : Kind)
     → IsScriptOf (take number (first ∷ rest)) one → HasHeaderOf (first ∷ rest) one
 script_header first rest zero one (header, after, starts, read) =
@@ -49,7 +49,7 @@ unreadable_first table first rest none =
     let opened = some-map table (IsScriptOf (take 1 (first ∷ rest))) (HasHeaderOf (first ∷ rest)) (script_header first rest 1) in
     (inl refl, λ readable. none (opened readable))
 
--- where there is no line it is the first too
+-- if there is no line, it is the first too
 pub unreadable_empty : (table : List Kind) → IsUnreadableAt table [] 1
 unreadable_empty table = (
   inl refl,
@@ -115,7 +115,7 @@ further_unread P (x ∷ xs) zero line got all = let same : x ≡ line = cc in rw
 further_unread P (x ∷ xs) (suc index) line got all =
     further_unread P xs index line got (λ k d below. all (suc k) d (omega (arith, below)))
 
--- behind a first line of a kind, its first unreadable line is the first
+-- after a first line of a kind, its first unreadable line is the first
 pub unreadable_here : {S O C R : Type 0} (rules : Rules S O C R) (header : O) (rest : List (List ℕ)) (index : ℕ)
     → rules.is_header header → MayStand (header_words rules header) → IsFirstUnreadable (IsLineText rules) rest index
     → IsUnreadableAt (kind rules ∷ []) (words_text (header_words rules header) ∷ rest) (index + 2)

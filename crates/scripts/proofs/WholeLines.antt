@@ -13,7 +13,7 @@ feed byte = eqb byte 10
 abbrev pub HasNoFeed : List ℕ → Type 0
 HasNoFeed line = ¬ Contains line 10
 
--- the lines are the input, with one line feed more where it ends in text
+-- the lines are the input, with one more line feed if it ends in text
 abbrev Whole : List ℕ → List (List ℕ) → Type 0
 Whole input lines = (ended lines ≡ input) ⊎ ((ended lines ≡ input ++ 10 ∷ []) × EndsInText lines)
 
@@ -45,7 +45,7 @@ no_feed-onto byte (line ∷ lines) other all =
     All-cons HasNoFeed (byte ∷ line) lines (no_feed-cons byte line other (All-head HasNoFeed line lines all))
     (All-tail HasNoFeed line lines all)
 
--- a last line with a byte keeps it where the first line grows
+-- a last line with a byte keeps it if the first line grows
 text-onto : (byte : ℕ) (line : List ℕ) (lines : List (List ℕ)) → EndsInText (line ∷ lines) → EndsInText ((byte ∷ line) ∷ lines)
 text-onto byte line lines ([], last, same, some) =
     let none : lines ≡ [] = cc in
@@ -136,7 +136,7 @@ lines_whole_text (byte ∷ input) line [] e clear some none =
     ∙ lines_last line (no_feed-all line clear) (λ empty. let nothing : byte ∷ input ≡ [] = same ∙ empty in cc)
 lines_whole_text (byte ∷ input) line (next ∷ rest) e clear some none = grind (arith, tests)
 
--- what is behind a line feed is shorter than the input
+-- the text after a line feed is shorter than the input
 pub shorter_split : (input line rest : List ℕ) → input ≡ line ++ rest → false ≡ (length rest == 0)
     → length (take (length rest - 1) (drop 1 rest)) < length input
 shorter_split input line [] e some = absurd (cc)

@@ -1,4 +1,4 @@
-//! From the bytes of an input to the bytes that it is answered, by a table of kinds.
+//! From the bytes of an input to the bytes of its replies, by a table of kinds.
 ghost use Rattle.scripts.specs.Scripts.{Ends, IsOutcome, Kind, Sends, are_apart, kind};
 ghost use Rattle.scripts.specs.Words.{MayStand, lines_of, words, words_text};
 ghost use Rattle.std.specs.Prelude.{List, [], true, ◌∷◌, ◌≡◌};
@@ -13,7 +13,7 @@ use std::io::{ErrorKind, Write};
 pub trait Kinds {
     ghost table: { List Kind };
 
-    /// Checks and runs the script of a first line of these words and the bytes behind it.
+    /// Checks and runs the script of a first line of these words and the bytes after it.
     fn run(alloc: Global, name: &[u8], numbers: Numbers, rest: &[u8]) -> Outcome
         requires apart { are_apart table ≡ true }
         requires stand { MayStand (words name.now numbers) }
@@ -71,7 +71,7 @@ fn outcome_of<T: Kinds>(alloc: Global, input: &[u8]) -> Outcome
     }
 }
 
-/// Writes a text and flushes the writer. Returns the status, or where writing fails `OutputFailed`.
+/// Writes a text and flushes the writer. Returns the status, or `OutputFailed` if writing fails.
 fn send<W: Write>(text: &[u8], status: Status, writer: &mut W) -> Status
     ensures { Sends (W.contents writer.old) (W.contents writer.new) text.now status result }
 {

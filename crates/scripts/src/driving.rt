@@ -1,4 +1,4 @@
-//! The trait of the kinds of scripts, and from the lines of a script behind its header to the lines of its replies.
+//! The trait of the kinds of scripts, and from the lines of a script after its header to the lines of its replies.
 ghost use Rattle.scripts.specs.Scripts.{AreScript, IsFirstUnreadable, IsLine, IsLineText, IsOutcome, IsPlayed, IsStep, Rules, header_words, kind, line_text};
 ghost use Rattle.scripts.specs.Words.{MayStand, lines_of, text_bytes, words_text};
 ghost use Rattle.std.specs.List.{flat_map};
@@ -60,7 +60,7 @@ pub trait ScriptKind {
         ensures { OnOk result (line.new.items ≡ line.old.items ++ rules.state_text state.now) };
 }
 
-/// A line behind the header.
+/// A line after the header.
 #[derive(Drop)]
 pub enum Line<C> {
     Command(C),
@@ -78,7 +78,7 @@ pub enum Outcome {
     OutOfMemory,
 }
 
-/// Checks every line behind the header, and then makes what the script drives and runs it.
+/// Checks every line after the header, and then makes what the script drives and runs it.
 pub fn run_script<K: ScriptKind>(alloc: Global, header: K::Header, rest: &[u8]) -> Outcome
     requires header { K.rules.is_header header }
     requires stand { MayStand (header_words K.rules header) }
@@ -94,7 +94,7 @@ pub fn run_script<K: ScriptKind>(alloc: Global, header: K::Header, rest: &[u8]) 
     }
 }
 
-/// Reads the lines behind the header, or returns the index of the first that is unreadable.
+/// Reads the lines after the header, or returns the index of the first that is unreadable.
 fn read_script<K: ScriptKind>(
     alloc: Global,
     input: &[u8],
@@ -119,7 +119,7 @@ fn read_script<K: ScriptKind>(
     Ok(Ok(script))
 }
 
-/// Parses a line behind the header.
+/// Parses a line after the header.
 fn read_line<K: ScriptKind>(text: &[u8]) -> Option<Line<K::Command>>
     ensures written { IfSome result (λ line. IsLine K.rules line
         × (text.now ≡ line_text K.rules line)) }

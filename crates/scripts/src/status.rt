@@ -7,7 +7,7 @@ ghost use Rattle.std.specs.Prelude.{MatchOption, None, Some, ◌≡◌};
 pub enum Status {
     /// The script was run to its end: a line for each reply, and what each `show` writes.
     Done,
-    /// Some line is unreadable: the number of the first, and nothing else.
+    /// Some line is unreadable: the number of the first one.
     Unreadable,
     /// Reading the input failed: nothing was written.
     InputFailed,
@@ -30,7 +30,7 @@ impl Status {
         }
     }
 
-    /// Returns what a program writes on standard error, behind its own name.
+    /// Returns what a program writes on standard error, after its own name.
     pub fn message(self) -> Option<&'static str>
         ensures { MatchOption result (message_of self ≡ None)
             (λ text. message_of self ≡ Some text.now) }

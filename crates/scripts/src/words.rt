@@ -26,7 +26,7 @@ pub enum Numbers {
 }
 
 impl Numbers {
-    /// Adds a number at the end, where there is room.
+    /// Adds a number at the end, if there is room.
     fn with_last(self, last: usize) -> Option<Numbers>
         ensures more { IfSome result (λ more. list_of more ≡ list_of self ++ last ∷ []) }
         ensures full { IfNone result (length (list_of self) ≡ 5) }
@@ -41,7 +41,7 @@ impl Numbers {
         }
     }
 
-    /// Takes off the first number, where there is one.
+    /// Removes the first number, if there is one.
     fn split_first(self) -> Option<(usize, Numbers)>
         ensures more { IfSome result (λ (first, rest). list_of self ≡ first ∷ list_of rest) }
         ensures none { IfNone result (list_of self ≡ []) }
@@ -75,7 +75,7 @@ pub fn words(line: &[u8]) -> Option<(&[u8], Numbers)>
     Some((name, numbers))
 }
 
-/// Cuts off the first line of an input, where a line is left.
+/// Cuts off the first line of an input, if a line is left.
 pub fn first_line(input: &[u8]) -> Option<(&[u8], &[u8])>
     ensures none { IfNone result (input.now ≡ []) }
     ensures cut { IfSome result (λ (line, rest).
@@ -136,7 +136,7 @@ fn is_plain(field: &[u8]) -> bool
 /// A line to write.
 #[derive(Clone, Copy)]
 pub enum Text {
-    /// A name alone.
+    /// Only a name.
     Name(&'static [u8]),
     /// A name and numbers.
     Line(&'static [u8], Numbers),
@@ -180,11 +180,11 @@ pub fn write_words(
     line.extend_from_slice(end)
 }
 
-/// A label, and the figure behind it.
+/// A label, and the figure after it.
 #[derive(Clone, Copy)]
 pub struct Labelled(pub &'static [u8], pub usize);
 
-/// Writes each label with its figure behind it, and then a text.
+/// Writes each label followed by its figure, and then a text.
 pub fn write_labelled(
     figures: &[Labelled],
     end: &[u8],
@@ -214,7 +214,7 @@ pub fn is_word(name: &[u8], text: &[u8]) -> bool
     name == text
 }
 
-/// Returns the layout of `size` and `align` in bytes, where they make one.
+/// Returns the layout of `size` and `align` in bytes, if they make one.
 pub fn layout(size: usize, align: usize) -> Option<Layout>
     ensures made { IfSome result (λ layout. (layout.size ≡ size) × (layout.align ≡ align)) }
     ensures each { (layout : Layout) → layout.size ≡ size → layout.align ≡ align
@@ -245,7 +245,7 @@ pub fn region(kind: &[u8], name: &[u8], numbers: Numbers) -> Option<Bounds>
     }
 }
 
-/// Returns the number of a party in scripts of steps, where there is such a party.
+/// Returns the number of a party in scripts of steps, if there is such a party.
 pub fn party_of(number: usize) -> Option<u32>
     ensures { SomeIff result (IsParty number) number }
 {
@@ -256,7 +256,7 @@ pub fn party_of(number: usize) -> Option<u32>
     }
 }
 
-/// Returns the number in 32 bits, where it fits.
+/// Returns the number in 32 bits, if it fits.
 pub fn to_u32(number: usize) -> Option<u32>
     ensures { SomeIff result (number < 2 ^ 32) number }
 {

@@ -18,7 +18,8 @@ use Rattle.std.specs.Prelude.{All, List, Ok, Result, [], length, ℕ, ◌%◌, �
 abbrev pub KeepsBuckets : PoolParty → PoolParty → Type 0
 KeepsBuckets old new = (bucket : ℕ) → IsHeldAfter old.log bucket → IsHeldAfter new.log bucket
 
--- A party, of a bump or of a pool, has asked for this layout once. Such a request may be answered so, and the party is this then.
+-- A party, of a bump or of a pool, has made one request for this layout. Such a request may have this answer, and leave this
+-- party.
 pub record Asks {P A : Type 0} (may_take : P → Layout → A → P → Type 0) (layout : Layout) (old new : P) : Type 0 where
   pub answer : A
   pub asked : may_take old layout answer new
@@ -35,7 +36,7 @@ pub record HasAskedNextFit (layout : Layout) (party : PoolParty) : Type 0 where
   pub asked : MayTakeNextFit before layout answer party
   pub none : before.log ≡ []
 
--- as many parties come back as went out, all of them this pool's, and the steps of each are one request by next fit
+-- all parties come back, all of them this pool's, and the steps of each are one request by next fit
 pub record AllComeBack (layout : Layout) (pool : SharedPool) (old new : List PoolParty) : Type 0 where
   pub theirs : All (λ party. party.allocator ≡ pool) new
   pub all : length new ≡ length old
@@ -49,8 +50,8 @@ pub record HasAsked (layout : Layout) (party : BumpParty) : Type 0 where
   pub asked : Asks MayTake layout before party
   pub none : before.log ≡ []
 
--- `workers` workers have each asked for this layout once, of a region that was used in part. The space used then agrees with
--- their logs, which are all, and is the greatest position that one of them has seen.
+-- `workers` workers have each made one request for this layout, in a region that was used in part. The space used then agrees
+-- with their logs, which are all, and is the greatest position that one of them has seen.
 pub record IsCarved (region : Region) (used_before workers : ℕ) (layout : Layout) (used : ℕ) : Type 0 where
   pub parties : List BumpParty
   pub agree : AgreeAt (scene_at region used_before workers) used parties
@@ -79,7 +80,7 @@ pub record Arena : Type 0 where
   pub whole : Chunk
   pub used : ℕ
 
--- a chunk of the arena was given for this layout: it lies in the arena's chunk, at the first suitable place behind what was used
+-- a chunk of the arena was given for this layout: it lies in the arena's chunk, at the first suitable place after what was used
 pub record Serves (old : Arena) (layout : Layout) (new : Arena) (chunk : Chunk) : Type 0 where
   pub begins : chunk.place ≡ least_place (old.whole.place + old.used) layout.align
   pub part : IsPart chunk old.whole

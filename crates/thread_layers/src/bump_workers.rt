@@ -23,8 +23,8 @@ pub fn carve(shared: &SharedBumpAllocator, party: BumpParty, layout: Layout) -> 
     party
 }
 
-/// Runs four workers, which ask a bump for one chunk each, all at once. Then it is one owner's again, and what is used of it is
-/// exactly the greatest position that one of the four has seen. It is refused only where memory was.
+/// Runs four workers, which request one chunk each of a bump, all at once. Then it is one owner's again, and what is used of it
+/// is exactly the greatest position that one of the four has seen. It fails only if memory ran out.
 pub fn carved_by_four<R: Threads + Sync>(
     rt: &R,
     alloc: Global,
@@ -39,7 +39,7 @@ pub fn carved_by_four<R: Threads + Sync>(
     Ok(shared.into_owner_all(back))
 }
 
-/// Shares the bump among four parties, which have made no step. It is refused only where memory was.
+/// Shares the bump among four parties, which have made no step. It fails only if memory ran out.
 fn shared_by_four(
     alloc: Global,
     bump: BumpAllocator,

@@ -1,5 +1,5 @@
-//! Layers of threads that stand on what threads share by its public contracts alone, as users write them: this crate has no
-//! proof files.
+//! Layers of threads that use only the public contracts of what threads share, as users write them: this crate has no proof
+//! files.
 //!
 //! - `bump_workers`: four threads over one bump, which one owner then has again. `pool_workers`: four threads over one pool.
 //! - `thread_arena`: a bump of one thread over a chunk of a shared bump.

@@ -33,7 +33,7 @@ pub fn send(
     Ok(pool.detach(sender, bucket))
 }
 
-/// Attaches the bucket of a message, reads where its chunk lies, and gives the bucket back.
+/// Attaches the bucket of a message, reads the place and length of its chunk, and gives the bucket back.
 pub fn receive(
     pool: &SharedPoolAllocator,
     receiver: &mut PoolParty,

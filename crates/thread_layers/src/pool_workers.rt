@@ -13,7 +13,7 @@ use std::alloc::{AllocError, Global};
 use std::thread;
 use std::thread::Threads;
 
-/// Takes a bucket by next fit, where one is free, and hands the party back. The token ends here, so the bucket stays the party's,
+/// Takes a bucket by next fit, if one is free, and returns the party. The token ends here, so the bucket remains the party's,
 /// with those that it had.
 pub fn take_one(pool: &SharedPoolAllocator, party: PoolParty, layout: Layout) -> PoolParty
     requires { party.allocator ≡ pool.now }
@@ -39,9 +39,9 @@ fn ask_next_fit(pool: &SharedPoolAllocator, worker: &mut PoolParty, layout: Layo
     let _ = pool.allocate_next_fit(worker, layout);
 }
 
-/// Runs four workers at once, which ask for one bucket each. They meet when they are back: one list of steps has all their logs
-/// and nothing else, and a flag is taken exactly where one of them holds the bucket, or it is detached. It is refused only where
-/// memory was.
+/// Runs four workers at once, which request one bucket each. They meet when they are back: one list of steps has all their logs
+/// and nothing more, and a flag is taken exactly if one of them holds the bucket, or it is detached. It fails only if memory ran
+/// out.
 pub fn four_workers<R: Threads + Sync>(
     rt: &R,
     alloc: Global,
@@ -75,8 +75,8 @@ fn take_one_each<R: Threads + Sync>(
     thread::map_vec(rt, parties, &|party| take_one(pool, party, layout))
 }
 
-/// Makes a pool of eight buckets for four parties. It is refused only where memory was, since a pool may be made of this region
-/// and bucket.
+/// Makes a pool of eight buckets for four parties. It fails only if memory ran out, since this region and this bucket make a
+/// pool.
 #[tactic(auto, unfolding(bb_memory_traits::specs::LeastPlace::least_place))]
 fn pool_of_four(alloc: Global) -> Result<(SharedPoolAllocator, Vec<PoolParty>), AllocError>
     ensures parties { IfOk result (λ made. AreFresh made.0 4 made.1.items) }

@@ -68,8 +68,8 @@ impl ThreadArena {
         self.whole
     }
 
-    /// Asks for a chunk of the arena. It is refused, in this order, with `SizeIsZero` where the size is 0, and with `OutOfMemory`
-    /// where the chunk would end behind the arena's. A refusal leaves all as it was.
+    /// Requests a chunk of the arena. It fails, in this order, with `SizeIsZero` if the size is 0, and with `OutOfMemory` if the
+    /// chunk would end after the arena's. A refusal changes nothing.
     pub fn allocate(&mut self, layout: Layout) -> Result<Chunk, AllocationError>
         ensures served { IfOk result (Serves self.old layout self.new) }
         ensures unchanged { OnErr result (self.new ≡ self.old) }

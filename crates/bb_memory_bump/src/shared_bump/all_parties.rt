@@ -10,8 +10,8 @@ ghost use Rattle.std.specs.Prelude.{All, Any, Contains, List, Some, length, slic
 /// all its parties, whatever the threads did. It does nothing: its contract is the law.
 ///
 /// A meeting has one list of steps from the opening, each of which the machine allows (`agree.steps`), in which the steps of each
-/// party that met are exactly its log, and which leaves the position that the meeting found. Where as many parties met as the
-/// bump has, it has no other steps. A list that the opening stands for is one that was live before the bump was shared.
+/// party that met are exactly its log, and which leaves the position that the meeting found. If all the bump's parties met, it
+/// has no other steps. A list that the opening stands for is one that was live before the bump was shared.
 pub fn shared_bump_meeting_law()
     // The calls at their deciding steps are a run of the bump object, from the list that was live
     // before the bump was shared to the one that the position found stands for.
@@ -23,7 +23,7 @@ pub fn shared_bump_meeting_law()
         (live : List Chunk) (met : AgreeAt scene position parties) → OpensWith scene live
         → StandsFor scene.region position (live_after scene live met.agree.steps) }
 
-    // That is the older list with the chunks that were won since behind it.
+    // That is the older list followed by the chunks that were won since.
     ensures since { (scene : BumpScene) (position : ℕ) (parties : List BumpParty)
         (live : List Chunk) (met : AgreeAt scene position parties) → let steps = met.agree.steps in
         live_after scene live steps ≡ live ++ chunks_won (history_of scene steps) }
@@ -45,7 +45,7 @@ pub fn shared_bump_meeting_law()
         → IsSharedScene scene → slice_get parties i ≡ Some one → slice_get parties j ≡ Some other
         → i ≢ j → HaveChunksApart one.log other.log }
 
-    // Where all have met, each step stands in the log of one of them: it was nobody else's.
+    // If all have met, each step is in the log of one of them: it was nobody else's.
     ensures nobody_else { (scene : BumpScene) (position : ℕ) (parties : List BumpParty)
         (met : AgreeAt scene position parties) → length parties ≡ scene.parties
         → All (λ entry. Any (λ party. Contains party.log entry) parties)

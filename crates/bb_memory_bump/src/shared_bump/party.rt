@@ -7,8 +7,8 @@ use super::rule::View;
 use atomic_table::Seat;
 use std::marker::Model;
 
-/// One user of a shared bump. It goes with its thread, and each call that steps on the position asks for it. The list of its
-/// steps, its log, is known to contracts alone. A dropped party meets no more, so no later meeting is of all parties.
+/// One user of a shared bump. It goes with its thread, and each call that steps on the position takes it. The list of its
+/// steps, its log, is known only to contracts. A dropped party doesn't meet any more, so no later meeting is of all parties.
 #[derive(Drop)]
 pub struct BumpParty {
     pub(super) number: u32,

@@ -163,7 +163,7 @@ impl Position {
         self.table.shared.join_seat::<Merge>(seat, guest);
     }
 
-    /// A load that asks where the parties of one seat have met.
+    /// A load that finds the position at which the parties of one seat have met.
     pub(super) fn load_for_meeting(&self, seat: &mut Seat<u8, View>) -> usize
         requires { StandsAt self.now seat.old.table_id seat.old.me }
         ensures table { seat.new.table_id ≡ seat.old.table_id }

@@ -2,7 +2,7 @@
 ghost use Rattle.bb_memory_bump.specs.SharedBumpRule.{AfterRefusal, AfterWin, IsFor, MayAsk, met_by};
 ghost use Rattle.bb_memory_bump_machine.specs.BumpMachine.{fits};
 ghost use Rattle.bb_memory_seats.specs.Seats.{Stays, number_of, view_log};
-ghost use Rattle.bb_memory_traits.specs.Chunk.{IsInside};
+ghost use Rattle.bb_memory_traits.specs.Chunk.{IsInside, IsRegion, region_at};
 ghost use Rattle.std.specs.Prelude.{IfSome, MatchOption, false, ◌%◌, ◌≡◌, ◌≤◌};
 
 use super::SharedBumpAllocator;
@@ -23,32 +23,35 @@ impl SharedBumpAllocator {
         ensures aligned { IfSome result (λ chunk. chunk.place % layout.align ≡ 0) }
         ensures inside { IfSome result (IsInside self.now.scene.region) }
     {
+        // In locals: the compiler would load the fields of `self` again after each exchange.
+        let (start, size) = (self.start, self.size);
         let mut seen = self.position.read::<L>(seat, layout);
-        let mut chunk = match self.place(seen, layout) {
+        let mut chunk = match place(start, size, seen, layout) {
             Some(chunk) => chunk,
             None => return None,
         };
         loop {
             let found = self
                 .position
-                .exchange(seat, layout, seen, chunk.end() - self.start);
+                .exchange(seat, layout, seen, chunk.end() - start);
             if found == seen {
                 return Some(chunk);
             }
             seen = found;
-            match self.place(seen, layout) {
+            match place(start, size, seen, layout) {
                 Some(next) => chunk = next,
                 None => return None,
             }
         }
     }
+}
 
-    /// Returns the chunk that a layout gets at a position, where it fits there.
-    fn place(&self, position: usize, layout: Layout) -> Option<Chunk>
-        requires { position ≤ self.now.scene.region.size }
-        ensures fits { MatchOption result (fits self.now.scene.region position layout ≡ false)
-            (IsFor self.now.scene.region position layout) }
-    {
-        Chunk::at_or_after(self.start + position, layout, self.start + self.size)
-    }
+/// Returns the chunk that a layout gets at a position of the region of `size` bytes at `start`, if it fits there.
+fn place(start: usize, size: usize, position: usize, layout: Layout) -> Option<Chunk>
+    requires region { IsRegion (region_at start size) }
+    requires position { position ≤ size }
+    ensures fits { let region = region_at start size in
+        MatchOption result (fits region position layout ≡ false) (IsFor region position layout) }
+{
+    Chunk::at_or_after(start + position, layout, start + size)
 }

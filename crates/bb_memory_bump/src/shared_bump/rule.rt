@@ -7,7 +7,7 @@ ghost use Rattle.bb_memory_traits.specs.Chunk.{region_at};
 use atomic_table::TableRule;
 use std::marker::Model;
 
-/// The scene of a shared bump's machine: where it begins.
+/// The scene of a shared bump's machine: the state in which it begins.
 #[derive(Drop)]
 pub(crate) struct Scene {
     pub(crate) start: usize,

@@ -12,7 +12,7 @@ use bb_memory_traits::layout::{Chunk, Layout};
 pub enum BumpStep {
     /// An idle party begins a call: it reads the position. It isn't allowed with size 0.
     Read { party: u32, layout: Layout },
-    /// A party in a call puts the end of its chunk in the position's place, where that is still what it has seen.
+    /// A party in a call replaces the position by the end of its chunk, if the position is still what it has seen.
     Exchange { party: u32 },
     /// An idle party reads how much is used.
     Load { party: u32 },
@@ -42,13 +42,13 @@ pub enum BumpOutcome {
     Passed,
 }
 
-/// Says what holds of every list of steps, by any number of parties, from whichever position the machine opens at, with clears at
-/// any place. It does nothing: its contract is the theorem.
+/// Says what holds for every list of steps, by any number of parties, from whichever position the machine opens at, with clears
+/// anywhere. It does nothing: its contract is the theorem.
 ///
-/// A scene is where a machine begins: its region, its opening and its parties. What holds of every list of steps holds of
-/// each beginning of one, and so at every step. A stretch is a list of steps that comes after a beginning. A step decides
-/// a call where it wins, where it refuses at a read or a loss, and where it clears. Nothing is said of who wins, and
-/// nothing of time.
+/// A scene is the state in which a machine begins: its region, its opening and its parties. What holds for every list of steps
+/// holds for each beginning of one, and so at every step. A stretch is a list of steps that comes after a beginning. A step
+/// decides a call if it wins, if it refuses at a read or a loss, and if it clears. Nothing is said about who wins, or about
+/// time.
 pub fn bump_theorem()
     // Each opening up to the region's size stands for some live list.
     ensures some_list { (scene : BumpScene) → scene.opening ≤ scene.region.size
@@ -108,13 +108,13 @@ pub fn bump_theorem()
         → scene.opening ≤ scene.region.size → HasNoClear stretch
         → IsSound scene.region (chunks_won (stretch_after scene before stretch)) }
 
-    // So the object's list is the one before with the chunks won behind it.
+    // So the object's list is the earlier one followed by the chunks won.
     ensures since { (scene : BumpScene) (live : List Chunk) (steps : List BumpStep)
         → HasNoClear steps
         → live_after scene live steps ≡ live ++ chunks_won (history_of scene steps) }
 
-    // Each loss raises what a call has seen: where no clear came since the call began, an exchange
-    // that is lost finds a greater position than the call has seen.
+    // Each loss raises what a call has seen: if no clear came since the call began, an exchange that
+    // is lost finds a greater position than the call has seen.
     ensures raised { (scene : BumpScene) (before stretch : List BumpStep)
         (party position : ℕ) (call : OngoingCall)
         → scene.opening ≤ scene.region.size
@@ -123,8 +123,8 @@ pub fn bump_theorem()
         → IsLossAt position (outcome_after scene (before ++ stretch) (Exchange party))
         → call.seen < position }
 
-    // A call with no clear inside it loses at most as many exchanges as the region has bytes: so many
-    // does a party lose that is idle, and begins at most one call, while no clear comes.
+    // A call with no clear inside it loses at most one exchange for each byte of the region: so does a
+    // party that is idle, and begins at most one call, while no clear comes.
     ensures losses { (scene : BumpScene) (before stretch : List BumpStep) (party : ℕ)
         → scene.opening ≤ scene.region.size
         → IsIdle (left_by scene before) party → HasNoClear stretch

@@ -9,7 +9,7 @@ use bb_memory_traits::layout::{Chunk, Layout};
 use std::alloc::{AllocError, Global};
 use std::marker::Model;
 
-/// A call that a party is in: what it asked for, and the position that it has seen.
+/// A call that a party is in: what it requested, and the position that it has seen.
 #[derive(Clone, Copy)]
 struct OngoingCall {
     layout: Layout,
@@ -100,7 +100,7 @@ impl Model for BumpWorld {
 
 impl BumpWorld {
     /// Makes the machine over the region of `size` bytes at `start`, at position 0, with that many parties, all idle. The start
-    /// has to be greater than 0, and start plus size at most `usize::MAX`. It is refused only where memory was.
+    /// has to be greater than 0, and start plus size at most `usize::MAX`. It fails only if memory ran out.
     pub fn new(
         alloc: Global,
         start: usize,
@@ -121,7 +121,7 @@ impl BumpWorld {
         })
     }
 
-    /// Takes one atomic step, and answers what it found. It takes no memory.
+    /// Takes one atomic step, and returns what it found. It doesn't allocate.
     pub fn step(&mut self, step: BumpStep) -> BumpOutcome
         ensures { Steps self.old step result self.new }
     {
@@ -136,8 +136,8 @@ impl BumpWorld {
         }
     }
 
-    /// Takes the steps in order, and answers what each found. The memory for the answers is reserved first: where it is
-    /// refused, no step is taken.
+    /// Takes the steps in order, and returns what each found. Memory for the results is reserved first: if it runs out, no
+    /// step is taken.
     pub fn replay(&mut self, steps: &[BumpStep]) -> Result<Vec<BumpOutcome>, AllocError>
         ensures { Replays self.old steps.now result self.new }
     {
@@ -206,7 +206,7 @@ impl BumpWorld {
     }
 }
 
-/// Returns the call of a party, if it is in one, where there is such a party.
+/// Returns the call of a party, if there is such a party and it is in a call.
 fn call_at(calls: &[Option<OngoingCall>], party: usize) -> Option<Option<OngoingCall>>
     ensures { result ≡ slice_get calls.now party }
 {

@@ -8,7 +8,7 @@ use std::marker::Model;
 /// A flag for each number, and the numbers below the bound that aren't in the set, in the first entries of an array. The rest of
 /// the entries are never read.
 ///
-/// A taking answers the number that was given back last, which no clause promises, and sets its flag. Nothing is searched.
+/// A taking returns the number that was given back last, which no clause promises, and sets its flag. It doesn't search.
 ///
 /// `left` numbers aren't in the set, and never were fewer than `least`.
 #[derive(Drop)]
@@ -50,7 +50,7 @@ impl<const N: usize> Flags<N> {
     }
 }
 
-/// Sets the least number so far to this one where this one is less, and writes nothing else.
+/// Sets the least number so far to this one if this one is less, and otherwise writes nothing.
 #[inline(always)]
 fn lower(least: &mut usize, number: usize)
     ensures { least.new ≡ min least.old number }
@@ -80,7 +80,7 @@ impl<const N: usize> IndexSet for Flags<N> {
         Some(number)
     }
 
-    /// The next taking answers this number.
+    /// The next taking returns this number.
     #[inline(always)]
     fn release(&mut self, number: usize) {
         let left = self.left;

@@ -15,8 +15,8 @@ use bb_memory_traits::layout::{Chunk, Layout};
 use std::alloc::AllocError;
 use std::marker::Model;
 
-/// The buckets of a region, the set of those that are held, and how many words the last search for a free one read: none, where
-/// the set counts no reads.
+/// The buckets of a region, the set of those that are held, and how many words the last search for a free one read: none, if the
+/// set counts no reads.
 #[derive(Drop)]
 pub struct BucketPool<S: IndexSet> {
     pub(super) geometry: Geometry,
@@ -47,7 +47,7 @@ impl<S: IndexSet> BucketPool<S> {
         self.geometry.count()
     }
 
-    /// Returns the layout of each bucket, as it was asked for.
+    /// Returns the layout of each bucket, as it was passed.
     #[inline]
     pub fn bucket_layout(&self) -> Layout
         ensures { result ≡ self.now.pool.geometry.bucket }
@@ -55,7 +55,7 @@ impl<S: IndexSet> BucketPool<S> {
         self.geometry.bucket()
     }
 
-    /// Returns the size of a bucket in bytes, as it was asked for. The buckets are at least that far apart.
+    /// Returns the size of a bucket in bytes, as it was passed. The buckets are at least that far apart.
     #[inline]
     pub fn bucket_size(&self) -> usize
         ensures { result ≡ self.now.pool.geometry.bucket.size }
@@ -71,7 +71,7 @@ impl<S: IndexSet> BucketPool<S> {
         self.geometry.bucket().align()
     }
 
-    /// Returns the size of the region in bytes, as it was handed in.
+    /// Returns the size of the region in bytes, as it was passed.
     #[inline]
     pub fn size(&self) -> usize
         ensures { result ≡ self.now.pool.geometry.region.size }
@@ -79,14 +79,14 @@ impl<S: IndexSet> BucketPool<S> {
         self.geometry.region_size()
     }
 
-    /// Returns where the bucket of this number begins, held or not, or `None` where there is no such bucket.
+    /// Returns the place of the bucket of this number, held or not, or `None` if there is no such bucket.
     pub fn place_at(&self, number: u32) -> Option<usize>
         ensures { TellsPlace self.now.pool.geometry number result }
     {
         self.geometry.place_at(number)
     }
 
-    /// Returns the number of the bucket that begins at this place, held or not, or `None` where none does.
+    /// Returns the number of the bucket that begins at this place, held or not, or `None` if none does.
     pub fn number_at(&self, place: usize) -> Option<u32>
         ensures { TellsNumber self.now.pool.geometry place result }
     {
@@ -126,8 +126,8 @@ impl<S: IndexSet> BucketPool<S> {
         self.held.has_room()
     }
 
-    /// Takes a whole bucket that isn't held: it answers as `allocate` does to the bucket's own layout. Which bucket is left open.
-    /// It is refused with `OutOfMemory`, where every bucket is held.
+    /// Takes any whole bucket that isn't held, as `allocate` does for the bucket's own layout. It fails with `OutOfMemory` if
+    /// every bucket is held.
     ///
     /// Example: `pools::taken_whole` of `crates/examples`.
     #[inline(always)]
@@ -140,8 +140,8 @@ impl<S: IndexSet> BucketPool<S> {
         self.allocate(bucket)
     }
 
-    /// Tests that this is the place of a held bucket, which may be given back: true exactly where `deallocate` may be called with
-    /// the place. Nothing is searched, and no read is counted.
+    /// Returns whether this is the place of a held bucket, which may be given back: true exactly if `deallocate` may be called
+    /// with the place. It doesn't search, and counts no read.
     ///
     /// Example: `comments::pool_held` of `crates/examples`.
     #[inline(always)]
@@ -153,9 +153,9 @@ impl<S: IndexSet> BucketPool<S> {
         self.held_number(place).is_some()
     }
 
-    /// Gives back the bucket at this place where a held one begins there, and answers whether one did. Else it changes nothing.
-    /// It is for places of which nothing is known, as they come from another process: `deallocate` asks that the bucket is held,
-    /// and doesn't look.
+    /// Gives back the bucket at this place if a held one begins there, and returns whether one did. Otherwise it changes
+    /// nothing. It is for places about which nothing is known, such as those from another process: `deallocate` requires that
+    /// the bucket is held, and doesn't look.
     ///
     /// Example: `pools::back_if_held` of `crates/examples`.
     #[inline(always)]
@@ -181,7 +181,7 @@ impl<S: IndexSet> BucketPool<S> {
         true
     }
 
-    /// Returns the number of the held bucket at this place, or `None` where no held one begins there.
+    /// Returns the number of the held bucket at this place, or `None` if no held one begins there.
     #[inline(always)]
     fn held_number(&self, place: usize) -> Option<usize>
         ensures held { IsSome result ↔ HoldsPlace self.now.pool place }
@@ -255,10 +255,10 @@ impl<S: IndexSet> BaseAllocator for BucketPool<S> {
 
     ghost frees = { λ old place _ new. FreesBucket old place new };
 
-    /// Allocates a chunk of `layout.size()` bytes in a bucket that isn't held; which one is left open. It is refused in this
-    /// order: with `SizeTooLarge` where the size is greater than the bucket's, with `AlignmentFailure` where the alignment is
-    /// greater than the bucket's, and with `OutOfMemory` where every bucket is held. A refusal leaves the pool as it was, but
-    /// for what `last_reads` answers, where there is one.
+    /// Allocates a chunk of `layout.size()` bytes in any bucket that isn't held. It fails, in this order, with `SizeTooLarge` if
+    /// the size is greater than the bucket's, with `AlignmentFailure` if the alignment is greater than the bucket's, and with
+    /// `OutOfMemory` if every bucket is held. A refusal leaves the pool as it was, except what `last_reads` returns, if there is
+    /// one.
     #[inline(always)]
     fn allocate(&mut self, layout: Layout) -> Result<Chunk, AllocationError> {
         let mut counter = Counter::new();
@@ -315,10 +315,10 @@ impl<S: IndexSet> Allocator for BucketPool<S> {
         self.bucket_size()
     }
 
-    /// Gives the chunk the new size, in its bucket. It is refused in this order: with `GrowWouldShrink` where the new size
-    /// isn't greater than the old one, with `AlignmentFailure` where the new alignment is greater than the bucket's, and with
-    /// `OutOfMemory` where the new size is greater than the bucket's. The pool stays as it was. The place has to be a held
-    /// bucket's and a multiple of the old alignment.
+    /// Gives the chunk the new size, in its bucket. It fails, in this order, with `GrowWouldShrink` if the new size isn't greater
+    /// than the old one, with `AlignmentFailure` if the new alignment is greater than the bucket's, and with `OutOfMemory` if
+    /// the new size is greater than the bucket's. The pool doesn't change. The place has to be a held bucket's and a multiple of
+    /// the old alignment.
     #[inline]
     fn grow(
         &mut self,
@@ -329,10 +329,9 @@ impl<S: IndexSet> Allocator for BucketPool<S> {
         self.geometry.grow(place, old, new)
     }
 
-    /// Gives the chunk exactly the new size. It is refused in this order: with `ShrinkWouldGrow` where the new size isn't
-    /// smaller than the old one, and with `AlignmentFailure` where the new alignment is greater than the bucket's. The pool
-    /// stays as it was. The place has to be a held bucket's and a multiple of the old alignment, and the old size at most the
-    /// bucket's.
+    /// Gives the chunk exactly the new size. It fails, in this order, with `ShrinkWouldGrow` if the new size isn't smaller than
+    /// the old one, and with `AlignmentFailure` if the new alignment is greater than the bucket's. The pool doesn't change. The
+    /// place has to be a held bucket's and a multiple of the old alignment, and the old size at most the bucket's.
     #[inline]
     fn shrink(
         &mut self,

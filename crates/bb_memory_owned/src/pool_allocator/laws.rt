@@ -13,9 +13,9 @@ ghost use Rattle.bb_memory_traits.specs.declared.allocator.Reply.{Reply};
 ghost use Rattle.bb_memory_traits.specs.declared.layout.Layout.{Layout};
 ghost use Rattle.std.specs.Prelude.{All, AllPairs, Err, IsOk, List, Ok, Result, Some, [], length, remove, slice_get, ℕ, ◌%◌, ◌+◌, ◌-◌, ◌/◌, ◌<◌, ◌^◌, ◌≡◌, ◌≢◌, ◌≤◌};
 
-/// Says what the definition of a pool's geometry says of every region and every layout of a bucket. A region is cut in one way
-/// alone, and into buckets of at least one byte it can always be cut. Each bucket begins at a multiple of its alignment, and
-/// ends, with its whole stride, where the next one begins or before. It does nothing: its contract is the law.
+/// Says what the definition of a pool's geometry means for every region and every layout of a bucket. A region is cut in only
+/// one way, and into buckets of at least one byte it can always be cut. Each bucket begins at a multiple of its alignment, and
+/// ends, with its whole stride, at or before the beginning of the next one. The function does nothing: its contract is the law.
 pub fn pool_geometry_law()
     ensures some_cut { (region : Region) (bucket : Layout) → 0 < bucket.size
         → (geometry : PoolGeometry) × IsCut region bucket geometry }
@@ -36,12 +36,12 @@ pub fn pool_geometry_law()
     ensures wide_enough { (bucket : Layout) → bucket.size ≤ stride bucket }
 {}
 
-/// Says what the definition of the pool object says of every geometry and every list of commands. There is an answer to each
-/// request: a chunk, or one refusal alone. A chunk that is given begins at a multiple of the asked alignment and of the bucket's,
-/// has exactly the asked size, and no live chunk has its place. There is exactly one answer to each resize. Where a chunk was
-/// just given back, no request that fits a bucket is refused. In each live list that a pool stands for, every chunk begins at a
-/// multiple of the bucket's alignment, and no two begin less than a stride apart. Each run from such a list, with resizes or
-/// without, leads to such a list again, which is sound. It does nothing: its contract is the law.
+/// Says what the definition of the pool object means for every geometry and every list of commands. There is an answer to each
+/// request: a chunk, or only one refusal. A chunk that is given begins at a multiple of the requested alignment and of the
+/// bucket's, has exactly the requested size, and no live chunk has its place. There is exactly one answer to each resize. After a
+/// chunk was given back, the next request that fits a bucket isn't refused. In each live list that a pool stands for, every chunk
+/// begins at a multiple of the bucket's alignment, and no two begin less than a stride apart. Each run from such a list, with
+/// resizes or without, leads to such a list again, which is sound. The function does nothing: its contract is the law.
 pub fn pool_object_law()
     // Answers to requests.
     ensures some_answer { (geometry : PoolGeometry) → AnswersAll (pool_object geometry).base }
@@ -108,8 +108,8 @@ pub fn pool_object_law()
         → (left : Pool) × IsPool left × (left.geometry ≡ pool.geometry) × StandsFor left new }
 {}
 
-/// Says that each chunk of a list that a pool stands for may be given back. A place is held exactly where a held bucket begins
-/// there. It does nothing: its contract is the law.
+/// Says that each chunk of a list that a pool stands for may be given back. A place is held exactly if a held bucket begins
+/// there. The function does nothing: its contract is the law.
 pub fn pool_held_law()
     ensures listed { (pool : Pool) (live : List Chunk) (position : ℕ) (chunk : Chunk)
         → StandsFor pool live → slice_get live position ≡ Some chunk

@@ -5,7 +5,7 @@ ghost use Rattle.bb_memory_traits.specs.Chunk.{Chunk, IsSound, Region};
 ghost use Rattle.bb_memory_traits.specs.PoolObject.{FillsRegion, IsHeld, IsPoolGeometry, PoolGeometry, at_most, pool_geometry};
 ghost use Rattle.std.specs.Prelude.{List, drop, take, ℕ, ◌<◌, ◌↔◌, ◌≡◌};
 
-/// The state of a bucket's flag. A flag is taken where it isn't free.
+/// The state of a bucket's flag. A flag is taken if it isn't free.
 #[derive(Debug, Clone, Copy, PartialEq, Eq)]
 pub enum Flag {
     /// No party has the bucket, and each may take it.
@@ -19,15 +19,15 @@ pub enum Flag {
 /// One atomic step over the pool's flags, one for each bucket.
 #[derive(Debug, Clone, Copy, PartialEq, Eq)]
 pub enum PoolStep {
-    /// The party tries to take the next bucket of its pass, or begins a pass at bucket 0 where it is idle. It isn't
-    /// allowed where there is no bucket.
+    /// The party tries to take the next bucket of its pass, or begins a pass at bucket 0 if it is idle. It isn't allowed if
+    /// there is no bucket.
     Try { party: u32 },
     /// The party gives back a bucket, as only its holder may.
     GiveBack { party: u32, bucket: u32 },
     /// The party, which is in no pass, tries to take one bucket of its choice.
     TryAt { party: u32, bucket: u32 },
-    /// The party detaches a bucket, as only its holder may, and only where there is another party. No party holds the
-    /// bucket then, and its flag stays taken.
+    /// The party detaches a bucket, as only its holder may, and only if there is another party. No party holds the bucket
+    /// then, and its flag stays taken.
     Detach { party: u32, bucket: u32 },
     /// The party, which is in no pass, attaches a detached bucket, and holds it then.
     Attach { party: u32, bucket: u32 },
@@ -75,7 +75,7 @@ pub fn pool_theorem()
         → IsPoolGeometry geometry → IsPoolGeometry (at_most constant geometry) }
 
     // The takings and returns are a run of the pool object from the empty list, whichever layouts within the bucket's
-    // size and alignment are asked for.
+    // size and alignment are requested.
     ensures run { (scene : PoolScene) (steps : List PoolStep) (layouts : List Layout)
         → IsPoolGeometry scene.geometry → AreAsked scene.geometry steps layouts
         → (live : List Chunk) × IsPoolRun scene steps layouts live }
@@ -113,7 +113,7 @@ pub fn pool_theorem()
         → IsPoolGeometry scene.geometry → IsRefusedAt (history_of scene steps) party last
         → bucket < scene.geometry.buckets → FoundHeld scene steps party last bucket }
 
-    // A step loses one bucket alone, so those steps are different ones for different buckets.
+    // A step loses only one bucket, so those steps are different ones for different buckets.
     ensures one_bucket { (scene : PoolScene) (steps : List PoolStep) (party step bucket other : ℕ)
         → LosesAt (history_of scene steps) party bucket step
         → LosesAt (history_of scene steps) party other step → bucket ≡ other }

@@ -26,8 +26,8 @@ impl Model for PoolWorld {
 }
 
 impl PoolWorld {
-    /// Makes the machine over that many buckets, all flags free, with that many parties, all idle. It is refused only where
-    /// memory was.
+    /// Makes the machine over that many buckets, all flags free, with that many parties, all idle. It fails only if memory
+    /// ran out.
     pub fn new(alloc: Global, buckets: u32, parties: u32) -> Result<PoolWorld, AllocError>
         ensures opened { IfOk result (λ world. world ≡ all_free buckets parties) }
     {
@@ -40,7 +40,7 @@ impl PoolWorld {
         })
     }
 
-    /// Takes one atomic step, and answers what it found. It takes no memory.
+    /// Takes one atomic step, and returns what it found. It doesn't allocate.
     pub fn step(&mut self, step: PoolStep) -> PoolOutcome
         ensures { Steps self.old step result self.new }
     {
@@ -59,8 +59,8 @@ impl PoolWorld {
         }
     }
 
-    /// Takes the steps in order, and answers what each found. The memory for the answers is reserved first: where it is
-    /// refused, no step is taken.
+    /// Takes the steps in order, and returns what each found. Memory for the results is reserved first: if it runs out, no
+    /// step is taken.
     pub fn replay(&mut self, steps: &[PoolStep]) -> Result<Vec<PoolOutcome>, AllocError>
         ensures { Replays self.old steps.now result self.new }
     {
@@ -79,8 +79,7 @@ impl PoolWorld {
         self.flags.len() as u32
     }
 
-    /// Returns the party that holds the bucket: `None` where its flag is free, where it is detached, or where there is no such
-    /// bucket.
+    /// Returns the party that holds the bucket: `None` if its flag is free, if it is detached, or if there is no such bucket.
     pub fn holder(&self, bucket: u32) -> Option<u32>
         ensures { result ≡ holder_of self.now bucket }
     {
@@ -130,7 +129,7 @@ impl PoolWorld {
         }
     }
 
-    /// A party tries one bucket, as it may where it is in no pass.
+    /// A party tries one bucket, as it may if it is in no pass.
     fn try_at(&mut self, party: u32, bucket: u32) -> PoolOutcome
         ensures { Steps self.old (TryAt party bucket) result self.new }
     {
@@ -148,7 +147,7 @@ impl PoolWorld {
         }
     }
 
-    /// A party detaches a bucket, as it may where it holds it, and there is another party.
+    /// A party detaches a bucket, as it may if it holds it and there is another party.
     fn detach(&mut self, party: u32, bucket: u32) -> PoolOutcome
         ensures { Steps self.old (Detach party bucket) result self.new }
     {
@@ -161,7 +160,7 @@ impl PoolWorld {
         }
     }
 
-    /// A party attaches a bucket, as it may where it is in no pass, and the bucket is detached.
+    /// A party attaches a bucket, as it may if it is in no pass and the bucket is detached.
     fn attach(&mut self, party: u32, bucket: u32) -> PoolOutcome
         ensures { Steps self.old (Attach party bucket) result self.new }
     {
@@ -193,7 +192,7 @@ impl PoolWorld {
         }
     }
 
-    /// A party gives back a detached bucket, as it may where it is in no pass.
+    /// A party gives back a detached bucket, as it may if it is in no pass.
     fn give_detached(&mut self, party: u32, bucket: u32) -> PoolOutcome
         ensures { Steps self.old (GiveBackDetached party bucket) result self.new }
     {
@@ -210,7 +209,7 @@ impl PoolWorld {
     }
 }
 
-/// Returns the flag of a bucket, or the pass of a party, where there is such a bucket or party.
+/// Returns the flag of a bucket, or the pass of a party, if there is such a bucket or party.
 fn found_at<T: Copy>(all: &[T], number: usize) -> Option<T>
     ensures value { result ≡ slice_get all.now number }
     ensures within { IsSome result → number < length all.now }

@@ -28,7 +28,7 @@ impl Model for Chunk {
 }
 
 impl Chunk {
-    /// Makes the chunk of a place and a length in bytes: `None` exactly where the place is 0 or place plus length exceeds
+    /// Makes the chunk of a place and a length in bytes. Returns `None` exactly if the place is 0 or place plus length exceeds
     /// `usize::MAX`.
     #[inline(always)]
     pub fn new(place: usize, len: usize) -> Option<Chunk>
@@ -52,8 +52,8 @@ impl Chunk {
         Chunk { place, len }
     }
 
-    /// Returns the chunk that a layout gets at or after `v`: `layout.size()` bytes at the least multiple of `layout.align()` that
-    /// isn't below `v`, or `None` exactly where that chunk would end behind `end`. `v` isn't 0.
+    /// Returns the chunk that a layout gets at or after `v`: `layout.size()` bytes at the least multiple of `layout.align()`
+    /// that is at least `v`. Returns `None` exactly if that chunk would end after `end`. `v` isn't 0.
     #[inline(always)]
     pub fn at_or_after(v: usize, layout: Layout, end: usize) -> Option<Chunk>
         requires { 0 < v }
@@ -87,7 +87,7 @@ impl Chunk {
         self.len
     }
 
-    /// Returns true where the chunk has no bytes.
+    /// Returns whether the chunk has no bytes.
     #[inline(always)]
     pub fn is_empty(&self) -> bool
         ensures { IsTrue result ↔ (self.now.len ≡ 0) }
@@ -117,7 +117,7 @@ impl Chunk {
         }
     }
 
-    /// Returns the part behind the first `size` bytes, which the chunk has to have.
+    /// Returns the part after the first `size` bytes, which the chunk has to have.
     #[inline]
     pub fn behind(&self, size: usize) -> Chunk
         requires { size ≤ self.now.len }
@@ -140,7 +140,7 @@ pub fn given_law()
 
 /// Parts of chunks. It does nothing: its contract is the law.
 pub fn parts_law()
-    // The first bytes of a chunk and what lies behind them are its parts, and they are apart.
+    // The first bytes of a chunk and those after them are its parts, and they are apart.
     ensures first { (chunk : Chunk) (size : ℕ) → size ≤ chunk.len
         → IsPart (first_part size chunk) chunk }
     ensures behind { (chunk : Chunk) (size : ℕ) → size ≤ chunk.len

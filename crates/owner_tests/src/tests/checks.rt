@@ -19,7 +19,7 @@ pub(super) fn refused(rt: &(impl Abort + AllocGlobal)) {
     assert!(rt; some_was_refused(rt.alloc()), "no memory was refused");
 }
 
-/// Checks that no call asked for memory since the making, and ends the time in which it may be refused.
+/// Checks that no call requested memory since the making, and ends the time in which such a request may fail.
 pub(super) fn none_asked(rt: &(impl Abort + AllocGlobal)) {
     assert!(rt; none_was_asked(rt.alloc()), "a call asked for memory");
 }

@@ -1,4 +1,4 @@
-//! The allocators of one owner, and how a test makes each. Calls of an allocator stand in functions over all kinds: a proof at a
+//! The allocators of one owner, and how a test makes each. Calls of an allocator are in functions over all kinds: a proof at a
 //! pool's own type takes seconds for each of them.
 ghost use Rattle.bb_memory_owned.specs.Pool.{StandsFor};
 ghost use Rattle.bb_memory_traits.specs.Chunk.{region_at};
@@ -20,7 +20,7 @@ pub(super) type Of = [usize; 4];
 
 /// An allocator of one owner.
 pub(super) trait Kind: BaseAllocator + Drop {
-    /// Makes a fresh allocator with its region, or `None` where there is none such, or memory was refused.
+    /// Makes a fresh allocator with its region, or `None` if there is no such allocator, or memory ran out.
     fn owner(alloc: Global, of: Of) -> Option<Owner<Self>>;
 }
 
@@ -95,7 +95,7 @@ pub(super) fn fixed_over<const N: usize>(
     Some(FixedSizePoolAllocator::new(bucket, start, size))
 }
 
-/// Makes a fresh allocator with its region, a second time where memory was refused.
+/// Makes a fresh allocator with its region, a second time if memory ran out.
 pub(super) fn made<A: Kind>(rt: &(impl Abort + AllocGlobal), of: Of) -> Owner<A> {
     if let Some(owner) = A::owner(rt.alloc(), of) {
         return owner;

@@ -10,7 +10,7 @@ use bb_memory_traits::region::Region;
 use std::alloc::{AllocError, Global};
 use std::marker::Model;
 
-/// Makes a region of `size` bytes at `start`, each of them `byte`, or `None` where memory was refused.
+/// Makes a region of `size` bytes at `start`, each of them `byte`, or `None` if memory ran out.
 pub(super) fn region_of(alloc: Global, start: usize, size: usize, byte: u8) -> Option<Region>
     ensures { IfSome result (λ region. held_region region ≡ region_at start size) }
 {
@@ -187,7 +187,7 @@ fn chunk_at(live: &Vec<Chunk>, position: usize) -> Option<Chunk>
     live.get(position).copied()
 }
 
-/// Returns the live chunk at a position, where its place is a multiple of the old alignment.
+/// Returns the live chunk at a position, if its place is a multiple of the old alignment.
 fn resized_at(live: &Vec<Chunk>, position: usize, old: Layout) -> Option<Chunk>
     ensures at { IfSome result (λ chunk. slice_get live.now.items position ≡ Some chunk) }
     ensures aligned { IfSome result (λ chunk. chunk.place % old.align ≡ 0) }

@@ -1,4 +1,4 @@
-//! The index words that a pool reads behind each call of a loan book.
+//! The index words that a pool reads in each call of a loan book.
 ghost use Rattle.std.specs.Prelude.{[]};
 
 use super::checks::{layout, same};
@@ -26,7 +26,7 @@ impl Reads for PoolAllocator<Global> {
     }
 }
 
-/// Answers as the allocator that it has, and adds up in a cell what its requests read.
+/// Does what its allocator does, and adds up in a cell what the requests read.
 #[derive(Drop)]
 struct Counted<A: Reads + Drop> {
     inner: A,
@@ -124,8 +124,8 @@ impl<A: Reads + Drop> Allocator for Counted<A> {
     ghost only_live = { λ c. A.only_live c.inner };
 }
 
-/// Makes calls of a loan book over an allocator of two buckets: a loan that this may serve reads one word, also where both
-/// buckets are held, and no other call reads any.
+/// Makes calls of a loan book over an allocator of two buckets: a loan that this may serve reads one word, even if both buckets
+/// are held, and no other call reads any.
 fn calls<A: Reads + Drop>(rt: &(impl Abort + AllocGlobal), inner: A)
     requires { A.stands_for inner [] }
 {

@@ -33,7 +33,7 @@ const SCRIPTS: [Row; 2] = [
 struct FailingReader<'a> {
     left: &'a [u8],
     reads: usize,
-    /// The number of the read that is answered with this error, counted from 1.
+    /// The number of the read that fails with this error, counted from 1.
     fails_read: (usize, ErrorKind),
 }
 
@@ -48,14 +48,14 @@ impl Read for FailingReader<'_> {
     }
 }
 
-/// Keeps what it is given, at most five bytes a write, and counts its calls. One of its writes may be answered with an error,
+/// Keeps what it is given, at most five bytes for each write, and counts its calls. One of its writes may fail with an error,
 /// and so may its flushes.
 #[derive(Drop)]
 struct CountingWriter<'a> {
     kept: &'a mut Vec<u8>,
     writes: usize,
     flushes: usize,
-    /// The number of the write that is answered with this error, counted from 1.
+    /// The number of the write that fails with this error, counted from 1.
     fails_write: (usize, ErrorKind),
     fails_flush: bool,
 }
@@ -113,8 +113,8 @@ fn reader_fails_in_turn(rt: HostRuntime) {
     reads(&rt, interrupted, Done, FIRST_PATH_LINES);
 }
 
-/// Runs a script over a writer. Checks that it ends with this status after so many writes and flushes, and that the output begins
-/// the row's lines, and is these lines before a flush.
+/// Runs a script over a writer. Checks that it ends with this status after this many writes and flushes, and that the output
+/// begins the row's lines, and is these lines before a flush.
 fn writes(
     rt: &(impl Abort + AllocGlobal),
     row: &Row,
@@ -171,7 +171,7 @@ const UNREADABLE_CUTS: [(usize, usize, &[u8]); 7] = [
     (66, 69, b"line 7: refused\n"),
 ];
 
-/// Cut in front of the bytes from the first number up to the second, the script is done with so many bytes of the whole script's
+/// Cut before any byte from the first number up to the second, the script is done with this many bytes of the whole script's
 /// lines. So is `bump 4096 1`, as that is a region, too.
 const DONE_CUTS: [(usize, usize, usize); 7] = [
     (11, 16, 0),

@@ -1,10 +1,10 @@
-//! Tables of scripts. Each line is a row: `NAME | SCRIPT | OUTPUT`, where `; ` stands for a line feed.
+//! Tables of scripts. Each line is a row: `NAME | SCRIPT | OUTPUT`, in which `; ` stands for a line feed.
 use super::checks::check_at;
 use script_kinds::{Status, run};
 use std::alloc::{AllocError, Global};
 use std::process::Abort;
 
-/// Splits a row behind its first field.
+/// Splits a row after its first field.
 pub(super) fn field_and_rest(row: &str) -> (&str, &str) {
     row.split_once(" | ").unwrap_or((row, ""))
 }

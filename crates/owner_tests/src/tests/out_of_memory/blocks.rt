@@ -1,5 +1,4 @@
-//! Heap blocks. Where memory is refused, no block is made, and a growth hands its block back unchanged: then the call is made
-//! again.
+//! Heap blocks. If memory runs out, no block is made, and a growth returns its block unchanged: then the call is made again.
 use crate::tests::checks::{layout, refused, same};
 use bb_memory_heap::heap_allocator::{
     AllocationError, AllocationGrowError, AllocationShrinkError, HeapAllocator, HeapBlock,
@@ -20,7 +19,7 @@ fn allocate(alloc: Global, asked: Layout, zeroed: bool) -> Result<HeapBlock, All
     }
 }
 
-/// Makes a block, at a second trial where memory was refused.
+/// Makes a block, at a second trial if memory ran out.
 pub(super) fn made(rt: &(impl Abort + AllocGlobal), asked: Layout, zeroed: bool) -> HeapBlock {
     match allocate(rt.alloc(), asked, zeroed) {
         Err(AllocationError::OutOfMemory) => {
@@ -62,7 +61,7 @@ fn grow(alloc: Global, block: HeapBlock, to: Layout, zeroed: bool) -> Resized<Al
     }
 }
 
-/// Grows a block, at a second trial where memory was refused: then the block is as before.
+/// Grows a block, at a second trial if memory ran out: then the block is as before.
 fn grown(
     rt: &(impl Abort + AllocGlobal),
     block: HeapBlock,

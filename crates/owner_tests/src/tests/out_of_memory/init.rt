@@ -5,7 +5,7 @@ use bb_memory_traits::layout::Layout;
 use std::alloc::Global;
 use std::process::Abort;
 
-/// Makes a pool over 1,024 bytes at 4097. Where memory was refused, `init` hands back what it was called on, and is called again.
+/// Makes a pool over 1,024 bytes at 4097. If memory ran out, `init` returns what it was called on, and is called again.
 fn initialised(rt: &(impl Abort + AllocGlobal), bucket: Layout) -> Option<PoolAllocator<Global>> {
     if !PoolAllocator::can_make(bucket, 4097, 1024) {
         return None;

@@ -1,4 +1,4 @@
-//! Loan books. A refused loan leaves the book unchanged: just the samples of before are out.
+//! Loan books. A refused loan leaves the book unchanged: exactly the samples of before are in use.
 ghost use Rattle.std.specs.Prelude.{[]};
 
 use crate::tests::checks::{check, chunk, layout, refused, same};
@@ -45,7 +45,7 @@ pub(super) const NO_MEMORY: LoanReply = Refused(LoanError::Memory);
 /// The refusal by a full allocator.
 pub(super) const FULL: LoanReply = Refused(LoanError::Allocation(AllocationError::OutOfMemory));
 
-/// Loans `size` bytes, a second time where memory was refused: then the samples of before are out, and the next one isn't.
+/// Loans `size` bytes, a second time if memory ran out: then the samples of before are in use, and the next one isn't.
 fn loan<A: Allocator + Drop>(
     rt: &(impl Abort + AllocGlobal),
     book: &mut LoanBook<A>,
@@ -72,8 +72,8 @@ fn loan_over_one_chunk(rt: HostRuntime) {
     same(&rt, reply(&mut book, Loan(1)), Loaned(1, whole));
 }
 
-/// Returns whether a loan and its return are made as one list, or `None` where memory was refused: for the replies, or for the
-/// loan's record, which uses up no id.
+/// Returns whether a loan and its return are made as one list, or `None` if memory ran out: for the replies, or for the loan's
+/// record, which uses up no id.
 fn is_made(alloc: Global, book: &mut LoanBook<OneChunkAllocator>, whole: Chunk) -> Option<bool> {
     let replies = run_loans(alloc, book, &[Loan(1), GiveBack(0)]).ok()?;
     let unmade = [NO_MEMORY, Refused(LoanError::UnknownSample)];
@@ -84,7 +84,7 @@ fn is_made(alloc: Global, book: &mut LoanBook<OneChunkAllocator>, whole: Chunk) 
     Some(replies.as_slice() == made.as_slice())
 }
 
-/// A list of calls is made, a second time where memory was refused.
+/// A list of calls is made, a second time if memory ran out.
 #[test]
 fn a_list_of_loans_keeps_the_book(rt: HostRuntime) {
     let (mut book, whole) = (one_book(rt.alloc()), chunk(&rt, 4096, 64));

@@ -15,7 +15,7 @@ use bb_memory_traits::layout::Layout;
 use std::alloc::Global;
 use std::process::Abort;
 
-/// Runs commands, a second time where memory was refused: then as many chunks are live as before.
+/// Runs commands, a second time if memory ran out: then the number of live chunks is unchanged.
 fn replies<A: Allocator + Drop>(
     rt: &(impl Abort + AllocGlobal),
     owner: &mut Owner<A>,
@@ -32,7 +32,7 @@ fn replies<A: Allocator + Drop>(
         .expect(rt, "there is memory for a run")
 }
 
-/// Runs commands by a fresh bump, which has no resizes, a second time where memory was refused.
+/// Runs commands by a fresh bump, which has no resizes, a second time if memory ran out.
 fn replies_of_a_bump(rt: &(impl Abort + AllocGlobal), commands: &[Command]) -> Vec<Reply> {
     let mut bump = made::<BumpAllocator>(rt, [4096, 1024, 0, 0]);
     if let Ok(replies) = bump.run_base(commands) {

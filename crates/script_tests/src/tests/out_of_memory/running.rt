@@ -1,11 +1,11 @@
-//! Scripts that hold with any one request for memory refused: a run ends with status 4, and what it wrote begins what
-//! it writes where none is refused.
+//! Scripts that hold with any one request for memory refused: a run ends with status 4, and what it wrote is a beginning of what
+//! it writes if none is refused.
 use crate::tests::checks::{check, refused, same};
 use crate::tests::table::{field_and_rest, lines};
 use script_kinds::{Status, run};
 use std::process::Abort;
 
-/// Runs a script, a second time where memory was refused, and checks its status and its output.
+/// Runs a script, a second time if memory ran out, and checks its status and its output.
 fn ends_with_status_4(rt: &(impl Abort + AllocGlobal), ends: Status, script: &[u8], lines: &[u8]) {
     let mut told = Vec::new(rt.alloc());
     if told.reserve(lines.len()).is_err() {
@@ -22,7 +22,7 @@ fn ends_with_status_4(rt: &(impl Abort + AllocGlobal), ends: Status, script: &[u
     check(rt, told.as_slice() == lines);
 }
 
-/// Runs a row's script. Where memory for the test itself is refused, passes over the row.
+/// Runs a row's script. If memory for the test itself runs out, skips the row.
 fn keeps(rt: &(impl Abort + AllocGlobal), ends: Status, row: &str) {
     let (script, wrote) = field_and_rest(row);
     if let (Ok(script), Ok(wrote)) = (lines(rt.alloc(), script), lines(rt.alloc(), wrote)) {

@@ -6,7 +6,7 @@ use bb_memory_base::steps::{BumpOutcome, BumpStep, BumpWorld, PoolOutcome, PoolS
 use std::alloc::AllocError;
 use std::process::Abort;
 
-/// Returns a world, or `None` where memory was refused.
+/// Returns a world, or `None` if memory ran out.
 pub(super) fn made<W: Drop>(
     rt: &(impl Abort + AllocGlobal),
     world: Result<W, AllocError>,
@@ -17,7 +17,7 @@ pub(super) fn made<W: Drop>(
     world.ok()
 }
 
-/// Replays steps, at a second trial where memory was refused: then the bump is still fresh.
+/// Replays steps, at a second trial if memory ran out: then the bump is still fresh.
 fn replayed_by_bump(
     rt: &(impl Abort + AllocGlobal),
     world: &mut BumpWorld,
@@ -79,7 +79,7 @@ const OUTCOMES: [PoolOutcome; 6] = [
     RefusedAtLoss(1),
 ];
 
-/// Replays the steps, at a second trial where memory was refused: then the pool is still fresh.
+/// Replays the steps, at a second trial if memory ran out: then the pool is still fresh.
 fn replayed_by_pool(rt: &(impl Abort + AllocGlobal), world: &mut PoolWorld) -> Vec<PoolOutcome> {
     if let Ok(told) = world.replay(&STEPS) {
         return told;

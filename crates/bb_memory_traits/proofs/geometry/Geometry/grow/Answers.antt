@@ -4,12 +4,12 @@ use Rattle.std.proofs.Common.{arith, ◌≤◌}
 
 pub new_unchecked-requires : goal.new_unchecked-requires
 new_unchecked-requires c =
-    (placed _ _ _ _ c.self.invariant c.args.place c.size-5.result (rw (← c.self.view_is) at c.requires) (omega arith)).0
+    (placed _ _ _ _ _ c.self.invariant c.args.place c.size-5.result (rw (← c.self.view_is) at c.requires) (omega arith)).0
 
 pub returns-clause-inside : goal.returns-clause-inside
 returns-clause-inside c =
     rw (← c.self.view_is, c.new_unchecked.ensures)
-    (placed _ _ _ _ c.self.invariant c.args.place c.size-5.result (rw (← c.self.view_is) at c.requires) (omega arith)).1
+    (placed _ _ _ _ _ c.self.invariant c.args.place c.size-5.result (rw (← c.self.view_is) at c.requires) (omega arith)).1
 
 pub returns-clause-aligned : goal.returns-clause-aligned
 returns-clause-aligned c =

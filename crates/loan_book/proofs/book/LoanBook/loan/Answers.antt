@@ -29,7 +29,7 @@ neither not_left not_right = (λ left. absurd (not_left left), λ right. absurd 
 abbrev Answer : Type 0
 Answer = Result (ℕ × Chunk) LoanError
 
--- an answer behind the first two tests
+-- an answer after the first two tests
 abbrev IsLater : Answer → Type 0
 IsLater (Err Size) = ⊥
 IsLater (Err IdsExhausted) = ⊥

@@ -1,6 +1,6 @@
 //! Held buckets: their count, the greatest one so far, buckets by number, and the reads of a request.
 use crate::tests::checks::{check, layout, none_asked, refused, same};
-use crate::tests::kinds::{Kind, fixed_over, pool_over};
+use crate::tests::kinds::{Kind, Of, fixed_over, pool_over};
 use bb_memory_owned::pool_allocator::{
     AllocationError, Allocator, BaseAllocator, FixedSizePoolAllocator, PoolAllocator,
 };
@@ -61,7 +61,7 @@ fn takes(rt: &impl Abort, pool: &mut impl Buckets, size: usize) {
     same(rt, pool.told(number.unwrap_or(0), place).1.0, Some(place));
 }
 
-/// Returns where the bucket of 16 bytes of a number begins.
+/// Returns the place of the bucket of 16 bytes with this number.
 fn place_of(number: u32) -> usize {
     (number as usize).saturating_mul(16).saturating_add(4096)
 }
@@ -75,7 +75,7 @@ fn gives(rt: &impl Abort, pool: &mut impl Buckets, number: u32) {
     same(rt, pool.told(number, place).1, (at, found, false));
 }
 
-/// Checks that nothing is held or given back where no bucket of 16 bytes begins.
+/// Checks that nothing is held or given back at a place at which no bucket of 16 bytes begins.
 fn has_none_between(rt: &impl Abort, pool: &mut impl Buckets, buckets: u32) {
     for wild in [0, 1, 4080, 4095, 4097, 4104, usize::MAX, place_of(buckets)] {
         same(rt, pool.told(buckets, wild).1, (None, None, false));
@@ -129,7 +129,7 @@ fn fixed_counts_what_it_holds(rt: HostRuntime) {
     }
 }
 
-/// Asks for a byte, which reads one index word. It is given at `place`, or refused where this is `None`.
+/// Requests a byte, which reads one index word. It is given at `place`, or refused if this is `None`.
 fn by_one_read(rt: &impl Abort, pool: &mut PoolAllocator<Global>, place: Option<usize>) {
     let given = pool.allocate(layout(rt, 1, 1));
     same(rt, pool.last_reads(), 1);
@@ -166,4 +166,48 @@ fn one_read_where_all_are_held(rt: HostRuntime) {
     fills(&rt, 65, 4160);
     fills(&rt, 128, 4100);
     fills(&rt, 320, 4300);
+}
+
+/// Checks that no bucket begins at a place.
+fn has_no_number(rt: &impl Abort, pool: &PoolAllocator<Global>, places: &[usize]) {
+    for place in places {
+        same(rt, pool.number_at(*place), None);
+    }
+}
+
+/// Checks the numbers of a pool's buckets, which begin at the region's start, and that no other place has a number: one beside a
+/// bucket's place, a stride before the first bucket or after the last one, and the least and the greatest address.
+fn numbers(rt: &(impl Abort + AllocGlobal), of: Of, stride: usize, buckets: u32) {
+    let [start, size, bucket_size, align] = of;
+    let Some(pool) = pool_over(rt.alloc(), layout(rt, bucket_size, align), start, size) else {
+        return refused(rt);
+    };
+    refuse_memory(rt.alloc());
+    same(rt, pool.number_of_buckets(), buckets);
+    for number in 0..buckets {
+        let place = start.wrapping_add(stride.wrapping_mul(number as usize));
+        same(rt, pool.number_at(place), Some(number));
+        if stride > 1 {
+            let (next, last) = (place.wrapping_add(1), place.wrapping_add(stride - 1));
+            has_no_number(rt, &pool, &[next, place.wrapping_add(stride / 2), last]);
+        }
+    }
+    let before = start.wrapping_sub(stride);
+    let after = start.wrapping_add(stride.wrapping_mul(buckets as usize));
+    has_no_number(rt, &pool, &[before, start.wrapping_sub(1), after, 0, usize::MAX]);
+    none_asked(rt);
+}
+
+/// Odd strides, powers of two, and products of both; regions that begin at the least place, and that end at the greatest one.
+#[test]
+fn a_number_at_each_place(rt: HostRuntime) {
+    numbers(&rt, [4096, 1000, 96, 32], 96, 10);
+    numbers(&rt, [4096, 1024, 100, 128], 128, 8);
+    numbers(&rt, [4096, 70, 1, 1], 1, 70);
+    numbers(&rt, [1, 100, 3, 1], 3, 33);
+    numbers(&rt, [4096, 970, 97, 1], 97, 10);
+    numbers(&rt, [1 << 62, usize::MAX - (1 << 62), 1 << 62, 1 << 62], 1 << 62, 2);
+    numbers(&rt, [1, usize::MAX - 1, (1 << 62) + 1, 1], (1 << 62) + 1, 3);
+    numbers(&rt, [usize::MAX - 1023, 1000, 96, 32], 96, 10);
+    numbers(&rt, [usize::MAX - 97, 97, 97, 1], 97, 1);
 }

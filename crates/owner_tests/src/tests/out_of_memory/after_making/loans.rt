@@ -1,4 +1,4 @@
-//! Loan books, of which a loan alone takes memory.
+//! Loan books, of which only a loan allocates.
 ghost use Rattle.std.specs.Prelude.{[]};
 
 use crate::tests::checks::{check, layout, none_asked, refused, same};
@@ -33,7 +33,7 @@ fn a_loan_book(rt: HostRuntime) {
 }
 
 /// Fills an allocator of sixteen chunks and the book's room for records. Without memory a further loan is refused for its
-/// record's, before the allocator is asked; with memory the allocator refuses it.
+/// record's, before the allocator gets a request; with memory the allocator refuses it.
 fn fills<A: Allocator + Drop>(rt: &(impl Abort + AllocGlobal), allocator: A)
     requires { A.stands_for allocator [] }
 {

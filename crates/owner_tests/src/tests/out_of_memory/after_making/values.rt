@@ -39,7 +39,7 @@ fn layouts_and_roundings(rt: HostRuntime) {
     none_asked(&rt);
 }
 
-/// Calls `memory_size`, where its conditions hold.
+/// Calls `memory_size`, if its conditions hold.
 fn memory_size(bucket: Layout, size: usize) -> Option<usize> {
     if bucket.size() == 0 || size / bucket.size() > u32::MAX as usize {
         return None;

@@ -125,7 +125,7 @@ fn one_chunk_is_shrunk_and_grown(rt: HostRuntime) {
     none_asked(&rt);
 }
 
-/// Takes 48 bytes, which can't be grown to 129. They are grown, shrunk and given back: just the bytes by which they grew
+/// Takes 48 bytes, which can't be grown to 129. They are grown, shrunk and given back: exactly the bytes by which they grew
 /// are zero.
 fn is_grown_and_shrunk<A: Kind + Allocator>(rt: &(impl Abort + AllocGlobal), of: Of) {
     let mut owner = fresh::<A>(rt, of);

@@ -61,6 +61,16 @@ fn as_many_parties_as_buckets(rt: HostRuntime) {
     );
     same(
         rt,
+        [pool.number_at(69504), pool.number_at(69632)],
+        [Some(511), None],
+    );
+    same(
+        rt,
+        [pool.number_at(3968), pool.number_at(usize::MAX)],
+        [None, None],
+    );
+    same(
+        rt,
         [pool.place_at(511), pool.place_at(512)],
         [Some(69504), None],
     );

@@ -2,7 +2,7 @@ use Rattle.bb_memory_bump_machine.proofs.steps.bump_world.BumpWorld.replay.Given
 use Rattle.bb_memory_bump_machine.specs.BumpWorld.{after_steps, outcomes_of}
 use Rattle.std.proofs.Common.{drop, length, vec_capacity, vec_len, ◌++◌, ◌≡◌, ◌≤◌}
 
--- the answers so far and those to what is left are those to all
+-- the answers so far, followed by those to the rest, are the answers to all steps
 abbrev pub invariant-loop-step : goal.invariant-loop-step
 invariant-loop-step l =
     let left = drop l.step-index l.steps in

@@ -3,7 +3,7 @@ use Rattle.bb_memory_pool_machine.specs.PoolMachine.{pool_after}
 use Rattle.bb_memory_pool_machine.specs.PoolWorld.{outcomes_of}
 use Rattle.std.proofs.Common.{drop, length, vec_capacity, vec_len, ◌++◌, ◌≡◌, ◌≤◌}
 
--- the answers so far and those to what is left are those to all
+-- the answers so far, followed by those to the rest, are the answers to all steps
 abbrev pub invariant-loop-step : goal.invariant-loop-step
 invariant-loop-step l =
     let left = drop l.step-index l.steps in

@@ -1,0 +1,350 @@
+//! Values in buckets. Whoever uses one needs no `unsafe`.
+use crate::error::{AllocationError, no_such_answer};
+use crate::owned::{Shared, lock};
+use crate::{Pool, PoolAllocator, PoolParty, ffi};
+use core::alloc::Layout;
+use core::error::Error;
+use core::fmt;
+use core::marker::PhantomData;
+use core::mem::ManuallyDrop;
+use core::ops::{Deref, DerefMut};
+use core::ptr::{self, NonNull};
+use std::sync::Arc;
+
+/// A value that got no bucket, and why.
+#[non_exhaustive]
+#[derive(Clone, Copy, PartialEq, Eq)]
+pub struct TryNewError<T> {
+    /// Why the pool refused a bucket.
+    pub error: AllocationError,
+    /// The value, for another try.
+    pub value: T,
+}
+
+impl<T> fmt::Debug for TryNewError<T> {
+    fn fmt(&self, f: &mut fmt::Formatter<'_>) -> fmt::Result {
+        f.debug_struct("TryNewError").field("error", &self.error).finish_non_exhaustive()
+    }
+}
+
+impl<T> fmt::Display for TryNewError<T> {
+    fn fmt(&self, f: &mut fmt::Formatter<'_>) -> fmt::Result {
+        self.error.fmt(f)
+    }
+}
+
+impl<T> Error for TryNewError<T> {}
+
+/// A bucket that is returned to its pool when it is dropped.
+struct Bucket<'pool, P: Pool> {
+    pool: &'pool P,
+    place: NonNull<u8>,
+}
+
+impl<P: Pool> Drop for Bucket<'_, P> {
+    fn drop(&mut self) {
+        // SAFETY: the owner of this bucket doesn't use it any more.
+        unsafe { self.pool.deallocate(self.place, self.pool.bucket()) };
+    }
+}
+
+/// Owns a value in a bucket of a pool, as `Box` owns one on the heap. When it is dropped, it drops
+/// the value and returns the bucket.
+///
+/// ```
+/// use bb_memory::{AllocationError, Pool, PoolAllocator, PoolBox};
+/// use core::alloc::Layout;
+///
+/// let pool = PoolAllocator::with_buckets(Layout::new::<[u64; 4]>(), 1)?;
+/// let mut numbers = PoolBox::try_new(&pool, [1u64, 2, 3])?;
+/// numbers[0] = 5;
+/// assert_eq!((numbers.iter().sum::<u64>(), pool.held_buckets()), (10, 1));
+///
+/// // The pool is full, and the second value comes back.
+/// let refused = PoolBox::try_new(&pool, String::from("no bucket")).unwrap_err();
+/// assert_eq!(refused.error, AllocationError::OutOfMemory);
+/// assert_eq!(refused.value, "no bucket");
+///
+/// drop(numbers);
+/// assert_eq!(pool.held_buckets(), 0);
+/// # Ok::<(), Box<dyn std::error::Error>>(())
+/// ```
+///
+/// It isn't `Send`, since its pool is used by one thread: a value that goes to another thread is in a
+/// [`PartyBox`], and detached from its party by [`PartyBox::detach`].
+///
+/// ```compile_fail,E0277
+/// # use bb_memory::{PoolAllocator, PoolBox};
+/// # let pool = PoolAllocator::with_buckets(core::alloc::Layout::new::<u64>(), 1).unwrap();
+/// let number = PoolBox::try_new(&pool, 7u64).unwrap();
+/// std::thread::scope(|scope| {
+///     scope.spawn(move || drop(number));
+/// });
+/// ```
+///
+/// The pool and its region outlive it:
+///
+/// ```compile_fail,E0505
+/// # use bb_memory::{PoolAllocator, PoolBox};
+/// # let pool = PoolAllocator::with_buckets(core::alloc::Layout::new::<u64>(), 1).unwrap();
+/// let number = PoolBox::try_new(&pool, 7u64).unwrap();
+/// drop(pool);
+/// println!("{number:?}");
+/// ```
+pub struct PoolBox<'pool, T: ?Sized, P: Pool = PoolAllocator<'pool>> {
+    value: NonNull<T>,
+    bucket: Bucket<'pool, P>,
+    owned: PhantomData<T>,
+}
+
+/// Owns a value in a bucket of a party, as [`PoolBox`] does for a pool with one owner. Like its party
+/// it stays in one thread. [`detach`](PartyBox::detach) makes a [`DetachedBox`] of it, which goes to
+/// any thread.
+pub type PartyBox<'party, 'region, T> = PoolBox<'party, T, PoolParty<'region>>;
+
+// SAFETY: a shared reference to a box gives shared references to its value, and does nothing else.
+unsafe impl<T: Sync + ?Sized, P: Pool> Sync for PoolBox<'_, T, P> {}
+
+impl<'pool, T, P: Pool> PoolBox<'pool, T, P> {
+    /// Moves a value into a bucket.
+    ///
+    /// # Errors
+    ///
+    /// The pool's [`AllocationError`], with the value: `SizeTooLarge` or `AlignmentFailure` if no
+    /// bucket of the pool has room for a `T`, `OutOfMemory` if each bucket is held.
+    pub fn try_new(pool: &'pool P, value: T) -> Result<Self, TryNewError<T>> {
+        let place = match pool.allocate(Layout::new::<T>()) {
+            Ok(chunk) => chunk.cast::<u8>(),
+            Err(error) => return Err(TryNewError { error, value }),
+        };
+        let bucket = Bucket { pool, place };
+        // SAFETY: the chunk has the layout of a `T`, and is in no other hands.
+        unsafe { place.cast::<T>().write(value) };
+        Ok(PoolBox { value: place.cast(), bucket, owned: PhantomData })
+    }
+
+    /// Moves the value out, and returns the bucket to the pool.
+    #[must_use]
+    pub fn into_inner(this: Self) -> T {
+        let this = ManuallyDrop::new(this);
+        // SAFETY: neither the value nor the bucket is used through `this` again.
+        let (value, bucket) = unsafe { (this.value.read(), ptr::read(&raw const this.bucket)) };
+        drop(bucket);
+        value
+    }
+}
+
+impl<'pool, P: Pool> PoolBox<'pool, [u8], P> {
+    /// Takes a bucket for `len` bytes, each of which is zero.
+    ///
+    /// ```
+    /// use bb_memory::{PoolAllocator, PoolBox};
+    /// use core::alloc::Layout;
+    ///
+    /// let pool = PoolAllocator::with_buckets(Layout::from_size_align(1024, 8)?, 16)?;
+    /// let mut bytes = PoolBox::<[u8]>::try_zeroed(&pool, 5)?;
+    /// bytes[1..4].copy_from_slice(b"abc");
+    /// assert_eq!(&bytes[..], b"\0abc\0");
+    /// # Ok::<(), Box<dyn std::error::Error>>(())
+    /// ```
+    ///
+    /// # Errors
+    ///
+    /// [`SizeTooLarge`](AllocationError::SizeTooLarge) if a bucket has fewer bytes,
+    /// [`OutOfMemory`](AllocationError::OutOfMemory) if each bucket is held.
+    pub fn try_zeroed(pool: &'pool P, len: usize) -> Result<Self, AllocationError> {
+        let layout = Layout::array::<u8>(len).map_err(|_| AllocationError::SizeTooLarge)?;
+        let place = pool.allocate_zeroed(layout)?.cast::<u8>();
+        let bucket = Bucket { pool, place };
+        let value = NonNull::slice_from_raw_parts(place, len);
+        Ok(PoolBox { value, bucket, owned: PhantomData })
+    }
+}
+
+impl<'pool, T: ?Sized, P: Pool> PoolBox<'pool, T, P> {
+    /// Keeps the value in its bucket for as long as the pool is borrowed. The value isn't dropped.
+    #[must_use = "without the reference the bucket is held for nothing"]
+    pub fn leak(this: Self) -> &'pool mut T
+    where
+        T: 'pool,
+    {
+        // SAFETY: nothing else uses the value, and its bucket isn't returned while the pool is
+        // borrowed.
+        unsafe { ManuallyDrop::new(this).value.as_mut() }
+    }
+}
+
+impl<T: ?Sized, P: Pool> Deref for PoolBox<'_, T, P> {
+    type Target = T;
+
+    fn deref(&self) -> &T {
+        // SAFETY: the value is this box's.
+        unsafe { self.value.as_ref() }
+    }
+}
+
+impl<T: ?Sized, P: Pool> DerefMut for PoolBox<'_, T, P> {
+    fn deref_mut(&mut self) -> &mut T {
+        // SAFETY: the value is this box's.
+        unsafe { self.value.as_mut() }
+    }
+}
+
+impl<T: ?Sized, P: Pool> Drop for PoolBox<'_, T, P> {
+    /// Drops the value. Then the bucket is dropped, also if that panics.
+    fn drop(&mut self) {
+        // SAFETY: the value is this box's, and isn't used again.
+        unsafe { self.value.drop_in_place() };
+    }
+}
+
+impl<T: fmt::Debug + ?Sized, P: Pool> fmt::Debug for PoolBox<'_, T, P> {
+    fn fmt(&self, f: &mut fmt::Formatter<'_>) -> fmt::Result {
+        (**self).fmt(f)
+    }
+}
+
+impl<'region, T: ?Sized> PartyBox<'_, 'region, T> {
+    /// Detaches the value from its party, so that it can go to another thread.
+    #[must_use = "dropping it drops the value"]
+    pub fn detach(this: Self) -> DetachedBox<'region, T> {
+        let this = ManuallyDrop::new(this);
+        let party = this.bucket.pool;
+        // SAFETY: the value is used only by who has the `DetachedBox`.
+        let detached = unsafe { party.detach_number(this.bucket.place) };
+        let number = detached.unwrap_or_else(|_| no_such_answer(ffi::NOT_HELD));
+        let pool = Arc::clone(&party.owned.of);
+        let bucket = Detached { pool, number, from: party.number() };
+        DetachedBox { value: this.value, bucket, owned: PhantomData }
+    }
+}
+
+/// A bucket that the party of number `from` has detached by its number. It is returned to its pool
+/// when it is dropped.
+struct Detached<'region> {
+    pool: Shared<'region>,
+    number: u32,
+    from: u32,
+}
+
+impl Drop for Detached<'_> {
+    fn drop(&mut self) {
+        let common = lock(&self.pool);
+        let Some(keeper) = &common.keeper else { return };
+        // SAFETY: the functions are of this kind, no other call has the handle, and the owner of
+        // this bucket doesn't use it any more.
+        unsafe {
+            let attached =
+                ffi::bb_pool_party_attach_number(keeper.handle(), self.number, self.from);
+            if attached.code == ffi::OK {
+                let _ = ffi::bb_pool_party_deallocate(keeper.handle(), attached.place);
+            }
+        }
+    }
+}
+
+/// Owns a value in a bucket that no party holds: a message on its way from one thread to another. It
+/// is `Send` if `T` is. Whoever gets it reads and writes the value, and may [attach](Self::attach)
+/// it to a party. When it is dropped, it drops the value and returns the bucket, under the lock by
+/// which parties join; a [`PartyBox`] returns it without a lock.
+///
+/// ```
+/// use bb_memory::{DetachedBox, PartyBox, SharedPoolAllocator};
+/// use core::alloc::Layout;
+/// use std::sync::mpsc::sync_channel;
+///
+/// let pool = SharedPoolAllocator::with_buckets(Layout::new::<[u64; 8]>(), 16, 2)?;
+/// let (sender, receiver) = (pool.join()?, pool.join()?);
+/// let (full, taken) = sync_channel(4);
+/// let sending = std::thread::spawn(move || {
+///     for number in 0..100u64 {
+///         let message = PartyBox::try_new(&sender, [number; 8]).unwrap();
+///         full.send(PartyBox::detach(message)).unwrap();
+///     }
+/// });
+/// for (number, message) in (0..).zip(taken) {
+///     let message = DetachedBox::attach(message, &receiver);
+///     assert_eq!(*message, [number; 8]);
+/// }
+/// sending.join().unwrap();
+/// # Ok::<(), Box<dyn std::error::Error>>(())
+/// ```
+///
+/// In an `Arc` several threads read it, and the last one returns it by `Arc::into_inner`.
+#[must_use = "dropping it drops the value"]
+pub struct DetachedBox<'region, T: ?Sized> {
+    value: NonNull<T>,
+    bucket: Detached<'region>,
+    owned: PhantomData<T>,
+}
+
+// SAFETY: the box owns its value, as a `Box` does, and what it has of the pool is `Send`.
+unsafe impl<T: Send + ?Sized> Send for DetachedBox<'_, T> {}
+
+// SAFETY: a shared reference to a box gives shared references to its value, and does nothing else.
+unsafe impl<T: Sync + ?Sized> Sync for DetachedBox<'_, T> {}
+
+impl<'region, T: ?Sized> DetachedBox<'region, T> {
+    /// Attaches the value to a party of its pool.
+    ///
+    /// # Panics
+    ///
+    /// If the party is another pool's. The value is dropped, and its bucket is returned.
+    pub fn attach<'party>(
+        this: Self,
+        party: &'party PoolParty<'region>,
+    ) -> PartyBox<'party, 'region, T> {
+        let Detached { pool, number, from } = &this.bucket;
+        assert!(Arc::ptr_eq(pool, &party.owned.of), "the bucket is another pool's");
+        // SAFETY: the bucket is this box's, which ends here.
+        let attached = unsafe { party.attach_number(*number, *from) };
+        let Ok(chunk) = attached else { no_such_answer(ffi::NOT_HELD) };
+        let this = ManuallyDrop::new(this);
+        // SAFETY: the pool isn't used through `this` again.
+        drop(unsafe { ptr::read(&raw const this.bucket.pool) });
+        let bucket = Bucket { pool: party, place: chunk.cast() };
+        PoolBox { value: this.value, bucket, owned: PhantomData }
+    }
+}
+
+impl<T> DetachedBox<'_, T> {
+    /// Moves the value out, and returns the bucket to the pool.
+    #[must_use]
+    pub fn into_inner(this: Self) -> T {
+        let this = ManuallyDrop::new(this);
+        // SAFETY: neither the value nor the bucket is used through `this` again.
+        let (value, bucket) = unsafe { (this.value.read(), ptr::read(&raw const this.bucket)) };
+        drop(bucket);
+        value
+    }
+}
+
+impl<T: ?Sized> Deref for DetachedBox<'_, T> {
+    type Target = T;
+
+    fn deref(&self) -> &T {
+        // SAFETY: the value is this box's.
+        unsafe { self.value.as_ref() }
+    }
+}
+
+impl<T: ?Sized> DerefMut for DetachedBox<'_, T> {
+    fn deref_mut(&mut self) -> &mut T {
+        // SAFETY: the value is this box's.
+        unsafe { self.value.as_mut() }
+    }
+}
+
+impl<T: ?Sized> Drop for DetachedBox<'_, T> {
+    /// Drops the value. Then the bucket is dropped, also if that panics.
+    fn drop(&mut self) {
+        // SAFETY: the value is this box's, and isn't used again.
+        unsafe { self.value.drop_in_place() };
+    }
+}
+
+impl<T: fmt::Debug + ?Sized> fmt::Debug for DetachedBox<'_, T> {
+    fn fmt(&self, f: &mut fmt::Formatter<'_>) -> fmt::Result {
+        (**self).fmt(f)
+    }
+}
