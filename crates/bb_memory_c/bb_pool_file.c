@@ -201,8 +201,8 @@ static size_t available_memory(void) {
     return (size_t)strtoull(found + strlen("MemAvailable:"), NULL, 10) * 1024;
 }
 
-// Returns whether the file system has room for `size` bytes more. A file of a tmpfs and a memfd also
-// take the machine's memory, which the system would give until processes are killed for it.
+// Returns whether the file system has room for `size` bytes more. A file of a tmpfs and a memfd
+// also take the machine's memory, which the system would give until processes are killed for it.
 static bool has_room(int fd, size_t size) {
     struct statvfs space;
     struct statfs kind;
@@ -653,8 +653,8 @@ static uint32_t number_in(uint64_t word) {
     return (uint32_t)word - 1;
 }
 
-// Returns what a bucket's flag says. There is no bucket of a greater number than the last one: it is
-// said to be free.
+// Returns what a bucket's flag says. There is no bucket of a greater number than the last one: it
+// is said to be free.
 static bb_holder holder_of(const bb_pool_file *file, uint32_t number) {
     bb_holder holder = {BB_FREE, 0};
     bb_shared_pool_holder(&file->pool, number, &holder);

@@ -1,8 +1,8 @@
 // A shared pool in a file, for C (C99 or later) and C++ (C++11 or later), on Linux: any process
-// opens it by its path, and maps it at any address. Processes start, stop and die on their own, with
-// no parent, no daemon and no agreed address. A process that is killed at any instruction loses
-// neither a bucket nor a message: the next one that joins or reaps gives back exactly what the dead
-// one held.
+// opens it by its path, and maps it at any address. Processes start, stop and die on their own,
+// with no parent, no daemon and no agreed address. A process that is killed at any instruction
+// loses neither a bucket nor a message: the next one that joins or reaps gives back exactly what
+// the dead one held.
 //
 //     #include <string.h>
 //     #include "bb_pool_file.h"
@@ -62,8 +62,8 @@
 extern "C" {
 #endif
 
-// The codes of these calls, besides those of bb_memory.h, whose numbers they continue. With any code
-// but BB_OK nothing was done, but `open` may have made the file.
+// The codes of these calls, besides those of bb_memory.h, whose numbers they continue. With any
+// code but BB_OK nothing was done, but `open` may have made the file.
 enum {
     // A call of the system failed: `errno` says why. ENOENT if there is no file and no options say
     // what to make, ENOSPC if there is no room for it.
@@ -79,8 +79,8 @@ enum {
     // It isn't a regular file, it belongs neither to this user nor to root, or others may write it
     // though `mode` doesn't let them.
     BB_FILE_UNSAFE = 31,
-    // The file was never finished, or is from before the machine's last start, and no options say to
-    // make it anew.
+    // The file was never finished, or is from before the machine's last start, and no options say
+    // to make it anew.
     BB_FILE_STALE = 32,
     // The time is over.
     BB_FILE_TIMED_OUT = 33,
@@ -119,12 +119,13 @@ typedef struct bb_pool_file_options {
     mode_t mode;
 } bb_pool_file_options;
 
-// Opens the pool in the file at `path`, and makes it if there is no file, or an empty one. With NULL
-// for the options, or with no buckets, a file that exists is taken as it is, and none is made. Any number of processes
-// may open a file at once, and be killed while they do. A file whose maker was killed, or from
-// before the machine's last start, is made anew, unless another process has it open. All pages of a
-// new file are allocated before the call returns. Codes, in order: BB_INVALID_ARGUMENT if no pool
-// has such options; BB_FILE_SYSTEM; BB_FILE_UNSAFE; BB_FILE_FOREIGN; BB_FILE_VERSION; BB_FILE_STALE;
+// Opens the pool in the file at `path`, and makes it if there is no file, or an empty one. With
+// NULL for the options, or with no buckets, a file that exists is taken as it is, and none is made.
+// Any number of processes may open a file at once, and be killed while they do. A file whose maker
+// was killed, or from before the machine's last start, is made anew, unless another process has it
+// open. An open waits while another process makes the file. All pages of a new file are allocated
+// before the call returns. Codes, in order: BB_INVALID_ARGUMENT if no pool has such options;
+// BB_FILE_SYSTEM; BB_FILE_UNSAFE; BB_FILE_FOREIGN; BB_FILE_VERSION; BB_FILE_STALE;
 // BB_FILE_MISMATCH; BB_FILE_DAMAGED; BB_MALLOC_REFUSED.
 BB_MUST_USE uint32_t bb_pool_file_open(bb_pool_file **, const char *path,
                                        const bb_pool_file_options *);
@@ -139,8 +140,8 @@ BB_MUST_USE uint32_t bb_pool_file_open_fd(bb_pool_file **, int fd, const bb_pool
 uint32_t bb_pool_file_close(bb_pool_file *);
 
 // Makes a party join that no living process uses, after what a dead process left in it is given
-// back. The party is the file's: `leave` or `close` ends it. BB_NO_PARTY if each party is in use, or
-// is just being reaped; BB_FILE_SYSTEM; BB_MALLOC_REFUSED.
+// back. The party is the file's: `leave` or `close` ends it. BB_NO_PARTY if each party is in use,
+// or is just being reaped; BB_FILE_SYSTEM; BB_MALLOC_REFUSED.
 BB_MUST_USE uint32_t bb_pool_file_join(bb_pool_file *, bb_pool_party **);
 
 // Ends a party, and gives back what it holds, cached or not. A message that it took and isn't done
@@ -153,9 +154,9 @@ uint32_t bb_pool_file_deallocate(bb_pool_file *, bb_pool_party *, bb_address pla
 
 // MESSAGES IN SLOTS: a killed process loses neither a message nor a bucket.
 
-// Puts the bucket at `place`, with a message of `len` bytes, into an empty slot, and wakes who waits
-// for it. From then on the message is sent, even if the sender is killed in the call, and the party
-// doesn't hold the bucket. BB_UNINITIALIZED; BB_INVALID_ARGUMENT if there is no such slot;
+// Puts the bucket at `place`, with a message of `len` bytes, into an empty slot, and wakes who
+// waits for it. From then on the message is sent, even if the sender is killed in the call, and the
+// party doesn't hold the bucket. BB_UNINITIALIZED; BB_INVALID_ARGUMENT if there is no such slot;
 // BB_NOT_HELD; BB_SIZE_TOO_LARGE; BB_DETACHED_FULL if the slot is full.
 BB_MUST_USE uint32_t bb_pool_file_post(bb_pool_file *, bb_pool_party *, uint32_t slot,
                                        bb_address place, size_t len);
@@ -171,14 +172,14 @@ typedef struct bb_message {
 
 // Takes the message in this slot: the party holds its bucket then. Of any number of callers at most
 // one gets it. The message stays in its slot until the party is done with it. If the party dies or
-// leaves before that, the message can be taken again. BB_UNINITIALIZED; BB_INVALID_ARGUMENT if there
-// is no such slot; BB_DETACHED_EMPTY if the slot is empty; BB_NOT_HELD if another party has taken
-// it; BB_NOT_A_BUCKET if the slot has no bucket's number.
+// leaves before that, the message can be taken again. BB_UNINITIALIZED; BB_INVALID_ARGUMENT if
+// there is no such slot; BB_DETACHED_EMPTY if the slot is empty; BB_NOT_HELD if another party has
+// taken it; BB_NOT_A_BUCKET if the slot has no bucket's number.
 BB_MUST_USE bb_message bb_pool_file_take(bb_pool_file *, bb_pool_party *, uint32_t slot);
 
-// Empties the slot whose message this party has taken. The bucket stays the party's, to give back or
-// to post again. A message that is done with right after it was taken comes at most once; one that
-// is done with after the work comes at least once. Don't give the bucket back before. To put a
+// Empties the slot whose message this party has taken. The bucket stays the party's, to give back
+// or to post again. A message that is done with right after it was taken comes at most once; one
+// that is done with after the work comes at least once. Don't give the bucket back before. To put a
 // message back, `bb_pool_file_detach` its bucket. BB_UNINITIALIZED; BB_INVALID_ARGUMENT if there is
 // no such slot; BB_NOT_HELD if the party doesn't hold the bucket in the slot.
 uint32_t bb_pool_file_done(bb_pool_file *, bb_pool_party *, uint32_t slot);
@@ -199,8 +200,8 @@ BB_MUST_USE uint32_t bb_pool_file_wait_full(bb_pool_file *, uint32_t slot, uint3
 BB_MUST_USE uint32_t bb_pool_file_wait_empty(bb_pool_file *, uint32_t slot, uint32_t milliseconds);
 
 // Waits until a bucket is free, for at most this many milliseconds. Another party may be quicker to
-// take it. A bucket that was given back by `bb_pool_party_deallocate` is noticed within a tenth of a
-// second. What dead parties hold isn't free before a reap. BB_UNINITIALIZED in a forked child;
+// take it. A bucket that was given back by `bb_pool_party_deallocate` is noticed within a tenth of
+// a second. What dead parties hold isn't free before a reap. BB_UNINITIALIZED in a forked child;
 // BB_FILE_TIMED_OUT; BB_FILE_SYSTEM.
 BB_MUST_USE uint32_t bb_pool_file_wait_bucket(bb_pool_file *, uint32_t milliseconds);
 
@@ -213,24 +214,24 @@ BB_MUST_USE uint32_t bb_pool_file_wait_bucket(bb_pool_file *, uint32_t milliseco
 // party doesn't hold the bucket, or caches it.
 BB_MUST_USE bb_number bb_pool_file_detach(bb_pool_file *, bb_pool_party *, bb_address place);
 
-// Attaches the bucket of this number, and returns its place: the party holds the bucket then. Of any
-// number of callers at most one gets it. BB_UNINITIALIZED; BB_NOT_A_BUCKET; BB_NOT_HELD if the
-// bucket isn't detached. That may be so for a moment while another party looks at it: if numbers can
-// come late, or slots are used too, try again.
+// Attaches the bucket of this number, and returns its place: the party holds the bucket then. Of
+// any number of callers at most one gets it. BB_UNINITIALIZED; BB_NOT_A_BUCKET; BB_NOT_HELD if the
+// bucket isn't detached. That may be so for a moment while another party looks at it: if numbers
+// can come late, or slots are used too, try again.
 BB_MUST_USE bb_chunk bb_pool_file_attach(bb_pool_file *, bb_pool_party *, uint32_t number);
 
 // Gives back what dead parties held, while others work; any number of processes may reap at once.
 // Messages in slots stay, and can be taken. With `detached`, it also gives back what dead parties
 // detached and is in no slot: say so if their numbers can't come any more. That waits as long as a
-// later party has the dead one's number. `given_back` may be NULL; it gets the number of buckets. BB_UNINITIALIZED in a forked child; BB_FILE_SYSTEM;
-// BB_MALLOC_REFUSED.
+// later party has the dead one's number. `given_back` may be NULL; it gets the number of buckets.
+// BB_UNINITIALIZED in a forked child; BB_FILE_SYSTEM; BB_MALLOC_REFUSED.
 uint32_t bb_pool_file_reap(bb_pool_file *, bool detached, uint32_t *given_back);
 
 // FIGURES: each flag, slot and lock is looked at once, while others work.
 
 // The figures of a pool's file. `start` is where bucket 0 lies in this process. `alive` counts the
-// parties that have joined, `held` the buckets that parties hold, cached or not, and `lost` those of
-// them whose party is dead, which a reap gives back. `wrong` counts flags that no party writes.
+// parties that have joined, `held` the buckets that parties hold, cached or not, and `lost` those
+// of them whose party is dead, which a reap gives back. `wrong` counts flags that no party writes.
 typedef struct bb_pool_file_figures {
     bb_pool_file_options options;
     bb_place start;

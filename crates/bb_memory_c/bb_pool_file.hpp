@@ -1,5 +1,5 @@
-// Pools in files for C++17, over bb_pool_file.h. Its rules and codes hold here too. A file is closed,
-// a party leaves, and a message gives its bucket back, when it ends.
+// Pools in files for C++17, over bb_pool_file.h. Its rules and codes hold here too. A file is
+// closed, a party leaves, and a message gives its bucket back, when it ends.
 //
 //     struct order { int number; double price; };
 //
@@ -87,8 +87,8 @@ private:
     bb_pool_file *file_ = nullptr;
 };
 
-// A message that a party has taken, or the code of a refusal. When it ends, its bucket is given back
-// if it is done with, and otherwise the message is put back: another party can take it.
+// A message that a party has taken, or the code of a refusal. When it ends, its bucket is given
+// back if it is done with, and otherwise the message is put back: another party can take it.
 class pool_file_message {
 public:
     pool_file_message(bb_pool_file *file, bb_pool_party *party, std::uint32_t slot) noexcept

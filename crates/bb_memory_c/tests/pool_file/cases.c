@@ -460,6 +460,58 @@ static void layouts(void) {
     }
 }
 
+static size_t memory_requests;
+static size_t to_refuse;
+static size_t blocks;
+
+static void *allocate(size_t size) {
+    memory_requests++;
+    if (memory_requests == to_refuse)
+        return NULL;
+    blocks++;
+    return malloc(size);
+}
+
+static void release(void *block) {
+    blocks -= block != NULL;
+    free(block);
+}
+
+// The library's requests for memory are refused one after the other. A refused call leaves no
+// block, and the next one succeeds.
+static void refused_memory(void) {
+    bb_pool_file *file = NULL;
+    bb_pool_party *party = NULL;
+    uint32_t code = BB_MALLOC_REFUSED;
+    bb_use_memory(allocate, realloc, release);
+    for (to_refuse = 1; code != BB_OK; to_refuse++) {
+        memory_requests = 0;
+        code = bb_pool_file_open(&file, path, &OPTIONS);
+        EXPECT(code == BB_OK || (code == BB_MALLOC_REFUSED && blocks == 0));
+    }
+    EXPECT(to_refuse > 3);
+    const size_t opened = blocks;
+    code = BB_MALLOC_REFUSED;
+    for (to_refuse = 1; code != BB_OK; to_refuse++) {
+        memory_requests = 0;
+        code = bb_pool_file_join(file, &party);
+        EXPECT(code == BB_OK || (code == BB_MALLOC_REFUSED && blocks == opened));
+    }
+    EXPECT(to_refuse > 2 && number_of(party) == 0);
+    to_refuse = 0;
+    const pid_t dying = holder(2);
+    end_killed(dying);
+    to_refuse = 1;
+    memory_requests = 0;
+    EXPECT(bb_pool_file_reap(file, false, NULL) == BB_MALLOC_REFUSED);
+    to_refuse = 0;
+    EXPECT(reap(file, false) == 2);
+    close_it(file);
+    EXPECT(blocks == 0);
+    bb_use_memory(malloc, realloc, free);
+    remove_it();
+}
+
 // Two opens of one process are as those of two processes.
 static void parties(void) {
     bb_pool_file *one = open_it();
@@ -737,8 +789,8 @@ static void waits(void) {
     close_it(file);
 }
 
-// One bucket goes to another process and back, and each side waits for the other: for a message, for
-// an empty slot, and for a free bucket.
+// One bucket goes to another process and back, and each side waits for the other: for a message,
+// for an empty slot, and for a free bucket.
 static void ping(void) {
     enum {
         ROUNDS = 60
@@ -993,8 +1045,8 @@ static void executed(void) {
     remove_it();
 }
 
-// The mapping keeps the open file, and so the locks, if a process closes descriptors that it doesn't
-// know. And whoever may read the file can keep a dead party from being reaped.
+// The mapping keeps the open file, and so the locks, if a process closes descriptors that it
+// doesn't know. And whoever may read the file can keep a dead party from being reaped.
 static void closed(void) {
     bb_pool_file *file = open_it();
     int ready[2];
@@ -1190,6 +1242,7 @@ int main(int argc, char **argv) {
         signals();
         stale();
         layouts();
+        refused_memory();
         parties();
         cached();
         slots();

@@ -251,7 +251,8 @@ static void send_number(uint64_t *hand) {
         EXPECT(bb_pool_file_detach(file, mine, back.place).code == BB_OK);
 }
 
-// Messages by number, in words that aren't the pool's. After a kill, their numbers are lost or late.
+// Messages by number, in words that aren't the pool's. After a kill, their numbers are lost or
+// late.
 static void hand_over(void) {
     uint64_t *hand = &counts->hands[next(&seed) % HANDS];
     const uint64_t was = __atomic_load_n(hand, __ATOMIC_SEQ_CST);
@@ -874,8 +875,8 @@ static bool pause_reap(bb_pool_file *ours, bb_pool_party *party, uint32_t steps)
     return ended;
 }
 
-// While a take is stopped, another party takes the message, is done with it, and detaches its bucket
-// by number. The take gets nothing then, and the bucket stays detached.
+// While a take is stopped, another party takes the message, is done with it, and detaches its
+// bucket by number. The take gets nothing then, and the bucket stays detached.
 static bool pause_take(bb_pool_file *ours, bb_pool_party *party, uint32_t steps) {
     const bb_chunk chunk = bb_pool_party_take(party);
     fill(chunk.place, 99);

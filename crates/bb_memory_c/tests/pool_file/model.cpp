@@ -3,11 +3,12 @@
 // PROCESSES, each with its party, BUCKETS, SLOTS, MESSAGES in slots, NUMBERS that are passed by one
 // word, and KILLS.
 //
-// In each state no bucket has two users, and a message that was posted and isn't done with is in one
-// slot, with its bytes. If all processes were killed here and all parties reaped, each bucket would
-// be free, or detached in a slot.
+// In each state no bucket has two users, and a message that was posted and isn't done with is in
+// one slot, with its bytes. If all processes were killed here and all parties reaped, each bucket
+// would be free, or detached in a slot.
 //
-// With an argument it looks at a wrong protocol, has to find a violation, and shows the steps to it:
+// With an argument it looks at a wrong protocol, has to find a violation, and shows the steps to
+// it:
 //
 //     any      a reap attaches what any party has detached
 //     look     a take doesn't look at its slot again
