@@ -1,6 +1,7 @@
-// Times the allocators with one owner and their peers, and prints a line for each round, which
-// `report` reads. Its argument is the number of rounds.
+// Times the allocators with one owner and their peers on one processor, and prints a line for each
+// figure, which `report` reads. Its argument is the number of rounds.
 #include "heaps.h"
+#include "pin.h"
 #include "pool_bench.h"
 #include <stdio.h>
 #include <stdlib.h>
@@ -64,7 +65,7 @@ static uint32_t below(uint32_t bound) {
     return (uint32_t)((next_random() >> 32) * bound >> 32);
 }
 
-// A script; how many buckets are held behind it, and how many it took in all.
+// A script; how many buckets are held after it, and how many it took in all.
 static uint32_t script[MOST_CALLS], held, born;
 static size_t calls;
 
@@ -78,7 +79,7 @@ static void give(void) {
     script[calls++] = below(held--);
 }
 
-// Fills a pool, and gives back buckets at random until so many are held.
+// Fills a pool, and gives back buckets at random until `left` are held.
 static void fill(uint32_t buckets, uint32_t left) {
     calls = 0, held = 0, born = 0;
     while (held < buckets)
@@ -106,7 +107,8 @@ static double seconds(void) {
     return (double)now.tv_sec + (double)now.tv_nsec * 1e-9;
 }
 
-// How long the first calls of the script take, in seconds, of which so many ought to take a bucket.
+// How long the first calls of the script take, in seconds. It ends the program if they don't take
+// the expected number of buckets.
 static double timed(follow *run, const task *t, size_t of, uint32_t expected) {
     double start = seconds();
     uint64_t taken = run(t, script, of);
@@ -122,13 +124,13 @@ static task task_of(uint32_t buckets, uint32_t bucket_size) {
     return (task){buckets, bucket_size, 8, 48};
 }
 
-// So many per cent of the buckets, rounded down.
+// That many per cent of the buckets, rounded down.
 static uint32_t part(uint32_t buckets, uint32_t percent) {
     return (uint32_t)((uint64_t)buckets * percent / 100);
 }
 
-// The nanoseconds for a call of the script behind the first ones, which make and fill the pool, and
-// take so many buckets.
+// The nanoseconds for a call of the script after the first ones, which make and fill the pool, and
+// take `first` buckets.
 static double call_time(follow *run, const task *t, size_t before, uint32_t first) {
     // The first run finds what the loop before left in the caches and in the heap, and isn't
     // counted.
@@ -137,7 +139,12 @@ static double call_time(follow *run, const task *t, size_t before, uint32_t firs
     return (timed(run, t, calls, born) - made) * 1e9 / (double)(calls - before);
 }
 
-// One round of some loops over pools like this one, of which so many per cent are held, each in
+// How many calls a figure is of: a taking with its return, or a refusal.
+static int calls_of(pattern p) {
+    return p == REFUSED ? 1 : 2;
+}
+
+// One round of some loops over pools like this one, of which `percent` are held, each in
 // turn. The time that making and filling the pool takes is subtracted.
 static void time_each(const char *name, const loop *loops, int many, pattern p, task t,
                       uint32_t percent, size_t of) {
@@ -149,11 +156,11 @@ static void time_each(const char *name, const loop *loops, int many, pattern p, 
     for (int i = 0; i < many; i++)
         if (loops[i].is_there)
             printf("%s,1,%u,%u,%s,%.2f\n", name, t.buckets, percent, loops[i].name,
-                   call_time(loops[i].run, &t, before, first));
+                   calls_of(p) * call_time(loops[i].run, &t, before, first));
 }
 
-// A full pool alone refuses. Where filling it takes far longer than the refusals, nothing can be
-// said of them.
+// Only a full pool refuses. If filling it takes far longer than the refusals, nothing can be said
+// of them.
 static void time_pools(void) {
     for (int p = 0; p < PATTERNS; p++)
         for (int size = 0; size < SIZES; size++)
@@ -174,10 +181,12 @@ static void time_written(void) {
 // The other allocators: for each request of 48 bytes its nanoseconds, together with those of giving
 // back what it took.
 static void time_others(void) {
+#define OTHER_ENTRY(name, by, run) {name, by, run},
+
     static const struct {
         const char *name, *by;
         rounds_of *run;
-    } others[] = {OTHER_ROWS};
+    } others[] = {OTHER_ROWS(OTHER_ENTRY)};
 
     uint32_t requests[GROUP];
     uint32_t rounds = CALLS / GROUP;
@@ -204,9 +213,12 @@ int main(int argc, char **argv) {
     memory = aligned_alloc(4096, (size_t)MOST_BUCKETS * 128);
     if (!memory)
         return 1;
+    find_processors();
     open_heaps();
     look_for(pools, POOLS);
     look_for(written, WRITTEN);
+    // DPDK lets the first thread move again where it is opened first.
+    keep_on_a_processor(0);
     // The lines take turns, so that each has its rounds spread over the whole run.
     for (int round = 0; round < rounds; round++) {
         time_others();

@@ -1,18 +1,22 @@
-// Times parties of shared pools of several sizes, and their peers, while the pool is kept half
-// full: by a coin each call takes a bucket, or gives back any one of those that the thread holds.
+// Times parties of shared pools of several sizes, and their peers, while the pool is kept half full
+// or 99% full: by a coin each call takes a bucket, or gives back any one of those that the thread
+// holds. Each thread is kept on a processor of its own. And times a refusal by a full pool.
 //
-// Each thread first takes seven eighths of its part of the pool, and gives back at random until it
-// holds its share, half its part. From then on the coin decides within an eighth of that share, or
-// within half of it if the share is small. So a pool of 64 buckets is 25% to 75% full, and a larger
-// one 43% to 57%. Over a thread's timed calls its part is 45% to 55% full on average, or the
-// program ends. A round in which a taking was refused, or in which a party doesn't hold what it
-// should, has no figure.
+// A thread's share is half of its part of the pool, or 99% of it. It first takes more than its
+// share: seven eighths of its part, or all that the coin may let it hold. It gives back at random
+// until it holds its share. From then on the coin decides within an eighth of half a part, or
+// within half of it if that is small. So a pool of 64 buckets is 25% to 75% full, and a larger one
+// 43% to 57%. If the share is 99%, the coin decides within a 256th of the part. Over a thread's
+// timed calls its share is met within a tenth on average, or the program ends. A round in which a
+// taking or a return was refused has no figure.
 //
 // Arguments: the number of rounds, the number of timed calls of each thread in a round, and the
 // first letters of the kinds to be timed, if not all are meant. Prints a line for each figure,
-// which `report` reads: the nanoseconds of one call, with those of the loop.
+// which `report` reads: the nanoseconds of a taking with its return, with those of the loop, or of
+// a refusal.
 #define BB_PLACES_ARE_NUMBERS
 #include "heaps.h"
+#include "pin.h"
 #include <bb_memory.h>
 #include <pthread.h>
 #include <stdatomic.h>
@@ -57,6 +61,7 @@ typedef int follow(thread *, size_t first, size_t last);
 
 // A thread with its script, its party, the places that it holds, and what it found.
 struct thread {
+    unsigned number;
     follow *follow;
     script script;
     bb_pool_party *party;
@@ -94,13 +99,40 @@ static void add_return(script *s) {
     s->held--;
 }
 
+// A thread's part of a pool: how many buckets it has, and how many of them the thread holds after
+// it filled its part, at least, on average and at most.
+typedef struct {
+    uint32_t buckets;
+    uint32_t filled;
+    uint32_t least;
+    uint32_t share;
+    uint32_t most;
+} part;
+
+static part half_of(uint32_t buckets) {
+    part of = {.buckets = buckets, .share = buckets / 2};
+    uint32_t slack = of.share <= SMALL_SHARE ? of.share / 2 : of.share / 8;
+    of.filled = of.share * 2 / 8 * 7;
+    of.least = of.share - slack;
+    of.most = of.share + slack;
+    return of;
+}
+
+static part nearly_all_of(uint32_t buckets) {
+    part of = {.buckets = buckets, .share = (uint32_t)((uint64_t)buckets * 99 / 100)};
+    uint32_t slack = buckets < 256 ? 1 : buckets / 256;
+    of.least = of.share - slack;
+    of.most = of.share + slack;
+    of.filled = of.most;
+    return of;
+}
+
 // Adds that many calls by a coin. Returns the sum over these calls of how many buckets are held.
-static uint64_t toss(script *s, uint32_t share, size_t calls) {
-    uint32_t slack = share <= SMALL_SHARE ? share / 2 : share / 8;
+static uint64_t toss(script *s, const part *of, size_t calls) {
     uint64_t sum = 0;
     for (size_t i = 0; i < calls; i++) {
         int is_head = next_random() >> 63 != 0;
-        if (s->held == share - slack || (is_head && s->held < share + slack))
+        if (s->held == of->least || (is_head && s->held < of->most))
             add_taking(s);
         else
             add_return(s);
@@ -114,19 +146,19 @@ static size_t calls_of_run_in(uint32_t share) {
     return (size_t)2 * TURNOVERS * share;
 }
 
-static void write_script(script *s, uint32_t share, size_t timed) {
+static void write_script(script *s, const part *of, size_t timed) {
     s->length = 0;
     s->held = 0;
-    while (s->held < share * 2 / 8 * 7)
+    while (s->held < of->filled)
         add_taking(s);
-    while (s->held > share)
+    while (s->held > of->share)
         add_return(s);
-    toss(s, share, calls_of_run_in(share));
+    toss(s, of, calls_of_run_in(of->share));
     s->first_timed = s->length;
-    double percent = 50.0 * (double)toss(s, share, timed) / ((double)timed * share);
+    double met = (double)toss(s, of, timed) / ((double)timed * of->share);
     s->first_after = s->length;
-    if (percent < 45 || percent > 55) {
-        fprintf(stderr, "%.0f%% full on average, not half full\n", percent);
+    if (met < 0.9 || met > 1.1) {
+        fprintf(stderr, "on average %.0f%% of a thread's share are held\n", 100 * met);
         exit(1);
     }
     while (s->held > 0)
@@ -134,7 +166,7 @@ static void write_script(script *s, uint32_t share, size_t timed) {
 }
 
 // Makes NAME_follow over a kind of pool, whose calls are NAME_take and NAME_give. A place is 0 if a
-// taking is refused.
+// taking is refused. A return that is refused returns 0.
 #define FOLLOW(NAME)                                                   \
     static int NAME##_follow(thread *own, size_t first, size_t last) { \
         const uint32_t *calls = own->script.calls;                     \
@@ -151,7 +183,8 @@ static void write_script(script *s, uint32_t share, size_t timed) {
             } else {                                                   \
                 size_t place = held[calls[i]];                         \
                 held[calls[i]] = held[--count];                        \
-                NAME##_give(party, place);                             \
+                if (!NAME##_give(party, place))                        \
+                    break;                                             \
             }                                                          \
         }                                                              \
         own->count = count;                                            \
@@ -162,23 +195,24 @@ static inline size_t party_take(bb_pool_party *party) {
     return bb_pool_party_take(party).place;
 }
 
-static inline void party_give(bb_pool_party *party, size_t place) {
-    (void)bb_pool_party_deallocate(party, place);
+static inline int party_give(bb_pool_party *party, size_t place) {
+    return bb_pool_party_deallocate(party, place) == BB_OK;
 }
 
 FOLLOW(party)
 
 static heap_calls c_calls = {malloc, free};
 
-#define HEAP(NAME, CALLS)                                                \
-    static inline size_t NAME##_take(bb_pool_party *party) {             \
-        (void)party;                                                     \
-        return (size_t)CALLS.take(REQUEST_SIZE);                         \
-    }                                                                    \
-    static inline void NAME##_give(bb_pool_party *party, size_t place) { \
-        (void)party;                                                     \
-        CALLS.give((void *)place);                                       \
-    }                                                                    \
+#define HEAP(NAME, CALLS)                                               \
+    static inline size_t NAME##_take(bb_pool_party *party) {            \
+        (void)party;                                                    \
+        return (size_t)CALLS.take(REQUEST_SIZE);                        \
+    }                                                                   \
+    static inline int NAME##_give(bb_pool_party *party, size_t place) { \
+        (void)party;                                                    \
+        CALLS.give((void *)place);                                      \
+        return 1;                                                       \
+    }                                                                   \
     FOLLOW(NAME)
 
 HEAP(heap, c_calls)
@@ -189,9 +223,10 @@ static inline size_t dpdk_take(bb_pool_party *party) {
     return dpdk_pool_take();
 }
 
-static inline void dpdk_give(bb_pool_party *party, size_t place) {
+static inline int dpdk_give(bb_pool_party *party, size_t place) {
     (void)party;
     dpdk_pool_give(place);
+    return 1;
 }
 
 FOLLOW(dpdk)
@@ -201,9 +236,10 @@ static inline size_t none_take(bb_pool_party *party) {
     return START;
 }
 
-static inline void none_give(bb_pool_party *party, size_t place) {
+static inline int none_give(bb_pool_party *party, size_t place) {
     (void)party;
     (void)place;
+    return 1;
 }
 
 FOLLOW(none)
@@ -235,23 +271,38 @@ static const struct kind {
     {"malloc and free", heap_follow, is_always_there, 0},
     {"mimalloc", mimalloc_follow, mimalloc_is_there, 0},
     {"DPDK", dpdk_follow, dpdk_is_there, CACHED},
-    {"loop alone", none_follow, is_always_there, 0},
+    {"loop", none_follow, is_always_there, 0},
 };
 
 static const uint32_t sizes[] = {64, 4096, MOST_BUCKETS};
 static const unsigned numbers_of_threads[] = {1, 4};
 
+// How full a pool is kept, in per cent, and a thread's part of it.
+static const struct {
+    unsigned percent;
+    part (*of)(uint32_t buckets);
+} fillings[] = {{50, half_of}, {99, nearly_all_of}};
+
+// The buckets of the full pools that refuse.
+static const uint32_t refusing[] = {64, 512, 4096, MOST_BUCKETS, 1 << 20};
+
 enum {
     KINDS = sizeof kinds / sizeof *kinds,
     SIZES = sizeof sizes / sizeof *sizes,
     NUMBERS_OF_THREADS = sizeof numbers_of_threads / sizeof *numbers_of_threads,
+    FILLINGS = sizeof fillings / sizeof *fillings,
+    REFUSING = sizeof refusing / sizeof *refusing,
+    // How many flags the timed refusals of a round look at, and how many of these there are.
+    FLAGS_OF_REFUSALS = 1 << 21,
+    FEWEST_REFUSALS = 2,
+    MOST_REFUSALS = 10000,
 };
 
+static bb_shared_pool pool;
 static bb_pool_party parties[MOST_THREADS];
 
 // Makes a shared pool, whose parties join one after the other.
 static void open_parties(uint32_t buckets, unsigned cached) {
-    bb_shared_pool pool = BB_EMPTY;
     size_t size = (size_t)buckets * BUCKET_SIZE;
     if (bb_shared_pool_init(&pool, BUCKET_SIZE, 8, START, size, threads) != BB_OK)
         abort();
@@ -261,18 +312,14 @@ static void open_parties(uint32_t buckets, unsigned cached) {
         if (bb_pool_party_cache(&parties[i], cached) != BB_OK)
             abort();
     }
-    bb_shared_pool_destroy(&pool);
 }
 
 static void close_parties(void) {
     for (unsigned i = 0; i < threads; i++)
-        bb_pool_party_destroy(&parties[i]);
-}
-
-// Returns 1 if the thread's party holds as many buckets as the thread does.
-static int holds_what_it_should(const thread *own) {
-    bb_pool_figures info;
-    return bb_pool_party_info(own->party, &info) == BB_OK && info.held_buckets == own->count;
+        if (bb_shared_pool_leave(&pool, &parties[i]) != BB_OK)
+            abort();
+    if (bb_shared_pool_destroy(&pool) != BB_OK)
+        abort();
 }
 
 static void pass_gate(void) {
@@ -290,6 +337,7 @@ static void *work(void *arg) {
     const script *s = &own->script;
     struct timespec start;
     struct timespec end;
+    keep_on_a_processor(own->number);
     if (own->is_dpdk)
         dpdk_enter();
     own->count = 0;
@@ -299,8 +347,6 @@ static void *work(void *arg) {
     own->went_well = own->went_well && own->follow(own, s->first_timed, s->first_after);
     clock_gettime(CLOCK_MONOTONIC, &end);
     own->nanoseconds = nanoseconds(start, end);
-    if (own->party)
-        own->went_well = own->went_well && holds_what_it_should(own);
     if (own->went_well)
         own->went_well = own->follow(own, s->first_after, s->length);
     if (own->is_dpdk)
@@ -308,8 +354,10 @@ static void *work(void *arg) {
     return NULL;
 }
 
-// Runs the threads over a pool of that many buckets, and prints the nanoseconds of one call.
-static void time_kind(const struct kind *kind, uint32_t buckets, size_t calls, thread *all) {
+// Runs the threads over a pool of that many buckets, kept that full, and prints the nanoseconds of
+// a taking with its return: of two calls.
+static void time_kind(const struct kind *kind, uint32_t buckets, unsigned percent, size_t calls,
+                      thread *all) {
     pthread_t ids[MOST_THREADS];
     int is_party = kind->follow == party_follow;
     int is_dpdk = kind->follow == dpdk_follow;
@@ -321,6 +369,7 @@ static void time_kind(const struct kind *kind, uint32_t buckets, size_t calls, t
         abort();
     atomic_store(&came, 0);
     for (unsigned i = 0; i < threads; i++) {
+        all[i].number = i;
         all[i].follow = kind->follow;
         all[i].party = is_party ? &parties[i] : NULL;
         all[i].is_dpdk = is_dpdk;
@@ -337,10 +386,40 @@ static void time_kind(const struct kind *kind, uint32_t buckets, size_t calls, t
     if (is_dpdk)
         dpdk_pool_close();
     if (went_well)
-        printf("coin,%u,%u,50,%s,%.2f\n", threads, buckets, kind->name,
-               sum / threads / (double)calls);
+        printf("coin,%u,%u,%u,%s,%.2f\n", threads, buckets, percent, kind->name,
+               2 * sum / threads / (double)calls);
     else
-        fprintf(stderr, "%s, %u threads, %u buckets: no figure\n", kind->name, threads, buckets);
+        fprintf(stderr, "%s, %u threads, %u buckets, %u%%: no figure\n", kind->name, threads,
+                buckets, percent);
+}
+
+// Returns 1 if each thread can hold its share while the others cache as many as they may.
+static int has_room(const struct kind *kind, uint32_t buckets, uint32_t share) {
+    return threads * share + (threads - 1) * kind->cached <= buckets;
+}
+
+// Fills a pool that a party has to itself, and prints the nanoseconds of a refused taking.
+static void time_refusals(uint32_t buckets) {
+    struct timespec start;
+    struct timespec end;
+    unsigned refusals = FLAGS_OF_REFUSALS / buckets;
+    unsigned taken = 0;
+    if (refusals < FEWEST_REFUSALS)
+        refusals = FEWEST_REFUSALS;
+    if (refusals > MOST_REFUSALS)
+        refusals = MOST_REFUSALS;
+    threads = 1;
+    open_parties(buckets, 0);
+    for (uint32_t i = 0; i < buckets; i++)
+        taken += bb_pool_party_take(&parties[0]).code == BB_OK;
+    clock_gettime(CLOCK_MONOTONIC, &start);
+    for (unsigned i = 0; i < refusals; i++)
+        taken += bb_pool_party_take(&parties[0]).code == BB_OK;
+    clock_gettime(CLOCK_MONOTONIC, &end);
+    if (taken != buckets)
+        abort();
+    close_parties();
+    printf("refusal,1,%u,100,C take,%.2f\n", buckets, nanoseconds(start, end) / refusals);
 }
 
 static void *allocated(size_t size) {
@@ -362,6 +441,7 @@ int main(int argc, char **argv) {
         all[i].script.calls = allocated(most_calls * sizeof *all[i].script.calls);
         all[i].held = allocated(most_held * sizeof *all[i].held);
     }
+    find_processors();
     open_heaps();
     for (int i = 0; i < KINDS; i++) {
         is_timed[i] = strncmp(kinds[i].name, first_letters, strlen(first_letters)) == 0;
@@ -369,14 +449,18 @@ int main(int argc, char **argv) {
     }
     // The kinds take turns over the same scripts, and each round has new ones.
     for (int round = 0; round < rounds; round++) {
-        for (int of = 0; of < NUMBERS_OF_THREADS * SIZES; of++) {
-            uint32_t buckets = sizes[of % SIZES];
-            threads = numbers_of_threads[of / SIZES];
-            for (unsigned i = 0; i < threads; i++)
-                write_script(&all[i].script, buckets / 2 / threads, calls);
-            for (int i = 0; i < KINDS; i++)
-                if (is_timed[i])
-                    time_kind(&kinds[i], buckets, calls, all);
-        }
+        for (int filling = 0; filling < FILLINGS; filling++)
+            for (int of = 0; of < NUMBERS_OF_THREADS * SIZES; of++) {
+                uint32_t buckets = sizes[of % SIZES];
+                threads = numbers_of_threads[of / SIZES];
+                part each = fillings[filling].of(buckets / threads);
+                for (unsigned i = 0; i < threads; i++)
+                    write_script(&all[i].script, &each, calls);
+                for (int i = 0; i < KINDS; i++)
+                    if (is_timed[i] && has_room(&kinds[i], buckets, each.share))
+                        time_kind(&kinds[i], buckets, fillings[filling].percent, calls, all);
+            }
+        for (int i = 0; i < REFUSING; i++)
+            time_refusals(refusing[i]);
     }
 }

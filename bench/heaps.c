@@ -1,7 +1,7 @@
 #include "heaps.h"
 #include <dlfcn.h>
 
-heap_calls mimalloc_calls, jemalloc_calls;
+heap_calls mimalloc_calls;
 
 // A library that is linked would replace the C library's own calls, so each is opened beside them.
 static heap_calls opened(const char *library, const char *take, const char *give) {
@@ -16,5 +16,4 @@ static heap_calls opened(const char *library, const char *take, const char *give
 
 void open_heaps(void) {
     mimalloc_calls = opened("libmimalloc.so.2", "mi_malloc", "mi_free");
-    jemalloc_calls = opened("libjemalloc.so.2", "malloc", "free");
 }

@@ -5,7 +5,7 @@
 
 #define START 4096
 
-// The memory behind the places of a pool, which begins at place START.
+// The memory at the places of a pool, which begins at place START.
 extern unsigned char *memory;
 
 // What is done at a place that was taken, and at one that goes back: nothing; or 48 bytes are

@@ -1,5 +1,6 @@
-// The same loops over other allocators, and over none. Each pool tests a request as the pools in
-// Rattle do, and finds the bucket of a place by a division of 32 bits.
+// The same loops over other allocators, and over none. The plain list tests a request as the pools
+// in Rattle do, and finds the bucket of a place by a division of 32 bits.
+#include "checked.h"
 #include "heaps.h"
 #include "loop.h"
 
@@ -47,7 +48,33 @@ static void plain_list_drop(plain *p) {
 
 POOL_LOOPS(plain_list, plain)
 
-// An allocator of the whole process, which knows no last bucket: it is told how many there are.
+// The same list out of line, after the tests of `bb_memory.h`.
+static int checked_make(checked_handle *p, const task *t) {
+    return checked_list_init(p, t->buckets, t->bucket_size, t->align, START);
+}
+
+static size_t checked_take(checked_handle *p, size_t size, size_t align) {
+    return checked_list_allocate(p, size, align).place;
+}
+
+static void checked_give(checked_handle *p, size_t place) {
+    (void)checked_list_deallocate(p, place);
+}
+
+#define checked_drop checked_list_destroy
+POOL_LOOPS(checked, checked_handle)
+
+static size_t checked_whole_take(checked_handle *p, size_t size, size_t align) {
+    (void)size, (void)align;
+    return checked_list_take(p).place;
+}
+
+#define checked_whole_make checked_make
+#define checked_whole_give checked_give
+#define checked_whole_drop checked_list_destroy
+LOOP(checked_whole, checked_handle)
+
+// An allocator of the whole process, which knows no last bucket, so that the loop counts them.
 typedef struct {
     uint32_t left;
 } heap;
@@ -101,6 +128,32 @@ static void dpdk_drop(heap *p) {
 
 HEAP_LOOPS(dpdk, heap)
 
+// The pools of C++, which know no last bucket either.
+#define COUNTED(NAME, POOL)                                         \
+    static int NAME##_make(heap *p, const task *t) {                \
+        p->left = t->buckets;                                       \
+        return POOL##_open(t->buckets, t->bucket_size, 64);         \
+    }                                                               \
+    static size_t NAME##_take(heap *p, size_t size, size_t align) { \
+        (void)size, (void)align;                                    \
+        if (!p->left)                                               \
+            return 0;                                               \
+        p->left--;                                                  \
+        return POOL##_take();                                       \
+    }                                                               \
+    static void NAME##_give(heap *p, size_t place) {                \
+        p->left++;                                                  \
+        POOL##_give(place);                                         \
+    }                                                               \
+    static void NAME##_drop(heap *p) {                              \
+        (void)p;                                                    \
+        POOL##_close();                                             \
+    }                                                               \
+    LOOP(NAME, heap)
+
+COUNTED(pmr_pool, pmr)
+COUNTED(interprocess_pool, interprocess)
+
 // No pool: what the loop itself takes. A taking answers the place that was given back last.
 typedef struct {
     uint32_t left;
@@ -146,5 +199,34 @@ uint64_t plain_bump(const uint32_t *sizes, size_t count, size_t align, uint32_t 
         }
         used = 0;
     }
+    return sum;
+}
+
+uint64_t checked_bump(const uint32_t *sizes, size_t count, size_t align, uint32_t rounds) {
+    checked_handle bump;
+    uint64_t sum = 0;
+    if (!checked_bump_init(&bump, START, SIZE))
+        abort();
+    for (uint32_t round = 0; round < rounds; round++) {
+        for (size_t i = 0; i < count; i++)
+            sum += checked_bump_allocate(&bump, sizes[i], align).place;
+        (void)checked_bump_deallocate(&bump);
+    }
+    checked_bump_destroy(&bump);
+    return sum;
+}
+
+uint64_t checked_one_chunk(const uint32_t *sizes, size_t count, size_t align, uint32_t rounds) {
+    checked_handle chunk;
+    uint64_t sum = 0;
+    if (!checked_one_chunk_init(&chunk, START, SIZE))
+        abort();
+    for (uint32_t round = 0; round < rounds; round++)
+        for (size_t i = 0; i < count; i++) {
+            size_t place = checked_one_chunk_allocate(&chunk, sizes[i], align).place;
+            sum += place;
+            (void)checked_one_chunk_deallocate(&chunk, place);
+        }
+    checked_one_chunk_destroy(&chunk);
     return sum;
 }

@@ -2,7 +2,7 @@
 #include <stddef.h>
 #include <stdint.h>
 
-// A pool, and what is asked of it. Sizes and the alignment are in bytes.
+// A pool, and the requests that it gets. Sizes and the alignment are in bytes.
 typedef struct {
     uint32_t buckets;
     size_t bucket_size;
@@ -10,8 +10,8 @@ typedef struct {
     size_t request_size;
 } task;
 
-// The call of a script that asks for a bucket. Any other number gives back the bucket whose place
-// stands at that index of those that are kept: the last place moves there.
+// The call of a script that requests a bucket. Any other number gives back the bucket whose place
+// is at that index of those that are kept: the last place moves there.
 #define TAKE UINT32_MAX
 
 // The answer where there is no such pool.
@@ -22,20 +22,25 @@ typedef uint64_t follow(const task *, const uint32_t *script, size_t calls);
 
 // The pools that are timed: by what, and the loop. A new one is a row here, and its loop in
 // pool_bench/src, border.c or peers.c.
-#define POOL_ROWS(ROW)                  \
-    ROW("Rattle", bench_words)          \
-    ROW("Rattle fixed", bench_fixed)    \
-    ROW("C", c_pool)                    \
-    ROW("C take", c_whole)              \
-    ROW("plain C", plain_list)          \
-    ROW("malloc and free", malloc_free) \
-    ROW("mimalloc", mimalloc)           \
-    ROW("DPDK", dpdk)                   \
-    ROW("loop alone", no_pool)
+#define POOL_ROWS(ROW)                            \
+    ROW("Rattle", bench_words)                    \
+    ROW("Rattle fixed", bench_fixed)              \
+    ROW("C", c_pool)                              \
+    ROW("C take", c_whole)                        \
+    ROW("checked C", checked)                     \
+    ROW("checked C take", checked_whole)          \
+    ROW("plain C", plain_list)                    \
+    ROW("malloc and free", malloc_free)           \
+    ROW("mimalloc", mimalloc)                     \
+    ROW("DPDK", dpdk)                             \
+    ROW("pmr", pmr_pool)                          \
+    ROW("boost::interprocess", interprocess_pool) \
+    ROW("loop", no_pool)
 
 // The pools of loops that write what they take.
 #define WRITTEN_ROWS(ROW)                       \
     ROW("C", c_pool_written)                    \
+    ROW("checked C", checked_written)           \
     ROW("plain C", plain_list_written)          \
     ROW("malloc and free", malloc_free_written) \
     ROW("mimalloc", mimalloc_written)           \
@@ -48,11 +53,15 @@ WRITTEN_ROWS(DECLARE_POOL)
 // In each round makes a request for each size, and gives back what it took.
 typedef uint64_t rounds_of(const uint32_t *sizes, size_t count, size_t align, uint32_t rounds);
 
-extern rounds_of bench_bump, bench_one_chunk, plain_bump, c_bump, c_one_chunk;
+extern rounds_of bench_bump, c_bump, checked_bump, plain_bump;
+extern rounds_of bench_one_chunk, c_one_chunk, checked_one_chunk;
 
 // The other allocators that are timed, likewise.
-#define OTHER_ROWS                                                                          \
-    {"bump", "Rattle", bench_bump}, {"bump", "C", c_bump}, {"bump", "plain C", plain_bump}, \
-        {"one chunk", "Rattle", bench_one_chunk}, {                                         \
-        "one chunk", "C", c_one_chunk                                                       \
-    }
+#define OTHER_ROWS(ROW)                         \
+    ROW("bump", "Rattle", bench_bump)           \
+    ROW("bump", "C", c_bump)                    \
+    ROW("bump", "checked C", checked_bump)      \
+    ROW("bump", "plain C", plain_bump)          \
+    ROW("one chunk", "Rattle", bench_one_chunk) \
+    ROW("one chunk", "C", c_one_chunk)          \
+    ROW("one chunk", "checked C", checked_one_chunk)

@@ -1,11 +1,14 @@
 // Times a bump and a list of free buckets in C, allocators of other packages, and parties of a
-// shared pool of the C library, by several threads at once: pairs, bursts, the slowest takings, and
-// a queue between two threads whose receiver gives each message's memory back. Its arguments are
-// the number of rounds, the number of calls of each thread in a round, and the first letters of the
-// kinds to be timed, if not all are meant. It prints a line for each round, as shared_bench does
-// for the shared forms in Rattle.
+// shared pool of the C library, by several threads at once, each kept on a processor of its own:
+// pairs, bursts, the slowest takings, and a queue between two threads whose receiver gives each
+// message's memory back.
+//
+// Arguments: the number of rounds, the number of calls of each thread in a round, and the first
+// letters of the kinds to be timed, if not all are meant. Prints a line for each figure, as
+// shared_bench does for the shared forms in Rattle.
 #define BB_PLACES_ARE_NUMBERS
 #include "heaps.h"
+#include "pin.h"
 #include <bb_memory.h>
 #include <pthread.h>
 #include <stdatomic.h>
@@ -21,6 +24,7 @@ enum {
     START = 4096,
     ROOM = 32,
     BURST = 8,
+    GROUP = 16,
     MOST_CYCLES = 1 << 18
 };
 
@@ -85,19 +89,19 @@ static heap_calls c_calls = {malloc, free};
 
 HEAP(heap, c_calls)
 HEAP(mimalloc, mimalloc_calls)
-HEAP(jemalloc, jemalloc_calls)
 
-static inline size_t dpdk_take(void) {
-    return dpdk_pool_take();
-}
+#define dpdk_take dpdk_pool_take
+#define dpdk_give dpdk_pool_give
+#define pmr_take pmr_shared_take
+#define pmr_give pmr_shared_give
 
-static inline void dpdk_give(size_t taken) {
-    dpdk_pool_give(taken);
-}
-
-// The parties of a shared pool, which join one after the other, their handles side by side.
+// A shared pool and its parties, which join one after the other, their handles side by side.
+static bb_shared_pool pool;
 static bb_pool_party parties[MOST_THREADS];
 static _Thread_local bb_pool_party *party;
+
+// The number of the first party, which sends the messages.
+static uint32_t sender;
 
 static inline size_t party_take(void) {
     return bb_pool_party_allocate(party, 48, 8).place;
@@ -107,7 +111,7 @@ static inline void party_give(size_t taken) {
     (void)bb_pool_party_deallocate(party, taken);
 }
 
-// The same by whole buckets, which are asked for with no layout.
+// The same by whole buckets, which are taken with no layout.
 static inline size_t whole_take(void) {
     return bb_pool_party_take(party).place;
 }
@@ -115,41 +119,90 @@ static inline size_t whole_take(void) {
 #define whole_give party_give
 
 static void join_all(unsigned cached) {
-    bb_shared_pool pool = BB_EMPTY;
     if (bb_shared_pool_init(&pool, 128, 8, START, BUCKETS * 128, threads) != BB_OK)
         abort();
-    for (unsigned i = 0; i < threads; i++)
-        if (bb_shared_pool_join(&pool, &parties[i]) != BB_OK ||
-            bb_pool_party_cache(&parties[i], cached) != BB_OK)
+    for (unsigned i = 0; i < threads; i++) {
+        if (bb_shared_pool_join(&pool, &parties[i]) != BB_OK)
             abort();
-    bb_shared_pool_destroy(&pool);
+        if (bb_pool_party_cache(&parties[i], cached) != BB_OK)
+            abort();
+    }
+    sender = (uint32_t)bb_pool_party_number(&parties[0]).number;
 }
 
 // The message of a party is a bucket that it detached into the next of these. There are twice as
 // many as the ring has room for, so each is empty again when its turn comes.
 static bb_detached detached[2 * ROOM];
-static _Thread_local unsigned messages;
+
+// How many messages the thread has sent, and how many it has detached.
+static _Thread_local unsigned sent;
+static _Thread_local unsigned prepared;
+
+// Detaches a bucket into the next of them.
+static inline void prepare(size_t taken) {
+    if (bb_pool_party_detach(party, taken, 48, &detached[prepared % (2 * ROOM)]) != BB_OK)
+        abort();
+    prepared++;
+}
 
 static inline size_t message_take(void) {
-    bb_detached *message = &detached[messages % (2 * ROOM)];
     size_t taken = whole_take();
-    if (!taken || bb_pool_party_detach(party, taken, 48, message) != BB_OK)
+    if (!taken)
         return 0;
-    messages++;
-    return (size_t)message;
+    prepare(taken);
+    return (size_t)&detached[sent++ % (2 * ROOM)];
 }
 
 static inline void message_give(size_t taken) {
     (void)bb_pool_party_return_detached(party, (bb_detached *)taken);
 }
 
-// The same by a party that attaches each message's bucket, and gives back eight at a time.
-#define attached_take message_take
+// The same by a sender that takes and detaches a group at a time, and sends them one by one.
+static inline size_t group_take(void) {
+    if (sent == prepared) {
+        size_t taken[GROUP];
+        size_t count = bb_pool_party_take_many(party, taken, GROUP).number;
+        for (size_t i = 0; i < count; i++)
+            prepare(taken[i]);
+    }
+    if (sent == prepared)
+        return 0;
+    return (size_t)&detached[sent++ % (2 * ROOM)];
+}
 
-static inline void attached_give(size_t taken) {
-    party_give(bb_pool_party_attach(party, (bb_detached *)taken).place);
-    if (++messages % BURST == 0)
-        (void)bb_pool_party_flush(party);
+#define group_give message_give
+
+// The same, with each bucket's number and 1 as the message. The numbers of a group wait here.
+static _Thread_local size_t numbers[GROUP];
+
+static inline size_t number_take(void) {
+    if (sent == prepared) {
+        size_t taken[GROUP];
+        size_t count = bb_pool_party_take_many(party, taken, GROUP).number;
+        for (size_t i = 0; i < count; i++)
+            numbers[prepared++ % GROUP] = bb_pool_party_detach_number(party, taken[i]).number;
+    }
+    if (sent == prepared)
+        return 0;
+    return numbers[sent++ % GROUP] + 1;
+}
+
+static inline void number_give(size_t taken) {
+    party_give(bb_pool_party_attach_number(party, (uint32_t)taken - 1, sender).place);
+}
+
+// Gives back what was detached and not sent, and ends the pool and its parties.
+static void leave_all(void) {
+    party = &parties[0];
+    for (int i = 0; i < 2 * ROOM; i++)
+        message_give((size_t)&detached[i]);
+    for (size_t number = 0; number < BUCKETS; number++)
+        number_give(number + 1);
+    for (unsigned i = 0; i < threads; i++)
+        if (bb_shared_pool_leave(&pool, &parties[i]) != BB_OK)
+            abort();
+    if (bb_shared_pool_destroy(&pool) != BB_OK)
+        abort();
 }
 
 static inline size_t none_take(void) {
@@ -160,8 +213,8 @@ static inline void none_give(size_t taken) {
     (void)taken;
 }
 
-// How many takings of a thread took so many cycles of the processor's clock; the last counts all
-// longer ones.
+// How many takings of a thread took each number of cycles of the processor's clock; the last one
+// counts all longer ones.
 static _Thread_local uint32_t *counts;
 
 static inline uint64_t cycles(void) {
@@ -210,6 +263,8 @@ CALLS_OF(list)
 CALLS_OF(heap)
 CALLS_OF(mimalloc)
 CALLS_OF(dpdk)
+CALLS_OF(pmr)
+CALLS_OF(interprocess)
 CALLS_OF(party)
 CALLS_OF(whole)
 
@@ -264,30 +319,31 @@ static _Alignas(128) size_t ring[ROOM];
 QUEUE(list)
 QUEUE(heap)
 QUEUE(mimalloc)
-QUEUE(jemalloc)
 QUEUE(dpdk)
+QUEUE(pmr)
+QUEUE(interprocess)
 QUEUE(message)
-QUEUE(attached)
+QUEUE(group)
+QUEUE(number)
 QUEUE(none)
 
-static int mimalloc_is_there(void) {
-    return mimalloc_calls.take != NULL;
-}
+// How a pool of another package is opened, closed, entered and left.
+typedef struct {
+    open_pool *open;
+    pool_call *close;
+    pool_call *enter;
+    pool_call *leave;
+} package;
 
-static int jemalloc_is_there(void) {
-    return jemalloc_calls.take != NULL;
-}
+static void stay(void) {}
 
-static int dpdk_is_there(void) {
-    if (!dpdk_pool_open(BUCKETS, 128, BURST))
-        return 0;
-    dpdk_pool_close();
-    return 1;
-}
+static const package dpdk = {dpdk_pool_open, dpdk_pool_close, dpdk_enter, dpdk_leave};
+static const package pmr = {pmr_shared_open, pmr_shared_close, stay, stay};
+static const package interprocess = {interprocess_open, interprocess_close, interprocess_enter,
+                                     interprocess_leave};
 
 // What is timed of a kind, by its calls: a taking and its return, eight takings and then their
-// returns, the slowest takings of these, and a message. Whether this machine has the kind, which it
-// has where nothing tells, and how many buckets a party caches.
+// returns, the slowest takings of these, and the two ends of a queue.
 typedef enum {
     PAIR,
     EIGHT,
@@ -297,29 +353,47 @@ typedef enum {
     CALL_KINDS
 } what;
 
+// A kind, its calls, the heap or the package that it calls, if it does, and how many buckets a
+// party caches.
 typedef struct {
     const char *name;
     size_t (*call[CALL_KINDS])(void);
-    int (*is_there)(void);
+    const heap_calls *heap;
+    const package *package;
     unsigned cached;
 } kind;
 
 #define CALLS(NAME) NAME##_pair, NAME##_burst, NAME##_tail
 #define ENDS(NAME) NAME##_send, NAME##_receive
 static const kind kinds[] = {
-    {"plain C", {bump_pair, NULL, NULL, NULL, NULL}, NULL, 0},
-    {"plain C", {CALLS(list), ENDS(list)}, NULL, 0},
-    {"malloc and free", {CALLS(heap), ENDS(heap)}, NULL, 0},
-    {"mimalloc", {CALLS(mimalloc), ENDS(mimalloc)}, mimalloc_is_there, 0},
-    {"jemalloc", {NULL, NULL, NULL, ENDS(jemalloc)}, jemalloc_is_there, 0},
-    {"DPDK", {CALLS(dpdk), ENDS(dpdk)}, dpdk_is_there, 0},
-    {"C", {CALLS(party), ENDS(message)}, NULL, 0},
-    {"C take", {CALLS(whole), NULL, NULL}, NULL, 0},
-    {"C caching", {CALLS(party), ENDS(attached)}, NULL, BURST},
-    {"C caching take", {CALLS(whole), NULL, NULL}, NULL, BURST},
-    {"C caching many", {NULL, many_burst, NULL, NULL, NULL}, NULL, BURST},
-    {"ring alone", {NULL, NULL, NULL, ENDS(none)}, NULL, 0},
+    {"plain C", {bump_pair, NULL, NULL, NULL, NULL}, NULL, NULL, 0},
+    {"plain C", {CALLS(list), ENDS(list)}, NULL, NULL, 0},
+    {"malloc and free", {CALLS(heap), ENDS(heap)}, NULL, NULL, 0},
+    {"mimalloc", {CALLS(mimalloc), ENDS(mimalloc)}, &mimalloc_calls, NULL, 0},
+    {"DPDK", {CALLS(dpdk), ENDS(dpdk)}, NULL, &dpdk, 0},
+    {"pmr", {CALLS(pmr), ENDS(pmr)}, NULL, &pmr, 0},
+    {"boost::interprocess", {CALLS(interprocess), ENDS(interprocess)}, NULL, &interprocess, 0},
+    {"C", {CALLS(party), ENDS(message)}, NULL, NULL, 0},
+    {"C take", {CALLS(whole), NULL, NULL}, NULL, NULL, 0},
+    {"C group", {NULL, NULL, NULL, ENDS(group)}, NULL, NULL, 0},
+    {"C group numbers", {NULL, NULL, NULL, ENDS(number)}, NULL, NULL, 0},
+    {"C caching", {CALLS(party), NULL, NULL}, NULL, NULL, BURST},
+    {"C caching take", {CALLS(whole), NULL, NULL}, NULL, NULL, BURST},
+    {"C caching many", {NULL, many_burst, NULL, NULL, NULL}, NULL, NULL, BURST},
+    {"ring", {NULL, NULL, NULL, ENDS(none)}, NULL, NULL, 0},
 };
+
+// Returns 1 if this machine has what the kind calls.
+static int is_there(const kind *of) {
+    if (of->heap)
+        return of->heap->take != NULL;
+    if (!of->package)
+        return 1;
+    if (!of->package->open(BUCKETS, 128, BURST))
+        return 0;
+    of->package->close();
+    return 1;
+}
 
 static const struct {
     const char *name;
@@ -336,13 +410,14 @@ enum {
     BUMP = 0
 };
 
-// A thread's calls and its party, and what it found: its nanoseconds, its refused calls, and how
-// long its takings were.
+// A thread's calls, its party and its package, and what it found: its nanoseconds, its refused
+// calls, and how long its takings were.
 typedef struct {
+    unsigned number;
     size_t (*call)(void);
     unsigned times;
     bb_pool_party *party;
-    int is_dpdk;
+    const package *package;
     double spent;
     unsigned refused;
     uint32_t *counts;
@@ -365,23 +440,24 @@ static void *work(void *arg) {
     unsigned refused = 0;
     struct timespec start;
     struct timespec end;
+    keep_on_a_processor(own->number);
     party = own->party;
     counts = own->counts;
-    if (own->is_dpdk)
-        dpdk_enter();
+    if (own->package)
+        own->package->enter();
     pass_gate();
     clock_gettime(CLOCK_MONOTONIC, &start);
     for (unsigned i = 0; i < times; i++)
         refused += !call();
     clock_gettime(CLOCK_MONOTONIC, &end);
-    if (own->is_dpdk)
-        dpdk_leave();
+    if (own->package)
+        own->package->leave();
     own->spent = nanos(start, end);
     own->refused = refused;
     return NULL;
 }
 
-static void open_all(const kind *of, int is_dpdk) {
+static void open_all(const kind *of) {
     atomic_store(&used, 0);
     atomic_store(&head, 0);
     atomic_store(&came, 0);
@@ -389,7 +465,7 @@ static void open_all(const kind *of, int is_dpdk) {
     atomic_store(&ring_tail, 0);
     for (uint32_t i = 0; i < BUCKETS; i++)
         atomic_store(&next[i], i + 1 < BUCKETS ? i + 1 : NONE);
-    if (is_dpdk && !dpdk_pool_open(BUCKETS, 128, BURST))
+    if (of->package && !of->package->open(BUCKETS, 128, BURST))
         abort();
     join_all(of->cached);
 }
@@ -426,17 +502,19 @@ static double timed(const kind *of, what it) {
     static uint32_t found[MOST_THREADS][MOST_CYCLES];
     pthread_t all[MOST_THREADS];
     job jobs[MOST_THREADS];
-    int is_dpdk = of->is_there == dpdk_is_there;
     unsigned in_a_call = it == SEND ? calls : it == PAIR ? 1 : BURST;
     unsigned times = calls / in_a_call;
     unsigned refused = 0;
     double sum = 0;
-    open_all(of, is_dpdk);
+    open_all(of);
     memset(found, 0, sizeof found);
     for (unsigned i = 0; i < threads; i++) {
-        jobs[i] =
-            (job){.times = times, .party = &parties[i], .is_dpdk = is_dpdk, .counts = found[i]};
-        jobs[i].call = of->call[it == SEND && i ? RECEIVE : it];
+        jobs[i] = (job){.number = i,
+                        .call = of->call[it == SEND && i ? RECEIVE : it],
+                        .times = times,
+                        .party = &parties[i],
+                        .package = of->package,
+                        .counts = found[i]};
         if (pthread_create(&all[i], NULL, work, &jobs[i]))
             abort();
     }
@@ -444,10 +522,10 @@ static double timed(const kind *of, what it) {
         pthread_join(all[i], NULL);
         sum = it == SEND ? threads * jobs[i].spent : sum + jobs[i].spent;
         refused += jobs[i].refused;
-        bb_pool_party_destroy(&parties[i]);
     }
-    if (is_dpdk)
-        dpdk_pool_close();
+    leave_all();
+    if (of->package)
+        of->package->close();
     if (refused)
         fprintf(stderr, "%s, %u threads: %u of %u calls were refused\n", of->name, threads, refused,
                 threads * times);
@@ -464,11 +542,12 @@ int main(int argc, char **argv) {
     calls = argc > 2 ? (unsigned)atoi(argv[2]) : 10000;
     const char *first_letters = argc > 3 ? argv[3] : "";
     int there[KINDS];
+    find_processors();
     open_heaps();
     time_the_clock();
     for (int i = 0; i < KINDS; i++) {
         there[i] = strncmp(kinds[i].name, first_letters, strlen(first_letters)) == 0;
-        there[i] = there[i] && (!kinds[i].is_there || kinds[i].is_there());
+        there[i] = there[i] && is_there(&kinds[i]);
     }
     for (int i = 0; i < 2 * ROOM; i++)
         if (bb_detached_init(&detached[i]) != BB_OK)

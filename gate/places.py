@@ -49,8 +49,6 @@ NAMED = frozenset(
         "std::mem",
         "std::ptr",
         "std::sync::Arc",
-        "std::sync::atomic::AtomicU64",
-        "std::sync::atomic::Ordering",
         "thiserror::Error",
     }
 )
@@ -63,8 +61,8 @@ PATH = re.compile(r"(?<![\w:])(?:::\s*)?((?:std|core|alloc|atomic_table|thiserro
 # What may be called in the crates that threads share, besides the libraries' own functions.
 CALLED = frozenset(
     """
-    close_with compare_exchange copied fetch_add fetch_max filter from_elem from_raw get
-    into_raw_with_allocator is_none is_some iter_mut join_seat load_new_seat map map_err max min
+    close_with compare_exchange copied fill filter from_elem from_raw get get_mut
+    into_raw_with_allocator is_none is_some iter_mut join_seat load_new_seat map map_err min
     null_mut of_words ok ok_or peek pop push_reserved replace saturating_sub split_seat store swap
     try_clone unwrap with_capacity
     """.split()
@@ -94,8 +92,7 @@ PLACES = (
         re.compile(r"\b(Atomic\w*|Ordering|Table\w*|Play|Split|Join|Arc(?:::\w+)?)\b"),
         {
             POOL + "rule": {"TableRule": 1},
-            POOL + "flags": {"Table": 2, "AtomicU64": 4, "Play": 13, "Split": 2, "Join": 2},
-            POOL + "figures": {"Ordering": 4},
+            POOL + "flags": {"Table": 2, "Play": 14, "Split": 2, "Join": 2},
             BUMP + "/rule": {"TableRule": 1},
             BUMP + "/position": {"Table": 2, "Play": 4, "Split": 1, "Join": 1},
             C + "shared_bump": {"Arc": 2, "Arc::new": 1, "Arc::try_clone": 1},
@@ -116,12 +113,11 @@ PLACES = (
                 "split_seat": 2,
                 "join_seat": 2,
                 "compare_exchange": 3,
-                "load": 4,
+                "load": 5,
                 "load_new_seat": 1,
                 "store": 5,
                 "peek": 1,
             },
-            POOL + "figures": {"fetch_add": 1, "fetch_max": 2, "load": 1},
             BUMP: {"load": 1},
             BUMP
             + "/position": {
@@ -137,28 +133,29 @@ PLACES = (
         },
     ),
     Kind(
-        "has a word of the figures",
-        re.compile("bb_memory_shared_pools/"),
-        re.compile(r"\.(refused|greatest)\b"),
-        {POOL + "figures": {"refused": 2, "greatest": 2}},
-    ),
-    Kind(
         "probes, meets, or reads a word in no log",
         SHARED,
         re.compile(
             r"(?:\.|::)(try_flag|try_at|probe|attach_number|meet|meet_rest"
             r"|load_for_meeting|found|holder|is_held|is_held_by|held_at|is_detached|is_out"
-            r"|count_out|count_taken|figures)\b"
+            r"|is_detached_when_met|have_detached|meet_detached|has_detached"
+            r"|count_out|count_taken|held_buckets)\b"
         ),
         {
             POOL + "flags": {"try_at": 1, "load_for_meeting": 1},
-            POOL + "buckets": {"try_flag": 1, "meet": 1, "meet_rest": 1},
+            POOL + "buckets": {"try_flag": 1, "meet": 1, "meet_rest": 1, "meet_detached": 1},
             POOL + "next_fit": {"try_at": 1, "probe": 1},
-            POOL + "by_number": {"found": 1, "is_held": 1, "is_held_by": 1},
+            POOL + "by_number": {"found": 1, "is_held": 1, "is_held_by": 1, "count_taken": 1},
             POOL + "caching": {"attach_number": 1, "is_held_by": 1, "meet": 1},
             POOL + "detached": {"attach_number": 1, "is_detached": 1},
-            POOL + "figures": {"count_taken": 1},
-            POOL + "meeting": {"load_for_meeting": 1, "meet_rest": 1},
+            POOL
+            + "meeting": {
+                "load_for_meeting": 1,
+                "meet_rest": 1,
+                "is_detached_when_met": 1,
+                "have_detached": 1,
+                "meet_detached": 1,
+            },
             BUMP: {"meet": 1, "meet_rest": 1},
             BUMP + "/position": {"load_for_meeting": 1},
             BUMP + "/meeting": {"load_for_meeting": 1, "meet_rest": 1},
@@ -168,12 +165,13 @@ PLACES = (
                 "holder": 1,
                 "held_at": 1,
                 "is_held": 2,
-                "is_out": 2,
+                "is_out": 3,
                 "count_out": 1,
-                "figures": 1,
+                "held_buckets": 1,
+                "has_detached": 1,
             },
             C_CALLS + "call": {"is_held": 1},
-            C_CALLS + "one_owner": {"is_held": 1},
+            C_CALLS + "one_owner": {"is_held": 1, "held_buckets": 1},
         },
     ),
     Kind(
@@ -189,10 +187,11 @@ PLACES = (
             POOL + "next_fit": {"for": 1, "..": 1},
             POOL + "by_number": {"for": 1, "..": 1},
             POOL + "caching": {"while": 1},
+            POOL + "meeting": {"for": 1, "..": 1},
             BUMP: {"for": 1, "..": 1},
             BUMP + "/meeting": {"while": 1},
             BUMP + "/request": {"loop": 1},
-            C + "shared_pool": {"for": 2, "..": 4, "|": 1},
+            C + "shared_pool": {"for": 3, "..": 5, "|": 1},
             C_CALLS + "call": {"for": 2, "iter_mut": 1},
             C_CALLS + "handle": {"|": 1},
         },
@@ -201,13 +200,14 @@ PLACES = (
 
 # How often functions call themselves, by their files.
 OWN_CALLS: Mapping[str, Mapping[str, int]] = {
-    POOL + "meeting": {"meet_rest": 1},
+    POOL + "meeting": {"meet_rest": 1, "meet_detached": 1},
     BUMP + "/meeting": {"meet_rest": 1},
 }
 # The functions that call themselves, by the folders of their proofs.
 RECURSIONS = frozenset(
     {
         "bb_memory_bump/proofs/shared_bump/SharedBumpAllocator/+meet_rest",
+        "bb_memory_shared_pools/proofs/shared_pool/flags/Flags/+meet_detached",
         "bb_memory_shared_pools/proofs/shared_pool/flags/Flags/+meet_rest",
     }
 )

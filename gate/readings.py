@@ -19,7 +19,6 @@ READ = (
     BUMP + "rule.rt",
     POOL + "flags.rt",
     POOL + "rule.rt",
-    POOL + "figures.rt",
 )
 LINE = re.compile(r"([0-9a-f]{16})  (\S+)")
 # What is to be read before a new sum is written.

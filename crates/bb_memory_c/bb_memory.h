@@ -1,6 +1,10 @@
-// Allocators over a region of the host's own, for C (C99 or later) and C++ (C++11 or later), on
-// Linux with an x86-64-v2 processor. The contract of each function but `bb_use_memory` and
+// bb_memory: allocators over a region of the host's own memory.
+//
+// For C99 or later and C++11 or later, on Linux with an x86-64-v2 processor. bb_memory.hpp has
+// owners for C++17. The contract of each function but `bb_use_memory` and
 // `bb_pool_party_recover` is proved, for every caller that keeps the rules below.
+//
+// EXAMPLE
 //
 //     #include <stdio.h>
 //     #include <string.h>
@@ -27,6 +31,8 @@
 //         return 0;
 //     }
 //
+// HANDLES
+//
 // | Handle                            | Gives                            | Takes back        |
 // |-----------------------------------|----------------------------------|-------------------|
 // | `bb_bump`                         | one chunk after another          | all at once       |
@@ -36,36 +42,49 @@
 // | `bb_shared_pool`, `bb_pool_party` | as a pool, to threads            | each by its party |
 // | `bb_detached`                     | no bucket: it carries one        |                   |
 //
-// RULES, which no function tests:
+// Sizes and alignments are in bytes. No function reads or writes a byte of a region. Chunks that
+// are in use lie inside the region, at multiples of the requested alignment, and never overlap.
 //
-//  1. A handle is a variable with both fields zero before its first use: `bb_pool pool =
-//     BB_EMPTY;`. Pass its address, which is never null.
-//  2. Only these functions write a handle, and it keeps its kind. It may be moved; don't use the
-//     old copy then.
-//  3. One call at a time uses a handle. A data race on one is undefined behaviour, and may give a
-//     chunk twice.
-//  4. Threads that call at once use a party each, or a lock. A handle goes to another thread by a
-//     lock, an atomic, or the start or join of a thread.
-//  5. `place_at`, `number_at`, `bb_shared_pool_info` and `bb_shared_pool_holder` may run beside
-//     calls with their handle that don't empty it. That is tested (examples/c/places.c) and not
-//     proved: the proofs are of one call at a time.
-//  6. A call that takes two handles gets two. While a party or a detached bucket of a shared pool
-//     or bump is left, no other shared pool or bump begins at its place, not even in a chunk of it:
-//     by that place another's party or bucket is refused (BB_OTHER_POOL).
-//  7. Call nothing in a signal handler, which may have interrupted a call with the handle or
-//     `malloc`. Call nothing in a child that a process of several threads forked, since another
-//     thread may have locked `malloc`. After any other fork, only one of the two processes may go
-//     on using a handle; with a pool in shared memory both may (PROCESSES, below).
-//  8. A region serves one allocator at a time, and is yours while chunks in it are used. It may be
-//     another allocator's chunk (but see 6).
-//  9. `malloc`, `realloc` and `free`, or what `bb_use_memory` names, are one allocator's, which
-//     aligns as C says.
-// 10. Return each chunk once. A second return is refused until the place is given anew, and then it
-//     takes the chunk from its new holder.
+// RULES
 //
-// No function reads or writes a byte of a region. Chunks that are in use lie inside it, at
-// multiples of the requested alignment, and never overlap. Sizes and alignments are in bytes.
-// MemorySanitizer needs `__msan_unpoison` of each struct that a call filled.
+// No function tests these rules. Breaking one may give a chunk to two holders, or corrupt the
+// library's memory. The most dangerous ones come first.
+//
+//  1. Only one call at a time uses a handle. A data race on a handle is undefined behaviour, and
+//     may give one chunk twice. Threads that call at once have a party each, or a lock.
+//  2. A handle goes to another thread by a lock, an atomic, or the start or join of a thread.
+//  3. Return each chunk once. A second return is refused until the place is given again; from then
+//     on it takes the chunk from its new holder.
+//  4. A region serves one allocator at a time. The host keeps the region while a chunk in it is in
+//     use. It may be a chunk of another allocator: that chunk then serves nothing else, and is
+//     returned after the inner allocator is destroyed.
+//  5. While a shared pool or bump exists, no other one has the same start, not even one that lies
+//     in a chunk of the first. Parties and detached buckets are known by that start. It is
+//     `start_address` of the figures. `bb_shared_pool_abandon` and `bb_shared_bump_abandon` say
+//     how long an abandoned one exists.
+//  6. A handle is a variable with both fields zero before its first use: `bb_pool pool =
+//     BB_EMPTY;`. It is passed by its address, which is never null.
+//  7. Only these functions write a handle, and it keeps its kind. A compiler refuses a handle of
+//     another kind, unless the host casts. A handle may be moved; its old copy is not used again.
+//  8. A call that has two handles as parameters gets two different ones.
+//  9. No function is called in a signal handler. The handler may have interrupted a call with the
+//     handle, or `malloc`.
+// 10. No function is called in a child that a process of several threads forked: another thread
+//     may have locked `malloc`. After any other fork, only one of the two processes goes on using
+//     a handle. PROCESSES, at the end, has the exception.
+// 11. `malloc`, `realloc` and `free`, or the functions that replace them by `bb_use_memory`, belong
+//     to one allocator, and align memory as C requires.
+//
+// Functions with a `const` handle are the exception to rule 1: they may run beside other calls with
+// their handle, except those that make it or empty it. That is tested (examples/c/places.c) and
+// not proved, since the proofs are of one call at a time.
+//
+// CHECKERS
+//
+// If AddressSanitizer or ThreadSanitizer is on, or if BB_VALGRIND is defined before the first
+// include, bb_memory_sanitize.h reports to the checker what is in use. BB_NO_SANITIZE turns that
+// off. Both are defined for all files of a program, or for none. MemorySanitizer needs
+// `__msan_unpoison` of each struct that a call filled.
 #ifndef BB_MEMORY_H
 #define BB_MEMORY_H
 
@@ -81,294 +100,501 @@
 extern "C" {
 #endif
 
-// The version of this library, as text and by its numbers. BB_VERSION_NUMBER grows with each
-// version, for `#if`.
+//
+// VERSIONS
+//
+
+// The version of this header and of the library, as text.
 #define BB_VERSION "2.0.0"
+
+// The first number of the version.
 #define BB_VERSION_MAJOR 2
+
+// The second number of the version.
 #define BB_VERSION_MINOR 0
+
+// The third number of the version.
 #define BB_VERSION_PATCH 0
+
+// The version as one number, for `#if`. It grows with each version.
 #define BB_VERSION_NUMBER (BB_VERSION_MAJOR * 10000 + BB_VERSION_MINOR * 100 + BB_VERSION_PATCH)
 
 // The number in the shared library's SONAME. It grows if a function goes, or if a type, a struct's
-// fields or a code's number changes. So a program runs with each library of its number, from the
-// version on with which it was linked.
+// fields or a code's number changes. It stays if functions or codes are added. A program runs with
+// each library of its number, from the version on with which it was linked.
 #define BB_ABI 3
 
-// A place is where a region or a chunk begins; a `bb_address` is one that is only passed in. The
-// functions see only their numbers: a host whose places are numbers, such as offsets, defines
-// BB_PLACES_ARE_NUMBERS above the header.
+//
+// PLACES
+//
+// A place is where a region, a bucket or a chunk begins. The functions use only its number. A host
+// whose places are numbers, such as offsets, defines BB_PLACES_ARE_NUMBERS before the first
+// include.
+//
+
 #ifdef BB_PLACES_ARE_NUMBERS
+// Where a region begins, or a chunk that a call gives.
 typedef size_t bb_place;
+
+// A place that is only passed to a call.
 typedef size_t bb_address;
 #else
+// Where a region begins, or a chunk that a call gives.
 typedef void *bb_place;
+
+// A place that is only passed to a call.
 typedef const void *bb_address;
 #endif
 
-// The codes that calls return. With any code but BB_OK nothing was done (but see
-// `bb_pool_party_recover`), and a struct that is returned has 0 beside the code.
 //
-// If several errors apply, the first one in this list is returned. Of an `init`:
-// BB_ALREADY_INITIALIZED, BB_INVALID_LAYOUT, BB_INVALID_ARGUMENT, BB_NO_BUCKET, BB_MALLOC_REFUSED.
-// Of a request for a chunk: BB_UNINITIALIZED, BB_INVALID_LAYOUT, then the allocator's own errors.
-// Of every other call: those that its comment names, in that order, after BB_UNINITIALIZED, which
-// each call returns if one of its handles is empty.
+// CODES
+//
+// A call that can be refused returns a code, or a struct that begins with one. If the code isn't
+// BB_OK, the call did nothing (`bb_pool_party_recover` says what it does), and the rest of a
+// returned struct is 0. The last line of a function's comment lists its codes other than BB_OK. If
+// several apply, the first one in that list is returned.
+//
+
 enum {
     // Done.
     BB_OK = 0,
-    // 0 bytes were requested of a bump. A pool gives a bucket for them, and one chunk gives what is
-    // left.
+
+    // 0 bytes were requested of a bump. A pool gives a bucket for 0 bytes, and a one chunk gives
+    // what is left of its region.
     BB_SIZE_IS_ZERO = 1,
+
     // The size is greater than a bucket's.
     BB_SIZE_TOO_LARGE = 2,
-    // The alignment is greater than a bucket's; for a resize of one chunk, than the old alignment.
+
+    // The alignment is greater than a bucket's; in a resize of one chunk, greater than the old one.
     BB_ALIGNMENT_FAILURE = 3,
-    // No room is left in the region: only for a request.
+
+    // No room is left in the region for a request.
     BB_OUT_OF_MEMORY = 4,
-    // The new size is not greater than the old one.
+
+    // The new size of a grow is not greater than the old one.
     BB_GROW_WOULD_SHRINK = 5,
-    // The new size is not smaller than the old one.
+
+    // The new size of a shrink is not smaller than the old one.
     BB_SHRINK_WOULD_GROW = 6,
-    // The alignment is not a power of two, or the size rounded up to it is greater than
+
+    // The alignment is not a power of two, or the size rounded up to the alignment is greater than
     // PTRDIFF_MAX.
     BB_INVALID_LAYOUT = 7,
-    // The handle is empty.
+
+    // A handle is empty that has to have something.
     BB_UNINITIALIZED = 8,
+
     // No chunk that is in use begins at the place; for a party, no bucket that it holds and doesn't
-    // cache.
+    // cache. For a bucket's number: the bucket isn't detached as the call requires.
     BB_NOT_HELD = 9,
-    // The handle is not empty.
+
+    // A handle that has to be empty isn't.
     BB_ALREADY_INITIALIZED = 10,
-    // The region, the buckets or the parties are invalid, as each `init` says; or a share has no
-    // reader.
+
+    // The region, the bucket's size, or the number of buckets or parties is invalid. Each `init`
+    // says when.
     BB_INVALID_ARGUMENT = 11,
-    // Each party has joined or was destroyed; for a number, its party has, or there is none.
+
+    // Each party has joined or was abandoned; for a party's number, that one has, or there is none.
     BB_NO_PARTY = 12,
+
     // The place is not a multiple of the old alignment, or the old size of a shrink is greater than
     // what is reserved.
     BB_LAYOUT_MISMATCH = 13,
-    // `malloc` failed: only for `init`, `join`, `join_number`, `cache` and `reset`.
+
+    // `malloc` failed. Only calls that take memory return it: MEMORY lists them.
     BB_MALLOC_REFUSED = 14,
+
     // The new size of a grow is greater than what is reserved for the chunk.
     BB_MORE_THAN_RESERVED = 15,
-    // The region has no room for one bucket, or for as many as were asked for: only for a pool's
-    // `init`.
+
+    // The region has no room for one bucket, or for the number of buckets that is required.
     BB_NO_BUCKET = 16,
-    // Not each party has left: only for `bb_shared_bump_reset`.
+
+    // A bucket of the pool is detached.
+    BB_BUCKET_DETACHED = 17,
+
+    // A party has joined and not left, or was abandoned.
     BB_PARTIES_JOINED = 18,
-    // The pool has no other party: only for `detach` and `detach_number`.
+
+    // The pool has only one party, so no other one could attach the bucket.
     BB_ONE_PARTY = 19,
-    // A detached bucket is in the `bb_detached` already: only for `detach`.
+
+    // A detached bucket is already in the `bb_detached`.
     BB_DETACHED_FULL = 20,
+
     // No detached bucket is in the `bb_detached`.
     BB_DETACHED_EMPTY = 21,
-    // No bucket has the number, or begins at the place.
+
+    // No bucket has the number, or none begins at the place.
     BB_NOT_A_BUCKET = 22,
+
     // The party or the detached bucket belongs to another pool or bump.
     BB_OTHER_POOL = 23,
-    // A reader has not released the detached bucket.
-    BB_READERS_LEFT = 24,
-    // The detached bucket waits for no reader, or none is there: only for `release`.
-    BB_NO_READER = 25,
+
     // The greatest code of this version.
-    BB_LAST_CODE = BB_NO_READER
+    BB_LAST_CODE = BB_OTHER_POOL
 };
 
-// Returns what a code says, for a log.
+// Returns the name of `code`, as "BB_NOT_HELD", or "an unknown code" if this version has no such
+// code. The text is never freed.
+static inline const char *bb_name(uint32_t code) {
+    switch (code) {
+    case BB_OK: return "BB_OK";
+    case BB_SIZE_IS_ZERO: return "BB_SIZE_IS_ZERO";
+    case BB_SIZE_TOO_LARGE: return "BB_SIZE_TOO_LARGE";
+    case BB_ALIGNMENT_FAILURE: return "BB_ALIGNMENT_FAILURE";
+    case BB_OUT_OF_MEMORY: return "BB_OUT_OF_MEMORY";
+    case BB_GROW_WOULD_SHRINK: return "BB_GROW_WOULD_SHRINK";
+    case BB_SHRINK_WOULD_GROW: return "BB_SHRINK_WOULD_GROW";
+    case BB_INVALID_LAYOUT: return "BB_INVALID_LAYOUT";
+    case BB_UNINITIALIZED: return "BB_UNINITIALIZED";
+    case BB_NOT_HELD: return "BB_NOT_HELD";
+    case BB_ALREADY_INITIALIZED: return "BB_ALREADY_INITIALIZED";
+    case BB_INVALID_ARGUMENT: return "BB_INVALID_ARGUMENT";
+    case BB_NO_PARTY: return "BB_NO_PARTY";
+    case BB_LAYOUT_MISMATCH: return "BB_LAYOUT_MISMATCH";
+    case BB_MALLOC_REFUSED: return "BB_MALLOC_REFUSED";
+    case BB_MORE_THAN_RESERVED: return "BB_MORE_THAN_RESERVED";
+    case BB_NO_BUCKET: return "BB_NO_BUCKET";
+    case BB_BUCKET_DETACHED: return "BB_BUCKET_DETACHED";
+    case BB_PARTIES_JOINED: return "BB_PARTIES_JOINED";
+    case BB_ONE_PARTY: return "BB_ONE_PARTY";
+    case BB_DETACHED_FULL: return "BB_DETACHED_FULL";
+    case BB_DETACHED_EMPTY: return "BB_DETACHED_EMPTY";
+    case BB_NOT_A_BUCKET: return "BB_NOT_A_BUCKET";
+    case BB_OTHER_POOL: return "BB_OTHER_POOL";
+    default: return "an unknown code";
+    }
+}
+
+// Returns a sentence on `code` for a log, in lower case and without a full stop, or "not a code of
+// bb_memory" if this version has no such code. The text is never freed.
 static inline const char *bb_text(uint32_t code) {
     switch (code) {
     case BB_OK: return "done";
-    case BB_SIZE_IS_ZERO: return "the size is zero";
+    case BB_SIZE_IS_ZERO: return "0 bytes were requested of a bump";
     case BB_SIZE_TOO_LARGE: return "the size is greater than a bucket's";
-    case BB_ALIGNMENT_FAILURE: return "the alignment is greater than the allocator can give";
+    case BB_ALIGNMENT_FAILURE: return "the alignment is greater than can be given";
     case BB_OUT_OF_MEMORY: return "no room is left in the region";
-    case BB_GROW_WOULD_SHRINK: return "the new size is not greater than the old one";
-    case BB_SHRINK_WOULD_GROW: return "the new size is not smaller than the old one";
+    case BB_GROW_WOULD_SHRINK: return "the new size of a grow is not greater than the old one";
+    case BB_SHRINK_WOULD_GROW: return "the new size of a shrink is not smaller than the old one";
     case BB_INVALID_LAYOUT: return "the size and the alignment are not a valid layout";
     case BB_UNINITIALIZED: return "the handle is empty";
-    case BB_NOT_HELD: return "nothing is held at the place";
+    case BB_NOT_HELD: return "nothing in use begins at the place, or the bucket is not detached";
     case BB_ALREADY_INITIALIZED: return "the handle is not empty";
-    case BB_INVALID_ARGUMENT: return "the region, buckets, parties or readers are invalid";
+    case BB_INVALID_ARGUMENT: return "the region, the buckets or the number of parties is invalid";
     case BB_NO_PARTY: return "no such party is left to join";
-    case BB_LAYOUT_MISMATCH: return "the chunk cannot have the old layout";
+    case BB_LAYOUT_MISMATCH: return "the chunk cannot have had the old size and alignment";
     case BB_MALLOC_REFUSED: return "malloc failed";
-    case BB_MORE_THAN_RESERVED: return "the new size is greater than what is reserved";
+    case BB_MORE_THAN_RESERVED: return "the new size of a grow is greater than what is reserved";
     case BB_NO_BUCKET: return "the region has no room for the buckets";
-    case BB_PARTIES_JOINED: return "not each party has left";
-    case BB_ONE_PARTY: return "the pool has no other party";
-    case BB_DETACHED_FULL: return "a detached bucket is in the bb_detached already";
+    case BB_BUCKET_DETACHED: return "a bucket of the pool is detached";
+    case BB_PARTIES_JOINED: return "a party has not left, or was abandoned";
+    case BB_ONE_PARTY: return "the pool has only one party, so nothing can be detached";
+    case BB_DETACHED_FULL: return "a detached bucket is already in the bb_detached";
     case BB_DETACHED_EMPTY: return "no detached bucket is in the bb_detached";
     case BB_NOT_A_BUCKET: return "no bucket has the number or begins at the place";
-    case BB_OTHER_POOL: return "the party or the bucket belongs to another pool or bump";
-    case BB_READERS_LEFT: return "a reader has not released the detached bucket";
-    case BB_NO_READER: return "the detached bucket waits for no reader";
+    case BB_OTHER_POOL: return "the party or the detached bucket belongs to another pool or bump";
     default: return "not a code of bb_memory";
     }
 }
 
-// Compilers warn if the result of a function with this mark is not used.
+//
+// MACROS
+//
+
+// Marks a function whose result has to be used: compilers warn if it is not.
 #define BB_MUST_USE __attribute__((warn_unused_result))
 
-// BB_EMPTY is a handle before its first use, and BB_LOST a `bb_lost` (see `recover`). BB_OF is a
-// type's size and alignment, for two parameters: `bb_pool_allocate(&pool, BB_OF(message))`. BB_SIZE
-// converts a number.
-// clang-format off
+// What C and C++ write differently: a null pointer, the alignment of a type, and a conversion to
+// size_t. The macros below use these.
 #ifdef __cplusplus
-#define BB_EMPTY {nullptr, false}
-#define BB_LOST {nullptr, true}
-#define BB_OF(type) sizeof(type), alignof(type)
+#define BB_NULL nullptr
+#define BB_ALIGN_OF(type) alignof(type)
 #define BB_SIZE(number) static_cast<size_t>(number)
 #else
-#define BB_EMPTY {NULL, false}
-#define BB_LOST {NULL, true}
-#define BB_OF(type) sizeof(type), __alignof__(type)
+#define BB_NULL NULL
+#define BB_ALIGN_OF(type) __alignof__(type)
 #define BB_SIZE(number) ((size_t)(number))
 #endif
+
+// A handle before its first use: `bb_pool pool = BB_EMPTY;`.
+// clang-format off
+#define BB_EMPTY {BB_NULL, false}
 // clang-format on
 
-// Handles, a type for each kind. `at` and `made` are not for the host.
-#define BB_HANDLE(name)   \
-    typedef struct name { \
-        void *at;         \
-        bool made;        \
-    } name
-BB_HANDLE(bb_bump);
-BB_HANDLE(bb_one_chunk);
-BB_HANDLE(bb_pool);
-BB_HANDLE(bb_shared_bump);
-BB_HANDLE(bb_bump_party);
-BB_HANDLE(bb_shared_pool);
-BB_HANDLE(bb_pool_party);
-BB_HANDLE(bb_detached);
-BB_HANDLE(bb_lost);
-#undef BB_HANDLE
+// A `bb_lost` before its use: `bb_lost lost = BB_LOST;`.
+// clang-format off
+#define BB_LOST {BB_NULL, true}
+// clang-format on
 
-// A code, and with BB_OK the place where the chunk begins that was given. Returned in registers.
+// The size and the alignment of a type, for two parameters: `bb_pool_allocate(&pool,
+// BB_OF(message))`.
+#define BB_OF(type) sizeof(type), BB_ALIGN_OF(type)
+
+//
+// TYPES
+//
+// A handle is a variable of the host's, of a type for each kind. Its fields `at` and `made` are
+// read and written only by these functions. An empty handle has both fields zero.
+//
+
+// A bump: one chunk after another.
+typedef struct bb_bump {
+    void *at;
+    bool made;
+} bb_bump;
+
+// A one chunk: its whole region is one chunk.
+typedef struct bb_one_chunk {
+    void *at;
+    bool made;
+} bb_one_chunk;
+
+// A pool: buckets of a fixed size.
+typedef struct bb_pool {
+    void *at;
+    bool made;
+} bb_pool;
+
+// A bump that threads share, with its parties that haven't joined.
+typedef struct bb_shared_bump {
+    void *at;
+    bool made;
+} bb_shared_bump;
+
+// A party of a shared bump, for one thread at a time.
+typedef struct bb_bump_party {
+    void *at;
+    bool made;
+} bb_bump_party;
+
+// A pool that threads share, with its parties that haven't joined.
+typedef struct bb_shared_pool {
+    void *at;
+    bool made;
+} bb_shared_pool;
+
+// A party of a shared pool, for one thread at a time.
+typedef struct bb_pool_party {
+    void *at;
+    bool made;
+} bb_pool_party;
+
+// A `bb_detached`: no bucket, or one that goes from one party to another.
+typedef struct bb_detached {
+    void *at;
+    bool made;
+} bb_detached;
+
+// A host's word that a detached bucket is lost: see `bb_pool_party_recover`.
+typedef struct bb_lost {
+    void *at;
+    bool made;
+} bb_lost;
+
+// What a request returns: a code, and with BB_OK the place where the chunk begins. Returned in
+// registers.
 typedef struct bb_chunk {
     uint32_t code;
     bb_place place;
 } bb_chunk;
 
-// A code, and with BB_OK the number that was asked for; for a place, its number. Returned in
-// registers.
+// What a question returns: a code, and with BB_OK a number. Returned in registers.
 typedef struct bb_number {
     uint32_t code;
     size_t number;
 } bb_number;
 
-// Names the functions that the library calls in place of `malloc`, `realloc` and `free`. A process
-// names them before its other calls.
-void bb_use_memory(void *(*allocate)(size_t), void *(*resize)(void *, size_t),
-                   void (*release)(void *));
-
-// MEMORY: each kind has a `destroy`, which frees what its handle owns. The handle is empty then,
-// and may be initialized again. The bytes of chunks that are in use stay the host's.
 //
-// Only `init`, `join`, `join_number`, `cache` and `reset` take memory, outside the region. They
-// request at most this many bytes of `malloc` in all:
+// MEMORY
+//
+// Only `init`, `join`, `join_number`, `cache` and `reset` take memory, and always outside the
+// region. They request at most this many bytes of `malloc` in all:
 //
 //     bb_bump, bb_one_chunk    64
 //     bb_pool                  256, and 16 for each 64 buckets
 //     bb_shared_bump           256, and 16 for each party; to join 64; to reset as much as at
 //                              first, before the old memory is freed
 //     bb_shared_pool           336, 16 for each bucket, 12 for each party; to join 256; to cache
-//                              256, 4 for each bucket, 4 for each that may be cached
-//     bb_detached              64
+//                              256, 1 for each bucket, 4 for each that may be cached
+//     bb_detached              128
 //
-// FIGURES: each `info` fills a struct with the figures of what its handle owns. If the handle is
-// empty, the struct stays as it was.
+// `destroy` frees that memory, and `leave`, `forget` and `abandon` free a party's. The handle is
+// empty then, and may be used again. The bytes of chunks that are still in use stay the host's.
+//
 
-// BUMP: chunks of any size, one after another.
+// Has the library call these functions in place of `malloc`, `realloc` and `free`. The parameters
+// have the meaning of C's functions of these names, and `release` may be called with NULL. A
+// process calls this before its other calls; no lock guards it. So a host without `malloc` gives
+// the library an arena of its own.
+void bb_use_memory(void *(*allocate)(size_t size), void *(*resize)(void *block, size_t size),
+                   void (*release)(void *block));
 
-// Makes a bump over the region of `size` bytes at `start`. BB_INVALID_ARGUMENT if the start is 0,
-// or if start plus size exceeds SIZE_MAX.
-BB_MUST_USE uint32_t bb_bump_init(bb_bump *, bb_place start, size_t size);
+//
+// BUMP: chunks of any size, one after another, all given back at once.
+//
 
-// Frees the bump's memory.
-uint32_t bb_bump_destroy(bb_bump *);
+// Makes a bump in an empty handle, over the region of `size` bytes at `start`.
+//
+// BB_INVALID_ARGUMENT if `start` is 0, or if `start` plus `size` exceeds SIZE_MAX.
+//
+// Codes, in order: BB_ALREADY_INITIALIZED, BB_INVALID_ARGUMENT, BB_MALLOC_REFUSED.
+BB_MUST_USE uint32_t bb_bump_init(bb_bump *bump, bb_place start, size_t size);
 
-// Gives a chunk of exactly `size` bytes at the least multiple of `align` after what is used.
-// BB_SIZE_IS_ZERO; BB_OUT_OF_MEMORY.
-BB_MUST_USE bb_chunk bb_bump_allocate(bb_bump *, size_t size, size_t align);
+// Frees the bump's memory and empties the handle.
+//
+// Codes, in order: BB_UNINITIALIZED.
+uint32_t bb_bump_destroy(bb_bump *bump);
 
-// Takes all chunks back.
-uint32_t bb_bump_deallocate(bb_bump *);
+// Allocates exactly `size` bytes at the least multiple of `align` after what is used.
+//
+// Returns the place of the chunk. BB_OUT_OF_MEMORY if the chunk would end after the region.
+//
+// Codes, in order: BB_UNINITIALIZED, BB_INVALID_LAYOUT, BB_SIZE_IS_ZERO, BB_OUT_OF_MEMORY.
+BB_MUST_USE bb_chunk bb_bump_allocate(bb_bump *bump, size_t size, size_t align);
 
-// The figures of a bump, in bytes. The used space includes the padding between chunks, and the free
-// space lies after the last chunk.
+// Takes all chunks back. The next chunk is allocated from the start of the region on again.
+//
+// Codes, in order: BB_UNINITIALIZED.
+uint32_t bb_bump_deallocate(bb_bump *bump);
+
+// The figures of a bump.
 typedef struct bb_bump_figures {
+    // Where the region begins.
     size_t start_address;
+
+    // The bytes from the start to the end of the last chunk, with the padding between chunks.
     size_t used_space;
+
+    // The bytes after the last chunk.
     size_t free_space;
+
+    // The bytes of the region.
     size_t total_space;
 } bb_bump_figures;
 
-// Fills in the figures of the bump.
-uint32_t bb_bump_info(bb_bump *, bb_bump_figures *);
+// Stores the figures of the bump in `figures`, which stays as it was if the handle is empty.
+//
+// Codes, in order: BB_UNINITIALIZED.
+uint32_t bb_bump_info(bb_bump *bump, bb_bump_figures *figures);
 
+//
 // ONE CHUNK: one request gets all of the region, from the first multiple of its alignment on.
+//
 
-// Makes a one chunk over the region of `size` bytes at `start`. BB_INVALID_ARGUMENT as for a bump.
-BB_MUST_USE uint32_t bb_one_chunk_init(bb_one_chunk *, bb_place start, size_t size);
+// Makes a one chunk in an empty handle, over the region of `size` bytes at `start`.
+//
+// BB_INVALID_ARGUMENT if `start` is 0, or if `start` plus `size` exceeds SIZE_MAX.
+//
+// Codes, in order: BB_ALREADY_INITIALIZED, BB_INVALID_ARGUMENT, BB_MALLOC_REFUSED.
+BB_MUST_USE uint32_t bb_one_chunk_init(bb_one_chunk *one, bb_place start, size_t size);
 
-// Frees the memory of the one chunk.
-uint32_t bb_one_chunk_destroy(bb_one_chunk *);
+// Frees the memory of the one chunk and empties the handle.
+//
+// Codes, in order: BB_UNINITIALIZED.
+uint32_t bb_one_chunk_destroy(bb_one_chunk *one);
 
-// Gives a chunk of at least `size` bytes, up to the region's end. BB_OUT_OF_MEMORY if the chunk is
-// in use, or if less than `size` bytes, or none at all, are left after the first multiple of
-// `align`.
-BB_MUST_USE bb_chunk bb_one_chunk_allocate(bb_one_chunk *, size_t size, size_t align);
+// Allocates all bytes from the first multiple of `align` in the region up to the region's end.
+//
+// Returns the place of the chunk; `bb_one_chunk_reserved` returns its length. BB_OUT_OF_MEMORY if
+// the chunk is in use already, if it would have less than `size` bytes, or if it would have none.
+//
+// Codes, in order: BB_UNINITIALIZED, BB_INVALID_LAYOUT, BB_OUT_OF_MEMORY.
+BB_MUST_USE bb_chunk bb_one_chunk_allocate(bb_one_chunk *one, size_t size, size_t align);
 
-// Takes back the chunk that begins at this place. BB_NOT_HELD.
-uint32_t bb_one_chunk_deallocate(bb_one_chunk *, bb_address place);
+// Takes back the chunk that begins at `place`. Any place may be passed.
+//
+// BB_NOT_HELD if no chunk is in use, or if it begins elsewhere.
+//
+// Codes, in order: BB_UNINITIALIZED, BB_NOT_HELD.
+uint32_t bb_one_chunk_deallocate(bb_one_chunk *one, bb_address place);
 
-// Grows the chunk at this place, which it keeps. The grown chunk gets all that is reserved for it:
-// the region from its place on. The old size is the host's word, and is only compared with the new
-// one. The errors, in this order: BB_UNINITIALIZED; BB_INVALID_LAYOUT of either layout;
-// BB_NOT_HELD; BB_LAYOUT_MISMATCH; BB_GROW_WOULD_SHRINK; BB_ALIGNMENT_FAILURE if the new alignment
-// is greater than the old one; BB_MORE_THAN_RESERVED.
-BB_MUST_USE bb_chunk bb_one_chunk_grow(bb_one_chunk *, bb_address place, size_t old_size,
+// Grows the chunk at `place` to all bytes that are reserved for it: the region from `place` on.
+//
+// `old_size` and `old_align` are the chunk's layout before the call, `new_size` and `new_align` the
+// one that it has to fit now. The host vouches for `old_size`: it is only compared with `new_size`.
+//
+// Returns the place of the chunk, which doesn't change. BB_INVALID_LAYOUT if either layout is
+// invalid. BB_NOT_HELD if the chunk in use doesn't begin at `place`. BB_LAYOUT_MISMATCH if `place`
+// is not a multiple of `old_align`. BB_GROW_WOULD_SHRINK if `new_size` is at most `old_size`.
+// BB_ALIGNMENT_FAILURE if `new_align` is greater than `old_align`. BB_MORE_THAN_RESERVED if
+// `new_size` is greater than what is reserved.
+//
+// Codes, in order: BB_UNINITIALIZED, BB_INVALID_LAYOUT, BB_NOT_HELD, BB_LAYOUT_MISMATCH,
+// BB_GROW_WOULD_SHRINK, BB_ALIGNMENT_FAILURE, BB_MORE_THAN_RESERVED.
+BB_MUST_USE bb_chunk bb_one_chunk_grow(bb_one_chunk *one, bb_address place, size_t old_size,
                                        size_t old_align, size_t new_size, size_t new_align);
 
-// Shrinks the chunk at this place, which it keeps, to exactly the new size, which may be 0. The old
-// size is the host's word, and is compared with the new one and with what is reserved. The errors,
-// in this order: BB_UNINITIALIZED; BB_INVALID_LAYOUT of either layout; BB_NOT_HELD;
-// BB_LAYOUT_MISMATCH; BB_SHRINK_WOULD_GROW; BB_ALIGNMENT_FAILURE if the new alignment is greater
-// than the old one.
-BB_MUST_USE bb_chunk bb_one_chunk_shrink(bb_one_chunk *, bb_address place, size_t old_size,
+// Shrinks the chunk at `place` to exactly `new_size` bytes, which may be 0.
+//
+// `old_size` and `old_align` are the chunk's layout before the call, `new_size` and `new_align` the
+// one that it has to fit now. The host vouches for `old_size`: it is only compared with `new_size`
+// and with what is reserved, which doesn't change.
+//
+// Returns the place of the chunk, which doesn't change. BB_INVALID_LAYOUT if either layout is
+// invalid. BB_NOT_HELD if the chunk in use doesn't begin at `place`. BB_LAYOUT_MISMATCH if `place`
+// is not a multiple of `old_align`, or if `old_size` is greater than what is reserved.
+// BB_SHRINK_WOULD_GROW if `new_size` is at least `old_size`. BB_ALIGNMENT_FAILURE if `new_align` is
+// greater than `old_align`.
+//
+// Codes, in order: BB_UNINITIALIZED, BB_INVALID_LAYOUT, BB_NOT_HELD, BB_LAYOUT_MISMATCH,
+// BB_SHRINK_WOULD_GROW, BB_ALIGNMENT_FAILURE.
+BB_MUST_USE bb_chunk bb_one_chunk_shrink(bb_one_chunk *one, bb_address place, size_t old_size,
                                          size_t old_align, size_t new_size, size_t new_align);
 
-// Returns 1 if the chunk that is in use begins at this place, otherwise 0.
-bb_number bb_one_chunk_holds(bb_one_chunk *, bb_address place);
+// Returns 1 if the chunk in use begins at `place`, otherwise 0.
+//
+// Codes, in order: BB_UNINITIALIZED.
+bb_number bb_one_chunk_holds(bb_one_chunk *one, bb_address place);
 
-// Returns how many bytes are reserved for the chunk at this place: all of the region from the place
-// on, which is what an allocated or a grown chunk has. BB_NOT_HELD.
-bb_number bb_one_chunk_reserved(bb_one_chunk *, bb_address place);
+// Returns how many bytes are reserved for the chunk at `place`: the region from `place` on. A chunk
+// has that many bytes after it was allocated or grown.
+//
+// BB_NOT_HELD if the chunk in use doesn't begin at `place`.
+//
+// Codes, in order: BB_UNINITIALIZED, BB_NOT_HELD.
+bb_number bb_one_chunk_reserved(bb_one_chunk *one, bb_address place);
 
-// The figures of a one chunk: its region, and whether no chunk is in use.
+// The figures of a one chunk.
 typedef struct bb_one_chunk_figures {
+    // Where the region begins.
     size_t start_address;
+
+    // The bytes of the region.
     size_t size;
+
+    // Whether no chunk is in use.
     bool has_chunk_available;
 } bb_one_chunk_figures;
 
-// Fills in the figures of the one chunk.
-uint32_t bb_one_chunk_info(bb_one_chunk *, bb_one_chunk_figures *);
+// Stores the figures of the one chunk in `figures`, which stays as it was if the handle is empty.
+//
+// Codes, in order: BB_UNINITIALIZED.
+uint32_t bb_one_chunk_info(bb_one_chunk *one, bb_one_chunk_figures *figures);
 
-// POOL: the region is cut into buckets of one layout. Each is a stride after the one before it.
+//
+// POOL: a region that is cut into buckets of one layout.
+//
+// Bucket 0 begins at the first multiple of the alignment in the region. Each further bucket begins
+// a stride after the one before it, and the region has a whole stride for the last one, too. A
+// chunk is at the start of its bucket.
+//
 
-// The stride of buckets of this layout: the size rounded up to the alignment. Nothing is tested,
-// and with constants it is a constant.
+// The stride of buckets of `size` bytes at multiples of `align`: the size rounded up to the
+// alignment. Nothing is tested. With constants it is a constant.
 #define BB_STRIDE(size, align) \
     ((BB_SIZE(size) + (BB_SIZE(align) - 1)) / BB_SIZE(align) * BB_SIZE(align))
 
-// The bytes of a region for this number of buckets, if it starts at a multiple of the alignment;
-// for another start add the alignment less 1. Nothing is tested, and with constants it is a
-// constant.
+// The bytes of a region for this number of buckets, if the region starts at a multiple of `align`;
+// for any other start add `align` less 1. Nothing is tested. With constants it is a constant, as
+// for `static unsigned char region[BB_BYTES_FOR(48, 8, 16)]`.
 #define BB_BYTES_FOR(size, align, buckets) (BB_STRIDE(size, align) * BB_SIZE(buckets))
 
-// Returns BB_BYTES_FOR of numbers that are known only at run time: 0 if they make no bucket, or if
-// it is more than PTRDIFF_MAX.
+// Returns BB_BYTES_FOR of numbers that are known only at run time, or 0 if the numbers make no
+// bucket or if the result is greater than PTRDIFF_MAX.
 static inline size_t bb_bytes_for(size_t size, size_t align, uint32_t buckets) {
     const size_t most = BB_SIZE(PTRDIFF_MAX);
     if (size == 0 || align == 0 || (align & (align - 1)) != 0 || size > most - (align - 1))
@@ -376,319 +602,652 @@ static inline size_t bb_bytes_for(size_t size, size_t align, uint32_t buckets) {
     return buckets > most / BB_STRIDE(size, align) ? 0 : BB_BYTES_FOR(size, align, buckets);
 }
 
-// Makes a pool over the region of `size` bytes at `start`, with as many buckets as it has room for.
-// A host that wants fewer buckets passes a smaller size. BB_INVALID_ARGUMENT if the start is 0, if
-// start plus size or the start rounded up to the alignment exceeds SIZE_MAX, if the bucket's size
+// Makes a pool in an empty handle, over the region of `size` bytes at `start`, with as many buckets
+// as the region has room for. A host that wants fewer buckets passes a smaller size.
+//
+// Each bucket has `bucket_size` bytes and begins at a multiple of `bucket_align`.
+//
+// BB_INVALID_LAYOUT if these two are not a valid layout. BB_INVALID_ARGUMENT if `start` is 0, if
+// `start` plus `size`, or `start` rounded up to `bucket_align`, exceeds SIZE_MAX, if `bucket_size`
 // is 0, or if there is room for UINT32_MAX buckets or more. BB_NO_BUCKET if there is room for none.
-BB_MUST_USE uint32_t bb_pool_init(bb_pool *, size_t bucket_size, size_t bucket_align,
+//
+// Codes, in order: BB_ALREADY_INITIALIZED, BB_INVALID_LAYOUT, BB_INVALID_ARGUMENT, BB_NO_BUCKET,
+// BB_MALLOC_REFUSED.
+BB_MUST_USE uint32_t bb_pool_init(bb_pool *pool, size_t bucket_size, size_t bucket_align,
                                   bb_place start, size_t size);
 
-// Frees the pool's memory.
-uint32_t bb_pool_destroy(bb_pool *);
+// Frees the pool's memory and empties the handle.
+//
+// Codes, in order: BB_UNINITIALIZED.
+uint32_t bb_pool_destroy(bb_pool *pool);
 
-// Gives a chunk of `size` bytes in a bucket that isn't held. BB_SIZE_TOO_LARGE;
-// BB_ALIGNMENT_FAILURE; BB_OUT_OF_MEMORY if every bucket is held.
-BB_MUST_USE bb_chunk bb_pool_allocate(bb_pool *, size_t size, size_t align);
+// Allocates `size` bytes at a multiple of `align`, in a bucket that isn't held. Any free bucket may
+// be taken.
+//
+// Returns the place of the chunk. BB_SIZE_TOO_LARGE or BB_ALIGNMENT_FAILURE if a bucket can't have
+// such a chunk. BB_OUT_OF_MEMORY if every bucket is held.
+//
+// Codes, in order: BB_UNINITIALIZED, BB_INVALID_LAYOUT, BB_SIZE_TOO_LARGE, BB_ALIGNMENT_FAILURE,
+// BB_OUT_OF_MEMORY.
+BB_MUST_USE bb_chunk bb_pool_allocate(bb_pool *pool, size_t size, size_t align);
 
-// Gives a whole bucket, as a request of a bucket's own size and alignment does. BB_OUT_OF_MEMORY if
-// every bucket is held.
-BB_MUST_USE bb_chunk bb_pool_take(bb_pool *);
+// Allocates a whole bucket. Any free bucket may be taken.
+//
+// Returns the place of the bucket. BB_OUT_OF_MEMORY if every bucket is held.
+//
+// Codes, in order: BB_UNINITIALIZED, BB_OUT_OF_MEMORY.
+BB_MUST_USE bb_chunk bb_pool_take(bb_pool *pool);
 
-// Takes back the bucket that begins at this place. BB_NOT_HELD.
-uint32_t bb_pool_deallocate(bb_pool *, bb_address place);
+// Takes back the bucket that begins at `place`. Any place may be passed.
+//
+// BB_NOT_HELD if no held bucket begins there.
+//
+// Codes, in order: BB_UNINITIALIZED, BB_NOT_HELD.
+uint32_t bb_pool_deallocate(bb_pool *pool, bb_address place);
 
-// Returns 1 if a held bucket begins at this place, otherwise 0.
-bb_number bb_pool_holds(bb_pool *, bb_address place);
+// Returns 1 if a held bucket begins at `place`, otherwise 0.
+//
+// Codes, in order: BB_UNINITIALIZED.
+bb_number bb_pool_holds(bb_pool *pool, bb_address place);
 
-// The figures of a pool. The start is that of bucket 0: the region's start rounded up to the
-// bucket's alignment. The size is the region's, as it was passed. `greatest_held` is the greatest
-// number of buckets that were held at one time so far.
+// The figures of a pool.
 typedef struct bb_pool_figures {
+    // Where bucket 0 begins: the region's start rounded up to the alignment.
     size_t start_address;
+
+    // The bytes of the region, as `init` got them.
     size_t size;
+
+    // The bytes of a bucket.
     size_t bucket_size;
+
+    // The alignment of a bucket.
     size_t max_alignment;
+
+    // How many buckets the pool has.
     size_t number_of_buckets;
+
+    // How many buckets are held now.
     size_t held_buckets;
+
+    // The greatest number of buckets that were held at one time so far.
     size_t greatest_held;
 } bb_pool_figures;
 
-// Fills in the figures of the pool.
-uint32_t bb_pool_info(bb_pool *, bb_pool_figures *);
+// Stores the figures of the pool in `figures`, which stays as it was if the handle is empty.
+//
+// Codes, in order: BB_UNINITIALIZED.
+uint32_t bb_pool_info(bb_pool *pool, bb_pool_figures *figures);
 
-// Returns where the bucket of this number begins, from 0 on, held or not. BB_NOT_A_BUCKET. A
-// process that maps the region at another address reads bucket n at its bucket 0 plus n *
-// BB_STRIDE(bucket_size, bucket_align). If the alignment is greater than a page, bucket 0 is as far
-// after the mapping's start as in the first process.
-bb_number bb_pool_place_at(const bb_pool *, uint32_t number);
+// Returns where the bucket of this number begins, held or not. Buckets count from 0.
+//
+// A process that maps the region at another address reads bucket n at its own bucket 0 plus n *
+// BB_STRIDE(bucket_size, bucket_align); it has no pool of its own over the region. If the alignment
+// is greater than a page, its bucket 0 is as far after the mapping's start as in the first process.
+//
+// BB_NOT_A_BUCKET if the pool has no bucket of this number.
+//
+// Codes, in order: BB_UNINITIALIZED, BB_NOT_A_BUCKET.
+bb_chunk bb_pool_place_at(const bb_pool *pool, uint32_t number);
 
-// Returns the number of the bucket that begins at this place, held or not. BB_NOT_A_BUCKET.
-bb_number bb_pool_number_at(const bb_pool *, bb_address place);
+// Returns the number of the bucket that begins at `place`, held or not. Any place may be passed.
+//
+// BB_NOT_A_BUCKET if no bucket begins there.
+//
+// Codes, in order: BB_UNINITIALIZED, BB_NOT_A_BUCKET.
+bb_number bb_pool_number_at(const bb_pool *pool, bb_address place);
 
-// Makes a pool as `bb_pool_init` does, and returns BB_NO_BUCKET also if there is room for less than
-// `buckets`. Refused, the handle is empty.
+// Makes a pool in an empty handle, over the region of `size` bytes at `start`, if the region has
+// room for at least `buckets` buckets. The pool has as many buckets as there is room for. A start
+// that isn't a multiple of `bucket_align` may cost a bucket.
+//
+// Each bucket has `bucket_size` bytes and begins at a multiple of `bucket_align`.
+//
+// BB_INVALID_LAYOUT if these two are not a valid layout. BB_INVALID_ARGUMENT if `start` is 0, if
+// `start` plus `size`, or `start` rounded up to `bucket_align`, exceeds SIZE_MAX, if `bucket_size`
+// is 0, or if there is room for UINT32_MAX buckets or more. BB_NO_BUCKET if there is room for none,
+// or for less than `buckets`. An empty handle stays empty if the call is refused.
+//
+// Codes, in order: BB_ALREADY_INITIALIZED, BB_INVALID_LAYOUT, BB_INVALID_ARGUMENT, BB_NO_BUCKET (no
+// room for one), BB_MALLOC_REFUSED, BB_NO_BUCKET (less than `buckets`).
 BB_MUST_USE static inline uint32_t bb_pool_init_at_least(bb_pool *pool, size_t bucket_size,
                                                          size_t bucket_align, bb_place start,
                                                          size_t size, uint32_t buckets) {
-    bb_pool_figures info;
+    bb_pool_figures figures;
     uint32_t code = bb_pool_init(pool, bucket_size, bucket_align, start, size);
     if (code != BB_OK)
         return code;
-    if (bb_pool_info(pool, &info) == BB_OK && info.number_of_buckets >= buckets)
+    if (bb_pool_info(pool, &figures) == BB_OK && figures.number_of_buckets >= buckets)
         return BB_OK;
     bb_pool_destroy(pool);
     return BB_NO_BUCKET;
 }
 
-// PARTIES: what threads share is initialized for some number of parties. `join` makes a party in a
-// handle of its own, for one thread at a time, and `leave` ends it, so that it can join again. No
-// call of a party waits for another. One thread at a time calls `join`, `join_number`, `leave`,
-// `forget`, `reset` or `destroy` of what is shared; parties may be used meanwhile. The shared
-// object stays as long as its own handle or one of its parties does.
+#ifndef BB_PLACES_ARE_NUMBERS
+// Allocates a whole bucket, for hosts that want only a pointer. Any free bucket may be taken.
+//
+// Returns the place of the bucket, or NULL if every bucket is held or if the handle is empty.
+// `bb_pool_deallocate` returns the bucket. Compilers may assume that no pointer is stored in the
+// bucket yet: a host that reads what an earlier holder left there calls `bb_pool_take`.
+BB_MUST_USE __attribute__((malloc)) static inline void *bb_pool_get(bb_pool *pool) {
+    return bb_pool_take(pool).place;
+}
+#endif
 
-// Makes a bump that threads share, for this number of parties. BB_INVALID_ARGUMENT if the start is
-// 0, if start plus size exceeds SIZE_MAX, or if there is no party.
-BB_MUST_USE uint32_t bb_shared_bump_init(bb_shared_bump *, bb_place start, size_t size,
+//
+// PARTIES: what threads share.
+//
+// A shared bump or pool is made for some number of parties. `join` makes a party in a handle of its
+// own, for one thread at a time. `leave` ends it, and it can join again. No call of a party waits
+// for another thread.
+//
+// Only one thread at a time calls `join`, `join_number`, `leave`, `forget`, `reset`, `destroy` or
+// `abandon` of what is shared. Parties may be used meanwhile.
+//
+
+//
+// SHARED BUMP: a bump for threads.
+//
+
+// Makes a shared bump in an empty handle, over the region of `size` bytes at `start`, for this
+// number of parties. None of them has joined.
+//
+// BB_INVALID_ARGUMENT if `start` is 0, if `start` plus `size` exceeds SIZE_MAX, or if `parties` is
+// 0.
+//
+// Codes, in order: BB_ALREADY_INITIALIZED, BB_INVALID_ARGUMENT, BB_MALLOC_REFUSED.
+BB_MUST_USE uint32_t bb_shared_bump_init(bb_shared_bump *bump, bb_place start, size_t size,
                                          uint32_t parties);
 
-// Empties the handle. The bump itself is freed once no party is left in it.
-uint32_t bb_shared_bump_destroy(bb_shared_bump *);
+// Frees the memory of the shared bump and empties the handle, if no party is joined.
+//
+// BB_PARTIES_JOINED if a party has joined and not left, and for good if one was abandoned. Then
+// nothing changes, and `bb_shared_bump_abandon` is the call that is left.
+//
+// Codes, in order: BB_UNINITIALIZED, BB_PARTIES_JOINED.
+uint32_t bb_shared_bump_destroy(bb_shared_bump *bump);
 
-// Makes a party that hasn't joined join. BB_ALREADY_INITIALIZED if the party's handle isn't empty,
-// and before any other error; BB_NO_PARTY; BB_MALLOC_REFUSED.
-BB_MUST_USE uint32_t bb_shared_bump_join(bb_shared_bump *, bb_bump_party *);
+// Empties the handle without looking at parties, for a host that gives up everything. Parties that
+// have joined stay usable, but can't leave. The bump exists, and its memory stays, until each of
+// them was abandoned: until then no other shared bump has the same start (rule 5).
+//
+// Codes, in order: BB_UNINITIALIZED.
+uint32_t bb_shared_bump_abandon(bb_shared_bump *bump);
 
-// Ends a party, whose handle is empty then. What it took stays used. BB_OTHER_POOL.
-uint32_t bb_shared_bump_leave(bb_shared_bump *, bb_bump_party *);
+// Makes a party that hasn't joined join, in the empty handle `party`.
+//
+// BB_ALREADY_INITIALIZED if `party` isn't empty, BB_UNINITIALIZED if `bump` is. BB_NO_PARTY if each
+// party has joined or was abandoned.
+//
+// Codes, in order: BB_ALREADY_INITIALIZED, BB_UNINITIALIZED, BB_NO_PARTY, BB_MALLOC_REFUSED.
+BB_MUST_USE uint32_t bb_shared_bump_join(bb_shared_bump *bump, bb_bump_party *party);
 
-// Starts again over the region, with as many parties, none of which has joined: the host uses no
-// chunk that was given before. BB_PARTIES_JOINED if not each party has left, for good if one was
-// destroyed; BB_MALLOC_REFUSED.
-BB_MUST_USE uint32_t bb_shared_bump_reset(bb_shared_bump *);
+// Ends a party of this bump and empties its handle. The party can join again. The chunks that it
+// allocated stay used.
+//
+// BB_UNINITIALIZED if either handle is empty. BB_OTHER_POOL if the party belongs to another bump.
+//
+// Codes, in order: BB_UNINITIALIZED, BB_OTHER_POOL.
+uint32_t bb_shared_bump_leave(bb_shared_bump *bump, bb_bump_party *party);
 
-// Destroys a party that hasn't left. It can't join again, and what it took stays used.
-uint32_t bb_bump_party_destroy(bb_bump_party *);
+// Starts again over the same region, with the same number of parties, none of which has joined. All
+// chunks are taken back: the host uses none that was allocated before.
+//
+// BB_PARTIES_JOINED if a party has joined and not left, and for good if one was abandoned. If the
+// call is refused, the bump stays as it was.
+//
+// Codes, in order: BB_UNINITIALIZED, BB_PARTIES_JOINED, BB_MALLOC_REFUSED.
+BB_MUST_USE uint32_t bb_shared_bump_reset(bb_shared_bump *bump);
 
-// Gives a chunk as `bb_bump_allocate` does.
-BB_MUST_USE bb_chunk bb_bump_party_allocate(bb_bump_party *, size_t size, size_t align);
+// Empties the handle of a party that hasn't left. The party can't join again, and the chunks that
+// it allocated stay used. The bump can be neither reset nor destroyed from then on.
+//
+// Codes, in order: BB_UNINITIALIZED.
+uint32_t bb_bump_party_abandon(bb_bump_party *party);
 
-// Fills in the figures of the bump as `bb_bump_info` does: one load finds what is used.
-uint32_t bb_bump_party_info(bb_bump_party *, bb_bump_figures *);
+// Allocates exactly `size` bytes at the least multiple of `align` after what is used.
+//
+// Returns the place of the chunk. BB_OUT_OF_MEMORY if the chunk would end after the region.
+//
+// Codes, in order: BB_UNINITIALIZED, BB_INVALID_LAYOUT, BB_SIZE_IS_ZERO, BB_OUT_OF_MEMORY.
+BB_MUST_USE bb_chunk bb_bump_party_allocate(bb_bump_party *party, size_t size, size_t align);
 
-// SHARED POOL: a bucket is given back through the party that holds it, which took or attached it. A
-// return comes before the next taking (the steps are sequentially consistent), so the bucket's
-// bytes need no further lock. ThreadSanitizer doesn't see the library's steps: tell it by
-// `__tsan_release` before a return and `__tsan_acquire` after a taking
-// (examples/c/thread_sanitizer.h).
+// Stores the figures of the party's bump in `figures`, which stays as it was if the handle is
+// empty. One load finds what is used.
+//
+// Codes, in order: BB_UNINITIALIZED.
+uint32_t bb_bump_party_info(bb_bump_party *party, bb_bump_figures *figures);
 
-// Makes a pool that threads share, for this number of parties. Refused as `bb_pool_init`, with
-// BB_INVALID_ARGUMENT also if there is no party.
-BB_MUST_USE uint32_t bb_shared_pool_init(bb_shared_pool *, size_t bucket_size, size_t bucket_align,
-                                         bb_place start, size_t size, uint32_t parties);
+//
+// SHARED POOL: a pool for threads.
+//
+// A bucket is returned through the party that holds it, which took it or attached it. A return
+// comes before the bucket's next taking (the steps are sequentially consistent), so the bytes of a
+// bucket need no further lock.
+//
+// Each bucket has a flag, which says that it is free, or which party holds it or has detached it. A
+// bucket that a party caches counts as held. Calls that look at each bucket say that they take time
+// by the number of buckets.
+//
 
-// Empties the handle. The pool itself is freed once no party is left in it.
-uint32_t bb_shared_pool_destroy(bb_shared_pool *);
+// Makes a shared pool in an empty handle, over the region of `size` bytes at `start`, for this
+// number of parties. None of them has joined. The pool has as many buckets as the region has room
+// for. A host that wants fewer buckets passes a smaller size.
+//
+// Each bucket has `bucket_size` bytes and begins at a multiple of `bucket_align`.
+//
+// BB_INVALID_LAYOUT if these two are not a valid layout. BB_INVALID_ARGUMENT if `start` is 0, if
+// `start` plus `size`, or `start` rounded up to `bucket_align`, exceeds SIZE_MAX, if `bucket_size`
+// or `parties` is 0, or if there is room for UINT32_MAX buckets or more. BB_NO_BUCKET if there is
+// room for none.
+//
+// Codes, in order: BB_ALREADY_INITIALIZED, BB_INVALID_LAYOUT, BB_INVALID_ARGUMENT, BB_NO_BUCKET,
+// BB_MALLOC_REFUSED.
+BB_MUST_USE uint32_t bb_shared_pool_init(bb_shared_pool *pool, size_t bucket_size,
+                                         size_t bucket_align, bb_place start, size_t size,
+                                         uint32_t parties);
 
-// The figures of a shared pool. A cached or a detached bucket counts as held. `greatest_held` is
-// the greatest number that `info` found, or all if a request was refused. `refused` counts these
-// requests.
+// Frees the memory of the shared pool and empties the handle, if no party is joined and no bucket
+// is detached. It takes time by the number of buckets and of parties, and some 100 bytes of stack
+// for each party.
+//
+// BB_PARTIES_JOINED if a party has joined and not left, and for good if one was abandoned.
+// BB_BUCKET_DETACHED if a bucket is detached; a party attaches it or returns it. If the call is
+// refused, nothing changes. `bb_shared_pool_abandon` looks at neither.
+//
+// Codes, in order: BB_UNINITIALIZED, BB_PARTIES_JOINED, BB_BUCKET_DETACHED.
+uint32_t bb_shared_pool_destroy(bb_shared_pool *pool);
+
+// Empties the handle without looking at parties or buckets, for a host that gives up everything.
+// Parties that have joined stay usable, but can't leave. The pool's memory stays until each of them
+// was abandoned.
+//
+// The pool exists as long as one of its parties, or a `bb_detached` with one of its buckets, may
+// still be used: until then no other shared pool has the same start (rule 5).
+//
+// Codes, in order: BB_UNINITIALIZED.
+uint32_t bb_shared_pool_abandon(bb_shared_pool *pool);
+
+// The figures of a shared pool.
 typedef struct bb_shared_pool_figures {
-    bb_pool_figures pool;
-    size_t refused;
+    // Where bucket 0 begins: the region's start rounded up to the alignment.
+    size_t start_address;
+
+    // The bytes of the region, as `init` got them.
+    size_t size;
+
+    // The bytes of a bucket.
+    size_t bucket_size;
+
+    // The alignment of a bucket.
+    size_t max_alignment;
+
+    // How many buckets the pool has.
+    size_t number_of_buckets;
+
+    // How many buckets are held.
+    size_t held_buckets;
 } bb_shared_pool_figures;
 
-// Fills in the figures of the pool, for any thread and while parties call. Each bucket is looked
-// at, at a moment of its own.
-uint32_t bb_shared_pool_info(const bb_shared_pool *, bb_shared_pool_figures *);
+// Stores the figures of the pool in `figures`, which stays as it was if the handle is empty. Held
+// are all buckets that aren't free: held, cached or detached. Each bucket is looked at, at a moment
+// of its own, so the call takes time by the number of buckets. Any thread may call this while
+// parties are used.
+//
+// Codes, in order: BB_UNINITIALIZED.
+uint32_t bb_shared_pool_info(const bb_shared_pool *pool, bb_shared_pool_figures *figures);
 
 // The states of a bucket's flag.
 enum {
+    // The bucket is free.
     BB_FREE = 0,
+
+    // A party holds the bucket, or caches it.
     BB_HELD = 1,
+
+    // A party has detached the bucket.
     BB_DETACHED = 2
 };
 
-// What a bucket's flag says: it is free, or the party of this number holds it or has detached it.
-// The number is 0 if it is free.
+// What a bucket's flag says.
 typedef struct bb_holder {
+    // BB_FREE, BB_HELD or BB_DETACHED.
     uint32_t state;
+
+    // The number of the party that holds or has detached the bucket, or 0 if the bucket is free.
     uint32_t party;
 } bb_holder;
 
-// Fills in what the flag of the bucket of this number says, by one load, for any thread or process.
-// BB_NOT_A_BUCKET.
-uint32_t bb_shared_pool_holder(const bb_shared_pool *, uint32_t number, bb_holder *);
+// Stores in `holder` what the flag of the bucket of this number says. It is found by one load. If
+// the call is refused, `holder` stays as it was. Any thread or process may call this while parties
+// are used.
+//
+// BB_NOT_A_BUCKET if the pool has no bucket of this number.
+//
+// Codes, in order: BB_UNINITIALIZED, BB_NOT_A_BUCKET.
+uint32_t bb_shared_pool_holder(const bb_shared_pool *pool, uint32_t number, bb_holder *holder);
 
-// Makes a party that hasn't joined join. Refused as `bb_shared_bump_join`.
-BB_MUST_USE uint32_t bb_shared_pool_join(bb_shared_pool *, bb_pool_party *);
+// Makes a party that hasn't joined join, in the empty handle `party`.
+//
+// BB_ALREADY_INITIALIZED if `party` isn't empty, BB_UNINITIALIZED if `pool` is. BB_NO_PARTY if each
+// party has joined or was abandoned.
+//
+// Codes, in order: BB_ALREADY_INITIALIZED, BB_UNINITIALIZED, BB_NO_PARTY, BB_MALLOC_REFUSED.
+BB_MUST_USE uint32_t bb_shared_pool_join(bb_shared_pool *pool, bb_pool_party *party);
 
-// Makes the party of this number join. Parties count from 0, and `bb_pool_party_number` returns a
-// party's number. Refused as `bb_shared_pool_join`, with BB_NO_PARTY if this party has joined or
-// was destroyed, or if there is none of that number. If `malloc` fails, nothing changes.
-BB_MUST_USE uint32_t bb_shared_pool_join_number(bb_shared_pool *, uint32_t number, bb_pool_party *);
+// Makes the party of this number join, in the empty handle `party`. Parties count from 0, and
+// `bb_pool_party_number` returns a party's number.
+//
+// BB_ALREADY_INITIALIZED if `party` isn't empty, BB_UNINITIALIZED if `pool` is. BB_NO_PARTY if the
+// party of this number has joined or was abandoned, or if there is none.
+//
+// Codes, in order: BB_ALREADY_INITIALIZED, BB_UNINITIALIZED, BB_NO_PARTY, BB_MALLOC_REFUSED.
+BB_MUST_USE uint32_t bb_shared_pool_join_number(bb_shared_pool *pool, uint32_t number,
+                                                bb_pool_party *party);
 
-// Ends a party, whose handle is empty then, and gives back each bucket whose flag says that the
-// party holds it, cached or not, in order of their numbers. So the host uses no chunk in these any
-// more. It takes time by the number of buckets. BB_OTHER_POOL.
-uint32_t bb_shared_pool_leave(bb_shared_pool *, bb_pool_party *);
+// Ends a party of this pool and empties its handle. The party can join again. Each bucket whose
+// flag says that the party holds it, cached or not, is taken back, in the order of their numbers.
+// The host uses none of them any more. It takes time by the number of buckets.
+//
+// BB_UNINITIALIZED if either handle is empty. BB_OTHER_POOL if the party belongs to another pool.
+//
+// Codes, in order: BB_UNINITIALIZED, BB_OTHER_POOL.
+uint32_t bb_shared_pool_leave(bb_shared_pool *pool, bb_pool_party *party);
 
-// Ends a party, whose handle is empty then, and gives nothing back. No flag changes, so the next
-// party that joins by its number holds what this one held, cached or not. BB_OTHER_POOL.
-uint32_t bb_shared_pool_forget(bb_shared_pool *, bb_pool_party *);
+// Ends a party of this pool and empties its handle, and takes no bucket back. No flag changes. So
+// the next party that joins by the same number holds what this one held, cached or not.
+//
+// BB_UNINITIALIZED if either handle is empty. BB_OTHER_POOL if the party belongs to another pool.
+//
+// Codes, in order: BB_UNINITIALIZED, BB_OTHER_POOL.
+uint32_t bb_shared_pool_forget(bb_shared_pool *pool, bb_pool_party *party);
 
-// Destroys a party that hasn't left. It can't join again, and what it holds stays held for good.
-uint32_t bb_pool_party_destroy(bb_pool_party *);
+// Empties the handle of a party that hasn't left. The party can't join again, and the buckets that
+// it holds stay held for good. The pool can't be destroyed from then on.
+//
+// Codes, in order: BB_UNINITIALIZED.
+uint32_t bb_pool_party_abandon(bb_pool_party *party);
 
-// Returns the number by which flags name this party.
-bb_number bb_pool_party_number(bb_pool_party *);
+// Returns the number by which flags name this party. Parties count from 0.
+//
+// Codes, in order: BB_UNINITIALIZED.
+bb_number bb_pool_party_number(bb_pool_party *party);
 
-// Gives a chunk of `size` bytes in a bucket that isn't held, by next fit: one search from the
-// bucket that the party gave back last, otherwise mostly from the one after the bucket that it took
-// last. BB_SIZE_TOO_LARGE; BB_ALIGNMENT_FAILURE; BB_OUT_OF_MEMORY if the search found each bucket
-// held, one after the other.
-BB_MUST_USE bb_chunk bb_pool_party_allocate(bb_pool_party *, size_t size, size_t align);
+// Allocates `size` bytes at a multiple of `align`, in a bucket that isn't held. The bucket that the
+// party cached last is taken first. Without one, the call searches all buckets once, by next fit:
+// from the bucket that the party returned last, otherwise mostly from the one after the bucket that
+// it took last.
+//
+// Returns the place of the chunk. BB_SIZE_TOO_LARGE or BB_ALIGNMENT_FAILURE if a bucket can't have
+// such a chunk. BB_OUT_OF_MEMORY if the search found each bucket held, one after the other. While
+// other threads take and return buckets, they need not all have been held at one moment.
+//
+// Codes, in order: BB_UNINITIALIZED, BB_INVALID_LAYOUT, BB_SIZE_TOO_LARGE, BB_ALIGNMENT_FAILURE,
+// BB_OUT_OF_MEMORY.
+BB_MUST_USE bb_chunk bb_pool_party_allocate(bb_pool_party *party, size_t size, size_t align);
 
-// Gives a whole bucket, as a request of a bucket's own size and alignment does. BB_OUT_OF_MEMORY.
-BB_MUST_USE bb_chunk bb_pool_party_take(bb_pool_party *);
+// Allocates a whole bucket: the one that the party cached last, otherwise one that a search over
+// all buckets finds, by next fit.
+//
+// Returns the place of the bucket. BB_OUT_OF_MEMORY if the search found each bucket held, one after
+// the other.
+//
+// Codes, in order: BB_UNINITIALIZED, BB_OUT_OF_MEMORY.
+BB_MUST_USE bb_chunk bb_pool_party_take(bb_pool_party *party);
 
-// Takes up to `count` whole buckets, as that many calls of `bb_pool_party_take` do, and stores
-// their places in the first slots. Returns how many were taken: less than `count` if the next one
-// was refused, which is BB_OK still. `slots` may be NULL if `count` is 0.
-BB_MUST_USE bb_number bb_pool_party_take_many(bb_pool_party *, bb_place *slots, size_t count);
+// Allocates up to `count` whole buckets, as that many calls of `bb_pool_party_take` do, and stores
+// their places in `slots`, from the first one on. `slots` may be NULL if `count` is 0.
+//
+// Returns how many were allocated. That is less than `count` if a further one would be refused with
+// BB_OUT_OF_MEMORY, and the code is BB_OK all the same.
+//
+// Codes, in order: BB_UNINITIALIZED.
+BB_MUST_USE bb_number bb_pool_party_take_many(bb_pool_party *party, bb_place *slots, size_t count);
 
-// Takes back the bucket that begins at this place. BB_NOT_HELD if this party doesn't hold it, or
-// caches it.
-uint32_t bb_pool_party_deallocate(bb_pool_party *, bb_address place);
+// Takes back the bucket that begins at `place`. Any place may be passed.
+//
+// BB_NOT_HELD if this party doesn't hold a bucket there, or caches it.
+//
+// Codes, in order: BB_UNINITIALIZED, BB_NOT_HELD.
+uint32_t bb_pool_party_deallocate(bb_pool_party *party, bb_address place);
 
-// Takes back the buckets at these places, as that many calls of `bb_pool_party_deallocate` do, in
-// order, up to the first one that is refused. Returns how many were taken back. `places` may be
-// NULL if `count` is 0.
-bb_number bb_pool_party_deallocate_many(bb_pool_party *, const bb_place *places, size_t count);
+// Takes back the buckets at the `count` places, in their order, as that many calls of
+// `bb_pool_party_deallocate` do, up to the first one that is refused with BB_NOT_HELD. `places` may
+// be NULL if `count` is 0.
+//
+// Returns how many were taken back. The code is BB_OK, also if that is less than `count`.
+//
+// Codes, in order: BB_UNINITIALIZED.
+bb_number bb_pool_party_deallocate_many(bb_pool_party *party, const bb_place *places, size_t count);
 
-// Gives back each bucket whose flag says that the party holds it, cached or not, as `leave` does.
-// The party stays, with nothing cached.
-uint32_t bb_pool_party_give_all_back(bb_pool_party *);
+// Takes back each bucket whose flag says that this party holds it, cached or not. The party stays,
+// with nothing cached, and goes on caching what it returns from now on. It takes time by the number
+// of buckets.
+//
+// Codes, in order: BB_UNINITIALIZED.
+uint32_t bb_pool_party_give_all_back(bb_pool_party *party);
 
-// Returns 1 if a bucket that this party holds and doesn't cache begins at this place, otherwise 0.
-bb_number bb_pool_party_holds(bb_pool_party *, bb_address place);
+// Returns 1 if a bucket that this party holds and doesn't cache begins at `place`, otherwise 0.
+//
+// Codes, in order: BB_UNINITIALIZED.
+bb_number bb_pool_party_holds(bb_pool_party *party, bb_address place);
 
-// Fills in the figures of the pool, with the buckets that this party holds and doesn't cache as the
-// held ones. `greatest_held` is the greatest number of them that `info` found. It takes time by the
+// Stores the figures of the party's pool in `figures`, which stays as it was if the handle is
+// empty. Held are only the buckets that this party holds and doesn't cache. It takes time by the
 // number of buckets.
-uint32_t bb_pool_party_info(bb_pool_party *, bb_pool_figures *);
+//
+// Codes, in order: BB_UNINITIALIZED.
+uint32_t bb_pool_party_info(bb_pool_party *party, bb_shared_pool_figures *figures);
 
-// Returns where the bucket of this number begins, as `bb_pool_place_at` does. BB_NOT_A_BUCKET.
-bb_number bb_pool_party_place_at(const bb_pool_party *, uint32_t number);
+// Returns where the bucket of this number begins, held or not. Buckets count from 0.
+//
+// A process that maps the region at another address reads bucket n at its own bucket 0 plus n *
+// BB_STRIDE(bucket_size, bucket_align). If the alignment is greater than a page, its bucket 0 is as
+// far after the mapping's start as in the first process.
+//
+// BB_NOT_A_BUCKET if the pool has no bucket of this number.
+//
+// Codes, in order: BB_UNINITIALIZED, BB_NOT_A_BUCKET.
+bb_chunk bb_pool_party_place_at(const bb_pool_party *party, uint32_t number);
 
-// Returns the number of the bucket that begins at this place, as `bb_pool_number_at` does.
-// BB_NOT_A_BUCKET.
-bb_number bb_pool_party_number_at(const bb_pool_party *, bb_address place);
+// Returns the number of the bucket that begins at `place`, held or not. Any place may be passed.
+//
+// BB_NOT_A_BUCKET if no bucket begins there.
+//
+// Codes, in order: BB_UNINITIALIZED, BB_NOT_A_BUCKET.
+bb_number bb_pool_party_number_at(const bb_pool_party *party, bb_address place);
 
-// Has the party cache at most `most` of the buckets that it gives back from now on. Its next
-// requests take the one cached last, without an atomic step. Other parties find a cached bucket
-// held. What was cached before is given back first, as by `flush`. It takes time by the number of
-// buckets. BB_MALLOC_REFUSED.
-BB_MUST_USE uint32_t bb_pool_party_cache(bb_pool_party *, uint32_t most);
+// Has the party cache at most `most` of the buckets that it returns from now on, and never more
+// than the pool has. The party takes the one that it cached last without an atomic step. For other
+// parties a cached bucket is held, so give the pool more buckets than its parties may cache in all.
+// 0 ends caching. What the party cached before is given back first. It takes time by the number of
+// buckets.
+//
+// Codes, in order: BB_UNINITIALIZED, BB_MALLOC_REFUSED.
+BB_MUST_USE uint32_t bb_pool_party_cache(bb_pool_party *party, uint32_t most);
 
-// Gives back what the party caches.
-uint32_t bb_pool_party_flush(bb_pool_party *);
+// Gives back the buckets that the party caches. It goes on caching what it returns from now on.
+//
+// Codes, in order: BB_UNINITIALIZED.
+uint32_t bb_pool_party_flush(bb_pool_party *party);
 
-// Makes a pool as `bb_shared_pool_init` does, and returns BB_NO_BUCKET also if there is room for
-// less than `buckets`. Refused, the handle is empty.
+// Makes a shared pool in an empty handle, over the region of `size` bytes at `start`, for this
+// number of parties, if the region has room for at least `buckets` buckets. None of the parties has
+// joined. The pool has as many buckets as there is room for. A start that isn't a multiple of
+// `bucket_align` may cost a bucket.
+//
+// Each bucket has `bucket_size` bytes and begins at a multiple of `bucket_align`.
+//
+// BB_INVALID_LAYOUT if these two are not a valid layout. BB_INVALID_ARGUMENT if `start` is 0, if
+// `start` plus `size`, or `start` rounded up to `bucket_align`, exceeds SIZE_MAX, if `bucket_size`
+// or `parties` is 0, or if there is room for UINT32_MAX buckets or more. BB_NO_BUCKET if there is
+// room for none, or for less than `buckets`. An empty handle stays empty if the call is refused.
+//
+// Codes, in order: BB_ALREADY_INITIALIZED, BB_INVALID_LAYOUT, BB_INVALID_ARGUMENT, BB_NO_BUCKET (no
+// room for one), BB_MALLOC_REFUSED, BB_NO_BUCKET (less than `buckets`).
 BB_MUST_USE static inline uint32_t bb_shared_pool_init_at_least(bb_shared_pool *pool,
                                                                 size_t bucket_size,
                                                                 size_t bucket_align, bb_place start,
                                                                 size_t size, uint32_t parties,
                                                                 uint32_t buckets) {
-    bb_shared_pool_figures info;
+    bb_shared_pool_figures figures;
     uint32_t code = bb_shared_pool_init(pool, bucket_size, bucket_align, start, size, parties);
     if (code != BB_OK)
         return code;
-    if (bb_shared_pool_info(pool, &info) == BB_OK && info.pool.number_of_buckets >= buckets)
+    if (bb_shared_pool_info(pool, &figures) == BB_OK && figures.number_of_buckets >= buckets)
         return BB_OK;
     bb_shared_pool_destroy(pool);
     return BB_NO_BUCKET;
 }
 
-// DETACHED BUCKETS: in a pool of two parties or more a party detaches a bucket that it holds. No
-// party holds the bucket then, and another party of the same pool attaches it, in any thread, and
-// gives it back, as the receiver of a message does (examples/c/returns.c). The bucket goes either
-// in a `bb_detached` or by its number. No call takes memory but `init`.
-
-// Makes a `bb_detached` with no bucket in it. It serves one bucket after another, of any pool.
-BB_MUST_USE uint32_t bb_detached_init(bb_detached *);
-
-// Frees the memory of the `bb_detached`. A bucket that is in it stays detached. A `bb_detached`
-// keeps no pool: if the pool of the bucket that is in it has ended, this is the call that is left.
-uint32_t bb_detached_destroy(bb_detached *);
-
-// Returns the length of the chunk with which the bucket in it was detached. BB_DETACHED_EMPTY.
-bb_number bb_detached_len(bb_detached *);
-
-// Has the bucket wait for this number of readers (examples/c/pubsub.c): until each has released it,
-// no party attaches it. BB_DETACHED_EMPTY; BB_INVALID_ARGUMENT if there is no reader;
-// BB_READERS_LEFT.
-BB_MUST_USE uint32_t bb_detached_share(bb_detached *, uint32_t readers);
-
-// Releases the bucket for one reader, and returns how many readers are left. The last one, for
-// which that is 0, sees to the attach. BB_NO_READER.
-BB_MUST_USE bb_number bb_detached_release(bb_detached *);
-
-// Detaches the bucket at this place, with a chunk of `len` bytes, into the `bb_detached`.
-// BB_ONE_PARTY; BB_NOT_HELD if this party doesn't hold the bucket, or caches it; BB_SIZE_TOO_LARGE
-// if `len` is greater than a bucket's size; BB_DETACHED_FULL.
-BB_MUST_USE uint32_t bb_pool_party_detach(bb_pool_party *, bb_address place, size_t len,
-                                          bb_detached *);
-
-// Attaches the bucket that is in the `bb_detached`, which has none then: this party holds the
-// bucket. BB_DETACHED_EMPTY; BB_OTHER_POOL; BB_READERS_LEFT.
-BB_MUST_USE bb_chunk bb_pool_party_attach(bb_pool_party *, bb_detached *);
-
-// Gives back the bucket that is in the `bb_detached`, which has none then, by one store and without
-// a holder. Refused as `bb_pool_party_attach`.
-uint32_t bb_pool_party_return_detached(bb_pool_party *, bb_detached *);
-
-// Gives back the bucket of this number, which was detached into a `bb_detached`. `bb_lost lost =
-// BB_LOST;` says that nobody has or will use that `bb_detached`, as that of a dead process. The call
-// empties the `bb_lost`, also if it is refused for the bucket, and calls `free` with NULL.
-// BB_UNINITIALIZED if either handle is empty, and then both stay as they were; BB_NOT_A_BUCKET;
-// BB_NOT_HELD if the bucket isn't detached, or was detached by its number.
+#ifndef BB_PLACES_ARE_NUMBERS
+// Allocates a whole bucket, for hosts that want only a pointer: the bucket that the party cached
+// last, otherwise one that a search over all buckets finds, by next fit.
 //
-// A process that died in `bb_pool_party_return_detached`, or in this call, may have given the bucket
-// back already. Another party may have taken and detached it since. `bb_shared_pool_holder` can't
-// tell that, and this call would free that party's message.
-uint32_t bb_pool_party_recover(bb_pool_party *, uint32_t number, bb_lost *);
+// Returns the place of the bucket, or NULL if the search found each bucket held, one after the
+// other, or if the handle is empty. `bb_pool_party_deallocate` returns the bucket. Compilers may
+// assume that no pointer is stored in the bucket yet: a host that reads what an earlier holder left
+// there calls `bb_pool_party_take`.
+BB_MUST_USE __attribute__((malloc)) static inline void *bb_pool_party_get(bb_pool_party *party) {
+    return bb_pool_party_take(party).place;
+}
+#endif
 
-// Detaches the bucket at this place by its number, which is returned. The number goes to another
-// party in any way, with this party's own number, and that party attaches the bucket by them.
-// BB_ONE_PARTY; BB_NOT_HELD if this party doesn't hold the bucket, or caches it.
-BB_MUST_USE bb_number bb_pool_party_detach_number(bb_pool_party *, bb_address place);
-
-// Attaches the bucket of this number if the party of number `from` has detached it by its number,
-// and returns its place: this party holds the bucket then. It is one exchange of the bucket's flag,
-// so of any number of callers at most one gets the bucket. Any two numbers may be passed.
-// BB_NOT_A_BUCKET; BB_NOT_HELD if the flag says anything else, as of a bucket that is in a
-// `bb_detached`.
-BB_MUST_USE bb_chunk bb_pool_party_attach_number(bb_pool_party *, uint32_t number, uint32_t from);
-
-// PROCESSES share a pool as threads do if the region and the library's memory (`bb_use_memory`) lie
-// in a mapping that all have at one address: one that `fork` copies (examples/c/workers.c), or one
-// of a file (processes.c there). All of them have one version of the library. Versions 1.0 and 1.1
-// must not share a pool: the flag of a bucket that is in a `bb_detached` has another value, which
-// the other version doesn't know.
 //
-// A handle is copied by `fork` or lies in the mapping; one process at a time uses it. A process may
-// be killed at any instruction but in a call that takes or frees memory: `init`, `join`,
-// `join_number`, `leave`, `forget`, `cache`, `recover`, `reset` or `destroy`. Another process then
-// leaves for its party: exactly what the party held is free again.
+// DETACHED BUCKETS: a bucket that goes from one party to another.
 //
-// `leave` trusts the pool's words, and of what the party's handle owns only what never changes:
-// where the pool and the cache lie, and the party's number. All else there may be torn, as may be a
-// `bb_detached` that the dead process was in a call with: destroy it. Its bucket is held by the
-// dead party until that leaves, or still detached: ask `holder` before, and `recover` it. After a
-// `return_detached` it may be another's.
+// In a pool of two parties or more, a party detaches a bucket that it holds. No party holds the
+// bucket then. Any party of the same pool attaches it, in any thread, and holds it then. So the
+// receiver of a message returns its bucket (examples/c/returns.c).
+//
+// A bucket goes either in a `bb_detached`, which is itself a handle, or by its number, which the
+// host may pass in any way. Several threads may read a detached bucket; the host counts them, and
+// the last one attaches or returns it (examples/c/pubsub.c). Only `bb_detached_init` takes memory.
+//
+
+// Makes a `bb_detached` in an empty handle, with no bucket in it. It serves one bucket after
+// another, of any pool.
+//
+// Codes, in order: BB_ALREADY_INITIALIZED, BB_MALLOC_REFUSED.
+BB_MUST_USE uint32_t bb_detached_init(bb_detached *detached);
+
+// Frees the memory of the `bb_detached` and empties the handle. A bucket that is in it stays
+// detached, and then its pool can't be destroyed. A `bb_detached` doesn't keep a pool: if the pool
+// was abandoned and its parties are gone, this is the only call that is left.
+//
+// Codes, in order: BB_UNINITIALIZED.
+uint32_t bb_detached_destroy(bb_detached *detached);
+
+// Returns the bytes of the chunk with which the bucket that is in it was detached.
+//
+// BB_DETACHED_EMPTY if no bucket is in it.
+//
+// Codes, in order: BB_UNINITIALIZED, BB_DETACHED_EMPTY.
+bb_number bb_detached_len(bb_detached *detached);
+
+// Detaches the bucket at `place`, with a chunk of `len` bytes, into `detached`.
+//
+// BB_UNINITIALIZED if either handle is empty. BB_ONE_PARTY if the pool has no other party.
+// BB_NOT_HELD if this party doesn't hold a bucket at `place`, or caches it. BB_SIZE_TOO_LARGE if
+// `len` is greater than a bucket's size. BB_DETACHED_FULL if a bucket is in `detached` already.
+//
+// Codes, in order: BB_UNINITIALIZED, BB_ONE_PARTY, BB_NOT_HELD, BB_SIZE_TOO_LARGE,
+// BB_DETACHED_FULL.
+BB_MUST_USE uint32_t bb_pool_party_detach(bb_pool_party *party, bb_address place, size_t len,
+                                          bb_detached *detached);
+
+// Attaches the bucket that is in `detached`: this party holds it then, and `detached` has none.
+//
+// Returns the place of the chunk; `bb_detached_len` returns its length before the call.
+// BB_UNINITIALIZED if either handle is empty. BB_OTHER_POOL if the bucket belongs to another pool.
+//
+// Codes, in order: BB_UNINITIALIZED, BB_DETACHED_EMPTY, BB_OTHER_POOL.
+BB_MUST_USE bb_chunk bb_pool_party_attach(bb_pool_party *party, bb_detached *detached);
+
+// Gives back the bucket that is in `detached`, which has none then. It is one store, and no party
+// holds the bucket in between.
+//
+// BB_UNINITIALIZED if either handle is empty. BB_OTHER_POOL if the bucket belongs to another pool.
+//
+// Codes, in order: BB_UNINITIALIZED, BB_DETACHED_EMPTY, BB_OTHER_POOL.
+uint32_t bb_pool_party_return_detached(bb_pool_party *party, bb_detached *detached);
+
+// Gives back the bucket of this number, which was detached into a `bb_detached` that is lost, as
+// that of a dead process. `bb_lost lost = BB_LOST;` is the host's word that nobody has or will use
+// that `bb_detached`. If the party's handle and `lost` aren't empty, the call empties `lost`, also
+// if it is refused, and calls `free` with NULL.
+//
+// BB_UNINITIALIZED if either handle is empty, and then both stay as they were. BB_NOT_A_BUCKET if
+// the pool has no bucket of this number. BB_NOT_HELD if the bucket isn't detached, or was detached
+// by its number.
+//
+// A process that died in `bb_pool_party_return_detached`, or in this call, may have given the
+// bucket back already, and another party may have taken it and detached it since. Neither this call
+// nor `bb_shared_pool_holder` can find that out, and this call would free that party's message.
+//
+// Codes, in order: BB_UNINITIALIZED, BB_NOT_A_BUCKET, BB_NOT_HELD.
+uint32_t bb_pool_party_recover(bb_pool_party *party, uint32_t number, bb_lost *lost);
+
+// Detaches the bucket at `place` by its number. The host passes the number to another party, with
+// the number of this party, and that one attaches the bucket by these two numbers.
+//
+// Returns the bucket's number. BB_ONE_PARTY if the pool has no other party. BB_NOT_HELD if this
+// party doesn't hold a bucket at `place`, or caches it.
+//
+// Codes, in order: BB_UNINITIALIZED, BB_ONE_PARTY, BB_NOT_HELD.
+BB_MUST_USE bb_number bb_pool_party_detach_number(bb_pool_party *party, bb_address place);
+
+// Attaches the bucket of this number if the party of number `from` has detached it by its number:
+// this party holds it then. It is one exchange of the bucket's flag, so of any number of callers at
+// most one gets the bucket. Any two numbers may be passed.
+//
+// Returns the place of the bucket. BB_NOT_A_BUCKET if the pool has no bucket of this number.
+// BB_NOT_HELD if the flag says anything else, also if the bucket is in a `bb_detached`.
+//
+// Codes, in order: BB_UNINITIALIZED, BB_NOT_A_BUCKET, BB_NOT_HELD.
+BB_MUST_USE bb_chunk bb_pool_party_attach_number(bb_pool_party *party, uint32_t number,
+                                                 uint32_t from);
+
+//
+// PROCESSES share a pool as threads do, under these conditions:
+//
+// - The region and the library's memory (`bb_use_memory`) lie in a mapping that all processes have
+//   at one address: one that `fork` copies (examples/c/workers.c), or one of a file
+//   (examples/c/processes.c).
+// - All processes have one version of the library.
+// - A handle is copied by `fork`, or lies in the mapping. One process at a time uses it.
+// - Only one process at a time joins and leaves. A supervisor does that best: the others get
+//   parties that have joined.
+//
+// A process may be killed at any instruction, except in a call that takes or frees memory: `init`,
+// `join`, `join_number`, `leave`, `forget`, `cache`, `recover`, `reset`, `destroy` or `abandon`. If
+// a process died in one of these, what it shared is not used any more.
+//
+// After a process died, another one does this:
+//
+// - It calls `leave` for the dead process's party. Exactly what the party held is free then.
+//   `leave` trusts the pool's words. Of what the party's handle owns, it trusts only what never
+//   changes: where the pool and the cache lie, and the party's number. All else may be torn.
+// - It destroys each `bb_detached` that the dead process was in a call with, which may be torn.
+//   The bucket of such a one is held by the dead party until that leaves, or it is still detached.
+//   `bb_shared_pool_holder`, called before `leave`, says which. If it is detached,
+//   `bb_pool_party_recover` gives it back. If the dead process was in
+//   `bb_pool_party_return_detached`, the bucket may already be another party's.
+//
 
 #ifdef __cplusplus
 }
 #endif
+
+// A checker that is on learns what is in use.
+#if !defined(BB_NO_SANITIZE) && !defined(BB_PLACES_ARE_NUMBERS)
+#if defined(__SANITIZE_ADDRESS__) || defined(__SANITIZE_THREAD__) || defined(BB_VALGRIND)
+#include "bb_memory_sanitize.h"
+#elif defined(__has_feature)
+#if __has_feature(address_sanitizer) || __has_feature(thread_sanitizer)
+#include "bb_memory_sanitize.h"
+#endif
+#endif
+#endif
+
 #endif

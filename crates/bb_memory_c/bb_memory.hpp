@@ -1,7 +1,9 @@
-// C++17 over bb_memory.h, whose rules and codes hold here too: owners that destroy what they
-// initialized, parties that leave when they end, `std::unique_ptr` that gives its bucket back, and
-// `std::pmr::memory_resource` over a bump, a pool and a party. Refusals are values: of an enum, or
-// empty. Only a memory resource throws, `std::bad_alloc`, as containers ask of it.
+// bb_memory for C++17, over bb_memory.h. Its rules and codes hold here too.
+//
+// There are owners that destroy what they initialized, parties that leave when they end,
+// `std::unique_ptr` that gives its bucket back, and `std::pmr::memory_resource` over a bump, a pool
+// and a party. A refusal is a value: of an enum, or empty. Only a memory resource throws:
+// `std::bad_alloc`, as containers require.
 //
 //     alignas(64) static unsigned char region[BB_BYTES_FOR(64, 64, 16)];
 //
@@ -20,8 +22,11 @@
 //     if (party.info()->held_buckets != 4)
 //         return;
 //
-// `get()` is the handle, for each function of bb_memory.h. ThreadSanitizer learns of the takings
-// and returns that are made here.
+// `get()` is the handle, for each function of bb_memory.h.
+//
+// Owners and parties neither move nor are copied, since resources and pointers keep the addresses
+// of their handles. A container that constructs them in place, as `std::deque` and
+// `std::optional` do, may have them. Only `bb::detached` moves: nothing keeps its address.
 #ifndef BB_MEMORY_HPP
 #define BB_MEMORY_HPP
 
@@ -37,20 +42,14 @@
 
 #include "bb_memory.h"
 
-#if defined(__SANITIZE_THREAD__)
-#define BB_HAS_THREAD_SANITIZER
-#elif defined(__has_feature)
-#if __has_feature(thread_sanitizer)
-#define BB_HAS_THREAD_SANITIZER
-#endif
-#endif
-#ifdef BB_HAS_THREAD_SANITIZER
-#include <sanitizer/tsan_interface.h>
-#endif
-
 namespace bb {
 
-// The codes of bb_memory.h. (A formatter would drop the space before the brace.)
+//
+// CODES
+//
+
+// The codes of bb_memory.h, which say what each means. (A formatter would drop the space before the
+// brace.)
 // clang-format off
 enum class [[nodiscard]] error : std::uint32_t {
     ok = BB_OK,
@@ -70,22 +69,30 @@ enum class [[nodiscard]] error : std::uint32_t {
     malloc_refused = BB_MALLOC_REFUSED,
     more_than_reserved = BB_MORE_THAN_RESERVED,
     no_bucket = BB_NO_BUCKET,
+    bucket_detached = BB_BUCKET_DETACHED,
     parties_joined = BB_PARTIES_JOINED,
     one_party = BB_ONE_PARTY,
     detached_full = BB_DETACHED_FULL,
     detached_empty = BB_DETACHED_EMPTY,
     not_a_bucket = BB_NOT_A_BUCKET,
     other_pool = BB_OTHER_POOL,
-    readers_left = BB_READERS_LEFT,
-    no_reader = BB_NO_READER,
 };
 
 // clang-format on
 
-// Returns what a code says, for a log.
+// Returns a sentence on a code, for a log.
 inline const char *text(error code) noexcept {
     return bb_text(static_cast<std::uint32_t>(code));
 }
+
+// Returns the name of a code in bb_memory.h, as "BB_NOT_HELD".
+inline const char *name(error code) noexcept {
+    return bb_name(static_cast<std::uint32_t>(code));
+}
+
+//
+// FIGURES
+//
 
 // Returns the figures of what the handle owns, or nothing if it is empty.
 template<class Figures, class Handle>
@@ -95,154 +102,163 @@ std::optional<Figures> figures(std::uint32_t (*info)(Handle *, Figures *),
     return info(of, &result) == BB_OK ? std::optional<Figures>(result) : std::nullopt;
 }
 
-inline auto info(bb_bump *of) noexcept {
+// Returns the figures of a bump, or nothing if the handle is empty.
+inline std::optional<bb_bump_figures> info(bb_bump *of) noexcept {
     return figures(bb_bump_info, of);
 }
 
-inline auto info(bb_bump_party *of) noexcept {
+// Returns the figures of the bump of a party, or nothing if the handle is empty.
+inline std::optional<bb_bump_figures> info(bb_bump_party *of) noexcept {
     return figures(bb_bump_party_info, of);
 }
 
-inline auto info(bb_one_chunk *of) noexcept {
+// Returns the figures of a one chunk, or nothing if the handle is empty.
+inline std::optional<bb_one_chunk_figures> info(bb_one_chunk *of) noexcept {
     return figures(bb_one_chunk_info, of);
 }
 
-inline auto info(bb_pool *of) noexcept {
+// Returns the figures of a pool, or nothing if the handle is empty.
+inline std::optional<bb_pool_figures> info(bb_pool *of) noexcept {
     return figures(bb_pool_info, of);
 }
 
-inline auto info(bb_pool_party *of) noexcept {
+// Returns the figures of the pool of a party, with the buckets that the party holds, or nothing if
+// the handle is empty.
+inline std::optional<bb_shared_pool_figures> info(bb_pool_party *of) noexcept {
     return figures(bb_pool_party_info, of);
 }
 
-inline auto info(bb_shared_pool *of) noexcept {
+// Returns the figures of a shared pool, or nothing if the handle is empty.
+inline std::optional<bb_shared_pool_figures> info(bb_shared_pool *of) noexcept {
     return figures(bb_shared_pool_info, of);
 }
 
-// Owns a handle, which is empty until `init` and when it was moved from.
-template<class Handle, auto Init, auto Destroy>
-class owner;
+//
+// OWNERS
+//
 
-template<class Handle, class... Arguments, std::uint32_t (*Init)(Handle *, Arguments...),
-         auto Destroy>
-class owner<Handle, Init, Destroy> {
+// Owns a handle, which is empty until an `init` and after a `destroy`. It doesn't move.
+template<class Handle, auto Destroy>
+class owner {
 public:
     owner() noexcept = default;
+    owner(const owner &) = delete;
+    owner &operator=(const owner &) = delete;
 
-    owner(owner &&other) noexcept : handle_(std::exchange(other.handle_, Handle BB_EMPTY)) {}
+    ~owner() { static_cast<void>(destroy()); }
 
-    owner &operator=(owner &&other) noexcept {
-        owner moved(std::move(other));
-        std::swap(handle_, moved.handle_);
-        return *this;
-    }
+    // Destroys what is owned now. It may be initialized again.
+    error destroy() noexcept { return static_cast<error>(Destroy(&handle_)); }
 
-    ~owner() { Destroy(&handle_); }
-
-    // Takes the arguments of the kind's `init` in bb_memory.h that follow the handle.
-    error init(Arguments... arguments) noexcept {
-        return static_cast<error>(Init(&handle_, arguments...));
-    }
-
-    auto info() noexcept { return bb::info(&handle_); }
-
+    // Returns the handle, for functions of bb_memory.h.
     Handle *get() noexcept { return &handle_; }
 
+    // Returns the handle, for functions of bb_memory.h.
     const Handle *get() const noexcept { return &handle_; }
 
 private:
     Handle handle_ BB_EMPTY;
 };
 
-using bump = owner<bb_bump, bb_bump_init, bb_bump_destroy>;
-using one_chunk = owner<bb_one_chunk, bb_one_chunk_init, bb_one_chunk_destroy>;
-using pool = owner<bb_pool, bb_pool_init, bb_pool_destroy>;
-using detached = owner<bb_detached, bb_detached_init, bb_detached_destroy>;
-
-// ThreadSanitizer doesn't see the library's steps, by which a bucket's return comes before its next
-// taking. These calls tell it.
-#ifdef BB_HAS_THREAD_SANITIZER
-inline void tell_taking(void *place) noexcept {
-    __tsan_acquire(place);
-}
-
-inline void tell_return(const void *place) noexcept {
-    __tsan_release(const_cast<void *>(place));
-}
-
-// A party that leaves gives back each bucket that it holds.
-inline void tell_leaving(bb_pool_party *party) noexcept {
-    bb_number at = bb_pool_party_place_at(party, 0);
-    for (std::uint32_t number = 1; at.code == BB_OK; at = bb_pool_party_place_at(party, number++)) {
-        const void *place = reinterpret_cast<const void *>(at.number);
-        if (bb_pool_party_holds(party, place).number == 1)
-            tell_return(place);
-    }
-}
-
-// A detached bucket is given back by its number.
-inline void tell_return_at(const bb_pool_party *party, std::uint32_t number) noexcept {
-    bb_number at = bb_pool_party_place_at(party, number);
-    if (at.code == BB_OK)
-        tell_return(reinterpret_cast<const void *>(at.number));
-}
-
-// A detached bucket is given back by its `bb_detached`, which doesn't tell its number: so this
-// tells of each detached bucket.
-inline void tell_detached(const bb_shared_pool *of, const bb_pool_party *party) noexcept {
-    bb_holder holder{};
-    for (std::uint32_t number = 0; bb_shared_pool_holder(of, number, &holder) == BB_OK; number++)
-        if (holder.state == BB_DETACHED)
-            tell_return_at(party, number);
-}
-#else
-inline void tell_taking(void *) noexcept {}
-
-inline void tell_return(const void *) noexcept {}
-
-inline void tell_leaving(bb_pool_party *) noexcept {}
-
-inline void tell_return_at(const bb_pool_party *, std::uint32_t) noexcept {}
-
-inline void tell_detached(const bb_shared_pool *, const bb_pool_party *) noexcept {}
-#endif
-
-// A bump's chunks aren't given back by a party.
-inline void tell_leaving(bb_bump_party *) noexcept {}
-
-// Owns what threads share, outlives its parties, and doesn't move. Parties join and leave under its
-// lock, in any thread.
-template<class Handle, auto Init, auto Destroy, class PartyHandle, auto Join, auto Leave>
-class shared : public owner<Handle, Init, Destroy> {
+// Owns a bump.
+class bump : public owner<bb_bump, bb_bump_destroy> {
 public:
-    // Leaves when it ends: each bucket that it holds is given back then, and none of its chunks is
-    // used any more.
+    // Makes a bump over the region of `size` bytes at `start`.
+    error init(void *start, std::size_t size) noexcept {
+        return static_cast<error>(bb_bump_init(get(), start, size));
+    }
+
+    // Returns the figures of the bump, or nothing if there is none.
+    std::optional<bb_bump_figures> info() noexcept { return bb::info(get()); }
+};
+
+// Owns a one chunk.
+class one_chunk : public owner<bb_one_chunk, bb_one_chunk_destroy> {
+public:
+    // Makes a one chunk over the region of `size` bytes at `start`.
+    error init(void *start, std::size_t size) noexcept {
+        return static_cast<error>(bb_one_chunk_init(get(), start, size));
+    }
+
+    // Returns the figures of the one chunk, or nothing if there is none.
+    std::optional<bb_one_chunk_figures> info() noexcept { return bb::info(get()); }
+};
+
+// Owns a pool.
+class pool : public owner<bb_pool, bb_pool_destroy> {
+public:
+    // Makes a pool over the region of `size` bytes at `start`. Its buckets have `bucket_size` bytes
+    // at multiples of `bucket_align`.
+    error init(std::size_t bucket_size, std::size_t bucket_align, void *start,
+               std::size_t size) noexcept {
+        return static_cast<error>(bb_pool_init(get(), bucket_size, bucket_align, start, size));
+    }
+
+    // Returns the figures of the pool, or nothing if there is none.
+    std::optional<bb_pool_figures> info() noexcept { return bb::info(get()); }
+};
+
+// Owns a `bb_detached`. It moves, and a bucket that is in it moves along.
+class detached {
+public:
+    detached() noexcept = default;
+
+    detached(detached &&other) noexcept
+        : handle_(std::exchange(other.handle_, bb_detached BB_EMPTY)) {}
+
+    detached &operator=(detached &&other) noexcept {
+        detached moved(std::move(other));
+        std::swap(handle_, moved.handle_);
+        return *this;
+    }
+
+    ~detached() { bb_detached_destroy(&handle_); }
+
+    // Makes a `bb_detached` with no bucket in it.
+    error init() noexcept { return static_cast<error>(bb_detached_init(&handle_)); }
+
+    // Returns the bytes of the chunk that is in it, or nothing if there is none.
+    std::optional<std::size_t> len() noexcept {
+        bb_number result = bb_detached_len(&handle_);
+        return result.code == BB_OK ? std::optional<std::size_t>(result.number) : std::nullopt;
+    }
+
+    // Returns the handle, for functions of bb_memory.h.
+    bb_detached *get() noexcept { return &handle_; }
+
+    // Returns the handle, for functions of bb_memory.h.
+    const bb_detached *get() const noexcept { return &handle_; }
+
+private:
+    bb_detached handle_ BB_EMPTY;
+};
+
+//
+// WHAT THREADS SHARE
+//
+
+// Owns what threads share, and outlives its parties. Parties join and leave under its lock, in any
+// thread.
+template<class Handle, auto Destroy, auto Abandon, class PartyHandle, auto Join, auto Leave>
+class shared : public owner<Handle, Destroy> {
+public:
+    // Leaves when it ends. It doesn't move.
     class party {
     public:
         party() noexcept = default;
-
-        party(party &&other) noexcept
-            : of_(std::exchange(other.of_, nullptr)),
-              handle_(std::exchange(other.handle_, PartyHandle BB_EMPTY)) {}
-
-        party &operator=(party &&other) noexcept {
-            party moved(std::move(other));
-            std::swap(of_, moved.of_);
-            std::swap(handle_, moved.handle_);
-            return *this;
-        }
+        party(const party &) = delete;
+        party &operator=(const party &) = delete;
 
         ~party() { leave(); }
 
-        void leave() noexcept {
-            tell_leaving(&handle_);
-            end_by(Leave);
-        }
+        // Ends the party, which may join again. Each bucket that it holds is given back: none of
+        // them is used any more.
+        void leave() noexcept { end_by(Leave); }
 
-        auto info() noexcept { return bb::info(&handle_); }
-
+        // Returns the handle, for functions of bb_memory.h.
         PartyHandle *get() noexcept { return &handle_; }
 
+        // Returns the handle, for functions of bb_memory.h.
         const PartyHandle *get() const noexcept { return &handle_; }
 
     protected:
@@ -254,16 +270,29 @@ public:
             }
         }
 
-        shared *of_ = nullptr;
-        PartyHandle handle_ BB_EMPTY;
-
     private:
         friend class shared;
+
+        shared *of_ = nullptr;
+        PartyHandle handle_ BB_EMPTY;
     };
 
     shared() noexcept = default;
-    shared(shared &&) = delete;
 
+    // Abandons what is owned if it can't be destroyed, as a pool with a detached bucket. Until
+    // nobody uses that `bb_detached`, no other shared pool has the same start.
+    ~shared() {
+        if (this->destroy() != error::ok)
+            Abandon(this->get());
+    }
+
+    // Destroys what is owned now, if no party has joined and no bucket is detached.
+    error destroy() noexcept {
+        std::lock_guard<std::mutex> lock(lock_);
+        return owner<Handle, Destroy>::destroy();
+    }
+
+    // Has a party join that hasn't joined.
     error join(party &into) noexcept { return join_by(Join, into); }
 
 protected:
@@ -282,19 +311,30 @@ protected:
 
 namespace detail {
 
-using shared_bump = shared<bb_shared_bump, bb_shared_bump_init, bb_shared_bump_destroy,
+using shared_bump = shared<bb_shared_bump, bb_shared_bump_destroy, bb_shared_bump_abandon,
                            bb_bump_party, bb_shared_bump_join, bb_shared_bump_leave>;
-using shared_pool = shared<bb_shared_pool, bb_shared_pool_init, bb_shared_pool_destroy,
+using shared_pool = shared<bb_shared_pool, bb_shared_pool_destroy, bb_shared_pool_abandon,
                            bb_pool_party, bb_shared_pool_join, bb_shared_pool_leave>;
 
 }  // namespace detail
 
 // A party of a bump that threads share.
-using bump_party = detail::shared_bump::party;
+class bump_party : public detail::shared_bump::party {
+public:
+    // Returns the figures of the bump, or nothing if the party hasn't joined.
+    std::optional<bb_bump_figures> info() noexcept { return bb::info(get()); }
+};
 
-// A bump that threads share. It is initialized with a region and the number of its parties.
+// A bump that threads share.
 class shared_bump : public detail::shared_bump {
 public:
+    using party = bump_party;
+
+    // Makes a bump over the region of `size` bytes at `start`, for this number of parties.
+    error init(void *start, std::size_t size, std::uint32_t parties) noexcept {
+        return static_cast<error>(bb_shared_bump_init(get(), start, size, parties));
+    }
+
     // Starts again over the region if each party has left: nothing is used then.
     error reset() noexcept {
         std::lock_guard<std::mutex> lock(lock_);
@@ -305,32 +345,40 @@ public:
 // A party of a pool that threads share.
 class pool_party : public detail::shared_pool::party {
 public:
+    // Returns the figures of the pool, with the buckets that this party holds, or nothing if it
+    // hasn't joined.
+    std::optional<bb_shared_pool_figures> info() noexcept { return bb::info(get()); }
+
     // Returns the number by which flags name this party, or nothing if it hasn't joined.
     std::optional<std::uint32_t> number() noexcept {
-        bb_number figure = bb_pool_party_number(&handle_);
-        if (figure.code != BB_OK)
+        bb_number result = bb_pool_party_number(get());
+        if (result.code != BB_OK)
             return std::nullopt;
-        return static_cast<std::uint32_t>(figure.number);
+        return static_cast<std::uint32_t>(result.number);
     }
+
+    // Has the party cache at most `most` of the buckets that it returns from now on.
+    error cache(std::uint32_t most) noexcept {
+        return static_cast<error>(bb_pool_party_cache(get(), most));
+    }
+
+    // Gives back the buckets that the party caches.
+    error flush() noexcept { return static_cast<error>(bb_pool_party_flush(get())); }
 
     // Gives back the bucket that is in `from`, without attaching it.
     error return_detached(detached &from) noexcept {
-        if (of_ != nullptr)
-            tell_detached(of_->get(), &handle_);
-        return static_cast<error>(bb_pool_party_return_detached(&handle_, from.get()));
+        return static_cast<error>(bb_pool_party_return_detached(get(), from.get()));
     }
 
     // Gives back the detached bucket of this number, whose `bb_detached` nobody has or will use.
     error recover(std::uint32_t number) noexcept {
         bb_lost lost = BB_LOST;
-        tell_return_at(&handle_, number);
-        return static_cast<error>(bb_pool_party_recover(&handle_, number, &lost));
+        return static_cast<error>(bb_pool_party_recover(get(), number, &lost));
     }
 
     // Gives back each bucket that this party holds, cached ones too. The party stays.
     error give_all_back() noexcept {
-        tell_leaving(&handle_);
-        return static_cast<error>(bb_pool_party_give_all_back(&handle_));
+        return static_cast<error>(bb_pool_party_give_all_back(get()));
     }
 
     // Ends the party without giving anything back: the next party that joins by its number holds
@@ -338,11 +386,21 @@ public:
     void forget() noexcept { end_by(bb_shared_pool_forget); }
 };
 
-// A pool that threads share. It is initialized with a bucket's size and alignment, a region, and
-// the number of its parties.
+// A pool that threads share.
 class shared_pool : public detail::shared_pool {
 public:
     using party = pool_party;
+
+    // Makes a pool over the region of `size` bytes at `start`, for this number of parties. Its
+    // buckets have `bucket_size` bytes at multiples of `bucket_align`.
+    error init(std::size_t bucket_size, std::size_t bucket_align, void *start, std::size_t size,
+               std::uint32_t parties) noexcept {
+        return static_cast<error>(
+            bb_shared_pool_init(get(), bucket_size, bucket_align, start, size, parties));
+    }
+
+    // Returns the figures of the pool, or nothing if there is none.
+    std::optional<bb_shared_pool_figures> info() noexcept { return bb::info(get()); }
 
     // Has the party of this number join, as `number()` returns it.
     error join_number(std::uint32_t number, party &into) noexcept {
@@ -363,74 +421,82 @@ public:
     }
 };
 
-// The calls that `take`, `make` and the resources choose by a handle's type.
+//
+// CALLS that `take`, `make` and the resources choose by a handle's type.
+//
+
+// Allocates `size` bytes at a multiple of `align` in a bump.
 inline bb_chunk allocate(bb_bump *of, std::size_t size, std::size_t align) {
     return bb_bump_allocate(of, size, align);
 }
 
+// Allocates `size` bytes at a multiple of `align` in a party's bump.
 inline bb_chunk allocate(bb_bump_party *of, std::size_t size, std::size_t align) {
     return bb_bump_party_allocate(of, size, align);
 }
 
+// Allocates `size` bytes at a multiple of `align` in a bucket of a pool.
 inline bb_chunk allocate(bb_pool *of, std::size_t size, std::size_t align) {
     return bb_pool_allocate(of, size, align);
 }
 
+// Allocates `size` bytes at a multiple of `align` in a bucket of a party's pool.
 inline bb_chunk allocate(bb_pool_party *of, std::size_t size, std::size_t align) {
-    bb_chunk given = bb_pool_party_allocate(of, size, align);
-    if (given.code == BB_OK)
-        tell_taking(given.place);
-    return given;
+    return bb_pool_party_allocate(of, size, align);
 }
 
+// Allocates a whole bucket of a pool.
 inline bb_chunk take_whole(bb_pool *of) {
     return bb_pool_take(of);
 }
 
+// Allocates a whole bucket of a party's pool.
 inline bb_chunk take_whole(bb_pool_party *of) {
-    bb_chunk given = bb_pool_party_take(of);
-    if (given.code == BB_OK)
-        tell_taking(given.place);
-    return given;
+    return bb_pool_party_take(of);
 }
 
+// Gives the bucket at this place back to a pool.
 inline error deallocate(bb_pool *to, const void *place) {
     return static_cast<error>(bb_pool_deallocate(to, place));
 }
 
+// Gives the bucket at this place back to a party's pool.
 inline error deallocate(bb_pool_party *to, const void *place) {
-    tell_return(place);
     return static_cast<error>(bb_pool_party_deallocate(to, place));
 }
 
-// Takes up to `count` whole buckets, as that many takings do, and stores their places in the first
-// slots. Returns how many were taken.
+// Allocates up to `count` whole buckets, and stores their places from `slots` on. Returns how many
+// were allocated.
 inline std::size_t take_many(bb_pool_party *from, void **slots, std::size_t count) {
-    std::size_t taken = bb_pool_party_take_many(from, slots, count).number;
-    for (std::size_t at = 0; at < taken; at++)
-        tell_taking(slots[at]);
-    return taken;
+    return bb_pool_party_take_many(from, slots, count).number;
 }
 
-// Gives back the buckets at these places, as that many returns do, up to the first one that is
-// refused. Returns how many were given back.
+// Gives the buckets at these places back to the pool, up to the first one that is refused. Returns
+// how many were given back.
 inline std::size_t deallocate_many(bb_pool_party *to, void *const *places, std::size_t count) {
-    for (std::size_t at = 0; at < count; at++)
-        tell_return(places[at]);
     return bb_pool_party_deallocate_many(to, places, count).number;
+}
+
+// Detaches the bucket at this place, with a chunk of `len` bytes, into a `bb_detached`.
+inline error detach(bb_pool_party *from, const void *place, std::size_t len, detached &into) {
+    return static_cast<error>(bb_pool_party_detach(from, place, len, into.get()));
 }
 
 // Detaches the bucket at this place and returns its number, by which another party attaches it.
 // Returns nothing if `from` doesn't hold the bucket, or if its pool has no other party.
 inline std::optional<std::uint32_t> detach_number(bb_pool_party *from, const void *place) {
-    tell_return(place);
     bb_number number = bb_pool_party_detach_number(from, place);
     if (number.code != BB_OK)
         return std::nullopt;
     return static_cast<std::uint32_t>(number.number);
 }
 
-// Destroys a T, and gives its bucket back. With `void` it only gives the bucket back.
+//
+// VALUES in buckets
+//
+
+// Destroys a T, and gives its bucket back. With `void` it only gives the bucket back. Until then
+// the handle doesn't move.
 template<class T, class Handle>
 struct give_back {
     Handle *to;
@@ -446,12 +512,23 @@ struct give_back {
 template<class T, class Handle>
 using unique = std::unique_ptr<T, give_back<T, Handle>>;
 
-// Takes a whole bucket of a pool or of a party's pool, which outlives it. Empty if each bucket is
-// held.
+// Whether a handle is one of a pool or of a party of a pool.
 template<class Handle>
+inline constexpr bool has_buckets =
+    std::is_same_v<Handle, bb_pool> || std::is_same_v<Handle, bb_pool_party>;
+
+// Allocates a whole bucket of a pool or of a party's pool, whose handle outlives the pointer. The
+// pointer is empty if each bucket is held.
+template<class Handle, class = std::enable_if_t<has_buckets<Handle>>>
 unique<void, Handle> take(Handle *from) {
     bb_chunk given = bb::take_whole(from);
     return unique<void, Handle>(given.code == BB_OK ? given.place : nullptr, {from});
+}
+
+// Attaches the bucket that is in `from`. The pointer is empty if the pool refuses.
+inline unique<void, bb_pool_party> attach(bb_pool_party *to, detached &from) {
+    bb_chunk given = bb_pool_party_attach(to, from.get());
+    return unique<void, bb_pool_party>(given.code == BB_OK ? given.place : nullptr, {to});
 }
 
 // Attaches the bucket of this number if the party of number `from` has detached it by its number.
@@ -459,16 +536,14 @@ unique<void, Handle> take(Handle *from) {
 inline unique<void, bb_pool_party> attach_number(bb_pool_party *to, std::uint32_t number,
                                                  std::uint32_t from) {
     bb_chunk given = bb_pool_party_attach_number(to, number, from);
-    if (given.code != BB_OK)
-        return unique<void, bb_pool_party>(nullptr, {to});
-    tell_taking(given.place);
-    return unique<void, bb_pool_party>(given.place, {to});
+    return unique<void, bb_pool_party>(given.code == BB_OK ? given.place : nullptr, {to});
 }
 
-// Makes a T in a bucket of a pool or of a party's pool, which outlives it. Empty if the pool
-// refuses.
+// Makes a T in a bucket of a pool or of a party's pool, whose handle outlives the pointer. The
+// pointer is empty if the pool refuses. If T's constructor throws, the bucket is given back.
 template<class T, class Handle, class... Arguments>
-unique<T, Handle> make(Handle *from, Arguments &&...arguments) {
+std::enable_if_t<has_buckets<Handle>, unique<T, Handle>> make(Handle *from,
+                                                              Arguments &&...arguments) {
     bb_chunk given = bb::allocate(from, sizeof(T), alignof(T));
     if (given.code != BB_OK)
         return unique<T, Handle>(nullptr, {from});
@@ -478,10 +553,16 @@ unique<T, Handle> make(Handle *from, Arguments &&...arguments) {
     return unique<T, Handle>(made, {from});
 }
 
-// A resource over a bump or a party of one, which outlives it. It takes no single chunk back.
+//
+// MEMORY RESOURCES
+//
+
+// A resource over a bump or a party's bump, whose handle outlives it. It takes no single chunk
+// back.
 template<class Handle>
 class bump_resource final : public std::pmr::memory_resource {
 public:
+    // Makes a resource over what `from` owns.
     explicit bump_resource(Handle *from) noexcept : from_(from) {}
 
 private:
@@ -500,12 +581,16 @@ private:
     Handle *from_;
 };
 
-// A resource over a pool or a party of one, which outlives it. Upstream serves what the pool
+template<class Handle>
+bump_resource(Handle *) -> bump_resource<Handle>;
+
+// A resource over a pool or a party's pool, whose handle outlives it. Upstream serves what the pool
 // refuses, and throws if it can't. A place in the pool's buckets is never passed upstream, even if
 // the pool refuses the return or the party has left.
 template<class Handle>
 class pool_resource final : public std::pmr::memory_resource {
 public:
+    // Makes a resource over what `from` owns. Without `upstream` it throws what the pool refuses.
     explicit pool_resource(Handle *from, std::pmr::memory_resource *upstream =
                                              std::pmr::null_memory_resource()) noexcept
         : from_(from), upstream_(upstream) {}
@@ -525,10 +610,12 @@ private:
             upstream_->deallocate(place, size, align);
     }
 
+    // Returns whether a place lies in the pool's buckets, if one was allocated.
     bool has(const void *place) const noexcept {
         return reinterpret_cast<std::uintptr_t>(place) - first_ < length_;
     }
 
+    // Finds where the pool's buckets lie.
     void find_buckets() noexcept {
         auto of = bb::info(from_);
         first_ = of->start_address;
@@ -544,6 +631,12 @@ private:
     std::uintptr_t first_ = 0;
     std::uintptr_t length_ = 0;
 };
+
+template<class Handle>
+pool_resource(Handle *) -> pool_resource<Handle>;
+
+template<class Handle>
+pool_resource(Handle *, std::pmr::memory_resource *) -> pool_resource<Handle>;
 
 }  // namespace bb
 

@@ -103,6 +103,21 @@ static inline const char *bb_pool_file_text(uint32_t code) {
     }
 }
 
+// Returns the name of a code of these calls or of bb_memory.h, as "BB_FILE_FOREIGN".
+static inline const char *bb_pool_file_name(uint32_t code) {
+    switch (code) {
+    case BB_FILE_SYSTEM: return "BB_FILE_SYSTEM";
+    case BB_FILE_FOREIGN: return "BB_FILE_FOREIGN";
+    case BB_FILE_VERSION: return "BB_FILE_VERSION";
+    case BB_FILE_MISMATCH: return "BB_FILE_MISMATCH";
+    case BB_FILE_DAMAGED: return "BB_FILE_DAMAGED";
+    case BB_FILE_UNSAFE: return "BB_FILE_UNSAFE";
+    case BB_FILE_STALE: return "BB_FILE_STALE";
+    case BB_FILE_TIMED_OUT: return "BB_FILE_TIMED_OUT";
+    default: return bb_name(code);
+    }
+}
+
 // A pool's file that this process has opened.
 typedef struct bb_pool_file bb_pool_file;
 

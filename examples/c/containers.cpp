@@ -4,11 +4,13 @@
 #include <atomic>
 #include <cstdio>
 #include <cstdlib>
+#include <deque>
 #include <list>
 #include <map>
 #include <stdexcept>
 #include <string>
 #include <thread>
+#include <type_traits>
 #include <vector>
 
 #include "bb_memory.hpp"
@@ -84,8 +86,33 @@ void nodes_in_a_pool() {
         grows.push_back(number);
     expect(grows[999] == 999 && pool.info()->held_buckets == 0,
            "a vector that outgrew its bucket gave it back");
-    bb::pool moved(std::move(pool));
-    expect(!pool.info() && moved.info()->held_buckets == 0, "an owner moves");
+}
+
+// What keeps the address of a handle is right, since owners and parties don't move.
+template<class Owner>
+constexpr bool stays = !std::is_move_constructible_v<Owner> && !std::is_move_assignable_v<Owner> &&
+                       !std::is_copy_constructible_v<Owner> && !std::is_copy_assignable_v<Owner>;
+static_assert(stays<bb::bump> && stays<bb::one_chunk> && stays<bb::pool>);
+static_assert(stays<bb::shared_bump> && stays<bb::bump_party>);
+static_assert(stays<bb::shared_pool> && stays<bb::pool_party>);
+static_assert(std::is_move_constructible_v<bb::detached>);
+
+// An owner in a container is constructed in its place, and is still there when others follow.
+void owners_in_a_container() {
+    std::deque<bb::pool> pools;
+    bb::pool &first = pools.emplace_back();
+    expect_ok(first.init(BB_OF(int), region, sizeof(int)));
+    bb::pool_resource nodes(first.get());
+    auto value = bb::make<int>(first.get(), 7);
+    for (int number = 0; number < 100; number++)
+        pools.emplace_back();
+    expect(pools.front().info()->held_buckets == 1, "the pool has its value");
+    value.reset();
+    expect(pools.front().info()->held_buckets == 0, "which came back to it");
+    nodes.deallocate(nodes.allocate(1, 1), 1, 1);
+    expect(first.destroy() == bb::error::ok && !first.info(), "an owner ends before its variable");
+    expect(first.destroy() == bb::error::uninitialized, "and has nothing then");
+    expect(std::string(bb::name(first.destroy())) == "BB_UNINITIALIZED", "a code has a name");
 }
 
 struct message {
@@ -153,14 +180,12 @@ void lists_in_threads() {
             thread.join();
     }
     bb::pool_party last;
-    bb::pool_party moved;
     expect_ok(pool.join(last));
-    moved = std::move(last);
-    bb::pool_resource nodes(moved.get());
+    bb::pool_resource nodes(last.get());
     std::pmr::list<int> list(buckets, 1, &nodes);
-    expect(moved.info()->held_buckets == buckets && !last.info(), "every bucket came back");
-    expect(pool.info()->pool.held_buckets == buckets && pool.info()->refused == 0,
-           "any thread sees it");
+    expect(last.info()->held_buckets == buckets, "every bucket came back");
+    expect(pool.info()->held_buckets == buckets, "any thread sees it");
+    expect(pool.destroy() == bb::error::parties_joined, "a pool stays while a party is joined");
 }
 
 // Two threads take turns: they make a value in the one bucket and give it back, by calls of one or
@@ -202,7 +227,7 @@ void values_in_threads() {
     std::thread other(run, 1);
     one.join();
     other.join();
-    expect(pool.info()->pool.held_buckets == 0, "each bucket is back");
+    expect(pool.info()->held_buckets == 0, "each bucket is back");
 }
 
 // The heap, which counts what comes back.
@@ -278,16 +303,24 @@ void detached_buckets_come_back() {
         expect(holder && holder->state == BB_HELD && holder->party == writer.number() &&
                    !pool.holder(1),
                "the writer holds it");
-        expect(bb_pool_party_detach(writer.get(), given.place, sizeof(int), detached.get()) ==
-                   BB_OK,
-               "it is on its way");
+        expect_ok(bb::detach(writer.get(), given.place, sizeof(int), detached));
         sent = round;
     }
     reading.join();
     auto last = bb::make<int>(writer.get(), 7);
-    expect(bb_pool_party_detach(writer.get(), last.release(), sizeof(int), detached.get()) == BB_OK,
-           "a bucket is on its way");
-    detached = bb::detached();
+    expect_ok(bb::detach(writer.get(), last.release(), sizeof(int), detached));
+    bb::detached moved(std::move(detached));
+    expect(moved.len() == sizeof(int) && !detached.len(), "a bucket moves with its bb_detached");
+    if (auto attached = bb::attach(reader.get(), moved)) {
+        expect(*static_cast<int *>(attached.get()) == 7, "it has what was written");
+        expect_ok(bb::detach(reader.get(), attached.release(), sizeof(int), moved));
+    }
+    expect(!bb::attach(reader.get(), detached), "nothing is in an empty one");
+    writer.leave();
+    reader.leave();
+    expect(pool.destroy() == bb::error::bucket_detached, "a pool stays while a bucket is detached");
+    expect_ok(pool.join(reader));
+    moved = bb::detached();
     expect(pool.holder(0)->state == BB_DETACHED && reader.recover(1) == bb::error::not_a_bucket,
            "it is lost with its token");
     expect_ok(reader.recover(0));
@@ -348,12 +381,29 @@ void parties_are_forgotten() {
     const int *kept = value.release();
     expect(kept != nullptr, "a bucket is held");
     first.forget();
-    expect(!first.number() && pool.info()->pool.held_buckets == 1, "it stays held");
+    expect(!first.number() && pool.info()->held_buckets == 1, "it stays held");
     expect_ok(pool.join_number(1, next));
     expect(bb_pool_party_holds(next.get(), kept).number == 1 && *kept == 7, "by the next party");
     expect_ok(next.give_all_back());
-    expect(next.number() == 1u && pool.info()->pool.held_buckets == 0, "which gives it back");
+    expect(next.number() == 1u && pool.info()->held_buckets == 0, "which gives it back");
     expect(first.give_all_back() == bb::error::uninitialized, "and the first has nothing");
+}
+
+// A party that caches takes back what it returned last.
+void buckets_in_a_cache() {
+    bb::shared_pool pool;
+    expect_ok(pool.init(bucket, bucket, region, 4 * bucket, 2));
+    bb::pool_party party;
+    expect(party.cache(2) == bb::error::uninitialized, "it hasn't joined");
+    expect_ok(pool.join(party));
+    expect_ok(party.cache(2));
+    auto one = bb::take(party.get());
+    void *place = one.get();
+    one.reset();
+    expect(pool.info()->held_buckets == 1 && party.info()->held_buckets == 0, "it is cached");
+    expect(bb::take(party.get()).get() == place, "it is taken first");
+    expect_ok(party.flush());
+    expect(pool.info()->held_buckets == 0, "it is back");
 }
 
 void words_in_a_shared_bump() {
@@ -375,6 +425,7 @@ void words_in_a_shared_bump() {
 int main() {
     strings_in_a_bump();
     nodes_in_a_pool();
+    owners_in_a_container();
     values_in_a_pool();
     lists_in_threads();
     values_in_threads();
@@ -382,6 +433,7 @@ int main() {
     detached_buckets_come_back();
     buckets_go_by_number();
     parties_are_forgotten();
+    buckets_in_a_cache();
     words_in_a_shared_bump();
     std::puts("containers: every bucket came back");
     return 0;

@@ -45,18 +45,22 @@ static void *allocate(void *argument) {
     return argument;
 }
 
-static void expect_figure(bb_number figure, size_t number) {
-    expect(figure.code == BB_OK && figure.number == number, "a number has its place");
+static void expect_place(bb_chunk found, size_t place) {
+    expect(found.code == BB_OK && (size_t)found.place == place, "a number has its place");
+}
+
+static void expect_number(bb_number found, size_t number) {
+    expect(found.code == BB_OK && found.number == number, "a place has its number");
 }
 
 static void find_places(size_t pool_at, size_t shared_at) {
     for (int round = 0; round < ROUNDS; round++) {
         uint32_t number = (uint32_t)round % BUCKETS;
         size_t offset = (size_t)number * BB_STRIDE(BUCKET_SIZE, ALIGN);
-        expect_figure(bb_pool_place_at(&pool, number), pool_at + offset);
-        expect_figure(bb_pool_party_place_at(&party, number), shared_at + offset);
-        expect_figure(bb_pool_number_at(&pool, (void *)(pool_at + offset)), number);
-        expect_figure(bb_pool_party_number_at(&party, (void *)(shared_at + offset)), number);
+        expect_place(bb_pool_place_at(&pool, number), pool_at + offset);
+        expect_place(bb_pool_party_place_at(&party, number), shared_at + offset);
+        expect_number(bb_pool_number_at(&pool, (void *)(pool_at + offset)), number);
+        expect_number(bb_pool_party_number_at(&party, (void *)(shared_at + offset)), number);
     }
 }
 
@@ -69,7 +73,7 @@ int main(void) {
     expect(code == BB_OK, "one is shared");
     expect(bb_shared_pool_join(&shared, &party) == BB_OK, "a party joins");
     bb_pool_figures of_pool;
-    bb_pool_figures of_party;
+    bb_shared_pool_figures of_party;
     expect(bb_pool_info(&pool, &of_pool) == BB_OK, "the pool has figures");
     expect(bb_pool_party_info(&party, &of_party) == BB_OK, "the party has figures");
     expect(pthread_barrier_init(&start, NULL, 2) == 0, "two can wait for one another");

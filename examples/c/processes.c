@@ -244,7 +244,7 @@ int main(int argc, char **argv) {
 
     bb_shared_pool_figures info;
     expect(bb_shared_pool_info(&all->pool, &info) == BB_OK, "the pool has figures");
-    expect(info.pool.held_buckets == 0, "every bucket is back");
+    expect(info.held_buckets == 0, "every bucket is back");
     for (uint32_t at = 0; at < MAILS; at++)
         expect(bb_detached_destroy(&all->mails[at].detached) == BB_OK, "a mailbox is gone");
     expect(bb_shared_pool_leave(&all->pool, &all->daemon) == BB_OK, "the daemon leaves");

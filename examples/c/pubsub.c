@@ -1,7 +1,8 @@
 // Publish and subscribe over one pool, without a copy: each message goes to each of several
-// readers, who read its bucket where it lies, and the last of them gives the bucket back by a party
-// of its own. A publisher that finds no bucket waits for a return. A thread of statistics reads the
-// pool's figures meanwhile. One lock orders what the host counts; the pool's calls need none.
+// readers, who read its bucket where it lies. An atomic number in the message counts the readers
+// that are left. The one that takes it to 0 is the last, and gives the bucket back by a party of
+// its own. A publisher that finds no bucket waits for a return. A thread of statistics reads the
+// pool's figures meanwhile. One lock orders what else the host counts; the pool's calls need none.
 #define _POSIX_C_SOURCE 200809L
 #include <pthread.h>
 #include <stdint.h>
@@ -20,16 +21,19 @@ enum {
     TEXT = 48
 };
 
+// A message, with the number of its readers that haven't released it yet. Only `release` changes
+// that number once the message is published.
 typedef struct {
     uint32_t publisher;
     uint32_t number;
+    uint32_t readers;
     unsigned char text[TEXT];
 } message;
 
-// A message on its way: a bucket that waits for its readers.
+// A message on its way, in a detached bucket.
 typedef struct slot {
     bb_detached detached;
-    const message *read;
+    message *read;
     struct slot *next;
 } slot;
 
@@ -120,8 +124,6 @@ static void publish(bb_pool_party *party, message *written) {
     on_its_way->read = written;
     uint32_t code = bb_pool_party_detach(party, written, sizeof *written, &on_its_way->detached);
     expect(code == BB_OK, "a bucket is detached");
-    code = bb_detached_share(&on_its_way->detached, SUBSCRIBERS);
-    expect(code == BB_OK, "it waits for each subscriber");
     for (size_t at = 0; at < SUBSCRIBERS; at++) {
         queue *to = &hub.to[at];
         to->at[(to->first + to->count) % BUCKETS] = on_its_way;
@@ -138,19 +140,21 @@ static void *publisher(void *argument) {
         message *written = take(&publishing[self]);
         written->publisher = self;
         written->number = number;
+        written->readers = SUBSCRIBERS;
         memset(written->text, byte_of(self, number), TEXT);
         publish(&publishing[self], written);
     }
     return NULL;
 }
 
-// The last reader attaches the bucket, and gives it back.
+// Releases a message for one reader, which reads it no more. The last reader attaches the bucket,
+// and gives it back. The order of the atomic step makes the others' reads come before that.
 static void release(bb_pool_party *party, slot *been_read) {
+    uint32_t left = __atomic_sub_fetch(&been_read->read->readers, 1, __ATOMIC_ACQ_REL);
+    expect(left < SUBSCRIBERS, "a reader releases a message once");
     lock();
     hub.count.delivered++;
-    bb_number left = bb_detached_release(&been_read->detached);
-    expect(left.code == BB_OK && left.number < SUBSCRIBERS, "a reader releases a bucket once");
-    if (left.number == 0) {
+    if (left == 0) {
         bb_chunk mine = bb_pool_party_attach(party, &been_read->detached);
         expect(mine.code == BB_OK, "the last reader attaches the bucket");
         expect(mine.place == (const void *)been_read->read, "it is the one that was read");
@@ -207,8 +211,8 @@ static void *statistics(void *argument) {
     struct timespec pause = {0, 1000000};
     for (bool ends = false; !ends; nanosleep(&pause, NULL)) {
         bb_shared_pool_figures pools = figures_of_pool();
-        expect(pools.pool.number_of_buckets == BUCKETS, "the pool has its buckets");
-        expect(pools.pool.held_buckets <= BUCKETS, "no more is held than there is");
+        expect(pools.number_of_buckets == BUCKETS, "the pool has its buckets");
+        expect(pools.held_buckets <= BUCKETS, "no more is held than there is");
         lock();
         figures now = hub.count;
         ends = hub.closed && now.held == 0;
@@ -246,7 +250,7 @@ int main(void) {
     expect(pthread_join(of_statistics, NULL) == 0, "statistics end when nothing is held");
     expect(hub.count.delivered == (size_t)PUBLISHERS * MESSAGES * SUBSCRIBERS,
            "each message came to each");
-    expect(figures_of_pool().pool.held_buckets == 0, "each bucket is back");
+    expect(figures_of_pool().held_buckets == 0, "each bucket is back");
 
     bb_pool_party last = BB_EMPTY;
     expect(bb_shared_pool_join(&pool, &last) == BB_OK, "a party joins");

@@ -3,6 +3,10 @@
 // `bb_detached`. The receiver that gets the `bb_detached` attaches the bucket, reads the message,
 // and gives the bucket back by its own party, with no word to the sender.
 //
+// A sender takes and detaches up to `GROUP` buckets at a time, and then sends them one by one. That
+// is quicker than to take and detach one for each message: flags of neighbours share a cache line,
+// and the sender's steps on them are made while the line is there.
+//
 // Each slot of the queue has a `bb_detached`, which is made with the queue. A sender puts its full
 // one into a slot, and takes the slot's empty one in its place. So no message takes memory, and no
 // call of a party is made under the lock.
@@ -15,15 +19,15 @@
 #include <string.h>
 
 #include "bb_memory.h"
-#include "thread_sanitizer.h"
 
 enum {
     SENDERS = 2,
     RECEIVERS = 2,
     MESSAGES = 5000,
-    BUCKETS = 12,
+    BUCKETS = 48,
     BUCKET_SIZE = 64,
-    SLOTS = 8
+    SLOTS = 8,
+    GROUP = 16
 };
 
 static uint64_t pool_words[BB_BYTES_FOR(BUCKET_SIZE, 8, BUCKETS) / 8];
@@ -46,11 +50,11 @@ typedef struct {
 
 static queue shared = {PTHREAD_MUTEX_INITIALIZER, PTHREAD_COND_INITIALIZER, {BB_EMPTY}, 0, 0, 0};
 
-// A thread: its party, and the one `bb_detached` that it has in hand.
+// A thread: its party, and each `bb_detached` that it has in hand. A receiver uses the first one.
 typedef struct {
     size_t number;
     bb_pool_party party;
-    bb_detached detached;
+    bb_detached detached[GROUP];
     // For a receiver: how often it received each message.
     unsigned char seen[SENDERS][MESSAGES];
 } worker;
@@ -108,36 +112,46 @@ static int get(bb_detached *empty) {
     return is_there;
 }
 
+// Writes the message of this number into a bucket, and detaches it.
+static void prepare(worker *self, size_t number, void *place, bb_detached *detached) {
+    const size_t len = length_of(self->number, number);
+    head begins = {self->number, number};
+    memcpy(place, &begins, sizeof begins);
+    unsigned char *text = (unsigned char *)place + sizeof begins;
+    memset(text, byte_of(self->number, number), len - sizeof begins);
+    uint32_t code = bb_pool_party_detach(&self->party, place, len, detached);
+    expect(code == BB_OK, "a bucket is detached");
+    code = bb_pool_party_deallocate(&self->party, place);
+    expect(code == BB_NOT_HELD, "its sender doesn't hold it any more");
+}
+
 static void *send_all(void *argument) {
     worker *self = (worker *)argument;
-    for (size_t number = 0; number < MESSAGES; number++) {
-        size_t len = length_of(self->number, number);
-        bb_chunk given = bb_pool_party_allocate(&self->party, len, 8);
-        while (given.code == BB_OUT_OF_MEMORY) {
+    size_t number = 0;
+    while (number < MESSAGES) {
+        const size_t left = MESSAGES - number;
+        void *places[GROUP];
+        bb_number taken =
+            bb_pool_party_take_many(&self->party, places, left < GROUP ? left : GROUP);
+        expect(taken.code == BB_OK, "buckets are given");
+        if (taken.number == 0)
             sched_yield();
-            given = bb_pool_party_allocate(&self->party, len, 8);
+        for (size_t i = 0; i < taken.number; i++) {
+            prepare(self, number + i, places[i], &self->detached[i]);
         }
-        expect(given.code == BB_OK, "a bucket is given");
-        tell_taking(given.place);
-        head begins = {self->number, number};
-        memcpy(given.place, &begins, sizeof begins);
-        unsigned char *text = (unsigned char *)given.place + sizeof begins;
-        memset(text, byte_of(self->number, number), len - sizeof begins);
-        uint32_t code = bb_pool_party_detach(&self->party, given.place, len, &self->detached);
-        expect(code == BB_OK, "a bucket is detached");
-        code = bb_pool_party_deallocate(&self->party, given.place);
-        expect(code == BB_NOT_HELD, "its sender doesn't hold it any more");
-        put(&self->detached);
+        for (size_t i = 0; i < taken.number; i++)
+            put(&self->detached[i]);
+        number += taken.number;
     }
     return NULL;
 }
 
 static void *receive_all(void *argument) {
     worker *self = (worker *)argument;
-    while (get(&self->detached)) {
-        bb_number len = bb_detached_len(&self->detached);
+    while (get(&self->detached[0])) {
+        bb_number len = bb_detached_len(&self->detached[0]);
         expect(len.code == BB_OK && len.number >= sizeof(head), "a bucket has come");
-        bb_chunk taken = bb_pool_party_attach(&self->party, &self->detached);
+        bb_chunk taken = bb_pool_party_attach(&self->party, &self->detached[0]);
         expect(taken.code == BB_OK, "a bucket is attached");
         head begins;
         memcpy(&begins, taken.place, sizeof begins);
@@ -150,7 +164,6 @@ static void *receive_all(void *argument) {
             expect(bytes[at] == byte_of(begins.sender, begins.number),
                    "it has what its sender wrote");
         self->seen[begins.sender][begins.number]++;
-        tell_return(taken.place);
         uint32_t code = bb_pool_party_deallocate(&self->party, taken.place);
         expect(code == BB_OK, "its receiver gives it back");
     }
@@ -161,20 +174,25 @@ static void make(worker *workers, size_t count, bb_shared_pool *pool) {
     for (size_t number = 0; number < count; number++) {
         workers[number].number = number;
         expect(bb_shared_pool_join(pool, &workers[number].party) == BB_OK, "a party joins");
-        expect(bb_detached_init(&workers[number].detached) == BB_OK, "a thread has a bb_detached");
+        for (size_t i = 0; i < GROUP; i++)
+            expect(bb_detached_init(&workers[number].detached[i]) == BB_OK,
+                   "a thread has a bb_detached");
     }
 }
 
 static void take_back(worker *workers, size_t count, bb_shared_pool *pool) {
     for (size_t number = 0; number < count; number++) {
         worker *of = &workers[number];
-        bb_pool_figures info;
+        bb_shared_pool_figures info;
         expect(bb_pool_party_info(&of->party, &info) == BB_OK, "a party has figures");
         expect(info.held_buckets == 0, "no party holds a bucket");
         expect(bb_shared_pool_leave(pool, &of->party) == BB_OK, "a party leaves");
-        bb_number len = bb_detached_len(&of->detached);
-        expect(len.code == BB_DETACHED_EMPTY, "no bucket is detached");
-        expect(bb_detached_destroy(&of->detached) == BB_OK, "a thread's bb_detached is freed");
+        for (size_t i = 0; i < GROUP; i++) {
+            bb_number len = bb_detached_len(&of->detached[i]);
+            expect(len.code == BB_DETACHED_EMPTY, "no bucket is detached");
+            expect(bb_detached_destroy(&of->detached[i]) == BB_OK,
+                   "a thread's bb_detached is freed");
+        }
     }
 }
 

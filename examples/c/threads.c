@@ -9,7 +9,6 @@
 #include <stdlib.h>
 
 #include "bb_memory.h"
-#include "thread_sanitizer.h"
 
 enum {
     THREADS = 4,
@@ -75,7 +74,6 @@ static void use_pool(worker *self) {
             expect((size_t)given.place % 8 == 0, "a chunk is as it was asked for");
             expect(bb_pool_party_holds(&self->pool, given.place).number == 1,
                    "a party holds what it took");
-            tell_taking(given.place);
             places[held] = given.place;
             patterns[held] = pattern_of(self, self->taken);
             fill(places[held], SHARE, patterns[held]);
@@ -89,7 +87,6 @@ static void use_pool(worker *self) {
             expect_filled(places[held], SHARE, patterns[held]);
             expect(bb_pool_party_deallocate(&self->pool, (char *)places[held] + 1) == BB_NOT_HELD,
                    "an address inside a bucket is refused");
-            tell_return(places[held]);
             expect(bb_pool_party_deallocate(&self->pool, places[held]) == BB_OK,
                    "a bucket is given back");
             expect(bb_pool_party_deallocate(&self->pool, places[held]) == BB_NOT_HELD,
@@ -99,7 +96,6 @@ static void use_pool(worker *self) {
     while (held > 0) {
         held--;
         expect_filled(places[held], SHARE, patterns[held]);
-        tell_return(places[held]);
         expect(bb_pool_party_deallocate(&self->pool, places[held]) == BB_OK,
                "a bucket is given back");
     }
@@ -172,7 +168,7 @@ static void make(bb_shared_pool *pool, bb_shared_bump *bump) {
 static void one_by_one(void) {
     bb_pool_party *mine = &workers[0].pool;
     bb_pool_party *other = &workers[1].pool;
-    bb_pool_figures info;
+    bb_shared_pool_figures info;
     expect(bb_pool_party_info(mine, &info) == BB_OK && info.number_of_buckets == BUCKETS,
            "eight buckets");
     expect(info.bucket_size == BUCKET_SIZE && info.max_alignment == 8,

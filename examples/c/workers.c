@@ -356,12 +356,12 @@ static int run(uint32_t kills, uint32_t cached) {
     expect(bb_shared_pool_info(&pool, &info) == BB_OK, "the pool has figures");
     expect(kills < 100 || all->messages > 0, "messages came");
     printf("%u kills: %u wrong, %u lost\n", kills, (unsigned)all->wrong,
-           (unsigned)info.pool.held_buckets);
+           (unsigned)info.held_buckets);
     // Before another fork, which would copy what isn't written yet.
     fflush(stdout);
     expect(bb_shared_pool_leave(&pool, &mine) == BB_OK, "the parent leaves");
     expect(bb_shared_pool_destroy(&pool) == BB_OK, "the pool is destroyed");
-    return all->wrong != 0 || info.pool.held_buckets != 0;
+    return all->wrong != 0 || info.held_buckets != 0;
 }
 
 int main(int argc, char **argv) {

@@ -55,11 +55,11 @@ class RealTree(unittest.TestCase):
         self.assertIn("`# function: PATH` is missing", found[0])
 
     def test_one_text_less_is_found(self) -> None:
-        path = "crates/bb_memory_shared_pools/src/shared_pool/figures.rt"
-        text = self.texts[path].replace("(1, Ordering::SeqCst)", "(1, Other::SeqCst)")
+        path = "crates/bb_memory_shared_pools/src/shared_pool/rule.rt"
+        text = self.texts[path].replace("impl TableRule<", "impl OtherRule<")
         found = places.findings({**self.texts, path: text})
-        self.assertIn("crates/bb_memory_shared_pools/src/shared_pool/figures.rt: ", found[0])
-        self.assertIn("`Ordering` 3 times, and not 4 (shares a word", found[0])
+        self.assertIn(f"{path}: ", found[0])
+        self.assertIn("`TableRule` 0 times, and not 1 (shares a word", found[0])
 
     def test_file_of_the_table_that_is_gone_is_found(self) -> None:
         path = "crates/bb_memory_shared_pools/src/shared_pool/flags.rt"
@@ -91,10 +91,10 @@ class RealTree(unittest.TestCase):
             ("let _ = ::std::thread::sleep;", "std::thread::sleep"),
             ("let _: atomic_table::Perch<u8, View>;", "atomic_table::Perch"),
             ("let word = self.table.shared.peek(0);", "`peek` 2 times, and not 1"),
-            ("let word = Shared::load::<Finds>(seat, 0);", "`load` 5 times, and not 4"),
+            ("let word = Shared::load::<Finds>(seat, 0);", "`load` 6 times, and not 5"),
             ("let free = flags.map(Flags::found);", "`found` 1 times, and not 0"),
-            ("self.refused.swap(1, SEQ);", "`swap` 1 times, and not 0"),
-            ("let _ = &self.greatest;", "`greatest` 1 times, and not 0"),
+            ("self.flags.swap(1, SEQ);", "`swap` 1 times, and not 0"),
+            ("let _: AtomicU64;", "`AtomicU64` 1 times, and not 0"),
             ("let _ = Arc::strong_count(&a);", "`Arc::strong_count` 1 times, and not 0"),
             ("let one = all.get_mut();", "isn't in CALLED: get_mut"),
             ("while self.is_free() {}", "`while` 1 times, and not 0"),

@@ -1,6 +1,6 @@
-mod Cached
 mod Counting
 mod Detaching
+mod InUse
 mod Numbers
 mod SentHandles
 mod Unjoined

@@ -64,6 +64,11 @@ abbrev pub ShowsLoad : BumpParty → BumpInfo → BumpParty → Type 0
 ShowsLoad party info after =
     (used : ℕ) × (info ≡ bump_info party.allocator.scene.region used) × HasLoaded party.allocator party used after
 
+-- A bump is destroyed if each party has left. Otherwise C gets BB_PARTIES_JOINED.
+pub record TellsDestroy (all : BumpParties) (code : ℕ) : Type 0 where
+  pub joined : (code ≡ parties_joined) ↔ (count_unjoined all < all.shared.scene.parties)
+  pub destroyed : code ≢ parties_joined → code ≡ ok
+
 -- The bump is fresh over its region, with the same number of parties, if each has left and memory
 -- doesn't run out.
 pub record TellsReset (all after : BumpParties) (code : ℕ) : Type 0 where

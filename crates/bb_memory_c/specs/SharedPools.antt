@@ -1,13 +1,11 @@
 -- A shared pool, its parties, and detached buckets that go from party to party, in handles: what C gets from their calls.
 use Rattle.bb_memory_c_calls.specs.Answers.{answer_of, figure_of, no_figure, refused, shown_flag}
 use Rattle.bb_memory_c_calls.specs.Calls.{Answers, AreKnown, Cutting, HasRoom, IsOneOf, IsThere, MayBeShared, Parties, Sharing, count_unjoined, with_party}
-use Rattle.bb_memory_c_calls.specs.OneOwner.{pool_info}
 use Rattle.bb_memory_c_calls.specs.declared.answer.Answer.{Answer}
 use Rattle.bb_memory_c_calls.specs.declared.answer.Figure.{Figure}
 use Rattle.bb_memory_c_calls.specs.declared.answer.Holder.{Holder}
-use Rattle.bb_memory_c_calls.specs.declared.answer.PoolInfo.{PoolInfo}
 use Rattle.bb_memory_c_calls.specs.declared.answer.SharedPoolInfo.{SharedPoolInfo}
-use Rattle.bb_memory_c_calls.specs.declared.code.TheConstants.{ALREADY_INITIALIZED as already_initialized, DETACHED_EMPTY as detached_empty, DETACHED_FULL as detached_full, INVALID_ARGUMENT as invalid_argument, MALLOC_REFUSED as malloc_refused, NOT_A_BUCKET as not_a_bucket, NOT_HELD as not_held, NO_PARTY as no_party, NO_READER as no_reader, OK as ok, ONE_PARTY as one_party, OTHER_POOL as other_pool, READERS_LEFT as readers_left, SIZE_TOO_LARGE as size_too_large, UNINITIALIZED as uninitialized}
+use Rattle.bb_memory_c_calls.specs.declared.code.TheConstants.{ALREADY_INITIALIZED as already_initialized, BUCKET_DETACHED as bucket_detached, DETACHED_EMPTY as detached_empty, DETACHED_FULL as detached_full, MALLOC_REFUSED as malloc_refused, NOT_A_BUCKET as not_a_bucket, NOT_HELD as not_held, NO_PARTY as no_party, OK as ok, ONE_PARTY as one_party, OTHER_POOL as other_pool, PARTIES_JOINED as parties_joined, SIZE_TOO_LARGE as size_too_large, UNINITIALIZED as uninitialized}
 use Rattle.bb_memory_index_set.specs.IndexSets.{Has}
 use Rattle.bb_memory_pool_machine.specs.PoolLogs.{MayBeFound}
 use Rattle.bb_memory_pool_machine.specs.declared.steps.pool.Flag.{Flag}
@@ -15,6 +13,7 @@ use Rattle.bb_memory_shared_pools.specs.SharedPool.{AreFresh, PoolParty, SharedP
 use Rattle.bb_memory_shared_pools.specs.SharedPoolCaching.{AttachesCaching, CachingParty, IsOut, ReturnsCaching, ServesCaching}
 use Rattle.bb_memory_shared_pools.specs.SharedPoolCaching as caching
 use Rattle.bb_memory_shared_pools.specs.SharedPoolLeaving.{GivesAllBack}
+use Rattle.bb_memory_shared_pools.specs.SharedPoolMeetings.{MetDetached, MetUndetached}
 use Rattle.bb_memory_traits.specs.Chunk.{Chunk, IsInside, Region, first_place}
 use Rattle.bb_memory_traits.specs.PoolObject.{IsCut, PoolGeometry, bucket_place}
 use Rattle.bb_memory_traits.specs.declared.allocator.AllocationError.{AllocationError}
@@ -67,16 +66,16 @@ pub record AreFlagged (pool : SharedPool) (are_so : ℕ → Type 0) (flags : Lis
   pub below : (bucket : ℕ) → Has flags bucket → bucket < pool.scene.geometry.buckets
   pub exact : (bucket : ℕ) → Has flags bucket ↔ are_so bucket
 
--- `places` has, for each of these cached buckets, where it is in their list
-abbrev pub ArePlaces : List ℕ → List ℕ → Type 0
-ArePlaces cached places = (k bucket : ℕ) → slice_get cached k ≡ Some bucket → slice_get places bucket ≡ Some k
+-- the list says which of the pool's buckets the party has in use; if the party caches at most 0
+-- buckets, there is no entry
+pub record AreListed (joined : CachingParty) (most : ℕ) (list : List Bool) : Type 0 where
+  pub flagged : 0 < most → AreFlagged joined.party.allocator (IsOut joined) list
+  pub none : most ≡ 0 → list ≡ []
 
--- The party is of this pool, and `places` has where the buckets are that it caches. There is room
--- for each bucket of the pool if the party caches any.
-pub record IsJoinedAt (pool : SharedPool) (joined : CachingParty) (places : List ℕ) : Type 0 where
+-- the party is of this pool, and `in_use` says which buckets it has in use if it caches any
+pub record IsJoinedAt (pool : SharedPool) (joined : CachingParty) (in_use : List Bool) : Type 0 where
   pub theirs : joined.party.allocator ≡ pool
-  pub room : 0 < joined.most → pool.scene.geometry.buckets ≤ length places
-  pub listed : ArePlaces joined.cached places
+  pub listed : AreListed joined joined.most in_use
 
 -- a pool over the region, cut into buckets of this layout, and all of its parties, which have made
 -- no step
@@ -97,18 +96,28 @@ abbrev pub CountsOut : CachingParty → ℕ → Type 0
 CountsOut joined count = (flags : List Bool) × AreFlagged joined.party.allocator (IsOut joined) flags
     × (count ≡ count_by (λ flag. flag) flags)
 
--- C gets a party's figures: how many buckets it has in use, and the most that were found, which is
--- no less. The party doesn't change.
-abbrev pub ShowsParty : CachingParty → PoolInfo → CachingParty → Type 0
-ShowsParty joined info after = (flags : List Bool) × AreFlagged joined.party.allocator (IsOut joined) flags × (greatest : ℕ)
-    × (count_by (λ flag. flag) flags ≤ greatest)
-    × (info ≡ pool_info (geometry_of joined) (count_by (λ flag. flag) flags) greatest) × (after ≡ joined)
+-- the figures of a shared pool of this geometry, of which `held` buckets are held
+abbrev pub shared_pool_info : PoolGeometry → ℕ → SharedPoolInfo
+shared_pool_info geometry held = record {
+  start_address = first_place geometry.region geometry.bucket;
+  size = geometry.region.size;
+  bucket_size = geometry.bucket.size;
+  max_alignment = geometry.bucket.align;
+  number_of_buckets = geometry.buckets;
+  held_buckets = held;
+}
+
+-- C gets a party's figures: the held buckets are those that the party has in use. The party doesn't
+-- change.
+abbrev pub ShowsParty : CachingParty → SharedPoolInfo → CachingParty → Type 0
+ShowsParty joined info after = (flags : List Bool) × AreFlagged joined.party.allocator (IsOut joined) flags
+    × (info ≡ shared_pool_info (geometry_of joined) (count_by (λ flag. flag) flags)) × (after ≡ joined)
 
 -- C gets a shared pool's figures: whatever its parties did meanwhile, no more buckets are held than
--- were at most, and those are no more than it has.
+-- it has.
 abbrev pub ShowsShared : PoolParties → SharedPoolInfo → PoolParties → Type 0
-ShowsShared all info after = let geometry = all.shared.scene.geometry in (held : ℕ) × (greatest : ℕ)
-    × (held ≤ greatest) × (greatest ≤ geometry.buckets) × (info.pool ≡ pool_info geometry held greatest) × (after ≡ all)
+ShowsShared all info after = let geometry = all.shared.scene.geometry in (held : ℕ)
+    × (held ≤ geometry.buckets) × (info ≡ shared_pool_info geometry held) × (after ≡ all)
 
 -- C gets the flag of the bucket of a number, as it may be found, or BB_NOT_A_BUCKET if there is no
 -- such bucket.
@@ -157,6 +166,16 @@ pub record HasGivenAllBack (joined after : CachingParty) : Type 0 where
   pub given : GivesAllBack joined.party after.party
   pub empty : after.cached ≡ []
   pub most : after.most ≡ joined.most
+
+-- A pool is destroyed if each party has left and no bucket is detached. Each of its parties has left
+-- then, so their logs say which buckets are detached: with BB_BUCKET_DETACHED they have met while one
+-- was, and with BB_OK they have met while each of the buckets was not.
+pub record TellsDestroy (all : PoolParties) (code : ℕ) : Type 0 where
+  pub joined : (code ≡ parties_joined) ↔ (count_unjoined all < all.shared.scene.parties)
+  pub detached : code ≡ bucket_detached → (bucket : ℕ) × MetDetached all.shared.scene all.parties bucket
+  pub destroyed : code ≡ ok → (bucket : ℕ) → bucket < all.shared.scene.geometry.buckets
+      → MetUndetached all.shared.scene all.parties bucket
+  pub no_other : code ≢ parties_joined → code ≢ bucket_detached → code ≡ ok
 
 -- PARTIES BY THEIR NUMBERS
 
@@ -216,38 +235,13 @@ forgetting_pool = record sharing_pool { leaves = IsForgotten }
 
 -- DETACHED BUCKETS
 
--- what a `bb_detached` holds: a detached bucket or none, and how many readers it waits for
-pub record Detached : Type 0 where
-  pub inside : Option TakenBucket
-  pub readers : ℕ
-
--- a `bb_detached` that holds a bucket and waits for no reader
-abbrev pub holding : TakenBucket → Detached
-holding token = record { inside = Some token; readers = 0 }
-
--- a `bb_detached` that holds no bucket and waits for no reader
-abbrev pub nothing : Detached
-nothing = record { inside = None; readers = 0 }
+-- what a `bb_detached` holds: a detached bucket or none
+abbrev pub Detached : Type 0
+Detached = Option TakenBucket
 
 -- C gets the length of the chunk in the bucket, or BB_DETACHED_EMPTY if there is none
 abbrev pub TellsLen : Detached → Figure → Type 0
-TellsLen detached told = MatchOption detached.inside (told ≡ no_figure detached_empty) (λ token. told ≡ figure_of token.len)
-
--- The bucket is to wait for that many readers. If several errors apply, the first one in this list
--- is returned.
-pub record TellsShare (before : Detached) (readers code : ℕ) (after : Detached) : Type 0 where
-  pub empty : before.inside ≡ None → code ≡ detached_empty
-  pub nobody : before.inside ≢ None → readers ≡ 0 → code ≡ invalid_argument
-  pub left : before.inside ≢ None → 0 < readers → 0 < before.readers → code ≡ readers_left
-  pub shared : before.inside ≢ None → 0 < readers → before.readers ≡ 0 →
-      (code ≡ ok) × (after ≡ record before { readers = readers })
-  pub unchanged : code ≢ ok → after ≡ before
-
--- A reader is done, and C gets how many more the bucket waits for.
-pub record TellsRelease (before : Detached) (told : Figure) (after : Detached) : Type 0 where
-  pub released : 0 < before.readers →
-      (told ≡ figure_of (before.readers - 1)) × (after ≡ record before { readers = before.readers - 1 })
-  pub nobody : before.readers ≡ 0 → (told ≡ no_figure no_reader) × (after ≡ before)
+TellsLen detached told = MatchOption detached (told ≡ no_figure detached_empty) (λ token. told ≡ figure_of token.len)
 
 -- DETACHING
 
@@ -276,9 +270,9 @@ pub record TellsDetach (party : CachingParty) (before : Detached) (place len cod
   pub one_party : ¬ HasOthers party → code ≡ one_party
   pub not_held : HasOthers party → ¬ HoldsPlace party place → code ≡ not_held
   pub too_large : MayDetachAt party place → (geometry_of party).bucket.size < len → code ≡ size_too_large
-  pub full : MayDetachChunk party place len → before.inside ≢ None → code ≡ detached_full
-  pub detached : MayDetachChunk party place len → before.inside ≡ None →
-      (code ≡ ok) × ((number : ℕ) × (token : TakenBucket) × HoldsAt party place number × (filled ≡ holding token)
+  pub full : MayDetachChunk party place len → before ≢ None → code ≡ detached_full
+  pub detached : MayDetachChunk party place len → before ≡ None →
+      (code ≡ ok) × ((number : ℕ) × (token : TakenBucket) × HoldsAt party place number × (filled ≡ Some token)
       × HasDetached party number len after token)
   pub unchanged : code ≢ ok → (after ≡ party) × (filled ≡ before)
 
@@ -307,7 +301,7 @@ pub record TellsAttachNumber (party : CachingParty) (number from : ℕ) (told : 
 
 -- if the pool of the detached bucket begins where the party's pool does, it is that pool
 abbrev pub KnowsInside : CachingParty → Detached → Type 0
-KnowsInside joined detached = IfSome detached.inside (λ token. AreKnown start_of token.allocator joined.party.allocator)
+KnowsInside joined detached = IfSome detached (λ token. AreKnown start_of token.allocator joined.party.allocator)
 
 -- The party attached the detached bucket, by one step. The chunk in it is inside the region.
 pub record HasAttached (joined : CachingParty) (token : TakenBucket) (after : CachingParty) : Type 0 where
@@ -320,15 +314,11 @@ HasReturned joined number after =
     after ≡ record joined { party = with_entries joined.party (return_detached_entry joined.party.number number) }
 
 -- The bucket is taken out of a `bb_detached` for a party of its pool. If several errors apply, the
--- first one in this list is returned, and nothing changes: none is there, it is of another pool, it
--- waits for a reader.
+-- first one in this list is returned, and nothing changes: none is there, it is of another pool.
 pub record TakesInside (joined : CachingParty) (before : Detached) (told : Result TakenBucket ℕ) (left : Detached) : Type 0 where
-  pub empty : before.inside ≡ None → told ≡ Err detached_empty
-  pub others : IfSome before.inside (λ token. token.allocator ≢ joined.party.allocator → told ≡ Err other_pool)
-  pub read : 0 < before.readers →
-      IfSome before.inside (λ token. token.allocator ≡ joined.party.allocator → told ≡ Err readers_left)
-  pub taken : before.readers ≡ 0 → IfSome before.inside (λ token. token.allocator ≡ joined.party.allocator →
-      (told ≡ Ok token) × (left ≡ nothing))
+  pub empty : before ≡ None → told ≡ Err detached_empty
+  pub others : IfSome before (λ token. token.allocator ≢ joined.party.allocator → told ≡ Err other_pool)
+  pub taken : IfSome before (λ token. token.allocator ≡ joined.party.allocator → (told ≡ Ok token) × (left ≡ None))
   pub unchanged : IfErr told (λ code. left ≡ before)
 
 -- If a bucket was taken out of a `bb_detached`, `done` holds of it. Otherwise C gets the code of

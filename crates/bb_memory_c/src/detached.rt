@@ -1,12 +1,12 @@
 //! Detached buckets behind handles, which go from party to party of a shared pool, and those that go by their numbers alone.
-ghost use Rattle.bb_memory_c.specs.SharedPools.{Detached, IsLostAt, KnowsInside, TakesInside, TellsAttach, TellsAttachNumber, TellsDetach, TellsDetachNumber, TellsLen, TellsRecover, TellsRelease, TellsReturnDetached, TellsShare, nothing, start_of};
+ghost use Rattle.bb_memory_c.specs.SharedPools.{Detached, IsLostAt, KnowsInside, TakesInside, TellsAttach, TellsAttachNumber, TellsDetach, TellsDetachNumber, TellsLen, TellsRecover, TellsReturnDetached, start_of};
 ghost use Rattle.bb_memory_c_calls.specs.Answers.{no_figure, refused};
 ghost use Rattle.bb_memory_c_calls.specs.Calls.{Answers, AnswersFree, AnswersMake, AnswersOfBoth, IfBoth};
 ghost use Rattle.bb_memory_c_calls.specs.declared.code.TheConstants.{UNINITIALIZED as uninitialized};
-ghost use Rattle.std.specs.Prelude.{IfOk, MatchOption, Some, ◌≡◌};
+ghost use Rattle.std.specs.Prelude.{IfOk, IfSome, MatchOption, None, Some, ◌≡◌};
 
 use crate::handle::{DetachedHandle, Handle, LostHandle, PoolPartyHandle};
-use crate::shared_pool::JoinedPool;
+use crate::shared_pool::{JoinedPool, note};
 use bb_memory_c_calls::answer::{Answer, Figure};
 use bb_memory_c_calls::{call, code};
 use bb_memory_shared_pools::shared_pool::{DetachedBucket, LostBucket, by_number};
@@ -14,20 +14,21 @@ use bb_memory_traits::layout::Chunk;
 use std::alloc::Global;
 use std::marker::Model;
 
-/// A detached bucket with the place at which its pool begins, or none, and for how many readers it waits.
+/// A detached bucket with the place at which its pool begins, or none. A gap keeps what the calls of its sender and its receiver
+/// write off the cache lines of its neighbours.
 #[derive(Drop)]
 pub struct Detached {
     inside: Option<DetachedBucket>,
     start: usize,
-    readers: u32,
+    gap: [u64; 10],
 }
 
 impl Model for Detached {
     ghost Value = { Detached };
 
-    ghost view = { λ d. record { inside = d.inside; readers = d.readers } };
+    ghost view = { λ d. d.inside };
 
-    ghost invariant = { λ d. MatchOption d.inside (d.readers ≡ 0) (λ token. d.start ≡ start_of token.allocator) };
+    ghost invariant = { λ d. IfSome d.inside (λ token. d.start ≡ start_of token.allocator) };
 }
 
 impl JoinedPool {
@@ -50,12 +51,13 @@ impl JoinedPool {
         }
         let bucket = by_number::bucket(&*self.pool, self.party.party(), number, len);
         let token = self.party.detach(&*self.pool, bucket);
+        note(&mut self.in_use, number, false);
         detached.inside = Some(token);
         detached.start = self.pool.start_address();
         code::OK
     }
 
-    /// Takes the bucket out of `detached`, where it is of the party's pool and waits for no reader, or returns why it stays.
+    /// Takes the bucket out of `detached` if it is of the party's pool, or returns why it stays.
     fn take_inside(&self, detached: &mut Detached) -> Result<DetachedBucket, u32>
         requires { KnowsInside self.now detached.old }
         ensures takes { TakesInside self.now detached.old result detached.new }
@@ -66,9 +68,6 @@ impl JoinedPool {
         }
         if detached.start != self.pool.start_address() {
             return Err(code::OTHER_POOL);
-        }
-        if detached.readers > 0 {
-            return Err(code::READERS_LEFT);
         }
         detached.inside.take().ok_or(code::DETACHED_EMPTY)
     }
@@ -86,6 +85,7 @@ impl JoinedPool {
         };
         let bucket = by_number::bucket(&*self.pool, self.party.party(), number, 0);
         let told = self.party.detach_number(&*self.pool, bucket);
+        note(&mut self.in_use, number, false);
         Figure::of(told as usize)
     }
 
@@ -101,6 +101,7 @@ impl JoinedPool {
         if !self.party.attach_number(&*self.pool, number, from) {
             return Answer::refusal(code::NOT_HELD);
         }
+        note(&mut self.in_use, number, true);
         let size = self.pool.bucket_size();
         let bucket = by_number::bucket(&*self.pool, self.party.party(), number, size);
         Answer::of(Ok(bucket.chunk()))
@@ -112,7 +113,11 @@ impl JoinedPool {
         ensures { TellsAttach self.old detached.old result self.new detached.new }
     {
         match self.take_inside(detached) {
-            Ok(token) => Answer::of(Ok(self.party.attach(&*self.pool, token).chunk())),
+            Ok(token) => {
+                let bucket = self.party.attach(&*self.pool, token);
+                note(&mut self.in_use, bucket.number(), true);
+                Answer::of(Ok(bucket.chunk()))
+            }
             Err(code) => Answer::refusal(code),
         }
     }
@@ -150,7 +155,7 @@ impl JoinedPool {
 /// Makes a `bb_detached` with no bucket in it, behind a handle that has to be empty.
 #[unsafe(no_mangle)]
 pub extern "C" fn bb_detached_init(alloc: Global, detached: &mut DetachedHandle) -> u32
-    ensures { AnswersMake detached.old.value detached.new.value result (Unit {0}) (λ new. new ≡ Some nothing) }
+    ensures { AnswersMake detached.old.value detached.new.value result (Unit {0}) (λ new. new ≡ Some None) }
 {
     if call::is_made(detached) {
         return code::ALREADY_INITIALIZED;
@@ -158,7 +163,7 @@ pub extern "C" fn bb_detached_init(alloc: Global, detached: &mut DetachedHandle)
     let none = Detached {
         inside: None,
         start: 0,
-        readers: 0,
+        gap: [0; 10],
     };
     call::keep(detached, alloc, none)
 }
@@ -184,44 +189,6 @@ pub extern "C" fn bb_detached_len(detached: &mut DetachedHandle) -> Figure
         Some(token) => Figure::of(token.len()),
         None => Figure::refusal(code::DETACHED_EMPTY),
     }
-}
-
-/// Has the bucket that is in it wait for `readers` readers, one at least. Each releases it. No party attaches it before.
-#[unsafe(no_mangle)]
-pub extern "C" fn bb_detached_share(detached: &mut DetachedHandle, readers: u32) -> u32
-    ensures { Answers detached.old.value detached.new.value (result ≡ uninitialized)
-        (λ before after. TellsShare before readers result after) }
-{
-    let Some(inside) = detached.made_mut() else {
-        return code::UNINITIALIZED;
-    };
-    if inside.inside.is_none() {
-        return code::DETACHED_EMPTY;
-    }
-    if readers == 0 {
-        return code::INVALID_ARGUMENT;
-    }
-    if inside.readers > 0 {
-        return code::READERS_LEFT;
-    }
-    inside.readers = readers;
-    code::OK
-}
-
-/// Counts a reader that is done, and answers for how many more the bucket waits: 0 for the last one.
-#[unsafe(no_mangle)]
-pub extern "C" fn bb_detached_release(detached: &mut DetachedHandle) -> Figure
-    ensures { Answers detached.old.value detached.new.value (result ≡ no_figure uninitialized)
-        (λ before after. TellsRelease before result after) }
-{
-    let Some(inside) = detached.made_mut() else {
-        return Figure::refusal(code::UNINITIALIZED);
-    };
-    if inside.readers == 0 {
-        return Figure::refusal(code::NO_READER);
-    }
-    inside.readers -= 1;
-    Figure::of(inside.readers as usize)
 }
 
 /// Detaches the bucket at this place, which this party holds, with a chunk of `len` bytes. The bucket goes into a `bb_detached`

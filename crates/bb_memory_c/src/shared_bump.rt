@@ -1,7 +1,7 @@
 //! A shared bump behind handles: one for the bump and the parties that haven't joined, and one for each party that has.
 ghost use Rattle.bb_memory_bump.specs.SharedBump.{BumpParty};
-ghost use Rattle.bb_memory_c.specs.SharedBumps.{AreFreshOver, AreUnjoined, BumpParties, GivesChunk, IsShareable, Knows, ShowsLoad, TellsReset, sharing_bump};
-ghost use Rattle.bb_memory_c_calls.specs.Calls.{Answers, AnswersFree, AnswersInfo, AnswersJoin, AnswersLeave, AnswersMake, AnswersRequest, IfBoth, IsThere};
+ghost use Rattle.bb_memory_c.specs.SharedBumps.{AreFreshOver, AreUnjoined, BumpParties, GivesChunk, IsShareable, Knows, ShowsLoad, TellsDestroy, TellsReset, sharing_bump};
+ghost use Rattle.bb_memory_c_calls.specs.Calls.{Answers, AnswersDestroy, AnswersFree, AnswersInfo, AnswersJoin, AnswersLeave, AnswersMake, AnswersRequest, IfBoth, IsThere};
 ghost use Rattle.bb_memory_c_calls.specs.declared.code.TheConstants.{UNINITIALIZED as uninitialized};
 ghost use Rattle.bb_memory_traits.specs.Chunk.{region_at};
 ghost use Rattle.std.specs.Arc.{arc_value};
@@ -11,7 +11,7 @@ use crate::handle::{BumpPartyHandle, Handle, SharedBumpHandle};
 use bb_memory_bump::bump_allocator::{AllocationError, BumpAllocator};
 use bb_memory_bump::shared_bump::{BumpParty, SharedBumpAllocator};
 use bb_memory_c_calls::answer::{Answer, BumpInfo};
-use bb_memory_c_calls::kind::{Gives, Shares};
+use bb_memory_c_calls::kind::{Ends, Gives, Shares};
 use bb_memory_c_calls::{call, code};
 use bb_memory_traits::layout::{Chunk, Layout};
 use std::alloc::Global;
@@ -119,6 +119,18 @@ impl Shares<JoinedBump> for BumpParties {
     }
 }
 
+impl Ends for BumpParties {
+    ghost ends = { TellsDestroy };
+
+    fn end_code(&mut self) -> u32 {
+        if self.parties.len() < self.count as usize {
+            code::PARTIES_JOINED
+        } else {
+            code::OK
+        }
+    }
+}
+
 /// Makes a shared bump over the region of `size` bytes at `start`, behind a handle that has to be empty. The start has to be
 /// greater than 0, and start plus size at most `SIZE_MAX`. Each of the parties, at least one, can join.
 #[unsafe(no_mangle)]
@@ -144,9 +156,17 @@ pub extern "C" fn bb_shared_bump_init(
     call::keep(handle, alloc, all)
 }
 
-/// Frees the handle of a shared bump, which is empty then. The bump stays as long as one of its parties does.
+/// Frees a shared bump, whose handle is empty then. It is refused with `BB_PARTIES_JOINED` unless each party has left.
 #[unsafe(no_mangle)]
 pub extern "C" fn bb_shared_bump_destroy(alloc: Global, handle: &mut SharedBumpHandle) -> u32
+    ensures { AnswersDestroy handle.old.value handle.new.value result TellsDestroy }
+{
+    call::destroy(handle, alloc)
+}
+
+/// Empties the handle of a shared bump, whatever its parties do. The bump stays as long as one of them does.
+#[unsafe(no_mangle)]
+pub extern "C" fn bb_shared_bump_abandon(alloc: Global, handle: &mut SharedBumpHandle) -> u32
     ensures { AnswersFree handle.old.value handle.new.value result }
 {
     call::free(handle, alloc)
@@ -199,9 +219,9 @@ pub extern "C" fn bb_shared_bump_reset(alloc: Global, handle: &mut SharedBumpHan
     code::OK
 }
 
-/// Frees a party that hasn't left, whose handle is empty then. It can't join again, so the bump can't be reset.
+/// Frees a party that hasn't left, whose handle is empty then. It can't join again, so the bump can't be reset or destroyed.
 #[unsafe(no_mangle)]
-pub extern "C" fn bb_bump_party_destroy(alloc: Global, handle: &mut BumpPartyHandle) -> u32
+pub extern "C" fn bb_bump_party_abandon(alloc: Global, handle: &mut BumpPartyHandle) -> u32
     ensures { AnswersFree handle.old.value handle.new.value result }
 {
     call::free(handle, alloc)

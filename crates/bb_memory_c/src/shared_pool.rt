@@ -1,19 +1,18 @@
 //! A shared pool behind handles: one for the pool and the parties that haven't joined, and one for each party that has.
-ghost use Rattle.bb_memory_c.specs.SharedPools.{AnswersJoinNumber, ArePlaces, AreUnjoined, CountsOut, GivesBack, GivesChunk, HasGivenAllBack, HasUnjoined, HoldsAt, HoldsPlace, IsAt, IsJoinedAt, IsNumberAt, Knows, PoolParties, ShowsParty, ShowsShared, TakesNumber, TellsCache, TellsHolder, as_joined, cutting_shared_pool, emptied, forgetting_pool, geometry_of, sharing_pool, with_last, with_unjoined};
+ghost use Rattle.bb_memory_c.specs.SharedPools.{AnswersJoinNumber, AreListed, AreUnjoined, CountsOut, GivesBack, GivesChunk, HasGivenAllBack, HasUnjoined, HoldsAt, HoldsPlace, IsAt, IsJoinedAt, IsNumberAt, Knows, PoolParties, ShowsParty, ShowsShared, TakesNumber, TellsCache, TellsDestroy, TellsHolder, as_joined, cutting_shared_pool, emptied, forgetting_pool, geometry_of, shared_pool_info, sharing_pool, with_last, with_unjoined};
 ghost use Rattle.bb_memory_c_calls.specs.Answers.{figure_of, no_figure};
-ghost use Rattle.bb_memory_c_calls.specs.Calls.{Answers, AnswersFree, AnswersInfo, AnswersJoin, AnswersLeave, AnswersNumber, AnswersPlace, AnswersPoolMake, AnswersRequest, AnswersReturn, AnswersReturns, AnswersTake, AnswersTakings, AnswersWhether, IfBoth};
-ghost use Rattle.bb_memory_c_calls.specs.OneOwner.{pool_info};
+ghost use Rattle.bb_memory_c_calls.specs.Calls.{Answers, AnswersDestroy, AnswersFree, AnswersInfo, AnswersJoin, AnswersLeave, AnswersNumber, AnswersPlace, AnswersPoolMake, AnswersRequest, AnswersReturn, AnswersReturns, AnswersTake, AnswersTakings, AnswersWhether, IfBoth};
 ghost use Rattle.bb_memory_c_calls.specs.declared.code.TheConstants.{OK as ok, UNINITIALIZED as uninitialized};
 ghost use Rattle.bb_memory_shared_pools.specs.SharedPool.{IsParty};
 ghost use Rattle.bb_memory_shared_pools.specs.SharedPoolCaching.{CachingParty, IsOut, ReturnsCaching};
 ghost use Rattle.bb_memory_traits.specs.Chunk.{region_at};
 ghost use Rattle.bb_memory_traits.specs.PoolObject.{bucket_place};
 ghost use Rattle.std.specs.Arc.{arc_value};
-ghost use Rattle.std.specs.Prelude.{Contains, IfErr, IfNone, IfOk, IfSome, IsFalse, IsTrue, Some, length, slice_get, slice_set, vec_capacity, ℕ, ◌<◌, ◌↔◌, ◌≡◌, ◌≤◌};
+ghost use Rattle.std.specs.Prelude.{Contains, IfErr, IfNone, IfOk, IfSome, IsFalse, IsTrue, Some, false, length, slice_get, slice_set, vec_capacity, ℕ, ◌<◌, ◌↔◌, ◌≡◌, ◌≤◌};
 
 use crate::handle::{Handle, PoolPartyHandle, SharedPoolHandle};
-use bb_memory_c_calls::answer::{Answer, Figure, Holder, PoolInfo, SharedPoolInfo};
-use bb_memory_c_calls::kind::{Bucketed, Gives, Keeps, Shares};
+use bb_memory_c_calls::answer::{Answer, Figure, Holder, SharedPoolInfo};
+use bb_memory_c_calls::kind::{Bucketed, Ends, Gives, Keeps, Shares};
 use bb_memory_c_calls::layout::cut_into;
 use bb_memory_c_calls::{call, code};
 use bb_memory_owned::pool_allocator::AllocationError;
@@ -21,21 +20,20 @@ use bb_memory_shared_pools::shared_pool::{
     CachingParty, PoolParty, SharedPoolAllocator, by_number,
 };
 use bb_memory_traits::layout::{Chunk, Layout};
-use std::alloc::Global;
+use std::alloc::{AllocError, Global};
 use std::marker::Model;
 use std::sync::Arc;
 
-/// The number of `u32` that fill two cache lines.
-const GAP: usize = 32;
+/// The bytes of two cache lines.
+const GAP: usize = 128;
 
-/// One party. The pool's flags say which buckets it holds. Where it caches some, `places` has the place of each cached bucket in
-/// their list. Gaps keep what parties' calls write on lines apart.
+/// One party. The pool's flags say which buckets it holds. If it caches some of them, `in_use` says of each of the pool's buckets
+/// whether the party has it in use: holds it, and doesn't cache it. Gaps keep what parties' calls write on lines apart.
 #[derive(Drop)]
 pub struct JoinedPool {
     pub(crate) pool: Arc<SharedPoolAllocator, Global>,
     pub(crate) party: CachingParty,
-    places: Vec<u32>,
-    greatest: usize,
+    pub(crate) in_use: Vec<bool>,
     gap: [u64; 16],
 }
 
@@ -44,60 +42,79 @@ impl Model for JoinedPool {
 
     ghost view = { λ s. s.party };
 
-    ghost invariant = { λ s. IsJoinedAt (arc_value s.pool) s.party s.places.items };
+    ghost invariant = { λ s. IsJoinedAt (arc_value s.pool) s.party s.in_use.items };
 }
 
-/// Returns the figures of `pool` with these two counts.
-fn figures_of(pool: &SharedPoolAllocator, held: usize, greatest: usize) -> PoolInfo
-    ensures { result ≡ pool_info pool.now.scene.geometry held greatest }
+/// Returns the figures of `pool`, with this number of held buckets.
+fn figures_of(pool: &SharedPoolAllocator, held: usize) -> SharedPoolInfo
+    ensures { result ≡ shared_pool_info pool.now.scene.geometry held }
 {
-    PoolInfo {
+    SharedPoolInfo {
         start_address: pool.start_address(),
         size: pool.size(),
         bucket_size: pool.bucket_size(),
         max_alignment: pool.max_alignment(),
         number_of_buckets: pool.number_of_buckets() as usize,
         held_buckets: held,
-        greatest_held: greatest,
     }
 }
 
-/// Returns the places that a party needs that caches at most `most` of that many buckets: none where it caches none.
+/// Returns how many entries the list of a party has that caches at most `most` of that many buckets: none if it caches none.
 fn room_for(most: u32, buckets: u32) -> usize
-    ensures { 0 < most → buckets ≤ result }
+    ensures none { most ≡ 0 → result ≡ 0 }
+    ensures some { 0 < most → (buckets ≤ result) × (0 < result) }
 {
     if most == 0 { 0 } else { buckets as usize + GAP }
 }
 
-/// Returns the entry of this number, if there is one.
-fn entry(all: &[u32], number: u32) -> Option<u32>
-    ensures { result ≡ slice_get all.now number }
+/// Returns the entry of the bucket of this number, if there is one.
+fn entry(in_use: &[bool], number: u32) -> Option<bool>
+    ensures { result ≡ slice_get in_use.now number }
 {
-    all.get(number as usize).copied()
+    in_use.get(number as usize).copied()
 }
 
-/// Returns whether this number stands at this place of the list.
-fn is_at(all: &[u32], place: u32, number: u32) -> bool
-    ensures { IsTrue result ↔ (slice_get all.now place ≡ Some number) }
+/// Writes the entry of the bucket of this number, if there is one.
+pub(crate) fn note(in_use: &mut Vec<bool>, number: u32, is_in_use: bool)
+    ensures { in_use.new.items ≡ slice_set in_use.old.items number is_in_use }
 {
-    entry(all, place) == Some(number)
-}
-
-/// Returns whether the bucket of this number is cached. Where it isn't, notes this place for it, if there is room.
-fn note(places: &mut Vec<u32>, cached: &[u32], number: u32, place: u32) -> bool
-    requires { ArePlaces cached.now places.old.items }
-    ensures cached { IsTrue result ↔ Contains cached.now number }
-    ensures noted { IsFalse result → places.new.items ≡ slice_set places.old.items number place }
-    ensures unchanged { IsTrue result → places.new.items ≡ places.old.items }
-{
-    let Some(noted) = entry(places, number) else {
-        return false;
-    };
-    if is_at(cached, noted, number) {
-        return true;
+    if let Some(entry) = in_use.get_mut(number as usize) {
+        *entry = is_in_use;
     }
-    places[number as usize] = place;
-    false
+}
+
+/// Clears the entry of the bucket of this number. Returns what it was, if there is one.
+fn clear(in_use: &mut Vec<bool>, number: u32) -> Option<bool>
+    ensures was { result ≡ slice_get in_use.old.items number }
+    ensures cleared { in_use.new.items ≡ slice_set in_use.old.items number false }
+{
+    let entry = in_use.get_mut(number as usize)?;
+    let was_in_use = *entry;
+    *entry = false;
+    Some(was_in_use)
+}
+
+/// Returns whether the party has the bucket of this number in use, and clears its entry. One that caches none asks the bucket's
+/// flag.
+#[inline(always)]
+fn end_use(
+    party: &mut CachingParty,
+    pool: &SharedPoolAllocator,
+    in_use: &mut Vec<bool>,
+    number: u32,
+) -> bool
+    requires theirs { party.old.party.allocator ≡ pool.now }
+    requires few { length party.old.cached ≤ party.old.most }
+    requires listed { AreListed party.old party.old.most in_use.old.items }
+    requires below { number < (geometry_of party.old).buckets }
+    ensures value { IsTrue result ↔ IsOut party.old number }
+    ensures unchanged { party.new ≡ party.old }
+    ensures cleared { in_use.new.items ≡ slice_set in_use.old.items number false }
+{
+    match clear(in_use, number) {
+        Some(was_in_use) => was_in_use,
+        None => party.is_held(pool, number),
+    }
 }
 
 impl JoinedPool {
@@ -118,8 +135,7 @@ impl JoinedPool {
         let joined = JoinedPool {
             pool,
             party,
-            places: Vec::new(alloc),
-            greatest: 0,
+            in_use: Vec::new(alloc),
             gap: [0; 16],
         };
         Box::new(alloc, joined).map_err(|refused| refused.value.party.into_inner())
@@ -127,31 +143,24 @@ impl JoinedPool {
 
     /// Proof hint: brings into scope what holds of every party.
     fn invariant(&self)
-        ensures { IsParty self.now.party }
+        ensures party { IsParty self.now.party }
+        ensures few { length self.now.cached ≤ self.now.most }
     {
         let _ = self.party.party().number();
+        let _ = self.party.number_of_cached();
     }
 
-    /// Tells whether the bucket of this number is cached.
-    fn is_cached(&self, number: u32) -> bool
-        ensures { IsTrue result ↔ Contains self.now.cached number }
-    {
-        let Some(place) = entry(&self.places, number) else {
-            return false;
-        };
-        is_at(self.party.cached(), place, number)
-    }
-
-    /// Tells whether the bucket of this number is out: held, and not cached.
+    /// Returns whether the party has the bucket of this number in use. One that caches none asks the bucket's flag.
     fn is_out(&mut self, number: u32) -> bool
         requires { number < (geometry_of self.old).buckets }
         ensures value { IsTrue result ↔ IsOut self.old number }
         ensures unchanged { self.new ≡ self.old }
     {
-        if self.is_cached(number) {
-            return false;
+        self.invariant();
+        match entry(&self.in_use, number) {
+            Some(is_in_use) => is_in_use,
+            None => self.party.is_held(&*self.pool, number),
         }
-        self.party.is_held(&*self.pool, number)
     }
 
     /// Returns the number of the bucket at this place. Where no bucket begins there, none is out there.
@@ -180,18 +189,43 @@ impl JoinedPool {
         }
     }
 
-    /// Has the party cache at most `most` buckets, with room for their places. What it caches already is given back first.
+    /// Returns the list of buckets in use that the party needs if it caches at most `most` buckets.
+    fn list_in_use(&mut self, alloc: Global, most: u32) -> Result<Vec<bool>, AllocError>
+        ensures listed { IfOk result (λ list. AreListed self.old most list.items) }
+        ensures unchanged { self.new ≡ self.old }
+    {
+        self.invariant();
+        let buckets = self.pool.number_of_buckets();
+        let mut list = Vec::from_elem(alloc, false, room_for(most, buckets))?;
+        if most == 0 {
+            return Ok(list);
+        }
+        for number in 0..buckets {
+            let is_out = self.is_out(number);
+            note(&mut list, number, is_out);
+        }
+        Ok(list)
+    }
+
+    /// Has the party cache at most `most` buckets. What it caches already is given back first.
     fn cache_at_most(&mut self, alloc: Global, most: u32) -> Result<(), AllocationError>
         ensures done { IfOk result (λ done. self.new ≡ emptied self.old most) }
         ensures refused { IfErr result (λ error. self.new ≡ self.old) }
     {
-        let room = room_for(most, self.pool.number_of_buckets());
-        let Ok(places) = Vec::from_elem(alloc, 0, room) else {
+        let Ok(in_use) = self.list_in_use(alloc, most) else {
             return Err(AllocationError::OutOfMemory);
         };
         self.party.cache_at_most(alloc, &*self.pool, most)?;
-        self.places = places;
+        self.in_use = in_use;
         Ok(())
+    }
+
+    /// Gives back each bucket whose flag says that the party holds it.
+    fn give_all_back(&mut self)
+        ensures { HasGivenAllBack self.old self.new }
+    {
+        self.party.give_all_back(&*self.pool);
+        self.in_use.fill(false);
     }
 
     /// Counts the buckets that are out.
@@ -220,11 +254,8 @@ impl JoinedPool {
     {
         self.invariant();
         let pool = &*self.pool;
-        let place = self.party.number_of_cached();
-        if note(&mut self.places, self.party.cached(), number, place) {
-            return false;
-        }
-        if !self.party.is_held(pool, number) {
+        let was_in_use = end_use(&mut self.party, pool, &mut self.in_use, number);
+        if !was_in_use {
             return false;
         }
         let bucket = by_number::bucket(pool, self.party.party(), number, 0);
@@ -233,7 +264,7 @@ impl JoinedPool {
     }
 }
 
-impl Gives<PoolInfo> for JoinedPool {
+impl Gives<SharedPoolInfo> for JoinedPool {
     ghost may_give = { GivesChunk };
 
     ghost may_show = { ShowsParty };
@@ -241,13 +272,13 @@ impl Gives<PoolInfo> for JoinedPool {
     #[inline(always)]
     fn give(&mut self, layout: Layout) -> Result<Chunk, AllocationError> {
         let bucket = self.party.allocate(&*self.pool, layout)?;
+        note(&mut self.in_use, bucket.number(), true);
         Ok(bucket.chunk())
     }
 
-    fn show(&mut self) -> PoolInfo {
+    fn show(&mut self) -> SharedPoolInfo {
         let held = self.count_out();
-        self.greatest = self.greatest.max(held);
-        figures_of(&*self.pool, held, self.greatest)
+        figures_of(&*self.pool, held)
     }
 }
 
@@ -278,6 +309,7 @@ impl Bucketed for JoinedPool {
     #[inline(always)]
     fn take(&mut self) -> Result<Chunk, AllocationError> {
         let bucket = self.party.take(&*self.pool)?;
+        note(&mut self.in_use, bucket.number(), true);
         Ok(bucket.chunk())
     }
 
@@ -395,6 +427,21 @@ impl Shares<JoinedPool> for PoolParties {
     }
 }
 
+impl Ends for PoolParties {
+    ghost ends = { TellsDestroy };
+
+    fn end_code(&mut self) -> u32 {
+        if self.parties.len() < self.pool.number_of_parties() as usize {
+            return code::PARTIES_JOINED;
+        }
+        if self.pool.has_detached(&mut self.parties) {
+            code::BUCKET_DETACHED
+        } else {
+            code::OK
+        }
+    }
+}
+
 /// Makes a shared pool over the region of `size` bytes at `start`, behind a handle that has to be empty. The region is cut into
 /// buckets of `bucket_size` bytes at multiples of `bucket_align`, with room for one. Each party, at least one, can join.
 #[unsafe(no_mangle)]
@@ -426,15 +473,24 @@ pub extern "C" fn bb_shared_pool_init(
     call::keep(handle, alloc, PoolParties { pool, parties })
 }
 
-/// Frees the handle of a shared pool, which is empty then. The pool stays as long as one of its parties does.
+/// Frees a shared pool, whose handle is empty then. It is refused with `BB_PARTIES_JOINED` unless each party has left, and with
+/// `BB_BUCKET_DETACHED` if a bucket is detached.
 #[unsafe(no_mangle)]
 pub extern "C" fn bb_shared_pool_destroy(alloc: Global, handle: &mut SharedPoolHandle) -> u32
+    ensures { AnswersDestroy handle.old.value handle.new.value result TellsDestroy }
+{
+    call::destroy(handle, alloc)
+}
+
+/// Empties the handle of a shared pool, whatever its parties and buckets do. The pool stays as long as one of its parties does.
+#[unsafe(no_mangle)]
+pub extern "C" fn bb_shared_pool_abandon(alloc: Global, handle: &mut SharedPoolHandle) -> u32
     ensures { AnswersFree handle.old.value handle.new.value result }
 {
     call::free(handle, alloc)
 }
 
-/// Fills the struct with the pool's figures, while parties may call: each is read at a moment of its own.
+/// Fills the struct with the pool's figures, while parties may call: each flag is read at a moment of its own.
 #[unsafe(no_mangle)]
 pub extern "C" fn bb_shared_pool_info(handle: &mut SharedPoolHandle, to: &mut SharedPoolInfo) -> u32
     ensures { AnswersInfo handle.old.value handle.new.value to.old to.new result ShowsShared }
@@ -442,12 +498,8 @@ pub extern "C" fn bb_shared_pool_info(handle: &mut SharedPoolHandle, to: &mut Sh
     let Some(all) = handle.made_mut() else {
         return code::UNINITIALIZED;
     };
-    let figures = all.pool.figures();
-    let (held, greatest) = (figures.held as usize, figures.greatest_held as usize);
-    *to = SharedPoolInfo {
-        pool: figures_of(&*all.pool, held, greatest),
-        refused: figures.refused as usize,
-    };
+    let held = all.pool.held_buckets() as usize;
+    *to = figures_of(&*all.pool, held);
     code::OK
 }
 
@@ -550,9 +602,10 @@ pub extern "C" fn bb_shared_pool_leave(
     call::leave(handle, alloc, party)
 }
 
-/// Frees a party that hasn't left, whose handle is empty then. It can't join again, and what it holds stays held.
+/// Frees a party that hasn't left, whose handle is empty then. It can't join again, what it holds stays held, and the pool can't be
+/// destroyed.
 #[unsafe(no_mangle)]
-pub extern "C" fn bb_pool_party_destroy(alloc: Global, handle: &mut PoolPartyHandle) -> u32
+pub extern "C" fn bb_pool_party_abandon(alloc: Global, handle: &mut PoolPartyHandle) -> u32
     ensures { AnswersFree handle.old.value handle.new.value result }
 {
     call::free(handle, alloc)
@@ -598,7 +651,7 @@ pub extern "C" fn bb_pool_party_give_all_back(handle: &mut PoolPartyHandle) -> u
     let Some(joined) = handle.made_mut() else {
         return code::UNINITIALIZED;
     };
-    joined.party.give_all_back(&*joined.pool);
+    joined.give_all_back();
     code::OK
 }
 
@@ -667,7 +720,7 @@ pub extern "C" fn bb_pool_party_holds(handle: &mut PoolPartyHandle, place: usize
 
 /// Fills the struct with the pool's figures, and with how many buckets this party holds, without those that it caches.
 #[unsafe(no_mangle)]
-pub extern "C" fn bb_pool_party_info(handle: &mut PoolPartyHandle, to: &mut PoolInfo) -> u32
+pub extern "C" fn bb_pool_party_info(handle: &mut PoolPartyHandle, to: &mut SharedPoolInfo) -> u32
     ensures { AnswersInfo handle.old.value handle.new.value to.old to.new result ShowsParty }
 {
     call::info(handle, to)

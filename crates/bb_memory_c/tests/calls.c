@@ -56,18 +56,18 @@ static int same(size_t figure, size_t number) {
 }
 
 // Returns the figures of what a handle owns, which isn't empty.
-#define INFO_OF(KIND, INFO)                                \
-    static struct bb_##INFO of_##KIND(bb_##KIND *handle) { \
-        struct bb_##INFO info;                             \
-        memset(&info, 0xa5, sizeof info);                  \
-        EXPECT(bb_##KIND##_info(handle, &info) == BB_OK);  \
-        return info;                                       \
+#define INFO_OF(KIND, FIGURES)                            \
+    static FIGURES of_##KIND(bb_##KIND *handle) {         \
+        FIGURES info;                                     \
+        memset(&info, 0xa5, sizeof info);                 \
+        EXPECT(bb_##KIND##_info(handle, &info) == BB_OK); \
+        return info;                                      \
     }
-INFO_OF(bump, bump_info)
-INFO_OF(one_chunk, one_chunk_info)
-INFO_OF(pool, pool_info)
-INFO_OF(bump_party, bump_info)
-INFO_OF(pool_party, pool_info)
+INFO_OF(bump, bb_bump_figures)
+INFO_OF(one_chunk, bb_one_chunk_figures)
+INFO_OF(pool, bb_pool_figures)
+INFO_OF(bump_party, bb_bump_figures)
+INFO_OF(pool_party, bb_shared_pool_figures)
 
 static int has_none(bb_number figure, uint32_t code) {
     return figure.code == code && figure.number == 0;
@@ -87,14 +87,23 @@ static void run_version(void) {
 static void run_texts(void) {
     const char *none = bb_text(BB_LAST_CODE + 1);
     EXPECT(strcmp(none, bb_text(UINT32_MAX)) == 0);
-    EXPECT(strcmp(none, bb_text(17)) == 0);
     for (uint32_t code = BB_OK; code <= BB_LAST_CODE; code++) {
-        // A code of earlier versions.
-        if (code == 17)
-            continue;
         EXPECT(strcmp(bb_text(code), none) != 0);
         for (uint32_t before = BB_OK; before < code; before++)
             EXPECT(strcmp(bb_text(code), bb_text(before)) != 0);
+    }
+}
+
+// Each code has its own name, and no other number has one.
+static void run_names(void) {
+    const char *none = bb_name(BB_LAST_CODE + 1);
+    EXPECT(strcmp(none, bb_name(UINT32_MAX)) == 0);
+    EXPECT(strcmp(bb_name(BB_NOT_HELD), "BB_NOT_HELD") == 0);
+    EXPECT(strcmp(bb_name(BB_OK), "BB_OK") == 0);
+    for (uint32_t code = BB_OK; code <= BB_LAST_CODE; code++) {
+        EXPECT(strncmp(bb_name(code), "BB_", 3) == 0);
+        for (uint32_t before = BB_OK; before < code; before++)
+            EXPECT(strcmp(bb_name(code), bb_name(before)) != 0);
     }
 }
 
@@ -249,7 +258,7 @@ static void run_pool(void) {
 
 // Takes both buckets of 500 bytes, and the one that came back: what a request of the bucket's own
 // size and alignment gets.
-#define RUN_TAKE(POOL, MADE)                                   \
+#define RUN_TAKE(POOL, END, MADE)                              \
     do {                                                       \
         requests = 0;                                          \
         bb_chunk one = POOL##_take(&MADE);                     \
@@ -261,7 +270,7 @@ static void run_pool(void) {
         EXPECT(POOL##_deallocate(&MADE, one.place) == BB_OK);  \
         EXPECT(given(POOL##_take(&MADE), one.place));          \
         EXPECT(requests == 0);                                 \
-        EXPECT(POOL##_destroy(&MADE) == BB_OK);                \
+        EXPECT((END) == BB_OK);                                \
         EXPECT(refused(POOL##_take(&MADE), BB_UNINITIALIZED)); \
     } while (0)
 
@@ -271,45 +280,46 @@ static void run_take(void) {
     bb_pool_party caching = BB_EMPTY;
     bb_pool_party party = BB_EMPTY;
     EXPECT(bb_pool_init(&pool, 500, 4, 4096, 1024) == BB_OK);
-    RUN_TAKE(bb_pool, pool);
+    RUN_TAKE(bb_pool, bb_pool_destroy(&pool), pool);
     EXPECT(bb_shared_pool_init(&shared, 500, 4, 4096, 1024, 2) == BB_OK);
     EXPECT(bb_shared_pool_join(&shared, &party) == BB_OK);
-    RUN_TAKE(bb_pool_party, party);
+    RUN_TAKE(bb_pool_party, bb_shared_pool_leave(&shared, &party), party);
     EXPECT(bb_shared_pool_destroy(&shared) == BB_OK);
     EXPECT(bb_shared_pool_init(&shared, 500, 4, 4096, 1024, 2) == BB_OK);
     EXPECT(bb_shared_pool_join(&shared, &caching) == BB_OK);
     EXPECT(bb_pool_party_cache(&caching, 1) == BB_OK);
-    RUN_TAKE(bb_pool_party, caching);
+    RUN_TAKE(bb_pool_party, bb_shared_pool_leave(&shared, &caching), caching);
     EXPECT(bb_shared_pool_destroy(&shared) == BB_OK);
 }
 
 // Buckets of 48 bytes at multiples of 32 are 64 bytes apart, the first at 4096, and the region has
 // room for five. A bucket has its number and its place whether it is held or not, and no call takes
 // memory.
-#define RUN_NUMBERS(POOL, MADE)                                                                    \
-    do {                                                                                           \
-        requests = 0;                                                                              \
-        for (uint32_t number = 0; number < 5; number++) {                                          \
-            EXPECT(is(POOL##_place_at(&MADE, number), 4096 + 64 * (size_t)number));                \
-            EXPECT(is(POOL##_number_at(&MADE, 4096 + 64 * (size_t)number), number));               \
-            EXPECT(has_none(POOL##_number_at(&MADE, 4096 + 64 * (size_t)number + 1),               \
-                            BB_NOT_A_BUCKET));                                                     \
-            EXPECT(has_none(POOL##_number_at(&MADE, 4096 + 64 * (size_t)number + 63),              \
-                            BB_NOT_A_BUCKET));                                                     \
-        }                                                                                          \
-        EXPECT(has_none(POOL##_place_at(&MADE, 5), BB_NOT_A_BUCKET));                              \
-        EXPECT(has_none(POOL##_place_at(&MADE, UINT32_MAX), BB_NOT_A_BUCKET));                     \
-        EXPECT(has_none(POOL##_number_at(&MADE, 0), BB_NOT_A_BUCKET));                             \
-        EXPECT(has_none(POOL##_number_at(&MADE, 4095), BB_NOT_A_BUCKET));                          \
-        EXPECT(has_none(POOL##_number_at(&MADE, 4096 + 64 * 5), BB_NOT_A_BUCKET));                 \
-        EXPECT(has_none(POOL##_number_at(&MADE, SIZE_MAX), BB_NOT_A_BUCKET));                      \
-        bb_chunk given = POOL##_allocate(&MADE, 48, 4);                                            \
-        bb_number number = POOL##_number_at(&MADE, given.place);                                   \
-        EXPECT(given.code == BB_OK && is(number, (given.place - 4096) / 64));                      \
-        EXPECT(is(POOL##_place_at(&MADE, (uint32_t)number.number), given.place) && requests == 0); \
-        EXPECT(POOL##_destroy(&MADE) == BB_OK);                                                    \
-        EXPECT(has_none(POOL##_place_at(&MADE, 0), BB_UNINITIALIZED));                             \
-        EXPECT(has_none(POOL##_number_at(&MADE, 4096), BB_UNINITIALIZED));                         \
+#define RUN_NUMBERS(POOL, END, MADE)                                                   \
+    do {                                                                               \
+        requests = 0;                                                                  \
+        for (uint32_t number = 0; number < 5; number++) {                              \
+            EXPECT(given(POOL##_place_at(&MADE, number), 4096 + 64 * (size_t)number)); \
+            EXPECT(is(POOL##_number_at(&MADE, 4096 + 64 * (size_t)number), number));   \
+            EXPECT(has_none(POOL##_number_at(&MADE, 4096 + 64 * (size_t)number + 1),   \
+                            BB_NOT_A_BUCKET));                                         \
+            EXPECT(has_none(POOL##_number_at(&MADE, 4096 + 64 * (size_t)number + 63),  \
+                            BB_NOT_A_BUCKET));                                         \
+        }                                                                              \
+        EXPECT(refused(POOL##_place_at(&MADE, 5), BB_NOT_A_BUCKET));                   \
+        EXPECT(refused(POOL##_place_at(&MADE, UINT32_MAX), BB_NOT_A_BUCKET));          \
+        EXPECT(has_none(POOL##_number_at(&MADE, 0), BB_NOT_A_BUCKET));                 \
+        EXPECT(has_none(POOL##_number_at(&MADE, 4095), BB_NOT_A_BUCKET));              \
+        EXPECT(has_none(POOL##_number_at(&MADE, 4096 + 64 * 5), BB_NOT_A_BUCKET));     \
+        EXPECT(has_none(POOL##_number_at(&MADE, SIZE_MAX), BB_NOT_A_BUCKET));          \
+        bb_chunk chunk = POOL##_allocate(&MADE, 48, 4);                                \
+        bb_number number = POOL##_number_at(&MADE, chunk.place);                       \
+        EXPECT(chunk.code == BB_OK && is(number, (chunk.place - 4096) / 64));          \
+        EXPECT(given(POOL##_place_at(&MADE, (uint32_t)number.number), chunk.place));   \
+        EXPECT(requests == 0);                                                         \
+        EXPECT((END) == BB_OK);                                                        \
+        EXPECT(refused(POOL##_place_at(&MADE, 0), BB_UNINITIALIZED));                  \
+        EXPECT(has_none(POOL##_number_at(&MADE, 4096), BB_UNINITIALIZED));             \
     } while (0)
 
 // A bucket's place by its number, and back, of each pool. The region starts before bucket 0, and
@@ -319,10 +329,10 @@ static void run_numbers(void) {
     bb_shared_pool shared = BB_EMPTY;
     bb_pool_party party = BB_EMPTY;
     EXPECT(bb_pool_init(&pool, 48, 32, 4065, 31 + 64 * 5 + 63) == BB_OK);
-    RUN_NUMBERS(bb_pool, pool);
+    RUN_NUMBERS(bb_pool, bb_pool_destroy(&pool), pool);
     EXPECT(bb_shared_pool_init(&shared, 48, 32, 4065, 31 + 64 * 5 + 63, 1) == BB_OK);
     EXPECT(bb_shared_pool_join(&shared, &party) == BB_OK);
-    RUN_NUMBERS(bb_pool_party, party);
+    RUN_NUMBERS(bb_pool_party, bb_shared_pool_leave(&shared, &party), party);
     EXPECT(bb_shared_pool_destroy(&shared) == BB_OK);
 }
 
@@ -340,8 +350,8 @@ static void run_starts(void) {
     EXPECT(same(of_pool_party(&party).start_address, 4160));
     EXPECT(same(of_pool_party(&party).size, 1024));
     EXPECT(bb_pool_destroy(&unaligned) == BB_OK);
+    EXPECT(bb_shared_pool_leave(&shared, &party) == BB_OK);
     EXPECT(bb_shared_pool_destroy(&shared) == BB_OK);
-    EXPECT(bb_pool_party_destroy(&party) == BB_OK);
 }
 
 // A region without room for one bucket is refused, after what is invalid.
@@ -400,7 +410,7 @@ static void run_memory(void) {
     EXPECT(bb_bump_destroy(&bump) == BB_OK);
     EXPECT(bb_one_chunk_destroy(&one) == BB_OK);
     bb_detached detached = BB_EMPTY;
-    WITHIN(64, bb_detached_init(&detached));
+    WITHIN(128, bb_detached_init(&detached));
     EXPECT(bb_detached_destroy(&detached) == BB_OK);
     for (uint32_t parties = 1; parties < 6; parties++)
         for (size_t buckets = 1; buckets < 100000; buckets = buckets * 2 + 1) {
@@ -416,29 +426,27 @@ static void run_memory(void) {
             WITHIN(336 + 16 * buckets + 12 * parties,
                    bb_shared_pool_init(&shared_pool, 8, 8, 4096, 8 * buckets, parties));
             WITHIN(256, bb_shared_pool_join(&shared_pool, &pool_party));
-            WITHIN(256 + 4 * buckets + 4 * (buckets / 2),
+            WITHIN(256 + buckets + 4 * (buckets / 2),
                    bb_pool_party_cache(&pool_party, (uint32_t)buckets / 2));
-            WITHIN(256 + 8 * buckets, bb_pool_party_cache(&pool_party, UINT32_MAX));
+            WITHIN(256 + 5 * buckets, bb_pool_party_cache(&pool_party, UINT32_MAX));
             EXPECT(bb_pool_destroy(&pool) == BB_OK);
+            EXPECT(bb_shared_bump_leave(&shared_bump, &bump_party) == BB_OK);
             EXPECT(bb_shared_bump_destroy(&shared_bump) == BB_OK);
-            EXPECT(bb_bump_party_destroy(&bump_party) == BB_OK);
+            EXPECT(bb_shared_pool_leave(&shared_pool, &pool_party) == BB_OK);
             EXPECT(bb_shared_pool_destroy(&shared_pool) == BB_OK);
-            EXPECT(bb_pool_party_destroy(&pool_party) == BB_OK);
         }
 }
 
-// Returns whether a shared pool has these figures: how many buckets are held, how many at most were
-// found, and how many requests were refused.
-static int counts(const bb_shared_pool *pool, size_t held, size_t most, size_t refusals) {
+// Returns whether a shared pool has these figures, with this number of held buckets.
+static int counts(const bb_shared_pool *pool, size_t held) {
     bb_shared_pool_figures info;
     EXPECT(bb_shared_pool_info(pool, &info) == BB_OK);
-    EXPECT(info.pool.start_address == 4104);
-    EXPECT(info.pool.size == 1100);
-    EXPECT(info.pool.bucket_size == 128);
-    EXPECT(info.pool.max_alignment == 8);
-    EXPECT(info.pool.number_of_buckets == 8);
-    return info.pool.held_buckets == held && info.pool.greatest_held == most &&
-           info.refused == refusals;
+    EXPECT(info.start_address == 4104);
+    EXPECT(info.size == 1100);
+    EXPECT(info.bucket_size == 128);
+    EXPECT(info.max_alignment == 8);
+    EXPECT(info.number_of_buckets == 8);
+    return info.held_buckets == held;
 }
 
 static void run_counts(void) {
@@ -452,46 +460,46 @@ static void run_counts(void) {
     EXPECT(bb_shared_pool_info(&pool, &info) == BB_UNINITIALIZED);
     EXPECT(memcmp(&info, &before, sizeof info) == 0);
     EXPECT(bb_shared_pool_init(&pool, 128, 8, 4097, 1100, 2) == BB_OK);
-    EXPECT(counts(&pool, 0, 0, 0));
+    EXPECT(counts(&pool, 0));
     EXPECT(bb_shared_pool_join(&pool, &one) == BB_OK);
     EXPECT(bb_pool_party_cache(&one, 1) == BB_OK);
     EXPECT(bb_shared_pool_join(&pool, &other) == BB_OK);
-    EXPECT(counts(&pool, 0, 0, 0));
+    EXPECT(counts(&pool, 0));
     bb_chunk first = bb_pool_party_allocate(&one, 48, 8);
     bb_chunk second = bb_pool_party_allocate(&one, 48, 8);
     EXPECT(first.code == BB_OK);
     EXPECT(second.code == BB_OK);
     EXPECT(bb_pool_party_allocate(&other, 48, 8).code == BB_OK);
-    EXPECT(counts(&pool, 3, 3, 0));
-    EXPECT(same(of_pool_party(&one).greatest_held, 2));
+    EXPECT(counts(&pool, 3));
+    EXPECT(same(of_pool_party(&one).held_buckets, 2));
     EXPECT(bb_pool_party_deallocate(&one, first.place) == BB_OK);
-    EXPECT(counts(&pool, 3, 3, 0));
+    EXPECT(counts(&pool, 3));
     EXPECT(bb_pool_party_deallocate(&one, second.place) == BB_OK);
-    EXPECT(counts(&pool, 2, 3, 0));
+    EXPECT(counts(&pool, 2));
     for (size_t at = 1; at < 7; at++) {
         EXPECT(bb_pool_party_allocate(&other, 48, 8).code == BB_OK);
-        EXPECT(counts(&pool, 2 + at, 2 + at, 0));
+        EXPECT(counts(&pool, 2 + at));
     }
     EXPECT(refused(bb_pool_party_allocate(&other, 48, 8), BB_OUT_OF_MEMORY));
-    EXPECT(counts(&pool, 8, 8, 1));
+    EXPECT(counts(&pool, 8));
     EXPECT(refused(bb_pool_party_allocate(&other, 129, 8), BB_SIZE_TOO_LARGE));
-    EXPECT(counts(&pool, 8, 8, 1));
+    EXPECT(counts(&pool, 8));
     EXPECT(given(bb_pool_party_allocate(&one, 48, 8), first.place));
-    EXPECT(counts(&pool, 8, 8, 1));
+    EXPECT(counts(&pool, 8));
     EXPECT(refused(bb_pool_party_allocate(&one, 48, 8), BB_OUT_OF_MEMORY));
-    EXPECT(counts(&pool, 8, 8, 2));
+    EXPECT(counts(&pool, 8));
     EXPECT(same(of_pool_party(&one).held_buckets, 1));
-    EXPECT(same(of_pool_party(&one).greatest_held, 2));
     EXPECT(bb_shared_pool_leave(&pool, &other) == BB_OK);
-    EXPECT(counts(&pool, 1, 8, 2));
+    EXPECT(counts(&pool, 1));
     EXPECT(bb_shared_pool_leave(&pool, &one) == BB_OK);
-    EXPECT(counts(&pool, 0, 8, 2));
+    EXPECT(counts(&pool, 0));
     EXPECT(bb_shared_pool_destroy(&pool) == BB_OK);
     EXPECT(bb_shared_pool_info(&pool, &info) == BB_UNINITIALIZED);
 }
 
-// The buckets of a destroyed party stay held, and it joins no more.
-static void run_freed_pool_party(void) {
+// The buckets of an abandoned party stay held, it joins no more, and its pool is destroyed no more.
+// A pool that is abandoned stays as long as one of its parties does.
+static void run_abandoned_pool_party(void) {
     bb_shared_pool pool = BB_EMPTY;
     bb_pool_party freed = BB_EMPTY;
     bb_pool_party other = BB_EMPTY;
@@ -501,21 +509,27 @@ static void run_freed_pool_party(void) {
     bb_chunk kept = bb_pool_party_allocate(&freed, 64, 8);
     EXPECT(kept.code == BB_OK);
     EXPECT((kept.place == 4096 || kept.place == 4160));
-    EXPECT(bb_pool_party_destroy(&freed) == BB_OK);
+    EXPECT(bb_pool_party_abandon(&freed) == BB_OK);
     EXPECT(bb_shared_pool_join(&pool, &freed) == BB_NO_PARTY);
     size_t place = kept.place == 4096 ? 4160 : 4096;
     EXPECT(given(bb_pool_party_allocate(&other, 64, 8), place));
     EXPECT(refused(bb_pool_party_allocate(&other, 64, 8), BB_OUT_OF_MEMORY));
     EXPECT(bb_pool_party_deallocate(&other, kept.place) == BB_NOT_HELD);
-    EXPECT(bb_shared_pool_destroy(&pool) == BB_OK);
+    EXPECT(bb_shared_pool_leave(&pool, &other) == BB_OK);
+    EXPECT(bb_shared_pool_destroy(&pool) == BB_PARTIES_JOINED);
+    EXPECT(bb_shared_pool_join(&pool, &other) == BB_OK);
+    EXPECT(given(bb_pool_party_allocate(&other, 64, 8), place));
+    EXPECT(bb_shared_pool_abandon(&pool) == BB_OK);
+    EXPECT(bb_shared_pool_abandon(&pool) == BB_UNINITIALIZED);
     EXPECT(bb_pool_party_deallocate(&other, place) == BB_OK);
     EXPECT(given(bb_pool_party_allocate(&other, 48, 8), place));
-    EXPECT(bb_pool_party_destroy(&other) == BB_OK);
-    EXPECT(bb_pool_party_destroy(&freed) == BB_UNINITIALIZED);
+    EXPECT(bb_pool_party_abandon(&other) == BB_OK);
+    EXPECT(bb_pool_party_abandon(&freed) == BB_UNINITIALIZED);
 }
 
-// The chunks of a destroyed party stay used, and it joins no more.
-static void run_freed_bump_party(void) {
+// The chunks of an abandoned party stay used, it joins no more, and its bump is destroyed no more.
+// A bump that is abandoned stays as long as one of its parties does.
+static void run_abandoned_bump_party(void) {
     bb_shared_bump bump = BB_EMPTY;
     bb_bump_party freed = BB_EMPTY;
     bb_bump_party other = BB_EMPTY;
@@ -523,14 +537,18 @@ static void run_freed_bump_party(void) {
     EXPECT(bb_shared_bump_join(&bump, &freed) == BB_OK);
     EXPECT(bb_shared_bump_join(&bump, &other) == BB_OK);
     EXPECT(given(bb_bump_party_allocate(&freed, 40, 8), 4096));
-    EXPECT(bb_bump_party_destroy(&freed) == BB_OK);
+    EXPECT(bb_bump_party_abandon(&freed) == BB_OK);
     EXPECT(bb_shared_bump_join(&bump, &freed) == BB_NO_PARTY);
-    EXPECT(bb_shared_bump_destroy(&bump) == BB_OK);
+    EXPECT(bb_shared_bump_leave(&bump, &other) == BB_OK);
+    EXPECT(bb_shared_bump_destroy(&bump) == BB_PARTIES_JOINED);
+    EXPECT(bb_shared_bump_join(&bump, &other) == BB_OK);
+    EXPECT(bb_shared_bump_abandon(&bump) == BB_OK);
+    EXPECT(bb_shared_bump_abandon(&bump) == BB_UNINITIALIZED);
     EXPECT(same(of_bump_party(&other).used_space, 40));
     EXPECT(given(bb_bump_party_allocate(&other, 24, 8), 4136));
     EXPECT(refused(bb_bump_party_allocate(&other, 1, 1), BB_OUT_OF_MEMORY));
-    EXPECT(bb_bump_party_destroy(&other) == BB_OK);
-    EXPECT(bb_bump_party_destroy(&freed) == BB_UNINITIALIZED);
+    EXPECT(bb_bump_party_abandon(&other) == BB_OK);
+    EXPECT(bb_bump_party_abandon(&freed) == BB_UNINITIALIZED);
 }
 
 // Large numbers are served.
@@ -561,9 +579,11 @@ static void run_many_parties(void) {
         EXPECT(bb_pool_party_allocate(&parties[at], 64, 8).code == BB_OK);
     }
     EXPECT(bb_shared_pool_join(&pool, &none) == BB_NO_PARTY);
+    for (size_t at = 0; at < 100; at++) {
+        EXPECT(bb_shared_pool_destroy(&pool) == BB_PARTIES_JOINED);
+        EXPECT(bb_shared_pool_leave(&pool, &parties[at]) == BB_OK);
+    }
     EXPECT(bb_shared_pool_destroy(&pool) == BB_OK);
-    for (size_t at = 0; at < 100; at++)
-        EXPECT(bb_pool_party_destroy(&parties[at]) == BB_OK);
 }
 
 // A call answers BB_MALLOC_REFUSED with each of its requests refused, and leaves its handle empty.
@@ -609,9 +629,9 @@ static void run_refused_memory(void) {
     bb_bump_party bump_parties[2] = {BB_EMPTY, BB_EMPTY};
     bb_pool_party pool_parties[2] = {BB_EMPTY, BB_EMPTY};
     for (size_t at = 0; at < 2; at++) {
-        WITH_EACH_REFUSED(bb_bump_party_destroy(&bump_parties[at]),
+        WITH_EACH_REFUSED(bb_bump_party_abandon(&bump_parties[at]),
                           bb_shared_bump_join(&shared_bump, &bump_parties[at]));
-        WITH_EACH_REFUSED(bb_pool_party_destroy(&pool_parties[at]),
+        WITH_EACH_REFUSED(bb_pool_party_abandon(&pool_parties[at]),
                           bb_shared_pool_join(&shared_pool, &pool_parties[at]));
     }
     bb_bump_party no_bump_party = BB_EMPTY;
@@ -633,12 +653,13 @@ static void run_refused_memory(void) {
     EXPECT(bb_bump_destroy(&bump) == BB_OK);
     EXPECT(bb_one_chunk_destroy(&one) == BB_OK);
     EXPECT(bb_pool_destroy(&pool) == BB_OK);
+    for (size_t at = 0; at < 2; at++) {
+        EXPECT(bb_shared_bump_leave(&shared_bump, &bump_parties[at]) == BB_OK);
+        EXPECT(bb_shared_pool_leave(&shared_pool, &pool_parties[at]) == BB_OK);
+    }
     EXPECT(bb_shared_bump_destroy(&shared_bump) == BB_OK);
     EXPECT(bb_shared_pool_destroy(&shared_pool) == BB_OK);
-    for (size_t at = 0; at < 2; at++) {
-        EXPECT(bb_bump_party_destroy(&bump_parties[at]) == BB_OK);
-        EXPECT(bb_pool_party_destroy(&pool_parties[at]) == BB_OK);
-    }
+    EXPECT(requests == 0);
 }
 
 // A party that left joins again, and a bump whose parties have all left is reset.
@@ -666,9 +687,9 @@ static void run_reset(void) {
     EXPECT(same(of_bump_party(&one).used_space, 64));
     EXPECT(bb_shared_bump_leave(&bump, &one) == BB_OK);
     EXPECT(bb_shared_bump_leave(&bump, &other) == BB_OK);
-    EXPECT(bb_bump_party_destroy(&one) == BB_UNINITIALIZED);
-    EXPECT(bb_bump_party_destroy(&other) == BB_UNINITIALIZED);
-    WITH_EACH_REFUSED(bb_bump_party_destroy(&one), bb_shared_bump_reset(&bump));
+    EXPECT(bb_bump_party_abandon(&one) == BB_UNINITIALIZED);
+    EXPECT(bb_bump_party_abandon(&other) == BB_UNINITIALIZED);
+    WITH_EACH_REFUSED(bb_bump_party_abandon(&one), bb_shared_bump_reset(&bump));
     EXPECT(bb_shared_bump_join(&bump, &one) == BB_OK);
     EXPECT(bb_shared_bump_join(&bump, &other) == BB_OK);
     EXPECT(same(of_bump_party(&one).used_space, 0));
@@ -684,11 +705,24 @@ static void run_reset(void) {
         EXPECT(given(bb_bump_party_allocate(&one, 48, 8), 4096));
         EXPECT(given(bb_bump_party_allocate(&other, 16, 8), 4144));
     }
-    // A destroyed party doesn't come back.
-    EXPECT(bb_bump_party_destroy(&one) == BB_OK);
+    // A bump is destroyed only when each party has left. Refused, it is as it was.
+    requests = 0;
+    EXPECT(bb_shared_bump_destroy(&bump) == BB_PARTIES_JOINED);
+    EXPECT(bb_shared_bump_leave(&bump, &one) == BB_OK);
+    EXPECT(bb_shared_bump_destroy(&bump) == BB_PARTIES_JOINED);
+    EXPECT(bb_shared_bump_init(&bump, 4096, 64, 2) == BB_ALREADY_INITIALIZED);
+    EXPECT(refused(bb_bump_party_allocate(&other, 1, 1), BB_OUT_OF_MEMORY));
     EXPECT(bb_shared_bump_leave(&bump, &other) == BB_OK);
-    EXPECT(bb_shared_bump_reset(&bump) == BB_PARTIES_JOINED);
     EXPECT(bb_shared_bump_destroy(&bump) == BB_OK);
+    EXPECT(bb_shared_bump_destroy(&bump) == BB_UNINITIALIZED);
+    EXPECT(requests == 0);
+    // An abandoned party doesn't come back.
+    EXPECT(bb_shared_bump_init(&bump, 4096, 64, 2) == BB_OK);
+    EXPECT(bb_shared_bump_join(&bump, &one) == BB_OK);
+    EXPECT(bb_bump_party_abandon(&one) == BB_OK);
+    EXPECT(bb_shared_bump_reset(&bump) == BB_PARTIES_JOINED);
+    EXPECT(bb_shared_bump_destroy(&bump) == BB_PARTIES_JOINED);
+    EXPECT(bb_shared_bump_abandon(&bump) == BB_OK);
 }
 
 // A party of a pool joins and leaves ten thousand times. It leaves with what it holds, some buckets
@@ -728,7 +762,7 @@ static void run_parties_come_and_go(void) {
         EXPECT(bb_shared_pool_leave(&pool, &one) == BB_OK);
         EXPECT(requests == 0);
         EXPECT(bb_shared_pool_leave(&pool, &one) == BB_UNINITIALIZED);
-        EXPECT(bb_pool_party_destroy(&one) == BB_UNINITIALIZED);
+        EXPECT(bb_pool_party_abandon(&one) == BB_UNINITIALIZED);
         WITHIN(256, bb_shared_pool_join(&pool, &one));
         EXPECT(is(bb_pool_party_holds(&one, place), 0));
         EXPECT(same(of_pool_party(&one).held_buckets, 0));
@@ -741,9 +775,9 @@ static void run_parties_come_and_go(void) {
         EXPECT(bb_pool_party_allocate(&other, 64, 8).code == BB_OK);
     EXPECT(same(of_pool_party(&other).held_buckets, 5));
     EXPECT(refused(bb_pool_party_allocate(&other, 1, 1), BB_OUT_OF_MEMORY));
-    EXPECT(bb_shared_pool_destroy(&pool) == BB_OK);
+    EXPECT(bb_shared_pool_abandon(&pool) == BB_OK);
     EXPECT(bb_shared_pool_leave(&pool, &other) == BB_UNINITIALIZED);
-    EXPECT(bb_pool_party_destroy(&other) == BB_OK);
+    EXPECT(bb_pool_party_abandon(&other) == BB_OK);
 }
 
 // A party that caches two of its buckets takes these again, the one that came back last first. To
@@ -805,8 +839,93 @@ static void run_caching(void) {
     EXPECT(refused(bb_pool_party_allocate(&other, 8, 8), BB_OUT_OF_MEMORY));
     EXPECT(bb_shared_pool_leave(&pool, &one) == BB_OK);
     EXPECT(given(bb_pool_party_allocate(&other, 8, 8), places[1]));
+    EXPECT(bb_shared_pool_leave(&pool, &other) == BB_OK);
     EXPECT(bb_shared_pool_destroy(&pool) == BB_OK);
-    EXPECT(bb_pool_party_destroy(&other) == BB_OK);
+    EXPECT(bb_detached_destroy(&detached) == BB_OK);
+}
+
+// Returns whether the party has the bucket at this place in use. If it hasn't, no call takes the
+// bucket from it.
+static int has(bb_pool_party *party, size_t place) {
+    bb_number told = bb_pool_party_holds(party, place);
+    EXPECT(told.code == BB_OK);
+    if (told.number == 0) {
+        bb_detached detached = BB_EMPTY;
+        EXPECT(bb_detached_init(&detached) == BB_OK);
+        EXPECT(bb_pool_party_deallocate(party, place) == BB_NOT_HELD);
+        EXPECT(is(bb_pool_party_deallocate_many(party, &place, 1), 0));
+        EXPECT(bb_pool_party_detach(party, place, 8, &detached) == BB_NOT_HELD);
+        EXPECT(has_none(bb_pool_party_detach_number(party, place), BB_NOT_HELD));
+        EXPECT(bb_detached_destroy(&detached) == BB_OK);
+    }
+    return told.number == 1;
+}
+
+// A caching party has in use what it took or attached, and what it held before it cached any. It
+// hasn't what it gave back, cached or not, nor what it detached.
+static void run_in_use(void) {
+    bb_shared_pool pool = BB_EMPTY;
+    bb_pool_party one = BB_EMPTY;
+    bb_pool_party other = BB_EMPTY;
+    bb_detached detached = BB_EMPTY;
+    EXPECT(bb_shared_pool_init(&pool, 64, 8, 4096, 64 * 4, 2) == BB_OK);
+    EXPECT(bb_detached_init(&detached) == BB_OK);
+    EXPECT(bb_shared_pool_join_number(&pool, 0, &one) == BB_OK);
+    EXPECT(bb_shared_pool_join_number(&pool, 1, &other) == BB_OK);
+    size_t held = bb_pool_party_take(&one).place;
+    size_t back = bb_pool_party_take(&one).place;
+    size_t others = bb_pool_party_take(&other).place;
+    EXPECT(bb_pool_party_deallocate(&one, back) == BB_OK);
+    EXPECT(bb_pool_party_cache(&one, 1) == BB_OK);
+    EXPECT(has(&one, held));
+    EXPECT(!has(&one, back));
+    EXPECT(!has(&one, others));
+    EXPECT(!has(&one, held + 1));
+    EXPECT(!has(&one, 4096 + 64 * 4));
+    EXPECT(same(of_pool_party(&one).held_buckets, 1));
+
+    // A return to the cache, and one to the pool.
+    EXPECT(given(bb_pool_party_take(&one), back));
+    EXPECT(has(&one, back));
+    EXPECT(bb_pool_party_deallocate(&one, held) == BB_OK);
+    EXPECT(bb_pool_party_deallocate(&one, back) == BB_OK);
+    EXPECT(!has(&one, held));
+    EXPECT(!has(&one, back));
+    EXPECT(given(bb_pool_party_allocate(&one, 8, 8), held));
+    EXPECT(has(&one, held));
+
+    // With a token, and by its number.
+    EXPECT(bb_pool_party_detach(&one, held, 8, &detached) == BB_OK);
+    EXPECT(!has(&one, held));
+    EXPECT(given(bb_pool_party_attach(&one, &detached), held));
+    EXPECT(has(&one, held));
+    size_t bucket = bb_pool_party_number_at(&one, held).number;
+    EXPECT(is(bb_pool_party_detach_number(&one, held), bucket));
+    EXPECT(!has(&one, held));
+    EXPECT(given(bb_pool_party_attach_number(&one, (uint32_t)bucket, 0), held));
+    EXPECT(has(&one, held));
+
+    // It caches fewer, then more; a refused request for memory leaves all as it is.
+    EXPECT(bb_pool_party_cache(&one, 0) == BB_OK);
+    EXPECT(has(&one, held));
+    EXPECT(!has(&one, back));
+    EXPECT(bb_pool_party_cache(&one, 2) == BB_OK);
+    EXPECT(has(&one, held));
+    EXPECT(!has(&one, back));
+    for (unsigned nth = 1; nth <= 2; nth++) {
+        requests = 0;
+        to_refuse = nth;
+        EXPECT(bb_pool_party_cache(&one, 1) == BB_MALLOC_REFUSED);
+    }
+    to_refuse = 0;
+    EXPECT(has(&one, held));
+    EXPECT(!has(&one, back));
+    EXPECT(bb_pool_party_give_all_back(&one) == BB_OK);
+    EXPECT(!has(&one, held));
+    EXPECT(has(&other, others));
+    EXPECT(bb_shared_pool_leave(&pool, &one) == BB_OK);
+    EXPECT(bb_shared_pool_leave(&pool, &other) == BB_OK);
+    EXPECT(bb_shared_pool_destroy(&pool) == BB_OK);
     EXPECT(bb_detached_destroy(&detached) == BB_OK);
 }
 
@@ -854,13 +973,13 @@ static void run_many(void) {
     EXPECT(is(bb_pool_party_take_many(&other, more, 3), 1));
     EXPECT(more[0] == slots[2]);
     EXPECT(requests == 0);
+    EXPECT(bb_shared_pool_leave(&pool, &one) == BB_OK);
+    EXPECT(bb_shared_pool_leave(&pool, &other) == BB_OK);
     EXPECT(bb_shared_pool_destroy(&pool) == BB_OK);
-    EXPECT(bb_pool_party_destroy(&one) == BB_OK);
-    EXPECT(bb_pool_party_destroy(&other) == BB_OK);
 }
 
-// A party of another pool or bump, and a bucket of another pool or one that is read, are refused by
-// codes, and stay as they are.
+// A party of another pool or bump, and a bucket of another pool, are refused by a code, and stay as
+// they are.
 static void run_others(void) {
     bb_shared_pool pool = BB_EMPTY;
     bb_shared_pool far = BB_EMPTY;
@@ -879,24 +998,8 @@ static void run_others(void) {
     EXPECT(refused(bb_pool_party_attach(&stranger, &detached), BB_OTHER_POOL));
     EXPECT(is(bb_detached_len(&detached), 40));
     EXPECT(same(of_pool_party(&stranger).held_buckets, 0));
-    // Until each of two readers has released it, the bucket stays in its `bb_detached`.
-    EXPECT(bb_detached_share(&detached, 0) == BB_INVALID_ARGUMENT);
-    EXPECT(has_none(bb_detached_release(&detached), BB_NO_READER));
-    EXPECT(bb_detached_share(&detached, 2) == BB_OK);
-    EXPECT(bb_detached_share(&detached, 1) == BB_READERS_LEFT);
-    EXPECT(refused(bb_pool_party_attach(&party, &detached), BB_READERS_LEFT));
-    EXPECT(is(bb_detached_release(&detached), 1));
-    EXPECT(refused(bb_pool_party_attach(&stranger, &detached), BB_OTHER_POOL));
-    EXPECT(refused(bb_pool_party_attach(&party, &detached), BB_READERS_LEFT));
-    EXPECT(is(bb_detached_release(&detached), 0));
-    EXPECT(has_none(bb_detached_release(&detached), BB_NO_READER));
-    EXPECT(is(bb_detached_len(&detached), 40));
     EXPECT(given(bb_pool_party_attach(&party, &detached), sent.place));
-    EXPECT(bb_detached_share(&detached, 1) == BB_DETACHED_EMPTY);
-    EXPECT(has_none(bb_detached_release(&detached), BB_NO_READER));
     EXPECT(bb_detached_destroy(&detached) == BB_OK);
-    EXPECT(bb_detached_share(&detached, 1) == BB_UNINITIALIZED);
-    EXPECT(has_none(bb_detached_release(&detached), BB_UNINITIALIZED));
     EXPECT(bb_shared_pool_leave(&pool, &party) == BB_OK);
     EXPECT(bb_shared_pool_leave(&far, &stranger) == BB_OK);
     EXPECT(bb_shared_pool_destroy(&pool) == BB_OK);
@@ -1029,8 +1132,9 @@ static void run_detached(void) {
     EXPECT(refused(bb_pool_party_allocate(&parties[0], 48, 8), BB_OUT_OF_MEMORY));
     // A `bb_detached` keeps no pool: it is freed after the pool of the bucket that is in it.
     EXPECT(bb_pool_party_detach(&parties[0], kept.place, 48, &other) == BB_OK);
-    EXPECT(bb_shared_pool_destroy(&pool) == BB_OK);
-    EXPECT(bb_pool_party_destroy(&parties[0]) == BB_OK);
+    EXPECT(bb_shared_pool_leave(&pool, &parties[0]) == BB_OK);
+    EXPECT(bb_shared_pool_destroy(&pool) == BB_BUCKET_DETACHED);
+    EXPECT(bb_shared_pool_abandon(&pool) == BB_OK);
     EXPECT(is(bb_detached_len(&other), 48));
     EXPECT(bb_detached_destroy(&other) == BB_OK);
 }
@@ -1098,9 +1202,6 @@ static void run_holders(void) {
     EXPECT(bb_pool_party_detach(&parties[0], place, 40, &detached) == BB_OK);
     EXPECT(says(&pool, number, BB_DETACHED, by));
     EXPECT(bb_pool_party_return_detached(&stranger, &detached) == BB_OTHER_POOL);
-    EXPECT(bb_detached_share(&detached, 1) == BB_OK);
-    EXPECT(bb_pool_party_return_detached(&parties[1], &detached) == BB_READERS_LEFT);
-    EXPECT(is(bb_detached_release(&detached), 0));
     EXPECT(bb_pool_party_return_detached(&parties[1], &detached) == BB_OK);
     EXPECT(says(&pool, number, BB_FREE, 0));
     EXPECT(bb_pool_party_return_detached(&parties[1], &detached) == BB_DETACHED_EMPTY);
@@ -1135,6 +1236,85 @@ static void run_holders(void) {
     EXPECT(bb_shared_pool_destroy(&pool) == BB_OK);
     EXPECT(bb_shared_pool_leave(&far, &stranger) == BB_OK);
     EXPECT(bb_shared_pool_destroy(&far) == BB_OK);
+}
+
+// A call of `destroy` returns this code, and requests no memory.
+static int destroys(bb_shared_pool *pool, uint32_t code) {
+    requests = 0;
+    return bb_shared_pool_destroy(pool) == code && requests == 0;
+}
+
+// A shared pool is destroyed only when each party has left and no bucket is detached, whichever
+// that is. Refused, it is as it was.
+static void run_destroy(void) {
+    bb_shared_pool pool = BB_EMPTY;
+    bb_pool_party sender = BB_EMPTY;
+    bb_pool_party receiver = BB_EMPTY;
+    bb_detached detached = BB_EMPTY;
+    EXPECT(destroys(&pool, BB_UNINITIALIZED));
+    EXPECT(bb_shared_pool_abandon(&pool) == BB_UNINITIALIZED);
+    EXPECT(bb_detached_init(&detached) == BB_OK);
+    EXPECT(bb_shared_pool_init(&pool, 64, 8, 4096, 64 * 4, 3) == BB_OK);
+    EXPECT(destroys(&pool, BB_OK));
+    EXPECT(bb_shared_pool_init(&pool, 64, 8, 4096, 64 * 4, 3) == BB_OK);
+    for (uint32_t number = 0; number < 8; number++) {
+        uint32_t bucket = number / 2;
+        size_t place = 4096 + 64 * (size_t)bucket;
+        size_t places[4];
+        EXPECT(bb_shared_pool_join_number(&pool, 2, &sender) == BB_OK);
+        EXPECT(destroys(&pool, BB_PARTIES_JOINED));
+        EXPECT(is(bb_pool_party_take_many(&sender, places, 4), 4));
+        if (number % 2 == 0)
+            EXPECT(bb_pool_party_detach(&sender, place, 64, &detached) == BB_OK);
+        else
+            EXPECT(is(bb_pool_party_detach_number(&sender, place), bucket));
+        EXPECT(destroys(&pool, BB_PARTIES_JOINED));
+        EXPECT(bb_shared_pool_leave(&pool, &sender) == BB_OK);
+        EXPECT(destroys(&pool, BB_BUCKET_DETACHED));
+        EXPECT(bb_shared_pool_init(&pool, 64, 8, 4096, 64 * 4, 3) == BB_ALREADY_INITIALIZED);
+        for (uint32_t other = 0; other < 4; other++)
+            EXPECT(says(&pool, other, other == bucket ? BB_DETACHED : BB_FREE,
+                        other == bucket ? 2 : 0));
+        EXPECT(bb_shared_pool_join_number(&pool, 0, &receiver) == BB_OK);
+        EXPECT(destroys(&pool, BB_PARTIES_JOINED));
+        if (number % 2 == 0)
+            EXPECT(given(bb_pool_party_attach(&receiver, &detached), place));
+        else
+            EXPECT(given(bb_pool_party_attach_number(&receiver, bucket, 2), place));
+        EXPECT(bb_shared_pool_leave(&pool, &receiver) == BB_OK);
+    }
+
+    // The buckets of a forgotten party are held, and not detached.
+    EXPECT(bb_shared_pool_join(&pool, &sender) == BB_OK);
+    EXPECT(bb_pool_party_take(&sender).code == BB_OK);
+    EXPECT(bb_shared_pool_forget(&pool, &sender) == BB_OK);
+    EXPECT(destroys(&pool, BB_OK));
+    EXPECT(destroys(&pool, BB_UNINITIALIZED));
+    EXPECT(bb_detached_destroy(&detached) == BB_OK);
+}
+
+// A service that stops and starts again over one buffer keeps its pool while a bucket is on its
+// way, or a party is joined: so the bucket comes to the pool that it is of, and no place is given
+// twice.
+static void run_stop_and_start(void) {
+    bb_shared_pool pool = BB_EMPTY;
+    bb_pool_party party = BB_EMPTY;
+    bb_detached slot = BB_EMPTY;
+    EXPECT(bb_detached_init(&slot) == BB_OK);
+    EXPECT(bb_shared_pool_init(&pool, 64, 64, 4096, 64, 2) == BB_OK);
+    EXPECT(bb_shared_pool_join(&pool, &party) == BB_OK);
+    EXPECT(given(bb_pool_party_take(&party), 4096));
+    EXPECT(bb_pool_party_detach(&party, 4096, 64, &slot) == BB_OK);
+    EXPECT(bb_shared_pool_destroy(&pool) == BB_PARTIES_JOINED);
+    EXPECT(bb_shared_pool_leave(&pool, &party) == BB_OK);
+    EXPECT(bb_shared_pool_destroy(&pool) == BB_BUCKET_DETACHED);
+    EXPECT(bb_shared_pool_init(&pool, 64, 64, 4096, 64, 2) == BB_ALREADY_INITIALIZED);
+    EXPECT(bb_shared_pool_join(&pool, &party) == BB_OK);
+    EXPECT(refused(bb_pool_party_take(&party), BB_OUT_OF_MEMORY));
+    EXPECT(bb_pool_party_return_detached(&party, &slot) == BB_OK);
+    EXPECT(bb_shared_pool_leave(&pool, &party) == BB_OK);
+    EXPECT(bb_shared_pool_destroy(&pool) == BB_OK);
+    EXPECT(bb_detached_destroy(&slot) == BB_OK);
 }
 
 // A bucket goes by its number, and each refusal comes by its first cause. Of all numbers of a
@@ -1294,7 +1474,7 @@ static void run_join_number_refused(void) {
         to_refuse = 0;
         EXPECT(told == BB_MALLOC_REFUSED);
         EXPECT(requests == 1);
-        EXPECT(bb_pool_party_destroy(&parties[0]) == BB_UNINITIALIZED);
+        EXPECT(bb_pool_party_abandon(&parties[0]) == BB_UNINITIALIZED);
     }
     for (uint32_t at = 0; at < 3; at++) {
         EXPECT(bb_shared_pool_join(&pool, &parties[at]) == BB_OK);
@@ -1307,7 +1487,7 @@ static void run_join_number_refused(void) {
         EXPECT(bb_shared_pool_leave(&pool, &parties[at]) == BB_OK);
         EXPECT(bb_shared_pool_leave(&twin, &of_twin[at]) == BB_OK);
     }
-    WITH_EACH_REFUSED(bb_pool_party_destroy(&parties[0]),
+    WITH_EACH_REFUSED(bb_pool_party_abandon(&parties[0]),
                       bb_shared_pool_join_number(&pool, 1, &parties[0]));
     EXPECT(is(bb_pool_party_number(&parties[0]), 1));
     EXPECT(bb_shared_pool_leave(&pool, &parties[0]) == BB_OK);
@@ -1388,7 +1568,7 @@ static void run_attach_at_once(void) {
     EXPECT(receivers[0].wins + receivers[1].wins == ROUNDS);
     bb_shared_pool_figures info;
     EXPECT(bb_shared_pool_info(&pool, &info) == BB_OK);
-    EXPECT(info.pool.held_buckets == 0);
+    EXPECT(info.held_buckets == 0);
     for (uint32_t at = 0; at < RECEIVERS; at++)
         EXPECT(bb_shared_pool_leave(&pool, &receivers[at].party) == BB_OK);
     EXPECT(bb_shared_pool_leave(&pool, &sender) == BB_OK);
@@ -1446,14 +1626,15 @@ static void run_one_party(void) {
     EXPECT(is(bb_pool_party_holds(&party, 4096), 1));
     EXPECT(has_none(bb_detached_len(&detached), BB_DETACHED_EMPTY));
     EXPECT(refused(bb_pool_party_attach(&party, &detached), BB_DETACHED_EMPTY));
+    EXPECT(bb_shared_pool_leave(&pool, &party) == BB_OK);
     EXPECT(bb_shared_pool_destroy(&pool) == BB_OK);
-    EXPECT(bb_pool_party_destroy(&party) == BB_OK);
     EXPECT(bb_detached_destroy(&detached) == BB_OK);
 }
 
 int main(void) {
     run_version();
     run_texts();
+    run_names();
     run_bytes();
     run_bump();
     run_one_chunk();
@@ -1465,20 +1646,23 @@ int main(void) {
     run_at_least();
     run_memory();
     run_counts();
-    run_freed_pool_party();
-    run_freed_bump_party();
+    run_abandoned_pool_party();
+    run_abandoned_bump_party();
     run_large();
     run_many_parties();
     run_refused_memory();
     run_reset();
     run_parties_come_and_go();
     run_caching();
+    run_in_use();
     run_many();
     run_others();
     run_nested();
     run_detached();
     run_one_party();
     run_holders();
+    run_destroy();
+    run_stop_and_start();
     run_by_number();
     run_join_number();
     run_join_number_refused();

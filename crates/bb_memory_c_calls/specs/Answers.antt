@@ -2,7 +2,7 @@
 use Rattle.bb_memory_c_calls.specs.declared.answer.Answer.{Answer}
 use Rattle.bb_memory_c_calls.specs.declared.answer.Figure.{Figure}
 use Rattle.bb_memory_c_calls.specs.declared.answer.Holder.{Holder}
-pub use Rattle.bb_memory_c_calls.specs.declared.code.TheConstants.{ALIGNMENT_FAILURE as alignment_failure, ALREADY_INITIALIZED as already_initialized, DETACHED_EMPTY as detached_empty, DETACHED_FULL as detached_full, GROW_WOULD_SHRINK as grow_would_shrink, INVALID_ARGUMENT as invalid_argument, INVALID_LAYOUT as invalid_layout, LAYOUT_MISMATCH as layout_mismatch, MALLOC_REFUSED as malloc_refused, MORE_THAN_RESERVED as more_than_reserved, NOT_A_BUCKET as not_a_bucket, NOT_HELD as not_held, NO_BUCKET as no_bucket, NO_PARTY as no_party, NO_READER as no_reader, OK as ok, ONE_PARTY as one_party, OTHER_POOL as other_pool, OUT_OF_MEMORY as out_of_memory, PARTIES_JOINED as parties_joined, READERS_LEFT as readers_left, SHRINK_WOULD_GROW as shrink_would_grow, SIZE_IS_ZERO as size_is_zero, SIZE_TOO_LARGE as size_too_large, UNINITIALIZED as uninitialized}
+pub use Rattle.bb_memory_c_calls.specs.declared.code.TheConstants.{ALIGNMENT_FAILURE as alignment_failure, ALREADY_INITIALIZED as already_initialized, BUCKET_DETACHED as bucket_detached, DETACHED_EMPTY as detached_empty, DETACHED_FULL as detached_full, GROW_WOULD_SHRINK as grow_would_shrink, INVALID_ARGUMENT as invalid_argument, INVALID_LAYOUT as invalid_layout, LAYOUT_MISMATCH as layout_mismatch, MALLOC_REFUSED as malloc_refused, MORE_THAN_RESERVED as more_than_reserved, NOT_A_BUCKET as not_a_bucket, NOT_HELD as not_held, NO_BUCKET as no_bucket, NO_PARTY as no_party, OK as ok, ONE_PARTY as one_party, OTHER_POOL as other_pool, OUT_OF_MEMORY as out_of_memory, PARTIES_JOINED as parties_joined, SHRINK_WOULD_GROW as shrink_would_grow, SIZE_IS_ZERO as size_is_zero, SIZE_TOO_LARGE as size_too_large, UNINITIALIZED as uninitialized}
 use Rattle.bb_memory_pool_machine.specs.declared.steps.pool.Flag.{Flag}
 use Rattle.bb_memory_pool_machine.specs.declared.steps.pool.Flag.TheVariants.{DetachedBy, Free, HeldBy}
 use Rattle.bb_memory_traits.specs.Chunk.{Chunk}

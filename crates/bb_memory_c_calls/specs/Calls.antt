@@ -253,6 +253,14 @@ pub record AnswersFree {X : Type 0} (old new : Option X) (code : ℕ) : Type 0 w
   pub was_empty : old ≡ None → code ≡ uninitialized
   pub empty : new ≡ None
 
+-- A destruction that may be refused, as `tells` says of the value and the code. With BB_OK the handle
+-- is empty after it, and with every other code nothing changes.
+pub record AnswersDestroy {X : Type 0} (old new : Option X) (code : ℕ) (tells : X → ℕ → Type 0) : Type 0 where
+  pub made : IfSome old (λ made. tells made code)
+  pub was_empty : old ≡ None → code ≡ uninitialized
+  pub destroyed : code ≡ ok → new ≡ None
+  pub unchanged : code ≢ ok → new ≡ old
+
 -- SHARED VALUES
 
 -- How a kind that parties share describes them.

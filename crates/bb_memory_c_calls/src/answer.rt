@@ -42,7 +42,7 @@ pub struct OneChunkInfo {
     pub has_chunk_available: bool,
 }
 
-/// The figures of a pool, from bucket 0 on. Of a party, held buckets are its own, and `greatest_held` is the most that was found.
+/// The figures of a pool with one owner, from bucket 0 on.
 #[repr(C)]
 #[derive(Clone, Copy)]
 pub struct PoolInfo {
@@ -55,12 +55,17 @@ pub struct PoolInfo {
     pub greatest_held: usize,
 }
 
-/// The figures of a shared pool, which were read while parties may have called.
+/// The figures of a shared pool, from bucket 0 on, as they were read while parties may have called. For a party, held buckets are
+/// its own.
 #[repr(C)]
 #[derive(Clone, Copy)]
 pub struct SharedPoolInfo {
-    pub pool: PoolInfo,
-    pub refused: usize,
+    pub start_address: usize,
+    pub size: usize,
+    pub bucket_size: usize,
+    pub max_alignment: usize,
+    pub number_of_buckets: usize,
+    pub held_buckets: usize,
 }
 
 /// The flag of a bucket: one of `FREE`, `HELD` and `DETACHED`, and the party that holds it or has detached it, or 0.

@@ -1,12 +1,12 @@
 //! The calls of C, each written once over any handle.
 ghost use Rattle.bb_memory_c_calls.specs.Answers.{malloc_refused, ok};
-ghost use Rattle.bb_memory_c_calls.specs.Calls.{AnswersFree, AnswersInfo, AnswersJoin, AnswersLeave, AnswersNumber, AnswersPlace, AnswersRequest, AnswersReturn, AnswersReturns, AnswersTake, AnswersTakings, AnswersWhether, FreesMany, IfBoth, TakesMany, TellsRequest, TellsTake};
+ghost use Rattle.bb_memory_c_calls.specs.Calls.{AnswersDestroy, AnswersFree, AnswersInfo, AnswersJoin, AnswersLeave, AnswersNumber, AnswersPlace, AnswersRequest, AnswersReturn, AnswersReturns, AnswersTake, AnswersTakings, AnswersWhether, FreesMany, IfBoth, TakesMany, TellsRequest, TellsTake};
 ghost use Rattle.std.specs.Prelude.{IsFalse, IsTrue, None, Some, ◌≡◌, ◌≢◌};
 
 use crate::answer::{Answer, Figure};
 use crate::code;
 use crate::handle::Handle;
-use crate::kind::{Bucketed, Gives, Keeps, Shares};
+use crate::kind::{Bucketed, Ends, Gives, Keeps, Shares};
 use crate::layout::layout_of;
 use std::alloc::Global;
 
@@ -45,6 +45,20 @@ pub fn free<M: Drop, H: Handle<M>>(handle: &mut H, alloc: Global) -> u32
     };
     drop(made);
     code::OK
+}
+
+/// Frees the value that the handle holds, if nothing of it is in use. The handle is empty then.
+pub fn destroy<M: Ends, H: Handle<M>>(handle: &mut H, alloc: Global) -> u32
+    ensures { AnswersDestroy (H.made handle.old) (H.made handle.new) result M.ends }
+{
+    let Some(made) = handle.made_mut() else {
+        return code::UNINITIALIZED;
+    };
+    let code = made.end_code();
+    if code != code::OK {
+        return code;
+    }
+    free(handle, alloc)
 }
 
 /// Fills C's struct with the figures of the value.

@@ -33,6 +33,8 @@ pub const MALLOC_REFUSED: u32 = 14;
 pub const MORE_THAN_RESERVED: u32 = 15;
 /// The region has no room for one bucket.
 pub const NO_BUCKET: u32 = 16;
+/// A bucket of the pool is detached.
+pub const BUCKET_DETACHED: u32 = 17;
 /// Not each party has left.
 pub const PARTIES_JOINED: u32 = 18;
 /// The pool has no other party.
@@ -45,7 +47,3 @@ pub const DETACHED_EMPTY: u32 = 21;
 pub const NOT_A_BUCKET: u32 = 22;
 /// The party, or the detached bucket, is another's.
 pub const OTHER_POOL: u32 = 23;
-/// A reader of the detached bucket hasn't released it.
-pub const READERS_LEFT: u32 = 24;
-/// The detached bucket waits for no reader.
-pub const NO_READER: u32 = 25;

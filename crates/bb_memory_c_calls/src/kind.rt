@@ -76,6 +76,17 @@ pub trait Bucketed: Drop {
         ensures { TellsNumber (geometry self.now) place result };
 }
 
+/// Is destroyed only if nothing of it is in use.
+pub trait Ends: Drop {
+    /// A destruction of the value may return this code.
+    ghost ends: { Self → ℕ → Type 0 };
+
+    /// Returns the code of a destruction: `BB_OK`, or why it is refused.
+    fn end_code(&mut self) -> u32
+        ensures value { ends self.old result }
+        ensures unchanged { self.new ≡ self.old };
+}
+
 /// Is shared by threads: `S` is a party that has joined, and the others are here.
 pub trait Shares<S: Drop>: Drop {
     /// How the kind describes its parties.

@@ -6,6 +6,7 @@ mod SharedPoolFlagSteps
 mod SharedPoolKeeps
 pub mod SharedPoolLaws
 mod SharedPoolLeaving
+mod SharedPoolLooks
 mod SharedPoolMeetings
 mod SharedPoolMerges
 mod SharedPoolNextFit

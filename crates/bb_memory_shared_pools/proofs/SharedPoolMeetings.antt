@@ -4,12 +4,15 @@ use Rattle.atomic_table.specs.Table.{Allows, Me, State, keeps, step}
 use Rattle.bb_memory_pool_machine.proofs.PoolLogFacts.{interleaved_logs, logs_apart}
 use Rattle.bb_memory_pool_machine.specs.PoolLogs.{PoolLog}
 use Rattle.bb_memory_pool_machine.specs.PoolMachine.{PoolScene}
+use Rattle.bb_memory_pool_machine.specs.declared.steps.pool.Flag.{Flag}
 use Rattle.bb_memory_seats.proofs.Seatings.{once_in, two_parties}
 use Rattle.bb_memory_seats.specs.Seats.{numbered, standing_for}
-use Rattle.bb_memory_shared_pools.specs.FlagWords.{flags_in}
-use Rattle.bb_memory_shared_pools.specs.SharedPoolRule.{AfterMeeting, AfterMeetingLoad, NumberedLog, SeatView, WordsAndLogsAgree, meets}
-use Rattle.std.proofs.Common.{List, [], get_or, refl, set, subst, sym, ℕ, ◌∷◌, ◌≡◌}
+use Rattle.bb_memory_shared_pools.proofs.FlagWords.{flag_there}
+use Rattle.bb_memory_shared_pools.specs.FlagWords.{as_word, flags_in}
+use Rattle.bb_memory_shared_pools.specs.SharedPoolRule.{AfterMeeting, AfterMeetingLoad, AfterMeetingLook, NumberedLog, SeatView, WordsAndLogsAgree, meets}
+use Rattle.std.proofs.Common.{List, Some, [], get_or, refl, set, subst, sym, ℕ, ◌∷◌, ◌≡◌}
 use Rattle.std.proofs.lemmas.List.{set-get_or}
+use Rattle.std.specs.Prelude.{slice_get}
 use lib.ListN.{get_elem?}
 use mathlib.Core.Option.{none, some}
 
@@ -23,6 +26,18 @@ told_by scene state rule seat view at = record {
   one_a_party = rule.one_a_party;
   theirs = rule.seated.known seat view at;
   once = once_in scene.parties rule.logs state.views seat view rule.seated at;
+}
+
+-- the rule, by the view of a seat and the mark of a bucket
+pub looked_at : (scene : PoolScene) (state : State ℕ SeatView) (rule : WordsAndLogsAgree scene state) (seat : ℕ)
+    (view : SeatView) → get_elem? state.views seat ≡ some view → (bucket found : ℕ) (mark : Flag) → found ≡ as_word mark →
+    slice_get rule.marks bucket ≡ Some mark → AfterMeetingLook scene view.parties bucket found
+unfolding told_by
+looked_at scene state rule seat view at bucket found mark word there = record {
+  met = told_by scene state rule seat view at;
+  mark = mark;
+  word = word;
+  there = flag_there rule.marks bucket mark there;
 }
 
 -- a load that changes nothing

@@ -5,14 +5,14 @@ use Rattle.bb_memory_lists.proofs.ListEntries.{any_contained}
 use Rattle.bb_memory_pool_machine.proofs.PoolFlags.{flag_from_taken, taken_from_flag}
 use Rattle.bb_memory_pool_machine.proofs.PoolLogFacts.{machine_flag, named_from_log, taken_is_held_whole}
 use Rattle.bb_memory_pool_machine.proofs.PoolLogSteps.{opening_agrees}
-use Rattle.bb_memory_pool_machine.specs.PoolLogs.{HasLog, IsHeldAfter, PoolLog, is_taken}
+use Rattle.bb_memory_pool_machine.specs.PoolLogs.{HasLog, IsDetachedIn, IsHeldAfter, PoolLog, is_taken}
 use Rattle.bb_memory_pool_machine.specs.PoolMachine.{PoolScene, PoolState, left_by}
 use Rattle.bb_memory_pool_machine.specs.declared.steps.pool.Flag.{Flag}
-use Rattle.bb_memory_pool_machine.specs.declared.steps.pool.Flag.TheVariants.{Free, HeldBy}
+use Rattle.bb_memory_pool_machine.specs.declared.steps.pool.Flag.TheVariants.{DetachedBy, Free, HeldBy}
 use Rattle.bb_memory_seats.proofs.PartyNumbers.{all_there, has_number, logs_had, numbers_differ, owner}
 use Rattle.bb_memory_seats.specs.Seats.{both_of, standing_for, times_in}
 use Rattle.bb_memory_shared_pools.specs.SharedPool.{IsSharedScene, PoolParty, SharedPool}
-use Rattle.bb_memory_shared_pools.specs.SharedPoolMeetings.{HaveMet, IsHeldByOne}
+use Rattle.bb_memory_shared_pools.specs.SharedPoolMeetings.{HaveMet, IsHeldByOne, MetDetached, MetUndetached}
 use Rattle.bb_memory_shared_pools.specs.SharedPoolRule.{AfterMeetingLoad, IsPartySeat, NumberedLog, SeatView, numbered_of, party_in}
 use Rattle.bb_memory_shared_pools.specs.declared.shared_pool.party.Hint.{Hint}
 use Rattle.std.proofs.Common.{Bool, List, Some, [], ap, arith, inl, inr, length, refl, replicate, subst, sym, true, ℕ, ◌++◌, ◌∙◌, ◌∷◌, ◌≡◌, ◌≤◌}
@@ -110,6 +110,22 @@ module _ (scene : PoolScene) (items : List PoolParty) (told : AfterMeetingLoad s
             ),
           );
     },
+  )
+
+  -- the bucket was detached when they met, or not, as its flag says
+  pub met_detached_at : (bucket : ℕ) → IsDetachedIn told.flags bucket → MetDetached scene items bucket
+  unfolding agrees
+  met_detached_at bucket (sender, is) = (
+    agrees,
+    (sender, machine_flag scene told.flags told.logs bucket told.agree (DetachedBy sender) is),
+  )
+
+  pub met_undetached_at : (bucket : ℕ) → ¬ IsDetachedIn told.flags bucket → MetUndetached scene items bucket
+  unfolding agrees
+  met_undetached_at bucket other = (
+    agrees,
+    λ detached. other
+        (detached.0, ap (λ (all : List Flag). slice_get all bucket) (sym told.agree.leaves) ∙ detached.1),
   )
 
 -- a meeting of none

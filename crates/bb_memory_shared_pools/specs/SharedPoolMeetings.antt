@@ -76,3 +76,11 @@ pub record AgreeWith (scene : PoolScene) (flags : List Bool) (parties : List Poo
 -- the parties have met: their logs agree with the flags as they were then
 abbrev pub HaveMet : PoolScene → List PoolParty → Type 0
 HaveMet scene parties = (flags : List Bool) × AgreeWith scene flags parties
+
+-- these parties have met, and the bucket was detached then
+abbrev pub MetDetached : PoolScene → List PoolParty → ℕ → Type 0
+MetDetached scene parties bucket = (met : HaveMet scene parties) × IsDetached (left_by scene met.1.agree.steps) bucket
+
+-- these parties have met, and the bucket was not detached then
+abbrev pub MetUndetached : PoolScene → List PoolParty → ℕ → Type 0
+MetUndetached scene parties bucket = (met : HaveMet scene parties) × (¬ IsDetached (left_by scene met.1.agree.steps) bucket)

@@ -2,7 +2,7 @@
 -- makes it.
 use Rattle.atomic_table.specs.Seated.{TableId}
 use Rattle.atomic_table.specs.Table.{Me, State, Step}
-use Rattle.bb_memory_pool_machine.specs.PoolLogs.{CommonInterleaving, Interleaving, IsHeldAfter, LogsAgree, MayBeFound, PoolEntry, PoolLog, entry_of, loss_at, pass_in}
+use Rattle.bb_memory_pool_machine.specs.PoolLogs.{CommonInterleaving, Interleaving, IsDetachedIn, IsHeldAfter, LogsAgree, MayBeFound, PoolEntry, PoolLog, entry_of, loss_at, pass_in}
 use Rattle.bb_memory_pool_machine.specs.PoolMachine.{PoolScene}
 use Rattle.bb_memory_pool_machine.specs.declared.steps.pool.Flag.{Flag}
 use Rattle.bb_memory_pool_machine.specs.declared.steps.pool.Flag.TheVariants.{DetachedBy, HeldBy}
@@ -16,7 +16,7 @@ use Rattle.bb_memory_shared_pools.specs.declared.shared_pool.party.Hint.{Hint}
 use Rattle.bb_memory_traits.specs.Chunk.{IsRegion, region_at}
 use Rattle.bb_memory_traits.specs.PoolObject.{pool_geometry}
 use Rattle.bb_memory_traits.specs.declared.layout.Layout.{Layout}
-use Rattle.std.specs.Prelude.{Bool, List, MatchBool, None, [], get_or, length, ℕ, ◌++◌, ◌<◌, ◌↔◌, ◌∷◌, ◌≡◌, ◌≢◌, ◌≤◌}
+use Rattle.std.specs.Prelude.{Bool, IsFalse, IsTrue, List, MatchBool, None, Some, [], get_or, length, slice_get, ℕ, ◌++◌, ◌<◌, ◌↔◌, ◌∷◌, ◌≡◌, ◌≢◌, ◌≤◌}
 use mathlib.Core.Path.{refl}
 use native.Mathlib.Nat.{zero-lt-suc}
 
@@ -223,6 +223,28 @@ pub record AfterMeetingLoad (scene : PoolScene) (parties : List NumberedLog) : T
   pub theirs : HaveLogs scene.parties logs parties
   pub once : (number : ℕ) → number < scene.parties → times_in number parties ≤ 1
 
+-- a load by a seat that stands for these parties found that the bucket is detached: flags that agree with their logs say so
+abbrev pub FoundDetached : PoolScene → List NumberedLog → ℕ → Type 0
+FoundDetached scene parties bucket = (met : AfterMeetingLoad scene parties) × IsDetachedIn met.flags bucket
+
+-- a load by a seat that stands for these parties found that the bucket is not detached
+abbrev pub FoundOther : PoolScene → List NumberedLog → ℕ → Type 0
+FoundOther scene parties bucket = (met : AfterMeetingLoad scene parties) × (¬ IsDetachedIn met.flags bucket)
+
+-- A load of the flag of this bucket by a seat that stands for these parties, which found this word. Of the flags that agree with
+-- the parties' logs, the bucket's is the one that the word says.
+pub record AfterMeetingLook (scene : PoolScene) (parties : List NumberedLog) (bucket found : ℕ) : Type 0 where
+  pub met : AfterMeetingLoad scene parties
+  pub mark : Flag
+  pub word : found ≡ as_word mark
+  pub there : slice_get met.flags bucket ≡ Some (flag_in mark)
+
+-- Loads of all flags by a seat that stands for these parties, up to the first one of a detached bucket: `told` says whether there
+-- is one.
+pub record AfterMeetingLooks (scene : PoolScene) (parties : List NumberedLog) (told : Bool) : Type 0 where
+  pub detached : IsTrue told → (bucket : ℕ) × FoundDetached scene parties bucket
+  pub none : IsFalse told → (bucket : ℕ) → bucket < scene.geometry.buckets → FoundOther scene parties bucket
+
 -- a meeting of two parties: they are different parties, no bucket is held by both, and one interleaving has both logs
 pub record AfterMeeting (scene : PoolScene) (number : ℕ) (log : PoolLog) (other : ℕ) (other_log : PoolLog) : Type 0 where
   pub differ : number ≢ other
@@ -255,6 +277,10 @@ returns step old found new = AfterReturn old.0.scene (number_of old.0) (view_log
 -- a load, which changes nothing, by a seat that stands for any number of parties
 abbrev pub meets : Step ℕ → Me ℕ SeatView → ℕ → Me ℕ SeatView → Type 0
 meets step old found new = (new ≡ old) × AfterMeetingLoad old.0.scene old.0.parties
+
+-- a load, which changes nothing, of a bucket's flag by a seat that stands for any number of parties
+abbrev pub looks_met : Step ℕ → Me ℕ SeatView → ℕ → Me ℕ SeatView → Type 0
+looks_met step old found new = (new ≡ old) × AfterMeetingLook old.0.scene old.0.parties (bucket_of step.word) found
 
 -- a load of a flag by a new seat, which stands for no party, and what flag was found
 abbrev pub finds : Step ℕ → Me ℕ SeatView → ℕ → Me ℕ SeatView → Type 0

@@ -1226,6 +1226,8 @@ static void texts(void) {
     for (uint32_t code = BB_FILE_SYSTEM; code <= BB_FILE_LAST_CODE; code++)
         EXPECT(strcmp(bb_pool_file_text(code), bb_text(code)) != 0);
     EXPECT(strcmp(bb_pool_file_text(BB_NOT_HELD), bb_text(BB_NOT_HELD)) == 0);
+    EXPECT(strcmp(bb_pool_file_name(BB_FILE_STALE), "BB_FILE_STALE") == 0);
+    EXPECT(strcmp(bb_pool_file_name(BB_NOT_HELD), "BB_NOT_HELD") == 0);
     EXPECT(strcmp(bb_pool_file_text(BB_FILE_LAST_CODE + 1), bb_text(UINT32_MAX)) == 0);
 }
 

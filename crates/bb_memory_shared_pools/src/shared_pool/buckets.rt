@@ -1,12 +1,12 @@
 //! The shared pools: buckets with a flag each, on which any number of threads step.
 ghost use Rattle.bb_memory_pool_machine.specs.PoolLogs.{IsHeldAfter};
-ghost use Rattle.bb_memory_seats.specs.Seats.{HasRoomFor, Stays, number_of, view_log};
+ghost use Rattle.bb_memory_seats.specs.Seats.{HasNow, HasRoomFor, Stays, number_of, view_log};
 ghost use Rattle.bb_memory_shared_pools.specs.SharedPool.{AreFresh, IsAlignedTo, IsResizedTo, IsSameParty, IsSharedScene, MayTake, ServesAlone, chunk_of, refused_pass, return_entry, with_entries};
-ghost use Rattle.bb_memory_shared_pools.specs.SharedPoolMeetings.{AreBothOf, AreInterleaved, HasTaker, HaveMet, HoldApart};
+ghost use Rattle.bb_memory_shared_pools.specs.SharedPoolMeetings.{AreBothOf, AreInterleaved, HasTaker, HaveMet, HoldApart, MetDetached, MetUndetached};
 ghost use Rattle.bb_memory_shared_pools.specs.SharedPoolRule.{AfterPassWin, AfterRefusal, IsIdleAt, all_parties};
 ghost use Rattle.bb_memory_traits.specs.Chunk.{Chunk, IsRegion};
 ghost use Rattle.bb_memory_traits.specs.PoolObject.{MayGrow, MayShrink};
-ghost use Rattle.std.specs.Prelude.{All, IfErr, IfOk, IfSome, MatchOption, [], length, ℕ, ◌%◌, ◌+◌, ◌<◌, ◌^◌, ◌≡◌, ◌≢◌, ◌≤◌};
+ghost use Rattle.std.specs.Prelude.{All, IfErr, IfOk, IfSome, IsFalse, IsTrue, MatchOption, [], length, ℕ, ◌%◌, ◌+◌, ◌<◌, ◌^◌, ◌≡◌, ◌≢◌, ◌≤◌};
 
 use super::bucket::Bucket;
 use super::flags::Flags;
@@ -131,10 +131,7 @@ impl<const CAPPED: usize, const MOST: usize> SharedBucketPool<CAPPED, MOST> {
                     len: layout.size(),
                 })
             }
-            None => {
-                self.count_refusal();
-                Err(AllocationError::OutOfMemory)
-            }
+            None => Err(AllocationError::OutOfMemory),
         }
     }
 
@@ -215,6 +212,31 @@ impl<const CAPPED: usize, const MOST: usize> SharedBucketPool<CAPPED, MOST> {
             flags.meet_rest(&mut seat, parties);
             parties.push_reserved(PoolParty { number, seat, hint });
         }
+    }
+
+    /// Returns whether a bucket is detached, for a user that has all the pool's parties, so that no flag can change meanwhile. It
+    /// loads each flag once, up to the first one of a detached bucket. The parties meet for that, and are as they were.
+    pub fn has_detached(&self, parties: &mut Vec<PoolParty>) -> bool
+        requires parties { All (λ party. party.allocator ≡ self.now) parties.old.items }
+        requires all { length parties.old.items ≡ self.now.scene.parties }
+        ensures kept { HasNow parties.old.items parties.old parties.new }
+        ensures detached { IsTrue result → (bucket : ℕ)
+            × MetDetached self.now.scene parties.old.items bucket }
+        ensures none { IsFalse result → (bucket : ℕ) → bucket < self.now.scene.geometry.buckets
+            → MetUndetached self.now.scene parties.old.items bucket }
+    {
+        let flags = &self.flags;
+        let Some(party) = parties.pop() else {
+            return false;
+        };
+        let PoolParty {
+            number,
+            mut seat,
+            hint,
+        } = party;
+        let told = flags.meet_detached(&mut seat, parties);
+        parties.push_reserved(PoolParty { number, seat, hint });
+        told
     }
 
     /// Gives the bucket's chunk the new size, in its bucket and without a step. It is refused in this order: with

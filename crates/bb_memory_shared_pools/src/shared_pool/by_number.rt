@@ -53,6 +53,14 @@ impl<const CAPPED: usize, const MOST: usize> SharedBucketPool<CAPPED, MOST> {
         self.flags.found(number)
     }
 
+    /// Returns how many buckets are held, cached or detached, for any thread and while parties call. It loads each flag once, at
+    /// a moment of its own, so the clause says only that no more are held than there are.
+    pub fn held_buckets(&self) -> u32
+        ensures at_most { result ≤ self.now.scene.geometry.buckets }
+    {
+        self.flags.count_taken().min(self.number_of_buckets())
+    }
+
     /// Gives back each bucket that the party holds, as its flag says, in order of their numbers: by one load of each flag, and one
     /// store where it is the party's. The party has to be this pool's.
     pub fn give_all_back(&self, party: &mut PoolParty)

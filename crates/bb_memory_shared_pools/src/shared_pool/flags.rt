@@ -2,8 +2,8 @@
 //!
 //! `try_flag`, `try_at`, `probe`, `give_back` and `detach_number` make one logged step each, by the seat of the party whose step
 //! it is. That party's log then ends with the step and what it found. So does `attach_number` where it wins, and so do `detach`,
-//! `attach` and `return_detached`, each of which loads a word more for the seat of what is detached. `split_first`, `merge`, `load_for_meeting`, `meet`, `is_held`, `is_detached` and
-//! `found` only load words, and are in no log; nor is the load with which `probe` begins, where it finds the flag free. `open` is
+//! `attach` and `return_detached`, each of which loads a word more for the seat of what is detached. `split_first`, `merge`, `load_for_meeting`, `meet`, `is_held`, `is_detached`,
+//! `is_detached_when_met` and `found` only load words, and are in no log; nor is the load with which `probe` begins, where it finds the flag free. `open` is
 //! before all sharing, and `geometry` touches no word.
 ghost use Rattle.bb_memory_pool_machine.specs.PoolLogs.{IsHeldAfter, MayBeFound, next_bucket};
 ghost use Rattle.bb_memory_pool_machine.specs.PoolMachine.{NamesMade};
@@ -12,10 +12,10 @@ ghost use Rattle.bb_memory_pool_machine.specs.declared.steps.pool.Flag.TheVarian
 ghost use Rattle.bb_memory_seats.specs.Seats.{IsSplit, MayMerge, Stays, alone_with, both_of, number_of, view_log};
 ghost use Rattle.bb_memory_shared_pools.specs.FlagWords.{as_word, flag_in, with_token, word_of};
 ghost use Rattle.bb_memory_shared_pools.specs.SharedPool.{attach_entry, attach_from_entry, return_detached_entry};
-ghost use Rattle.bb_memory_shared_pools.specs.SharedPoolRule.{AfterDetachSplit, AfterGain, AfterMeeting, AfterMeetingLoad, AfterProbe, AfterReturn, AfterTryLoss, AfterTryWin, IsDetachedAt, IsHeldAt, IsIdleAt, IsSeatAt, IsSeatOfIdle, StandsAt, all_parties};
+ghost use Rattle.bb_memory_shared_pools.specs.SharedPoolRule.{AfterDetachSplit, AfterGain, AfterMeeting, AfterMeetingLoad, AfterProbe, AfterReturn, AfterTryLoss, AfterTryWin, FoundDetached, FoundOther, IsDetachedAt, IsHeldAt, IsIdleAt, IsSeatAt, IsSeatOfIdle, StandsAt, all_parties};
 ghost use Rattle.bb_memory_traits.specs.Chunk.{IsRegion};
 ghost use Rattle.bb_memory_traits.specs.PoolObject.{IsPoolGeometry};
-ghost use Rattle.std.specs.Prelude.{IfOk, MatchBool, [], true, ◌<◌, ◌^◌, ◌↔◌, ◌≡◌, ◌≤◌};
+ghost use Rattle.std.specs.Prelude.{IfOk, IsFalse, IsTrue, MatchBool, [], true, ◌<◌, ◌^◌, ◌↔◌, ◌≡◌, ◌≤◌};
 
 use super::rule::{Agreement, Scene, View};
 use atomic_table::{Join, Play, Seat, Split, Table};
@@ -23,7 +23,6 @@ use bb_memory_pool_machine::steps::Flag;
 use bb_memory_traits::geometry::Geometry;
 use std::alloc::{AllocError, Global};
 use std::marker::Model;
-use std::sync::atomic::AtomicU64;
 
 /// The word of a free flag.
 const FREE: u64 = 0;
@@ -123,6 +122,15 @@ impl Play<u8, View> for Meets {
     ghost use Rattle.bb_memory_shared_pools.specs.SharedPoolRule.{meets};
 
     ghost then = { meets };
+}
+
+/// A load of a flag by a seat that stands for any number of parties.
+struct LooksMet;
+
+impl Play<u8, View> for LooksMet {
+    ghost use Rattle.bb_memory_shared_pools.specs.SharedPoolRule.{looks_met};
+
+    ghost then = { looks_met };
 }
 
 /// A load of a flag by a party, which finds whether the party holds the bucket.
@@ -248,9 +256,6 @@ impl Join<View> for Merge {
 pub(super) struct Flags {
     table: Table<u8, View, Scene, Agreement, Global>,
     pub(super) scene: Scene,
-    /// The number of refused requests, and the greatest number of buckets that were found held. No clause speaks of them.
-    pub(super) refused: AtomicU64,
-    pub(super) greatest: AtomicU64,
 }
 
 impl Model for Flags {
@@ -281,12 +286,7 @@ impl Flags {
     {
         let words = Vec::from_elem(alloc, FREE, FIRST + scene.geometry.count() as usize)?;
         let (table, seat) = Table::of_words(alloc, words.as_slice(), &scene)?;
-        let flags = Flags {
-            table,
-            scene,
-            refused: AtomicU64::new(0),
-            greatest: AtomicU64::new(0),
-        };
+        let flags = Flags { table, scene };
         Ok((flags, seat))
     }
 
@@ -525,6 +525,21 @@ impl Flags {
         ensures step { AfterMeetingLoad self.now.scene seat.old.me.0.parties }
     {
         self.table.shared.load::<Meets>(seat, 0);
+    }
+
+    /// Loads the flag of `bucket` where the parties of one seat have met, which is in no log. Returns whether the bucket is detached.
+    pub(super) fn is_detached_when_met(&self, seat: &mut Seat<u8, View>, bucket: u32) -> bool
+        requires seat { StandsAt self.now seat.old.table_id seat.old.me }
+        requires below { bucket < self.now.scene.geometry.buckets }
+        ensures table { seat.new.table_id ≡ seat.old.table_id }
+        ensures seat { seat.new.me ≡ seat.old.me }
+        ensures detached { IsTrue result
+            → FoundDetached self.now.scene seat.old.me.0.parties bucket }
+        ensures other { IsFalse result → FoundOther self.now.scene seat.old.me.0.parties bucket }
+    {
+        let shared = &self.table.shared;
+        let found = shared.load::<LooksMet>(seat, word_of(bucket));
+        found != FREE && found % 2 == 0
     }
 
     /// Two parties meet at one seat, load a word there, and go back to their own.

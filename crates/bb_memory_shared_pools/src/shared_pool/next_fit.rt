@@ -39,8 +39,8 @@ impl<const CAPPED: usize, const MOST: usize> SharedBucketPool<CAPPED, MOST> {
         (before / self.number_of_parties() as u64) as u32
     }
 
-    /// One whole search: a probe of each bucket from bucket `first` up, and then of each below it, until one is taken. A refusal
-    /// is counted. The first probe makes its exchange without a load before it: at the hint a bucket is mostly free.
+    /// One whole search: a probe of each bucket from bucket `first` up, and then of each below it, until one is taken. The first
+    /// probe makes its exchange without a load before it: at the hint a bucket is mostly free.
     fn next_fit(&self, party: u32, seat: &mut Seat<u8, View>, first: u32) -> Option<u32>
         requires party { number_of seat.old.me.0 ≡ party }
         requires seat { IsIdleAt self.now seat.old.table_id seat.old.me }
@@ -54,7 +54,6 @@ impl<const CAPPED: usize, const MOST: usize> SharedBucketPool<CAPPED, MOST> {
     {
         let count = self.number_of_buckets();
         if count == 0 {
-            self.count_refusal();
             return None;
         }
         let bucket = probed(count, first, 0);
@@ -85,7 +84,6 @@ impl<const CAPPED: usize, const MOST: usize> SharedBucketPool<CAPPED, MOST> {
                 return Some(bucket);
             }
         }
-        self.count_refusal();
         None
     }
 

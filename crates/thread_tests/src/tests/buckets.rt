@@ -162,9 +162,3 @@ pub(super) fn fit(
 {
     Ok(found(&ask(pool, party, layout, true)?))
 }
-
-/// Returns how many buckets are held, how many were found held at most, and how many requests were refused for want of one.
-pub(super) fn counts(pool: &SharedPoolAllocator) -> (u32, u32, u64) {
-    let figures = pool.figures();
-    (figures.held, figures.greatest_held, figures.refused)
-}

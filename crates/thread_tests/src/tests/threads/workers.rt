@@ -21,6 +21,6 @@ fn four_work(rt: HostRuntime) -> Result<(), Fail> {
     same(&rt, used_by_four(&rt, rt.alloc(), 100), Some(400));
     same(&rt, used_by_four(&rt, rt.alloc(), 300), Some(900));
     let (pool, _) = four_workers(&rt, rt.alloc(), Layout::from_size_align(100, 4)?)?;
-    same(&rt, pool.figures().held, 4);
+    same(&rt, pool.held_buckets(), 4);
     Ok(())
 }

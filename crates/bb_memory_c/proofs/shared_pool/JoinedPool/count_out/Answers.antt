@@ -36,7 +36,7 @@ returns-clause-count c =
     omega (arith, c.loop-number.auto.number-end, c.loop-number-test.false) in
     let buckets = end ∙ c.number_of_buckets-number-end.ensures.value
     ∙ ap (λ (p : SharedPool). p.scene.geometry.buckets) (sym pool) in
-    counts-all joined c.loop-number.count c.invariant.ensures
+    counts-all joined c.loop-number.count c.invariant.ensures.party
     (subst (λ (n : ℕ). CountsBelow joined n c.loop-number.count) buckets c.loop-number.invariant.counted)
 
 pub overflow_add-count : goal.overflow_add-count

@@ -1,21 +1,24 @@
+use Rattle.bb_memory_c.proofs.InUse.{caches-none, held-is-out, tells-in-use}
 use Rattle.bb_memory_c.proofs.shared_pool.JoinedPool.is_out.Goals as goal
-use Rattle.bb_memory_pool_machine.specs.PoolLogs.{IsHeldAfter, PoolLog}
+use Rattle.bb_memory_c.specs.SharedPools.{AreListed, geometry_of}
 use Rattle.bb_memory_shared_pools.specs.SharedPoolCaching.{CachingParty, IsOut}
-use Rattle.std.proofs.Common.{ap, subst, sym, ◌∙◌}
-use Rattle.std.proofs.lemmas.Bool.{false≢true}
+use Rattle.std.proofs.Common.{List, ap, subst, sym, ℕ, ◌∙◌, ◌≡◌}
+use Rattle.std.specs.Prelude.{Bool, slice_get}
 
-pub returns-then-is_cached-clause-value : goal.returns-then-is_cached-clause-value
-unfolding IsOut
-returns-then-is_cached-clause-value c = (λ wrong. absurd (cc), λ out. absurd (out.1 (c.is_cached.ensures.0 c.if-is_cached.true)))
+pub returns-in-Some-clause-value : goal.returns-in-Some-clause-value
+returns-in-Some-clause-value c =
+    let list = c.self.inside.in_use.items in
+    let at = ap (λ (l : List Bool). slice_get l c.args.number) c.deref.ensures.value in
+    let listed = subst (λ (j : CachingParty). AreListed j j.most list) c.self.view_is c.self.invariant.listed in
+    tells-in-use _ list c.args.number _ listed (sym at ∙ sym c.entry.ensures ∙ c.in-Some.is)
 
-pub returns-clause-value : goal.returns-clause-value
-unfolding IsOut
-returns-clause-value c =
-    let log = ap (λ (p : CachingParty). p.party.log) c.self.view_is in
-    let Holds : PoolLog → Type 0 = λ l. IsHeldAfter l c.args.number in (
-      λ held. (
-        subst Holds log (c.is_held.ensures.value.0 held),
-        λ cached. false≢true (sym c.if-is_cached.false ∙ c.is_cached.ensures.1 cached),
-      ),
-      λ out. c.is_held.ensures.value.1 (subst Holds (sym log) out.0),
-    )
+pub returns-in-None-clause-value : goal.returns-in-None-clause-value
+returns-in-None-clause-value c =
+    let joined = c.args.self.now in
+    let list = c.self.inside.in_use.items in
+    let at = ap (λ (l : List Bool). slice_get l c.args.number) c.deref.ensures.value in
+    let listed = subst (λ (j : CachingParty). AreListed j j.most list) c.self.view_is c.self.invariant.listed in
+    let none = caches-none joined list c.args.number listed c.requires (sym at ∙ sym c.entry.ensures ∙ c.in-None.is) in
+    let out = held-is-out joined c.args.number c.invariant.ensures.few none in
+    let held = rw c.self.view_is at c.is_held.ensures.value in
+    (λ yes. out.0 (held.0 yes), λ is. held.1 (out.1 is))

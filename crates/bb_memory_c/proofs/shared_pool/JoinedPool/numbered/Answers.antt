@@ -20,4 +20,4 @@ returns-clause-none c =
     ∙ sym c.deref.ensures in
     none-so c.number_at.result _ _ (λ away (held : HoldsPlace joined c.args.place). away
     (subst (λ (p : SharedPool). IsPlaceOfBucket p.scene.geometry c.args.place) pool
-    (held.0, held_below joined.party c.invariant.ensures held.0 held.1.out.0, held.1.placed))) c.number_at.ensures.none
+    (held.0, held_below joined.party c.invariant.ensures.party held.0 held.1.out.0, held.1.placed))) c.number_at.ensures.none

@@ -91,7 +91,7 @@ fn hands_over(
     let detached = a.detach(pool, again);
     b.return_detached(pool, detached);
     b.give_all_back(pool);
-    same(rt, pool.figures().held, 0);
+    same(rt, pool.held_buckets(), 0);
 }
 
 /// Caches a bucket each. One party flushes its own, and the other one ends with its own.
@@ -103,15 +103,15 @@ fn ends(rt: &impl Abort, pool: &SharedPoolAllocator, mut a: CachingParty, mut b:
     a.deallocate(pool, first);
     b.deallocate(pool, second);
     same(rt, (a.number_of_cached(), b.number_of_cached()), (1, 1));
-    same(rt, pool.figures().held, 2);
+    same(rt, pool.held_buckets(), 2);
     a.flush(pool);
-    same(rt, (a.number_of_cached(), pool.figures().held), (0, 1));
+    same(rt, (a.number_of_cached(), pool.held_buckets()), (0, 1));
     same(
         rt,
         (a.into_inner().number(), b.into_party(pool).number()),
         (0, 1),
     );
-    same(rt, pool.figures().held, 0);
+    same(rt, pool.held_buckets(), 0);
 }
 
 #[test]

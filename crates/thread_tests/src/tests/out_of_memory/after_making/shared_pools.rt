@@ -1,8 +1,8 @@
 //! Parties of one thread that share a pool of buckets of 128 bytes. A request answers a bucket's number, place and length.
-ghost use Rattle.std.specs.Prelude.{◌<◌, ◌≡◌};
+ghost use Rattle.std.specs.Prelude.{All, ◌<◌, ◌≡◌};
 
-use crate::tests::buckets::{counts, fit, found, hold, last_of, pool_at_last, take, two};
-use crate::tests::checks::{chunk, layout, none_asked, same};
+use crate::tests::buckets::{add, fit, found, hold, last_of, pool_at_last, take, two};
+use crate::tests::checks::{check, chunk, layout, none_asked, same};
 use bb_memory_shared_pools::shared_pool::by_number::Flag;
 use bb_memory_shared_pools::shared_pool::{
     AllocationShrinkError, Bucket, PoolParty, SharedPoolAllocator, by_number,
@@ -208,27 +208,60 @@ fn a_meeting_keeps_where_a_search_begins(rt: HostRuntime) {
     none_asked(rt);
 }
 
-/// The figures say how many buckets are held, how many were found held at most, and how many requests were refused.
+/// Returns whether a bucket of the pool is detached, if all its parties are here.
+fn detached(rt: &impl Abort, pool: &SharedPoolAllocator, all: &mut Vec<PoolParty>) -> bool
+    requires { All (λ party. party.allocator ≡ pool.now) all.old.items }
+    ensures { All (λ party. party.allocator ≡ pool.now) all.new.items }
+{
+    if all.len() != pool.number_of_parties() as usize {
+        panic!(rt; "all parties are here");
+    }
+    pool.has_detached(all)
+}
+
+/// A bucket is detached from its detaching to its return, and no other is.
 #[test]
-fn figures_count_what_is_held(rt: HostRuntime) {
+fn a_detached_bucket_is_found(rt: HostRuntime) {
+    let (small, (pool, mut all)) = (layout(&rt, 48, 4), pool_at_last(&rt, 384, 2));
+    let (rt, pool) = (&rt, &pool);
+    check(rt, !detached(rt, pool, &mut all));
+    let mut b = last_of(rt, pool, &mut all);
+    let mut a = last_of(rt, pool, &mut all);
+    same(rt, take(pool, &mut b, small), Ok((0, 4096, 48)));
+    let sent = hold(rt, pool, &mut a, small);
+    let token = pool.detach(&mut a, sent);
+    add(rt, pool, &mut all, a);
+    add(rt, pool, &mut all, b);
+    check(rt, detached(rt, pool, &mut all));
+    let mut b = last_of(rt, pool, &mut all);
+    pool.return_detached(&mut b, token);
+    add(rt, pool, &mut all, b);
+    check(rt, !detached(rt, pool, &mut all));
+    none_asked(rt);
+}
+
+/// A bucket is held from its taking to its return, also while it is detached. A refusal changes nothing.
+#[test]
+fn held_buckets_are_counted(rt: HostRuntime) {
     let (small, (pool, mut a, mut b)) = (layout(&rt, 48, 4), two(&rt, 256));
     let (rt, pool) = (&rt, &pool);
-    same(rt, counts(pool), (0, 0, 0));
+    same(rt, pool.held_buckets(), 0);
     let first = hold(rt, pool, &mut a, small);
     let large = layout(rt, 129, 4);
     same(rt, take(pool, &mut b, large), Err(SizeTooLarge));
-    same(rt, counts(pool), (1, 1, 0));
+    same(rt, pool.held_buckets(), 1);
     let detached = pool.detach(&mut a, first);
-    same(rt, counts(pool), (1, 1, 0));
+    same(rt, pool.held_buckets(), 1);
     let first = pool.attach(&mut b, detached);
     pool.deallocate_bucket(&mut b, first);
-    same(rt, counts(pool), (0, 1, 0));
+    same(rt, pool.held_buckets(), 0);
     let first = hold(rt, pool, &mut a, small);
     same(rt, take(pool, &mut b, small), Ok((1, 4224, 48)));
     same(rt, take(pool, &mut b, small), Err(OutOfMemory));
     same(rt, fit(pool, &mut b, small), Err(OutOfMemory));
+    same(rt, pool.held_buckets(), 2);
     pool.deallocate_bucket(&mut a, first);
-    same(rt, counts(pool), (1, 2, 2));
+    same(rt, pool.held_buckets(), 1);
     none_asked(rt);
 }
 

@@ -1,0 +1,99 @@
+#!/usr/bin/env python3
+"""goals.py FIGURES LANDED: says which goals a benchmark run met, and fails if one isn't met.
+
+FIGURES is what `measure` wrote. LANDED is the CSV file of an earlier page: no row may be 10% slower
+than there by its ratio to the peers that both runs have, since machines differ.
+"""
+import statistics
+import sys
+from collections.abc import Iterator, Mapping
+from pathlib import Path
+from typing import NamedTuple
+
+from figures import Key, Rounds, ratio, read_medians, read_rounds, times_of
+
+
+class Ratio(NamedTuple):
+    """A time through C by that of the quickest of its peers, and the most that this may be."""
+
+    label: str
+    key: Key
+    peers: tuple[str, ...]
+    most: float
+
+
+def by_threads(call: str, label: str, peers: tuple[str, ...], most: float) -> Iterator[Ratio]:
+    """Yields the ratio of a caching party's call by `take` for each number of threads."""
+    for threads in (1, 2, 4):
+        threads_label = f"{threads} thread" if threads == 1 else f"{threads} threads"
+        key = Key(call, threads, "", "", "C caching take")
+        yield Ratio(f"{label}, {threads_label}", key, peers, most)
+
+
+MESSAGE = Key("message", 2, "", "", "C group numbers")
+RATIOS = [
+    *by_threads("pair", "a caching party, by `take`", ("DPDK",), 1.0),
+    *by_threads("burst", "a caching party, bursts of 8 by `take`", ("DPDK", "mimalloc"), 0.95),
+    Ratio("a message by number, in groups of 16", MESSAGE, ("DPDK",), 1.15),
+    Ratio("a message by number, in groups of 16", MESSAGE, ("mimalloc",), 0.9),
+]
+# How much slower than in the earlier run a row may be.
+SLOWER = 1.1
+# The peers by which runs are compared.
+COMPARED = ("plain C", "malloc and free", "mimalloc", "DPDK")
+OURS = ("Rattle", "C")
+
+
+def missed(rounds: Rounds) -> list[str]:
+    """Returns a line for each ratio that is too great, or wasn't measured. Prints all of them."""
+    found = []
+    for each in RATIOS:
+        value = ratio(rounds, each.key, each.peers)
+        what = f"{each.label}, beside {' or '.join(each.peers)}"
+        if value is None:
+            found.append(f"not measured: {what}")
+            continue
+        print(f"{value:.2f}, at most {each.most}: {what}")
+        if value > each.most:
+            found.append(f"{value:.2f} and not at most {each.most}: {what}")
+    return found
+
+
+def by_peers(medians: Mapping[Key, float], key: Key, peers: list[str]) -> float:
+    """Returns a time by the geometric mean of its peers'."""
+    theirs = [max(medians[key._replace(by=by)], 0.01) for by in peers]
+    return medians[key] / statistics.geometric_mean(theirs)
+
+
+def slower(now: Mapping[Key, float], landed: Mapping[Key, float]) -> list[str]:
+    """Returns a line for each row that is slower than in the earlier run."""
+    found = []
+    compared = 0
+    for key in now:
+        if key.by.split()[0] not in OURS or key not in landed:
+            continue
+        both = [by for by in COMPARED if key._replace(by=by) in now]
+        both = [by for by in both if key._replace(by=by) in landed]
+        if not both:
+            continue
+        compared += 1
+        change = by_peers(now, key, both) / by_peers(landed, key, both)
+        if change > SLOWER:
+            found.append(f"{change:.2f} times as slow by its peers: {', '.join(map(str, key))}")
+    print(f"{compared} rows were compared with the earlier run by their peers")
+    return found
+
+
+def main(words: list[str]) -> None:
+    """Runs `goals.py FIGURES LANDED`."""
+    figures, landed = map(Path, words)
+    rounds = read_rounds(figures)
+    medians = {key: times.median for key, times in times_of(rounds).items()}
+    lines = [*missed(rounds), *slower(medians, read_medians(landed))]
+    print(*lines, sep="\n")
+    if lines:
+        sys.exit(1)
+
+
+if __name__ == "__main__":
+    main(sys.argv[1:])

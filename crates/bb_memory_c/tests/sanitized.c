@@ -1,0 +1,387 @@
+// What checkers find by bb_memory_sanitize.h. The first argument names a case. `right` and
+// `twice` are right programs, in which no checker finds anything. Each other one is wrong, and
+// AddressSanitizer stops at it; but `race`, which ThreadSanitizer finds.
+#define _POSIX_C_SOURCE 200809L
+#include <pthread.h>
+#include <sched.h>
+#include <stdint.h>
+#include <stdio.h>
+#include <stdlib.h>
+#include <string.h>
+
+#include "bb_memory.h"
+
+enum {
+    SIZE = 40,
+    ALIGN = 32,
+    BUCKETS = 8,
+    THREADS = 3,
+    ROUNDS = 2000
+};
+
+static uint64_t words[BB_BYTES_FOR(SIZE, ALIGN, BUCKETS) / 8 + 4];
+static bb_pool pool = BB_EMPTY;
+static bb_shared_pool shared = BB_EMPTY;
+static bb_pool_party parties[THREADS];
+static bb_detached detached = BB_EMPTY;
+
+static void expect_at(int line, bool holds) {
+    if (!holds) {
+        fprintf(stderr, "sanitized: not so: line %d\n", line);
+        exit(2);
+    }
+}
+
+#define EXPECT(holds) expect_at(__LINE__, holds)
+
+static void make(void) {
+    EXPECT(bb_pool_init(&pool, SIZE, ALIGN, words, sizeof words) == BB_OK);
+}
+
+static void make_shared(void) {
+    EXPECT(bb_shared_pool_init(&shared, SIZE, ALIGN, words, sizeof words, THREADS) == BB_OK);
+    for (uint32_t at = 0; at < THREADS; at++)
+        EXPECT(bb_shared_pool_join(&shared, &parties[at]) == BB_OK);
+    EXPECT(bb_detached_init(&detached) == BB_OK);
+}
+
+static void end_shared(void) {
+    for (uint32_t at = 0; at < THREADS; at++)
+        EXPECT(bb_shared_pool_leave(&shared, &parties[at]) == BB_OK);
+    EXPECT(bb_detached_destroy(&detached) == BB_OK);
+    EXPECT(bb_shared_pool_destroy(&shared) == BB_OK);
+    memset(words, 1, sizeof words);
+}
+
+// Takes a whole bucket.
+static unsigned char *take(bb_pool_party *party) {
+    bb_chunk bucket = bb_pool_party_take(party);
+    EXPECT(bucket.code == BB_OK);
+    return (unsigned char *)bucket.place;
+}
+
+// Uses a byte.
+static void touch(unsigned char *byte) {
+    volatile unsigned char *at = byte;
+    *at = (unsigned char)(*at + 1);
+}
+
+// One owner uses what it takes, returns it, and uses the region for something else at last.
+static void right_alone(void) {
+    make();
+    for (uint32_t round = 0; round < 100; round++) {
+        bb_chunk chunk = bb_pool_allocate(&pool, 1 + round % SIZE, 8);
+        EXPECT(chunk.code == BB_OK);
+        memset(chunk.place, 7, 1 + round % SIZE);
+        unsigned char *whole = (unsigned char *)bb_pool_get(&pool);
+        EXPECT(whole != NULL);
+        memset(whole, 8, SIZE);
+        EXPECT(bb_pool_deallocate(&pool, whole) == BB_OK);
+        EXPECT(bb_pool_deallocate(&pool, chunk.place) == BB_OK);
+        EXPECT(bb_pool_deallocate(&pool, (char *)chunk.place + 1) == BB_NOT_HELD);
+    }
+    EXPECT(bb_pool_destroy(&pool) == BB_OK);
+    memset(words, 1, sizeof words);
+    EXPECT(bb_pool_init_at_least(&pool, SIZE, 1, words, SIZE, 1) == BB_OK);
+    unsigned char *only = (unsigned char *)bb_pool_get(&pool);
+    memset(only, 9, SIZE);
+    EXPECT(bb_pool_get(&pool) == NULL);
+    EXPECT(bb_pool_destroy(&pool) == BB_OK);
+}
+
+// Parties of one thread use what they take, attach, or find held after a join.
+static void right_parties(void) {
+    make_shared();
+    bb_pool_party *one = &parties[0];
+    bb_pool_party *other = &parties[1];
+    bb_place places[BUCKETS];
+    EXPECT(bb_pool_party_take_many(one, places, BUCKETS).number == BUCKETS);
+    for (size_t at = 0; at < BUCKETS; at++)
+        memset(places[at], 7, SIZE);
+    EXPECT(bb_pool_party_get(other) == NULL);
+    EXPECT(bb_pool_party_deallocate_many(one, places, BUCKETS).number == BUCKETS);
+    EXPECT(bb_pool_party_cache(one, 2) == BB_OK);
+    unsigned char *bucket = (unsigned char *)bb_pool_party_get(one);
+    touch(bucket);
+    EXPECT(bb_pool_party_deallocate(one, bucket) == BB_OK);
+    EXPECT(bb_pool_party_get(one) == bucket);
+    touch(bucket);
+    EXPECT(bb_pool_party_detach(one, bucket, SIZE, &detached) == BB_OK);
+    touch(bucket);
+    EXPECT(bb_pool_party_attach(other, &detached).place == bucket);
+    touch(bucket);
+    EXPECT(bb_pool_party_detach(other, bucket, 8, &detached) == BB_OK);
+    EXPECT(bb_pool_party_return_detached(one, &detached) == BB_OK);
+    EXPECT(bb_pool_party_return_detached(one, &detached) == BB_DETACHED_EMPTY);
+    bucket = take(other);
+    uint32_t from = (uint32_t)bb_pool_party_number(other).number;
+    bb_number number = bb_pool_party_detach_number(other, bucket);
+    EXPECT(number.code == BB_OK);
+    EXPECT(bb_pool_party_attach_number(one, (uint32_t)number.number, from).place == bucket);
+    touch(bucket);
+    uint32_t own = (uint32_t)bb_pool_party_number(one).number;
+    EXPECT(bb_shared_pool_forget(&shared, one) == BB_OK);
+    touch(bucket);
+    EXPECT(bb_shared_pool_join_number(&shared, own, one) == BB_OK);
+    touch(bucket);
+    EXPECT(bb_pool_party_give_all_back(one) == BB_OK);
+    bb_chunk lost = bb_pool_party_allocate(one, 8, 8);
+    EXPECT(bb_pool_party_detach(one, lost.place, 8, &detached) == BB_OK);
+    uint32_t lost_number = (uint32_t)bb_pool_party_number_at(one, lost.place).number;
+    EXPECT(bb_detached_destroy(&detached) == BB_OK);
+    bb_lost word = BB_LOST;
+    EXPECT(bb_pool_party_recover(other, lost_number, &word) == BB_OK);
+    EXPECT(bb_detached_init(&detached) == BB_OK);
+    end_shared();
+}
+
+// Threads take, write and return buckets that go round.
+static void *use(void *argument) {
+    bb_pool_party *party = (bb_pool_party *)argument;
+    for (uint64_t round = 0; round < ROUNDS; round++) {
+        bb_chunk chunk = bb_pool_party_allocate(party, SIZE, 8);
+        bb_place many[2];
+        if (chunk.code != BB_OK)
+            continue;
+        memset(chunk.place, (int)(round % 100), SIZE);
+        bb_number taken = bb_pool_party_take_many(party, many, 2);
+        for (size_t at = 0; at < taken.number; at++)
+            memset(many[at], 5, SIZE);
+        EXPECT(bb_pool_party_deallocate_many(party, many, taken.number).number == taken.number);
+        EXPECT(bb_pool_party_deallocate(party, chunk.place) == BB_OK);
+        if (round % 64 == 0)
+            EXPECT(bb_pool_party_give_all_back(party) == BB_OK);
+    }
+    return NULL;
+}
+
+// A number that a thread sends, which orders no memory.
+static uint32_t sent = UINT32_MAX;
+
+// Sends each bucket by its number to `receive`.
+static void *send(void *argument) {
+    bb_pool_party *party = (bb_pool_party *)argument;
+    for (uint64_t round = 0; round < ROUNDS; round++) {
+        bb_chunk chunk = bb_pool_party_take(party);
+        EXPECT(chunk.code == BB_OK);
+        memset(chunk.place, 3, SIZE);
+        bb_number number = bb_pool_party_detach_number(party, chunk.place);
+        EXPECT(number.code == BB_OK);
+        __atomic_store_n(&sent, (uint32_t)number.number, __ATOMIC_RELAXED);
+        while (__atomic_load_n(&sent, __ATOMIC_RELAXED) != UINT32_MAX)
+            sched_yield();
+    }
+    return NULL;
+}
+
+// Attaches each bucket, reads it and returns it.
+static void *receive(void *argument) {
+    bb_pool_party *party = (bb_pool_party *)argument;
+    uint32_t from = (uint32_t)bb_pool_party_number(&parties[0]).number;
+    for (uint64_t round = 0; round < ROUNDS; round++) {
+        uint32_t number = UINT32_MAX;
+        while (number == UINT32_MAX) {
+            number = __atomic_load_n(&sent, __ATOMIC_RELAXED);
+            sched_yield();
+        }
+        bb_chunk chunk = bb_pool_party_attach_number(party, number, from);
+        EXPECT(chunk.code == BB_OK && *(unsigned char *)chunk.place == 3);
+        touch((unsigned char *)chunk.place);
+        EXPECT(bb_pool_party_deallocate(party, chunk.place) == BB_OK);
+        __atomic_store_n(&sent, UINT32_MAX, __ATOMIC_RELAXED);
+    }
+    return NULL;
+}
+
+static void right_threads(void) {
+    pthread_t threads[THREADS];
+#ifdef BB_VALGRIND
+    // Helgrind takes an atomic load for a plain one.
+    VALGRIND_HG_DISABLE_CHECKING(&sent, sizeof sent);
+#endif
+    make_shared();
+    EXPECT(bb_pool_party_cache(&parties[1], 2) == BB_OK);
+    for (size_t at = 0; at < THREADS; at++)
+        EXPECT(pthread_create(&threads[at], NULL, use, &parties[at]) == 0);
+    for (size_t at = 0; at < THREADS; at++)
+        pthread_join(threads[at], NULL);
+    EXPECT(pthread_create(&threads[0], NULL, send, &parties[0]) == 0);
+    EXPECT(pthread_create(&threads[1], NULL, receive, &parties[1]) == 0);
+    for (size_t at = 0; at < 2; at++)
+        pthread_join(threads[at], NULL);
+    end_shared();
+}
+
+static void right(void) {
+    right_alone();
+    right_parties();
+    right_threads();
+}
+
+// A second return is refused by its code.
+static void twice(void) {
+    make_shared();
+    unsigned char *bucket = take(&parties[0]);
+    EXPECT(bb_pool_party_deallocate(&parties[0], bucket) == BB_OK);
+    EXPECT(bb_pool_party_deallocate(&parties[0], bucket) == BB_NOT_HELD);
+    end_shared();
+}
+
+static void pool_use_after_return(void) {
+    make();
+    unsigned char *bucket = (unsigned char *)bb_pool_get(&pool);
+    EXPECT(bb_pool_deallocate(&pool, bucket) == BB_OK);
+    touch(bucket);
+}
+
+static void pool_overflow(void) {
+    make();
+    unsigned char *bucket = (unsigned char *)bb_pool_take(&pool).place;
+    touch(bucket + SIZE);
+}
+
+static void pool_overflow_of_a_chunk(void) {
+    make();
+    unsigned char *chunk = (unsigned char *)bb_pool_allocate(&pool, 24, 8).place;
+    touch(chunk + 24);
+}
+
+static void pool_never_taken(void) {
+    make();
+    touch((unsigned char *)bb_pool_place_at(&pool, 0).place);
+}
+
+static void pool_stale_handle(void) {
+    make();
+    bb_pool copy = pool;
+    EXPECT(bb_pool_destroy(&pool) == BB_OK);
+    EXPECT(bb_pool_take(&copy).code == BB_OK);
+}
+
+static void use_after_return(void) {
+    make_shared();
+    unsigned char *bucket = take(&parties[0]);
+    EXPECT(bb_pool_party_deallocate(&parties[0], bucket) == BB_OK);
+    touch(bucket);
+}
+
+static void use_of_cached(void) {
+    make_shared();
+    EXPECT(bb_pool_party_cache(&parties[0], 1) == BB_OK);
+    unsigned char *bucket = take(&parties[0]);
+    EXPECT(bb_pool_party_deallocate(&parties[0], bucket) == BB_OK);
+    touch(bucket);
+}
+
+static void use_after_many(void) {
+    bb_place places[2];
+    make_shared();
+    EXPECT(bb_pool_party_take_many(&parties[0], places, 2).number == 2);
+    EXPECT(bb_pool_party_deallocate_many(&parties[0], places, 2).number == 2);
+    touch((unsigned char *)places[1]);
+}
+
+static void use_after_all_back(void) {
+    make_shared();
+    unsigned char *bucket = take(&parties[0]);
+    EXPECT(bb_pool_party_give_all_back(&parties[0]) == BB_OK);
+    touch(bucket);
+}
+
+static void use_after_leave(void) {
+    make_shared();
+    unsigned char *bucket = take(&parties[0]);
+    EXPECT(bb_shared_pool_leave(&shared, &parties[0]) == BB_OK);
+    touch(bucket);
+}
+
+static void use_after_detached(void) {
+    make_shared();
+    unsigned char *bucket = take(&parties[0]);
+    EXPECT(bb_pool_party_detach(&parties[0], bucket, SIZE, &detached) == BB_OK);
+    EXPECT(bb_pool_party_return_detached(&parties[1], &detached) == BB_OK);
+    touch(bucket);
+}
+
+static void overflow(void) {
+    make_shared();
+    touch(take(&parties[0]) + SIZE);
+}
+
+static void overflow_of_a_chunk(void) {
+    make_shared();
+    touch((unsigned char *)bb_pool_party_allocate(&parties[0], 24, 8).place + 24);
+}
+
+static void stale_party(void) {
+    make_shared();
+    bb_pool_party copy = parties[0];
+    EXPECT(bb_shared_pool_leave(&shared, &parties[0]) == BB_OK);
+    EXPECT(bb_pool_party_take(&copy).code == BB_OK);
+}
+
+// A thread writes to a bucket that it has returned, after another one took it.
+static unsigned char *raced;
+static uint32_t turn;
+
+static void await(uint32_t number) {
+    while (__atomic_load_n(&turn, __ATOMIC_RELAXED) != number)
+        sched_yield();
+}
+
+static void *take_in_turn(void *argument) {
+    bb_pool_party *party = (bb_pool_party *)argument;
+    await(1);
+    unsigned char *bucket = take(party);
+    while (bucket != raced)
+        bucket = take(party);
+    touch(bucket);
+    __atomic_store_n(&turn, 2, __ATOMIC_RELAXED);
+    return NULL;
+}
+
+static void race(void) {
+    pthread_t thread;
+    make_shared();
+    raced = take(&parties[0]);
+    EXPECT(pthread_create(&thread, NULL, take_in_turn, &parties[1]) == 0);
+    EXPECT(bb_pool_party_deallocate(&parties[0], raced) == BB_OK);
+    __atomic_store_n(&turn, 1, __ATOMIC_RELAXED);
+    await(2);
+    touch(raced);
+    pthread_join(thread, NULL);
+}
+
+static const struct {
+    const char *name;
+    void (*run)(void);
+} cases[] = {
+    {"right", right},
+    {"twice", twice},
+    {"race", race},
+    {"pool_use_after_return", pool_use_after_return},
+    {"pool_overflow", pool_overflow},
+    {"pool_overflow_of_a_chunk", pool_overflow_of_a_chunk},
+    {"pool_never_taken", pool_never_taken},
+    {"pool_stale_handle", pool_stale_handle},
+    {"use_after_return", use_after_return},
+    {"use_of_cached", use_of_cached},
+    {"use_after_many", use_after_many},
+    {"use_after_all_back", use_after_all_back},
+    {"use_after_leave", use_after_leave},
+    {"use_after_detached", use_after_detached},
+    {"overflow", overflow},
+    {"overflow_of_a_chunk", overflow_of_a_chunk},
+    {"stale_party", stale_party},
+};
+
+// Runs the case that the first argument names. Without one it prints the names of the cases.
+int main(int argc, char **argv) {
+    for (size_t at = 0; at < sizeof cases / sizeof *cases; at++) {
+        if (argc < 2)
+            puts(cases[at].name);
+        else if (strcmp(argv[1], cases[at].name) == 0)
+            cases[at].run();
+    }
+    return 0;
+}
