@@ -56,7 +56,15 @@
 
 #include <sys/types.h>
 
+// The reports to checkers of memory are of one process, and a bucket of a file comes from any. So a
+// checker gets none from a source that includes this file.
+#ifndef BB_NO_SANITIZE
+#define BB_NO_SANITIZE
+#endif
 #include "bb_memory.h"
+#ifdef BB_MEMORY_SANITIZE_H
+#error "include bb_pool_file.h before bb_memory.h, or define BB_NO_SANITIZE"
+#endif
 
 #ifdef __cplusplus
 extern "C" {

@@ -368,7 +368,10 @@ static void replaced(void) {
     if (child == 0) {
         close(fd);  // this copy would keep the lock
         bb_pool_file *own = open_it();
-        EXPECT(info_of(own).held == 1);
+        for (int tries = 0; info_of(own).held == 0; tries++) {
+            EXPECT(tries < 5000);
+            usleep(1000);
+        }
         _exit(0);
     }
     usleep(100000);
