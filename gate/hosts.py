@@ -11,6 +11,7 @@ import shutil
 from collections.abc import Mapping
 from pathlib import Path
 
+from gate import pool_file
 from gate.crates import TOP
 from gate.files import MADE
 from gate.process import Failed, has, must_run, must_show, say
@@ -71,6 +72,10 @@ class Hosts:
             work = f"WORK={self.work / 'clang'}"
             must_show([*make, "refused", "plain", *compilers, prefix, work], self.top, environment)
 
+    def check_pool_file(self, environment: Mapping[str, str]) -> None:
+        """Tests pools in files."""
+        pool_file.check(self.top, self.prefix, self.work / "pool_file", environment)
+
     def check_rust(self, environment: Mapping[str, str]) -> None:
         """Tests the Rust crate."""
         if has("cargo", environment):
@@ -119,6 +124,7 @@ def run(library: Path | None) -> None:
         environment = hosts.environment()
         hosts.check_installation(environment)
         hosts.run_examples(environment)
+        hosts.check_pool_file(environment)
         hosts.check_rust(environment)
         hosts.compare_release()
         hosts.run_pages(environment)

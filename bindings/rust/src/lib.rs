@@ -10,6 +10,7 @@ mod error;
 mod ffi;
 mod owned;
 mod owners;
+mod pool_file;
 mod shared;
 
 pub use allocator::{Allocator, BaseAllocator, Pool};
@@ -21,6 +22,9 @@ pub use error::{
 pub use ffi::{BumpInfo, OneChunkInfo, PoolInfo};
 pub use owned::use_memory;
 pub use owners::{BumpAllocator, OneChunkAllocator, PoolAllocator};
+pub use pool_file::{
+    Message, PoolFile, PoolFileError, PoolFileInfo, PoolFileOptions, PoolFileParty,
+};
 pub use shared::{
     BumpParty, DetachedBucket, Holder, PoolParty, SharedBumpAllocator, SharedPoolAllocator,
 };

@@ -1,0 +1,436 @@
+//! A pool in a file, by `bb_pool_file.h`. Its rules hold here, and types keep those that they can.
+use crate::ffi::{self, Chunk, Handle, Number};
+use core::cell::Cell;
+use core::ffi::{c_char, c_int, c_void};
+use core::fmt;
+use core::marker::PhantomData;
+use core::ops::Deref;
+use core::ptr::{self, NonNull};
+use core::slice;
+use core::time::Duration;
+use std::error::Error;
+use std::ffi::CString;
+use std::io;
+use std::os::fd::{AsRawFd, BorrowedFd};
+use std::os::unix::ffi::OsStrExt;
+use std::path::Path;
+
+// The codes of the header that no other call returns.
+const DETACHED_EMPTY: u32 = 21;
+const FILE_SYSTEM: u32 = 26;
+const FILE_FOREIGN: u32 = 27;
+const FILE_VERSION: u32 = 28;
+const FILE_MISMATCH: u32 = 29;
+const FILE_DAMAGED: u32 = 30;
+const FILE_UNSAFE: u32 = 31;
+const FILE_STALE: u32 = 32;
+const FILE_TIMED_OUT: u32 = 33;
+
+/// The `bb_pool_file` of the header.
+#[repr(C)]
+struct File {
+    nothing: [u8; 0],
+}
+
+/// The `bb_message` of the header.
+#[repr(C)]
+struct Taken {
+    code: u32,
+    number: u32,
+    place: *mut c_void,
+    len: usize,
+}
+
+unsafe extern "C" {
+    fn bb_pool_file_open(
+        to: *mut *mut File,
+        path: *const c_char,
+        options: *const PoolFileOptions,
+    ) -> u32;
+    fn bb_pool_file_open_fd(to: *mut *mut File, fd: c_int, options: *const PoolFileOptions) -> u32;
+    fn bb_pool_file_close(file: *mut File) -> u32;
+    fn bb_pool_file_join(file: *mut File, to: *mut *mut Handle) -> u32;
+    fn bb_pool_file_leave(file: *mut File, party: *mut Handle) -> u32;
+    fn bb_pool_file_deallocate(file: *mut File, party: *mut Handle, place: *const c_void) -> u32;
+    fn bb_pool_file_post(
+        file: *mut File,
+        party: *mut Handle,
+        slot: u32,
+        place: *const c_void,
+        len: usize,
+    ) -> u32;
+    fn bb_pool_file_take(file: *mut File, party: *mut Handle, slot: u32) -> Taken;
+    fn bb_pool_file_done(file: *mut File, party: *mut Handle, slot: u32) -> u32;
+    fn bb_pool_file_wait_full(file: *mut File, slot: u32, milliseconds: u32) -> u32;
+    fn bb_pool_file_wait_empty(file: *mut File, slot: u32, milliseconds: u32) -> u32;
+    fn bb_pool_file_wait_bucket(file: *mut File, milliseconds: u32) -> u32;
+    fn bb_pool_file_detach(file: *mut File, party: *mut Handle, place: *const c_void) -> Number;
+    fn bb_pool_file_reap(file: *mut File, detached: bool, given_back: *mut u32) -> u32;
+    fn bb_pool_file_info(file: *mut File, to: *mut PoolFileInfo) -> u32;
+    fn bb_pool_party_allocate(party: *mut Handle, size: usize, align: usize) -> Chunk;
+}
+
+/// What a file is made with, and what one that exists has to have.
+#[repr(C)]
+#[derive(Clone, Copy, Debug, Default, PartialEq, Eq)]
+pub struct PoolFileOptions {
+    /// The bytes of a bucket.
+    pub bucket_size: usize,
+    /// The alignment of a bucket, in bytes.
+    pub bucket_align: usize,
+    /// The number of buckets.
+    pub buckets: u32,
+    /// How many parties may have joined at one time, over all processes.
+    pub parties: u32,
+    /// The number of slots for messages.
+    pub slots: u32,
+    /// The permissions of a file that is made, less the umask; 0 stands for 0o600.
+    pub mode: u32,
+}
+
+/// The figures of a file. Each flag, slot and lock was looked at once.
+#[non_exhaustive]
+#[repr(C)]
+#[derive(Clone, Copy, Debug)]
+pub struct PoolFileInfo {
+    /// What the file was made with.
+    pub options: PoolFileOptions,
+    /// Where bucket 0 lies in this process.
+    pub start: *mut c_void,
+    /// The parties that have joined, over all processes.
+    pub alive: u32,
+    /// The buckets that parties hold.
+    pub held: u32,
+    /// The buckets that are detached, those of messages in slots among them.
+    pub detached: u32,
+    /// The held buckets of dead parties, which a reap gives back.
+    pub lost: u32,
+    /// The slots that have a message.
+    pub full_slots: u32,
+    /// Flags that no party writes.
+    pub wrong: u32,
+}
+
+/// Why a call of a pool in a file was refused.
+#[non_exhaustive]
+#[derive(Debug)]
+pub enum PoolFileError {
+    /// A call of the system failed.
+    System(io::Error),
+    /// The slot, or an option, is out of its range.
+    InvalidArgument,
+    /// The file isn't a pool's.
+    Foreign,
+    /// The file is in the format of another version.
+    Version,
+    /// The file's figures aren't those of the options.
+    Mismatch,
+    /// The file's length isn't what its figures take.
+    Damaged,
+    /// The file isn't regular, or others may write it.
+    Unsafe,
+    /// The file is unfinished, or from before the machine's last start.
+    Stale,
+    /// Each party is in use.
+    NoParty,
+    /// `malloc` failed.
+    OutOfMemory,
+    /// The message is longer than a bucket.
+    SizeTooLarge,
+    /// No bucket is free.
+    NoBucket,
+    /// The slot is full.
+    SlotFull,
+    /// The slot has no bucket's number: others wrote wrong words.
+    WrongSlot,
+}
+
+impl PoolFileError {
+    fn of(code: u32) -> PoolFileError {
+        match code {
+            ffi::SIZE_TOO_LARGE => PoolFileError::SizeTooLarge,
+            ffi::OUT_OF_MEMORY => PoolFileError::NoBucket,
+            ffi::INVALID_ARGUMENT => PoolFileError::InvalidArgument,
+            ffi::NO_PARTY => PoolFileError::NoParty,
+            ffi::MALLOC_REFUSED => PoolFileError::OutOfMemory,
+            ffi::DETACHED_FULL => PoolFileError::SlotFull,
+            ffi::NOT_A_BUCKET => PoolFileError::WrongSlot,
+            FILE_SYSTEM => PoolFileError::System(io::Error::last_os_error()),
+            FILE_FOREIGN => PoolFileError::Foreign,
+            FILE_VERSION => PoolFileError::Version,
+            FILE_MISMATCH => PoolFileError::Mismatch,
+            FILE_DAMAGED => PoolFileError::Damaged,
+            FILE_UNSAFE => PoolFileError::Unsafe,
+            FILE_STALE => PoolFileError::Stale,
+            _ => crate::error::no_such_answer(code),
+        }
+    }
+
+    fn unless_ok(code: u32) -> Result<(), PoolFileError> {
+        if code == ffi::OK { Ok(()) } else { Err(PoolFileError::of(code)) }
+    }
+}
+
+impl fmt::Display for PoolFileError {
+    fn fmt(&self, f: &mut fmt::Formatter<'_>) -> fmt::Result {
+        f.write_str(match self {
+            PoolFileError::System(error) => return error.fmt(f),
+            PoolFileError::InvalidArgument => "a slot or an option is out of its range",
+            PoolFileError::Foreign => "the file is not a pool's",
+            PoolFileError::Version => "the pool's file is in another version's format",
+            PoolFileError::Mismatch => "the file's figures are not those of the options",
+            PoolFileError::Damaged => "the file's length and figures don't fit",
+            PoolFileError::Unsafe => "the file isn't regular, or others may write it",
+            PoolFileError::Stale => "the file is unfinished or from before the machine's start",
+            PoolFileError::NoParty => "each party is in use",
+            PoolFileError::OutOfMemory => "malloc failed",
+            PoolFileError::SizeTooLarge => "the message is longer than a bucket",
+            PoolFileError::NoBucket => "no bucket is free",
+            PoolFileError::SlotFull => "the slot is full",
+            PoolFileError::WrongSlot => "the slot has no bucket's number",
+        })
+    }
+}
+
+impl Error for PoolFileError {}
+
+/// Stands for any slot in a wait.
+const ANY_SLOT: u32 = u32::MAX;
+
+/// A pool in a file that this process has opened. Any process opens it by its path, at any address.
+/// A process that is killed loses neither a bucket nor a message.
+///
+/// Who may write the file is trusted: wrong words in it, or a file that is cut off, break the
+/// promises of safe Rust. A forked child must not use what its parent has opened.
+pub struct PoolFile {
+    file: NonNull<File>,
+}
+
+// SAFETY: the header lets all calls but `close` run at once, and `close` comes when this is dropped.
+unsafe impl Send for PoolFile {}
+// SAFETY: as above.
+unsafe impl Sync for PoolFile {}
+
+impl PoolFile {
+    /// Opens the pool in the file at `path`, and makes it if there is none.
+    pub fn open(
+        path: impl AsRef<Path>,
+        options: &PoolFileOptions,
+    ) -> Result<PoolFile, PoolFileError> {
+        PoolFile::open_path(path.as_ref(), options)
+    }
+
+    /// Opens the pool in a file that exists, as it is.
+    pub fn open_existing(path: impl AsRef<Path>) -> Result<PoolFile, PoolFileError> {
+        PoolFile::open_path(path.as_ref(), ptr::null())
+    }
+
+    /// Opens the pool in an open file, such as a memfd that came over a socket.
+    pub fn open_fd(
+        fd: BorrowedFd<'_>,
+        options: Option<&PoolFileOptions>,
+    ) -> Result<PoolFile, PoolFileError> {
+        let options = options.map_or(ptr::null(), ptr::from_ref);
+        let mut file = ptr::null_mut();
+        // SAFETY: the pointers are to variables, or null for the options.
+        let code = unsafe { bb_pool_file_open_fd(&mut file, fd.as_raw_fd(), options) };
+        PoolFile::opened(code, file)
+    }
+
+    fn open_path(path: &Path, options: *const PoolFileOptions) -> Result<PoolFile, PoolFileError> {
+        let Ok(path) = CString::new(path.as_os_str().as_bytes()) else {
+            return Err(PoolFileError::System(io::ErrorKind::InvalidInput.into()));
+        };
+        let mut file = ptr::null_mut();
+        // SAFETY: the pointers are to variables and to a text, or null for the options.
+        let code = unsafe { bb_pool_file_open(&mut file, path.as_ptr(), options) };
+        PoolFile::opened(code, file)
+    }
+
+    fn opened(code: u32, file: *mut File) -> Result<PoolFile, PoolFileError> {
+        PoolFileError::unless_ok(code)?;
+        Ok(PoolFile { file: NonNull::new(file).expect("an opened file") })
+    }
+
+    /// Makes a party join that no living process uses.
+    pub fn join(&self) -> Result<PoolFileParty<'_>, PoolFileError> {
+        let mut party = ptr::null_mut();
+        // SAFETY: the file is open.
+        PoolFileError::unless_ok(unsafe { bb_pool_file_join(self.file.as_ptr(), &mut party) })?;
+        let party = NonNull::new(party).expect("a party that has joined");
+        Ok(PoolFileParty { file: self, party, one_thread: PhantomData })
+    }
+
+    /// Gives back what dead parties held, and returns how many buckets. With `detached`, also what
+    /// they have detached and is in no slot.
+    pub fn reap(&self, detached: bool) -> Result<u32, PoolFileError> {
+        let mut count = 0;
+        // SAFETY: the file is open.
+        let code = unsafe { bb_pool_file_reap(self.file.as_ptr(), detached, &mut count) };
+        PoolFileError::unless_ok(code).map(|()| count)
+    }
+
+    /// Waits until a message can be taken from the slot, or from any slot with `None`. Returns
+    /// whether it can be: otherwise the time is over.
+    pub fn wait_full(&self, slot: Option<u32>, time: Duration) -> Result<bool, PoolFileError> {
+        let slot = slot.unwrap_or(ANY_SLOT);
+        // SAFETY: the file is open.
+        waited(unsafe { bb_pool_file_wait_full(self.file.as_ptr(), slot, milliseconds(time)) })
+    }
+
+    /// Waits until the slot is empty, or any slot with `None`. Returns whether it is.
+    pub fn wait_empty(&self, slot: Option<u32>, time: Duration) -> Result<bool, PoolFileError> {
+        let slot = slot.unwrap_or(ANY_SLOT);
+        // SAFETY: the file is open.
+        waited(unsafe { bb_pool_file_wait_empty(self.file.as_ptr(), slot, milliseconds(time)) })
+    }
+
+    /// Waits until a bucket is free. Returns whether one is.
+    pub fn wait_bucket(&self, time: Duration) -> Result<bool, PoolFileError> {
+        // SAFETY: the file is open.
+        waited(unsafe { bb_pool_file_wait_bucket(self.file.as_ptr(), milliseconds(time)) })
+    }
+
+    /// Returns the figures of the file.
+    pub fn info(&self) -> Result<PoolFileInfo, PoolFileError> {
+        let mut info = PoolFileInfo {
+            options: PoolFileOptions::default(),
+            start: ptr::null_mut(),
+            alive: 0,
+            held: 0,
+            detached: 0,
+            lost: 0,
+            full_slots: 0,
+            wrong: 0,
+        };
+        // SAFETY: the file is open.
+        PoolFileError::unless_ok(unsafe { bb_pool_file_info(self.file.as_ptr(), &mut info) })?;
+        Ok(info)
+    }
+}
+
+impl Drop for PoolFile {
+    fn drop(&mut self) {
+        // SAFETY: the file is open, and parties borrow it.
+        unsafe { bb_pool_file_close(self.file.as_ptr()) };
+    }
+}
+
+/// A time in milliseconds, at most what the header has for a wait with an end.
+fn milliseconds(time: Duration) -> u32 {
+    u32::try_from(time.as_millis()).unwrap_or(u32::MAX).min(u32::MAX - 1)
+}
+
+fn waited(code: u32) -> Result<bool, PoolFileError> {
+    if code == FILE_TIMED_OUT {
+        return Ok(false);
+    }
+    PoolFileError::unless_ok(code).map(|()| true)
+}
+
+/// A party of a pool in a file. It goes from thread to thread, and one uses it at a time. When it is
+/// dropped it leaves, and what it holds is given back.
+pub struct PoolFileParty<'a> {
+    file: &'a PoolFile,
+    party: NonNull<Handle>,
+    one_thread: PhantomData<Cell<()>>,
+}
+
+// SAFETY: the library lets any thread use a party, one at a time.
+unsafe impl Send for PoolFileParty<'_> {}
+
+impl PoolFileParty<'_> {
+    /// Posts these bytes into the slot, in a bucket of their own. Once this returns, the message is
+    /// sent, even if this process is killed.
+    pub fn post(&self, slot: u32, bytes: &[u8]) -> Result<(), PoolFileError> {
+        let (file, party) = (self.file.file.as_ptr(), self.party.as_ptr());
+        // SAFETY: the party has joined.
+        let chunk = unsafe { bb_pool_party_allocate(party, bytes.len(), 1) };
+        PoolFileError::unless_ok(chunk.code)?;
+        // SAFETY: the bucket is this party's, and has room for the bytes.
+        unsafe { ptr::copy_nonoverlapping(bytes.as_ptr(), chunk.place.cast(), bytes.len()) };
+        // SAFETY: the party has joined.
+        let code = unsafe { bb_pool_file_post(file, party, slot, chunk.place, bytes.len()) };
+        if code != ffi::OK {
+            // SAFETY: the party holds the bucket still.
+            unsafe { bb_pool_file_deallocate(file, party, chunk.place) };
+        }
+        PoolFileError::unless_ok(code)
+    }
+
+    /// Takes the message in the slot. There is none if the slot is empty, or another party has it.
+    pub fn take(&self, slot: u32) -> Result<Option<Message<'_>>, PoolFileError> {
+        // SAFETY: the party has joined.
+        let taken =
+            unsafe { bb_pool_file_take(self.file.file.as_ptr(), self.party.as_ptr(), slot) };
+        match taken.code {
+            ffi::OK => Ok(Some(Message {
+                party: self,
+                slot,
+                place: NonNull::new(taken.place.cast()).expect("a bucket's place"),
+                len: taken.len,
+                is_done: false,
+            })),
+            DETACHED_EMPTY | ffi::NOT_HELD => Ok(None),
+            code => Err(PoolFileError::of(code)),
+        }
+    }
+}
+
+impl Drop for PoolFileParty<'_> {
+    fn drop(&mut self) {
+        // SAFETY: the party has joined, and messages borrow it.
+        unsafe { bb_pool_file_leave(self.file.file.as_ptr(), self.party.as_ptr()) };
+    }
+}
+
+/// A message that a party has taken. When it is dropped, its bucket is given back if it is done
+/// with. Otherwise the message is put back, and can be taken again.
+pub struct Message<'a> {
+    party: &'a PoolFileParty<'a>,
+    slot: u32,
+    place: NonNull<u8>,
+    len: usize,
+    is_done: bool,
+}
+
+impl Message<'_> {
+    /// Empties the slot: the message doesn't come again. Its bytes stay until it is dropped.
+    pub fn done(&mut self) {
+        if !self.is_done {
+            let (file, party) = (self.party.file.file.as_ptr(), self.party.party.as_ptr());
+            // SAFETY: the party holds the bucket that is in the slot.
+            self.is_done = unsafe { bb_pool_file_done(file, party, self.slot) } == ffi::OK;
+        }
+    }
+}
+
+impl Deref for Message<'_> {
+    type Target = [u8];
+
+    fn deref(&self) -> &[u8] {
+        // SAFETY: the bucket is this party's until the message is dropped.
+        unsafe { slice::from_raw_parts(self.place.as_ptr(), self.len) }
+    }
+}
+
+impl fmt::Debug for Message<'_> {
+    fn fmt(&self, f: &mut fmt::Formatter<'_>) -> fmt::Result {
+        f.debug_struct("Message").field("slot", &self.slot).field("len", &self.len).finish()
+    }
+}
+
+impl Drop for Message<'_> {
+    fn drop(&mut self) {
+        let (file, party) = (self.party.file.file.as_ptr(), self.party.party.as_ptr());
+        let place = self.place.as_ptr().cast::<c_void>();
+        // SAFETY: the party holds the bucket.
+        unsafe {
+            if self.is_done {
+                bb_pool_file_deallocate(file, party, place);
+            } else {
+                bb_pool_file_detach(file, party, place);
+            }
+        }
+    }
+}

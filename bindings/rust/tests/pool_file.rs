@@ -1,0 +1,143 @@
+//! Pools in files: threads and processes, and processes that are killed.
+use bb_memory::{Message, PoolFile, PoolFileError, PoolFileOptions, PoolFileParty};
+use std::env;
+use std::fs;
+use std::path::PathBuf;
+use std::process::{self, Command};
+use std::thread;
+use std::time::Duration;
+
+const OPTIONS: PoolFileOptions = PoolFileOptions {
+    bucket_size: 64,
+    bucket_align: 8,
+    buckets: 20,
+    parties: 6,
+    slots: 4,
+    mode: 0,
+};
+
+/// How the test's own program is told to be a sender.
+const SENDER: &str = "BB_MEMORY_TEST_SENDER";
+
+/// A path whose file is removed in the end.
+struct Scratch(PathBuf);
+
+impl Scratch {
+    fn new(name: &str) -> Scratch {
+        Scratch(env::temp_dir().join(format!("bb-rust-{name}-{}", process::id())))
+    }
+}
+
+impl Drop for Scratch {
+    fn drop(&mut self) {
+        let _ = fs::remove_file(&self.0);
+    }
+}
+
+#[test]
+fn a_message_is_taken_once_and_comes_again_unless_it_is_done_with() {
+    let path = Scratch::new("message");
+    assert!(matches!(PoolFile::open_existing(&path.0), Err(PoolFileError::System(_))));
+    let file = PoolFile::open(&path.0, &OPTIONS).unwrap();
+    let (sender, receiver) = (file.join().unwrap(), file.join().unwrap());
+    sender.post(0, b"hello").unwrap();
+    assert!(matches!(sender.post(0, b"more"), Err(PoolFileError::SlotFull)));
+    assert!(matches!(sender.post(9, b"more"), Err(PoolFileError::InvalidArgument)));
+    assert!(matches!(sender.post(1, &[0; 65]), Err(PoolFileError::SizeTooLarge)));
+    let first: Message = receiver.take(0).unwrap().unwrap();
+    assert_eq!(&*first, b"hello");
+    assert!(sender.take(0).unwrap().is_none());
+    drop(first);
+    let mut again = receiver.take(0).unwrap().unwrap();
+    again.done();
+    assert!(receiver.take(0).unwrap().is_none());
+    assert_eq!(&*again, b"hello");
+    drop(again);
+    let info = file.info().unwrap();
+    assert_eq!((info.alive, info.held, info.detached, info.full_slots), (2, 0, 0, 0));
+    drop((sender, receiver));
+    assert_eq!(file.info().unwrap().alive, 0);
+}
+
+#[test]
+fn refusals_say_what_the_file_is() {
+    let path = Scratch::new("refusals");
+    drop(PoolFile::open(&path.0, &OPTIONS).unwrap());
+    let other = PoolFileOptions { buckets: 21, ..OPTIONS };
+    assert!(matches!(PoolFile::open(&path.0, &other), Err(PoolFileError::Mismatch)));
+    let none = PoolFileOptions { parties: 0, ..OPTIONS };
+    assert!(matches!(PoolFile::open(&path.0, &none), Err(PoolFileError::InvalidArgument)));
+    fs::write(&path.0, "not a pool").unwrap();
+    assert!(matches!(PoolFile::open(&path.0, &OPTIONS), Err(PoolFileError::Foreign)));
+}
+
+#[test]
+fn threads_wait_for_each_other() {
+    let path = Scratch::new("threads");
+    let file = PoolFile::open(&path.0, &OPTIONS).unwrap();
+    let time = Duration::from_secs(10);
+    assert!(!file.wait_full(None, Duration::ZERO).unwrap());
+    thread::scope(|scope| {
+        let party: PoolFileParty = file.join().unwrap();
+        let file = &file;
+        scope.spawn(move || {
+            for number in 0..200_u32 {
+                assert!(file.wait_empty(Some(0), time).unwrap());
+                party.post(0, &number.to_le_bytes()).unwrap();
+            }
+        });
+        let receiver = file.join().unwrap();
+        for number in 0..200_u32 {
+            assert!(file.wait_full(None, time).unwrap());
+            let mut message = receiver.take(0).unwrap().unwrap();
+            assert_eq!(*message, number.to_le_bytes());
+            message.done();
+        }
+    });
+}
+
+/// Sends until it is killed, if this is the program that a test started for it.
+#[test]
+fn sender() {
+    let Some(path) = env::var_os(SENDER) else { return };
+    let file = PoolFile::open(path, &OPTIONS).unwrap();
+    let party = file.join().unwrap();
+    loop {
+        for slot in 0..OPTIONS.slots {
+            match party.post(slot, b"from a sender") {
+                Ok(()) | Err(PoolFileError::SlotFull | PoolFileError::NoBucket) => {}
+                Err(error) => panic!("{error}"),
+            }
+        }
+        let _ = party.take(0).unwrap();
+    }
+}
+
+#[test]
+fn a_killed_sender_loses_nothing() {
+    let path = Scratch::new("kills");
+    let file = PoolFile::open(&path.0, &OPTIONS).unwrap();
+    let party = file.join().unwrap();
+    let mut received = 0;
+    for _ in 0..20 {
+        let mut child = Command::new(env::current_exe().unwrap())
+            .args(["--exact", "sender"])
+            .env(SENDER, &path.0)
+            .stdout(process::Stdio::null())
+            .spawn()
+            .unwrap();
+        assert!(file.wait_full(Some(3), Duration::from_secs(10)).unwrap());
+        child.kill().unwrap();
+        child.wait().unwrap();
+        file.reap(true).unwrap();
+        for slot in 0..OPTIONS.slots {
+            let mut message = party.take(slot).unwrap().unwrap();
+            assert_eq!(&*message, b"from a sender");
+            message.done();
+            received += 1;
+        }
+        let info = file.info().unwrap();
+        assert_eq!((info.held, info.detached, info.full_slots), (0, 0, 0));
+    }
+    assert_eq!(received, 80);
+}

@@ -1,0 +1,231 @@
+// `bb-pool FILE` shows a shared pool in a file (bb_pool_file.h): its figures, which parties are
+// alive, what each holds, which slots are full, and a map of the buckets.
+#include <errno.h>
+#include <stdio.h>
+#include <stdlib.h>
+#include <string.h>
+#include <unistd.h>
+
+#include "bb_pool_file.h"
+
+// The exit statuses besides 0.
+enum {
+    REFUSED = 1,
+    BAD_USAGE = 2
+};
+
+enum {
+    // Buckets in a line of the map, and in all of it.
+    IN_LINE = 64,
+    IN_MAP = 4096
+};
+
+static const char USAGE[] =
+    "usage: bb-pool [--reap [--detached]] [--watch] FILE\n"
+    "\n"
+    "Shows the shared pool in FILE: its figures, its parties, its full slots, and a map of its\n"
+    "buckets. A party is a letter, A for party 0, which is in lower case if the party is dead.\n"
+    "\n"
+    "  --reap      first gives back what dead parties hold; messages in slots stay\n"
+    "  --detached  with --reap: also what dead parties have detached and is in no slot\n"
+    "  --watch     shows the pool each second, until it is interrupted\n"
+    "  --help      shows this text\n"
+    "\n"
+    "The status is 0, or 1 if the file can't be opened, or 2 if the words are wrong.\n";
+
+// What one look at the pool's parties has found.
+struct parties {
+    bool *alive;
+    uint32_t *held;
+    uint32_t *detached;
+};
+
+static int fail(const char *path, uint32_t code) {
+    if (code == BB_FILE_SYSTEM)
+        fprintf(stderr, "bb-pool: %s: %s\n", path, strerror(errno));
+    else
+        fprintf(stderr, "bb-pool: %s: %s\n", path, bb_pool_file_text(code));
+    return REFUSED;
+}
+
+// Returns the letter of a party. From 26 parties on, several have one letter.
+static char letter_of(const struct parties *parties, uint32_t party) {
+    return (char)((parties->alive[party] ? 'A' : 'a') + party % 26);
+}
+
+static void count_buckets(bb_pool_file *file, const bb_pool_file_options *options,
+                          struct parties *parties) {
+    bb_holder holder;
+    for (uint32_t party = 0; party < options->parties; party++)
+        parties->alive[party] = bb_pool_file_is_alive(file, party).number == 1;
+    for (uint32_t number = 0; number < options->buckets; number++) {
+        if (bb_pool_file_holder(file, number, &holder) != BB_OK)
+            continue;
+        if (holder.state == BB_HELD && holder.party < options->parties)
+            parties->held[holder.party]++;
+        if (holder.state == BB_DETACHED && holder.party < options->parties)
+            parties->detached[holder.party]++;
+    }
+}
+
+static void show_figures(const char *path, const bb_pool_file_figures *figures) {
+    const bb_pool_file_options *options = &figures->options;
+    const uint32_t used = figures->held + figures->detached + figures->wrong;
+    const uint32_t free = used < options->buckets ? options->buckets - used : 0;
+    printf("%s: %u buckets of %zu bytes at multiples of %zu, %u parties, %u slots\n", path,
+           options->buckets, options->bucket_size, options->bucket_align, options->parties,
+           options->slots);
+    printf("buckets: %u free, %u held (%u of them by dead parties), %u detached, %u wrong\n", free,
+           figures->held, figures->lost, figures->detached, figures->wrong);
+    printf("parties: %u alive\n", figures->alive);
+}
+
+static void show_parties(const bb_pool_file_options *options, const struct parties *parties) {
+    for (uint32_t party = 0; party < options->parties; party++) {
+        const uint32_t held = parties->held[party];
+        const uint32_t detached = parties->detached[party];
+        if (!parties->alive[party] && held == 0 && detached == 0)
+            continue;
+        printf("  %c party %u: %s, holds %u", letter_of(parties, party), party,
+               parties->alive[party] ? "alive" : "dead", held);
+        if (detached > 0)
+            printf(", has detached %u", detached);
+        printf("\n");
+    }
+}
+
+static void show_slots(bb_pool_file *file, const bb_pool_file_figures *figures) {
+    bb_holder holder;
+    printf("slots: %u full\n", figures->full_slots);
+    for (uint32_t slot = 0; slot < figures->options.slots; slot++) {
+        const bb_message message = bb_pool_file_look(file, slot);
+        if (message.code == BB_DETACHED_EMPTY)
+            continue;
+        if (message.code != BB_OK) {
+            printf("  slot %u: wrong\n", slot);
+            continue;
+        }
+        printf("  slot %u: %zu bytes in bucket %u", slot, message.len, message.number);
+        if (bb_pool_file_holder(file, message.number, &holder) == BB_OK && holder.state == BB_HELD)
+            printf(", taken by party %u", holder.party);
+        printf("\n");
+    }
+}
+
+static char sign_of(bb_pool_file *file, const bb_pool_file_options *options,
+                    const struct parties *parties, uint32_t number) {
+    bb_holder holder;
+    if (bb_pool_file_holder(file, number, &holder) != BB_OK)
+        return '?';
+    if (holder.state == BB_FREE)
+        return '.';
+    if (holder.state == BB_DETACHED && holder.party == options->parties)
+        return '*';
+    if (holder.party >= options->parties)
+        return '?';
+    return holder.state == BB_DETACHED ? '-' : letter_of(parties, holder.party);
+}
+
+static void show_map(bb_pool_file *file, const bb_pool_file_options *options,
+                     const struct parties *parties) {
+    const uint32_t shown = options->buckets < IN_MAP ? options->buckets : IN_MAP;
+    printf("map: . free, a letter for its holder, * a message in a slot, - detached, ? wrong\n");
+    for (uint32_t number = 0; number < shown; number++) {
+        if (number % IN_LINE == 0)
+            printf("%8u ", number);
+        putchar(sign_of(file, options, parties, number));
+        if (number % IN_LINE == IN_LINE - 1 || number == shown - 1)
+            putchar('\n');
+    }
+    if (shown < options->buckets)
+        printf("and %u more buckets\n", options->buckets - shown);
+}
+
+static uint32_t show(bb_pool_file *file, const char *path) {
+    bb_pool_file_figures figures;
+    struct parties parties;
+    uint32_t code = bb_pool_file_info(file, &figures);
+    if (code != BB_OK)
+        return code;
+    const bb_pool_file_options *options = &figures.options;
+    parties.alive = calloc(options->parties, sizeof *parties.alive);
+    parties.held = calloc(options->parties, sizeof *parties.held);
+    parties.detached = calloc(options->parties, sizeof *parties.detached);
+    if (parties.alive == NULL || parties.held == NULL || parties.detached == NULL) {
+        code = BB_MALLOC_REFUSED;
+    } else {
+        count_buckets(file, options, &parties);
+        show_figures(path, &figures);
+        show_parties(options, &parties);
+        show_slots(file, &figures);
+        show_map(file, options, &parties);
+    }
+    free(parties.alive);
+    free(parties.held);
+    free(parties.detached);
+    return code;
+}
+
+// Shows the pool each second.
+static uint32_t watch(bb_pool_file *file, const char *path) {
+    for (;;) {
+        if (isatty(STDOUT_FILENO))
+            printf("\033[H\033[J");
+        const uint32_t code = show(file, path);
+        if (code != BB_OK)
+            return code;
+        if (fflush(stdout) != 0)
+            return BB_FILE_SYSTEM;
+        sleep(1);
+    }
+}
+
+static uint32_t reap(bb_pool_file *file, bool detached) {
+    uint32_t given_back = 0;
+    const uint32_t code = bb_pool_file_reap(file, detached, &given_back);
+    if (code == BB_OK)
+        printf("given back: %u\n", given_back);
+    return code;
+}
+
+int main(int argc, char **argv) {
+    const char *path = NULL;
+    bool reaps = false;
+    bool detached = false;
+    bool watches = false;
+    bool is_right = true;
+    for (int at = 1; at < argc; at++) {
+        if (strcmp(argv[at], "--help") == 0) {
+            fputs(USAGE, stdout);
+            return 0;
+        }
+        if (strcmp(argv[at], "--reap") == 0)
+            reaps = true;
+        else if (strcmp(argv[at], "--detached") == 0)
+            detached = true;
+        else if (strcmp(argv[at], "--watch") == 0)
+            watches = true;
+        else if (argv[at][0] == '-' || path != NULL)
+            is_right = false;
+        else
+            path = argv[at];
+    }
+    if (!is_right || path == NULL || (detached && !reaps)) {
+        fputs(USAGE, stderr);
+        return BAD_USAGE;
+    }
+    // Whoever calls this may look at any file that the system lets open.
+    const bb_pool_file_options options = {.buckets = 0, .mode = 0666};
+    bb_pool_file *file;
+    uint32_t code = bb_pool_file_open(&file, path, &options);
+    if (code != BB_OK)
+        return fail(path, code);
+    if (reaps)
+        code = reap(file, detached);
+    if (code == BB_OK)
+        code = watches ? watch(file, path) : show(file, path);
+    if (code != BB_OK)
+        return fail(path, code);
+    bb_pool_file_close(file);
+    return fflush(stdout) == 0 ? 0 : REFUSED;
+}

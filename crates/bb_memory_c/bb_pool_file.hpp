@@ -1,0 +1,227 @@
+// Pools in files for C++17, over bb_pool_file.h. Its rules and codes hold here too. A file is
+// closed, a party leaves, and a message gives its bucket back, when it ends.
+//
+//     struct order { int number; double price; };
+//
+//     bb::pool_file file;
+//     if (file.open("/dev/shm/orders", {sizeof(order), alignof(order), 1000, 16, 8, 0}) != BB_OK)
+//         return;
+//     // Each thread has a party. The file outlives its parties, and a party its messages.
+//     bb::pool_file_party party;
+//     if (party.join(file) != BB_OK)
+//         return;
+//     if (party.post(0, order{7, 1.5}) != BB_OK)
+//         return;
+//     bb::pool_file_message message = party.take(0);
+//     if (const order *got = message.as<order>())
+//         printf("order %d\n", got->number);
+//     message.done();
+//
+// A refusal is a code. Nothing is copied: files, parties and messages move.
+#ifndef BB_POOL_FILE_HPP
+#define BB_POOL_FILE_HPP
+
+#include <cstddef>
+#include <cstdint>
+#include <cstring>
+#include <optional>
+#include <type_traits>
+#include <utility>
+
+#include "bb_pool_file.h"
+
+namespace bb {
+
+// A pool's file, which is closed when this ends.
+class pool_file {
+public:
+    pool_file() = default;
+
+    pool_file(pool_file &&other) noexcept : file_(std::exchange(other.file_, nullptr)) {}
+
+    pool_file &operator=(pool_file &&other) noexcept {
+        std::swap(file_, other.file_);
+        return *this;
+    }
+
+    ~pool_file() { close(); }
+
+    // Opens the pool in the file at the path, and makes it if there is none, as
+    // `bb_pool_file_open` does. BB_ALREADY_INITIALIZED if this has a file already.
+    [[nodiscard]] std::uint32_t open(const char *path,
+                                     const bb_pool_file_options &options) noexcept {
+        return file_ == nullptr ? bb_pool_file_open(&file_, path, &options)
+                                : std::uint32_t{BB_ALREADY_INITIALIZED};
+    }
+
+    // Opens the pool in a file that exists, as it is.
+    [[nodiscard]] std::uint32_t open(const char *path) noexcept {
+        return file_ == nullptr ? bb_pool_file_open(&file_, path, nullptr)
+                                : std::uint32_t{BB_ALREADY_INITIALIZED};
+    }
+
+    // Opens the pool in an open file, such as a memfd, as `bb_pool_file_open_fd` does.
+    [[nodiscard]] std::uint32_t open_fd(int fd, const bb_pool_file_options *options) noexcept {
+        return file_ == nullptr ? bb_pool_file_open_fd(&file_, fd, options)
+                                : std::uint32_t{BB_ALREADY_INITIALIZED};
+    }
+
+    // Closes the file, if there is one. Its parties have ended.
+    void close() noexcept {
+        if (file_ != nullptr)
+            bb_pool_file_close(std::exchange(file_, nullptr));
+    }
+
+    // Returns the figures of the file, or nothing if there are none.
+    std::optional<bb_pool_file_figures> info() const noexcept {
+        bb_pool_file_figures figures{};
+        if (file_ == nullptr || bb_pool_file_info(file_, &figures) != BB_OK)
+            return std::nullopt;
+        return figures;
+    }
+
+    // For the functions of bb_pool_file.h. It is null if there is no file.
+    bb_pool_file *get() const noexcept { return file_; }
+
+private:
+    bb_pool_file *file_ = nullptr;
+};
+
+// A message that a party has taken, or the code of a refusal. When it ends, its bucket is given
+// back if it is done with, and otherwise the message is put back: another party can take it.
+class pool_file_message {
+public:
+    pool_file_message(bb_pool_file *file, bb_pool_party *party, std::uint32_t slot) noexcept
+        : file_(file), party_(party), slot_(slot), message_(bb_pool_file_take(file, party, slot)) {}
+
+    pool_file_message(pool_file_message &&other) noexcept
+        : file_(other.file_), party_(other.party_), slot_(other.slot_),
+          message_(std::exchange(other.message_, bb_message{BB_UNINITIALIZED, 0, nullptr, 0})),
+          is_done_(other.is_done_) {}
+
+    pool_file_message &operator=(pool_file_message &&other) noexcept {
+        std::swap(file_, other.file_);
+        std::swap(party_, other.party_);
+        std::swap(slot_, other.slot_);
+        std::swap(message_, other.message_);
+        std::swap(is_done_, other.is_done_);
+        return *this;
+    }
+
+    ~pool_file_message() {
+        if (message_.code != BB_OK)
+            return;
+        if (is_done_)
+            bb_pool_file_deallocate(file_, party_, message_.place);
+        else
+            static_cast<void>(bb_pool_file_detach(file_, party_, message_.place).code);
+    }
+
+    // Returns BB_OK if there is a message.
+    std::uint32_t code() const noexcept { return message_.code; }
+
+    // Returns whether there is a message.
+    explicit operator bool() const noexcept { return message_.code == BB_OK; }
+
+    // The bytes of the message, or null if there is none.
+    const void *data() const noexcept { return message_.place; }
+
+    // Their number.
+    std::size_t size() const noexcept { return message_.len; }
+
+    // Returns the message as a T, or null if there is none or it has another size.
+    template<class T>
+    const T *as() const noexcept {
+        static_assert(std::is_trivially_copyable_v<T>);
+        return message_.len == sizeof(T) ? static_cast<const T *>(data()) : nullptr;
+    }
+
+    // Empties the slot: the message doesn't come again. Its bytes stay until this ends.
+    std::uint32_t done() noexcept {
+        if (message_.code != BB_OK)
+            return message_.code;
+        const std::uint32_t code = bb_pool_file_done(file_, party_, slot_);
+        is_done_ = is_done_ || code == BB_OK;
+        return code;
+    }
+
+private:
+    bb_pool_file *file_;
+    bb_pool_party *party_;
+    std::uint32_t slot_;
+    bb_message message_;
+    bool is_done_ = false;
+};
+
+// A party of a file, which leaves when it ends: what it holds is given back.
+class pool_file_party {
+public:
+    pool_file_party() = default;
+
+    pool_file_party(pool_file_party &&other) noexcept
+        : file_(std::exchange(other.file_, nullptr)), party_(std::exchange(other.party_, nullptr)) {
+    }
+
+    pool_file_party &operator=(pool_file_party &&other) noexcept {
+        std::swap(file_, other.file_);
+        std::swap(party_, other.party_);
+        return *this;
+    }
+
+    ~pool_file_party() { leave(); }
+
+    // Joins as a party of the file. BB_ALREADY_INITIALIZED if it has joined, BB_UNINITIALIZED if
+    // `file` isn't open; then as `bb_pool_file_join`.
+    [[nodiscard]] std::uint32_t join(const pool_file &file) noexcept {
+        if (party_ != nullptr)
+            return BB_ALREADY_INITIALIZED;
+        if (file.get() == nullptr)
+            return BB_UNINITIALIZED;
+        file_ = file.get();
+        return bb_pool_file_join(file_, &party_);
+    }
+
+    // Leaves, if it has joined. Its messages have ended.
+    void leave() noexcept {
+        if (party_ != nullptr)
+            bb_pool_file_leave(file_, std::exchange(party_, nullptr));
+    }
+
+    // Posts these bytes in a bucket of their own. BB_UNINITIALIZED; BB_SIZE_TOO_LARGE;
+    // BB_OUT_OF_MEMORY; then as `bb_pool_file_post`.
+    [[nodiscard]] std::uint32_t post(std::uint32_t slot, const void *bytes,
+                                     std::size_t size) noexcept {
+        if (party_ == nullptr)
+            return BB_UNINITIALIZED;
+        const bb_chunk chunk = bb_pool_party_allocate(party_, size, 1);
+        if (chunk.code != BB_OK)
+            return chunk.code;
+        std::memcpy(chunk.place, bytes, size);
+        const std::uint32_t code = bb_pool_file_post(file_, party_, slot, chunk.place, size);
+        if (code != BB_OK)
+            bb_pool_file_deallocate(file_, party_, chunk.place);
+        return code;
+    }
+
+    // Posts a copy of the value, as `post` of its bytes does.
+    template<class T>
+    [[nodiscard]] std::uint32_t post(std::uint32_t slot, const T &value) noexcept {
+        static_assert(std::is_trivially_copyable_v<T>);
+        return post(slot, &value, sizeof value);
+    }
+
+    // Takes the message in the slot. The party has joined.
+    [[nodiscard]] pool_file_message take(std::uint32_t slot) noexcept {
+        return pool_file_message(file_, party_, slot);
+    }
+
+    // For the functions of bb_memory.h and of bb_pool_file.h. It is null if it hasn't joined.
+    bb_pool_party *get() const noexcept { return party_; }
+
+private:
+    bb_pool_file *file_ = nullptr;
+    bb_pool_party *party_ = nullptr;
+};
+
+}  // namespace bb
+#endif

@@ -1,0 +1,39 @@
+// Prints the messages of producer.c: `consumer FILE`. It may be killed as a producer may. A message
+// is done with after the work, so it is printed again if its consumer is killed before that.
+#include <stdio.h>
+
+#include "bb_pool_file.h"
+
+static const bb_pool_file_options OPTIONS = {256, 64, 1000, 16, 8, 0600};
+
+// Receives what is in the slot, if there is a message that no other consumer has taken.
+static uint32_t receive(bb_pool_file *file, bb_pool_party *mine, uint32_t slot) {
+    const bb_message message = bb_pool_file_take(file, mine, slot);
+    if (message.code == BB_DETACHED_EMPTY || message.code == BB_NOT_HELD)
+        return BB_OK;
+    if (message.code != BB_OK)
+        return message.code;
+    puts((const char *)message.place);
+    fflush(stdout);
+    const uint32_t code = bb_pool_file_done(file, mine, slot);
+    return code == BB_OK ? bb_pool_file_deallocate(file, mine, message.place) : code;
+}
+
+int main(int argc, char **argv) {
+    bb_pool_file *file;
+    bb_pool_party *mine;
+    if (argc != 2)
+        return 2;
+    uint32_t code = bb_pool_file_open(&file, argv[1], &OPTIONS);
+    if (code == BB_OK)
+        code = bb_pool_file_join(file, &mine);
+    while (code == BB_OK) {
+        // A message that a dead consumer had taken comes again after a reap.
+        if (bb_pool_file_wait_full(file, BB_ANY_SLOT, 1000) == BB_FILE_TIMED_OUT)
+            code = bb_pool_file_reap(file, false, NULL);
+        for (uint32_t slot = 0; code == BB_OK && slot < OPTIONS.slots; slot++)
+            code = receive(file, mine, slot);
+    }
+    fprintf(stderr, "consumer: %s\n", bb_pool_file_text(code));
+    return 1;
+}

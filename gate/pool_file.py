@@ -1,0 +1,291 @@
+"""Tests pools in files over an installed library: `.ci/run-c` calls it.
+
+The programs are in crates/bb_memory_c/tests/pool_file. They run over both forms of the library, and
+`cases` also under the compiler's checkers. Then each mutant of bb_pool_file.c there has to be
+refused by the program that its file names:
+
+    # function: bb_pool_file_take
+    # refused by: kills pause 31
+    file: bb_pool_file.c
+    old: if (load_slot(file, slot) == word)
+    new: if (word != 0)
+"""
+
+import os
+import re
+import shutil
+import subprocess
+import tempfile
+import time
+from collections.abc import Callable, Iterable, Mapping, Sequence
+from concurrent.futures import ThreadPoolExecutor
+from contextlib import ExitStack
+from functools import partial
+from pathlib import Path
+
+from gate import edits
+from gate.process import Failed, has, must_run, say
+
+CRATE = "crates/bb_memory_c"
+FLAGS = ("-O2", "-Wall", "-Wextra", "-Werror", "-pedantic", "-Wshadow", "-Wconversion")
+CHECKERS = ("-fsanitize=address,undefined", "-fno-sanitize-recover=all")
+PROGRAMS = ("cases", "kills", "shown")
+# A program that hangs is ended after that many seconds.
+LONGEST = "240"
+# Runs of `kills` with each form of the library: words before and after the folder.
+KILLS = {
+    "archive": (
+        ("run", "2500", "0", "1"),
+        ("run", "2500", "8", "2"),
+        ("make", "600"),
+        ("step", "97"),
+        ("pause", "61"),
+    ),
+    "shared": (
+        ("run", "2500", "8", "1"),
+        ("run", "2500", "0", "2"),
+        ("step", "499"),
+    ),
+}
+# Sizes of the model, and the wrong protocols in which it has to find a violation.
+SIZES = (
+    {"PROCESSES": 3, "BUCKETS": 1, "SLOTS": 2, "MESSAGES": 2, "NUMBERS": 1, "KILLS": 2},
+    {"PROCESSES": 2, "BUCKETS": 2, "SLOTS": 2, "MESSAGES": 2, "NUMBERS": 1, "KILLS": 2},
+)
+WRONG = ("any", "look", "slots", "order", "address")
+
+
+def refused_by(text: str) -> list[str]:
+    """Returns the words of the program that refuses the mutant in this text."""
+    match = re.search(r"^# refused by: (.+)$", text, re.MULTILINE)
+    if match is None:
+        raise Failed("a mutant has no line `# refused by:`")
+    return match[1].split()
+
+
+class PoolFile:
+    """The tests over the library that is installed below `prefix`, in a folder for what they make."""
+
+    def __init__(self, top: Path, prefix: Path, work: Path, environment: Mapping[str, str]) -> None:
+        self.crate = top / CRATE
+        self.sources = self.crate / "tests/pool_file"
+        self.prefix = prefix
+        self.work = work
+        self.environment = environment
+        # Where the pools' files are: in memory and on a disk. The first has those of most tests.
+        self.folders: list[Path] = []
+
+    def make_folders(self, made: ExitStack) -> None:
+        """Makes folders for the pools' files, which other users may enter."""
+        for place in (Path("/dev/shm"), Path(tempfile.gettempdir())):
+            if place.is_dir():
+                folder = made.enter_context(tempfile.TemporaryDirectory(dir=place))
+                os.chmod(folder, 0o755)
+                self.folders.append(Path(folder))
+
+    def compile(self, words: Sequence[str | Path], compiler: str = "cc") -> None:
+        """Runs a compiler with the installed headers."""
+        includes: list[str | Path] = [f"-I{self.prefix / 'include'}", f"-I{self.crate}"]
+        must_run([compiler, *includes, *words, "-pthread"], self.work, self.environment)
+
+    def run_program(self, program: Path, words: Iterable[str | Path]) -> str:
+        """Runs a program to its end, and returns what it prints. Raises Failed if it fails."""
+        command: list[str | Path] = ["timeout", LONGEST, program, *words]
+        return must_run(command, self.work, self.environment).rstrip()
+
+    def run_kills(self, program: Path, words: Sequence[str]) -> str:
+        """Runs one of the tests of `kills` in the first folder."""
+        return self.run_program(program, [words[0], self.folders[0], *words[1:]])
+
+    def build(self) -> None:
+        """Builds each program over the archive and over the shared library."""
+        library = self.prefix / "lib"
+        archive = library / "libbb_memory.a"
+        shared: list[str | Path] = [
+            f"-L{library}",
+            "-lbb_memory",
+            f"-Wl,-rpath,{library}",
+            "-Wl,-z,now",
+        ]
+        must_run(["ar", "x", archive, "bb_memory.o"], self.work)
+        for name in PROGRAMS:
+            compiled = self.work / f"{name}.o"
+            source = self.sources / f"{name}.c"
+            self.compile(["-std=c11", *FLAGS, "-c", "-o", compiled, source])
+            self.compile(["-o", self.work / f"{name}.archive", compiled, archive])
+            self.compile(["-o", self.work / f"{name}.shared", compiled, *shared])
+
+    def run_checked(self) -> str:
+        """Runs `cases` and bb_pool_file.c under the checkers of addresses and undefined behavior."""
+        program = self.work / "cases.checked"
+        sources = [self.crate / "bb_pool_file.c", self.sources / "cases.c"]
+        flags = ["-std=c11", "-g", "-O1", *CHECKERS]
+        self.compile([*flags, "-o", program, *sources, self.work / "bb_memory.o"])
+        return f"{self.run_program(program, self.folders)}, under the checkers"
+
+    def run_command(self) -> str:
+        """Runs `bb-pool`, and compares what it prints with shown.txt."""
+        path = self.folders[0] / "shown"
+        shown = subprocess.run(
+            [self.work / "shown.archive", path, self.prefix / "bin/bb-pool"],
+            stdin=subprocess.DEVNULL,
+            stdout=subprocess.PIPE,
+            stderr=subprocess.DEVNULL,
+            text=True,
+            check=False,
+        )
+        expected = (self.sources / "shown.txt").read_text(encoding="utf-8")
+        if shown.returncode != 0 or shown.stdout.replace(str(path), "FILE") != expected:
+            raise Failed(f"bb-pool shows something else than shown.txt:\n{shown.stdout}")
+        return "bb-pool: it shows what shown.txt has"
+
+    def run_owners(self) -> str:
+        """Runs what bb_pool_file.hpp has, under the checkers."""
+        program = self.work / "owners"
+        words: list[str | Path] = ["-std=c++17", "-g", "-O1", *FLAGS[1:], *CHECKERS, "-o", program]
+        archive = self.prefix / "lib/libbb_memory.a"
+        self.compile([*words, self.sources / "owners.cpp", archive], "c++")
+        return self.run_program(program, [self.folders[0] / "owners"])
+
+    def compile_shown(self) -> str:
+        """Compiles the program at the head of bb_pool_file.h."""
+        header = (self.prefix / "include/bb_pool_file.h").read_text(encoding="utf-8")
+        match = re.search(r"^//     #include.*?^//     \}$", header, re.MULTILINE | re.DOTALL)
+        if match is None:
+            raise Failed("bb_pool_file.h has no program at its head")
+        source = self.work / "hello.c"
+        source.write_text(re.sub(r"(?m)^// {0,5}", "", match[0]) + "\n", encoding="utf-8")
+        self.compile(["-std=c99", *FLAGS, "-c", "-o", self.work / "hello.o", source])
+        return "bb_pool_file.h: the program at its head is compiled"
+
+    def run_examples(self) -> str:
+        """Runs producers and consumers, and kills some of them. Messages that were posted arrive."""
+        path = self.folders[0] / "example"
+        printed = self.work / "printed"
+        examples = self.crate.parent.parent / "examples/c"
+        library = self.prefix / "lib/libbb_memory.a"
+        for name in ("producer", "consumer"):
+            source = examples / f"{name}.c"
+            c99: list[str | Path] = [
+                "-std=c99",
+                "-D_DEFAULT_SOURCE",
+                *FLAGS,
+                "-o",
+                self.work / name,
+            ]
+            self.compile([*c99, source, library])
+            cxx: list[str | Path] = [
+                "-std=c++11",
+                *FLAGS,
+                "-o",
+                self.work / f"{name}.c++",
+                "-x",
+                "c++",
+            ]
+            self.compile([*cxx, source, "-x", "none", library], "c++")
+        with printed.open("w", encoding="utf-8") as output:
+            started = []
+            for form, name in enumerate(["consumer", "producer", "consumer.c++", "producer.c++"]):
+                count = ["1000000"] if "producer" in name else []
+                command = [str(self.work / name), str(path), *count]
+                started.append(subprocess.Popen(command, stdout=output))
+                time.sleep(0.2)
+                if form % 2 == 1:
+                    # A producer and a consumer at work are killed.
+                    for each in started[-2:]:
+                        each.kill()
+            consumer = subprocess.Popen([self.work / "consumer", path], stdout=output)
+            last = subprocess.Popen([self.work / "producer", path, "2000"])
+            status = last.wait(timeout=60)
+            # The consumer ends once it has printed what is left in the slots.
+            time.sleep(2)
+            consumer.kill()
+            for each in [*started, consumer]:
+                each.wait()
+        path.unlink()
+        lines = set(printed.read_text(encoding="utf-8").splitlines())
+        missing = [n for n in range(2000) if f"{last.pid} {n}" not in lines]
+        if status != 0 or missing:
+            raise Failed(f"producer: status {status}, {len(missing)} messages never came")
+        return f"producer and consumer: {len(lines)} messages came, with kills"
+
+    def run_model(self, size: Mapping[str, int]) -> str:
+        """Looks at each state of the model of this size."""
+        numbers = "_".join(str(number) for number in size.values())
+        program = self.work / f"model_{numbers}"
+        defined = [f"-D{name}={number}" for name, number in size.items()]
+        source = self.sources / "model.cpp"
+        self.compile(["-std=c++17", *FLAGS, *defined, "-o", program, source], "c++")
+        return self.run_program(program, [])
+
+    def run_wrong_model(self) -> str:
+        """Looks for a violation in each wrong protocol."""
+        program = self.work / "model_wrong"
+        self.compile(["-std=c++17", *FLAGS, "-o", program, self.sources / "model.cpp"], "c++")
+        for word in WRONG:
+            self.run_program(program, [word])
+        return f"model: a violation is found in each of {len(WRONG)} wrong protocols"
+
+    def check_mutant(self, file: Path) -> None:
+        """Has a mutant be refused by the program that its file names. Raises Failed if it isn't."""
+        text = file.read_text(encoding="utf-8")
+        edit = edits.parse_edit(file, text)
+        changed = edits.apply(edit, lambda name: (self.crate / name).read_text(encoding="utf-8"))
+        program, *words = refused_by(text)
+        folder = self.work / file.stem
+        folder.mkdir()
+        source = folder / "bb_pool_file.c"
+        source.write_text(changed["bb_pool_file.c"], encoding="utf-8")
+        mutant = folder / program
+        objects = [self.work / f"{program}.o", self.work / "bb_memory.o"]
+        self.compile(["-std=c99", "-O2", "-w", "-o", mutant, source, *objects])
+        place = [words[0], str(self.folders[0]), *words[1:]] if words else [str(self.folders[0])]
+        # A test that fails may leave processes for a while, which would keep a pipe open.
+        ran = subprocess.run(
+            ["timeout", "60", str(mutant), *place],
+            cwd=self.work,
+            stdin=subprocess.DEVNULL,
+            stdout=subprocess.DEVNULL,
+            stderr=subprocess.DEVNULL,
+            check=False,
+        )
+        shutil.rmtree(folder)
+        if ran.returncode == 0:
+            raise Failed(f"{file.name}: isn't refused by `{program} {' '.join(words)}`")
+
+    def check_mutants(self, pool: ThreadPoolExecutor) -> None:
+        """Has each mutant be refused."""
+        files = sorted((self.sources / "mutants").glob("*.mutant"))
+        for _ in pool.map(self.check_mutant, files):
+            pass
+        say(f"mutants of bb_pool_file.c: {len(files)} are refused")
+
+    def jobs(self) -> list[Callable[[], str]]:
+        """Returns the tests, the longest first. Each returns what it prints."""
+        jobs: list[Callable[[], str]] = []
+        if has("c++", self.environment):
+            jobs += [partial(self.run_model, size) for size in SIZES]
+            jobs += [self.run_wrong_model, self.run_owners]
+        for form, tests in KILLS.items():
+            kills = self.work / f"kills.{form}"
+            jobs += [partial(self.run_kills, kills, words) for words in tests]
+        for form in KILLS:
+            jobs.append(partial(self.run_program, self.work / f"cases.{form}", self.folders))
+        jobs += [self.run_checked, self.compile_shown, self.run_command, self.run_examples]
+        return jobs
+
+    def check(self) -> None:
+        """Runs all tests. Raises Failed if one fails."""
+        self.build()
+        with ExitStack() as made, ThreadPoolExecutor(os.cpu_count()) as pool:
+            self.make_folders(made)
+            running = [pool.submit(job) for job in self.jobs()]
+            for each in running:
+                say(each.result())
+            self.check_mutants(pool)
+
+
+def check(top: Path, prefix: Path, work: Path, environment: Mapping[str, str]) -> None:
+    """Tests pools in files over the library that is installed below `prefix`."""
+    work.mkdir()
+    PoolFile(top, prefix, work, environment).check()
