@@ -61,7 +61,7 @@ PATH = re.compile(r"(?<![\w:])(?:::\s*)?((?:std|core|alloc|atomic_table|thiserro
 # What may be called in the crates that threads share, besides the libraries' own functions.
 CALLED = frozenset(
     """
-    close_with compare_exchange copied fill filter from_elem from_raw get get_mut
+    close_with compare_exchange copied fill filter from_elem from_raw get
     into_raw_with_allocator is_none is_some iter_mut join_seat load_new_seat map map_err min
     null_mut of_words ok ok_or peek pop push_reserved replace saturating_sub split_seat store swap
     try_clone unwrap with_capacity

@@ -78,8 +78,8 @@ fn entry(in_use: &[bool], number: u32) -> Option<bool>
 pub(crate) fn note(in_use: &mut Vec<bool>, number: u32, is_in_use: bool)
     ensures { in_use.new.items ≡ slice_set in_use.old.items number is_in_use }
 {
-    if let Some(entry) = in_use.get_mut(number as usize) {
-        *entry = is_in_use;
+    if (number as usize) < in_use.len() {
+        in_use[number as usize] = is_in_use;
     }
 }
 
@@ -88,9 +88,11 @@ fn clear(in_use: &mut Vec<bool>, number: u32) -> Option<bool>
     ensures was { result ≡ slice_get in_use.old.items number }
     ensures cleared { in_use.new.items ≡ slice_set in_use.old.items number false }
 {
-    let entry = in_use.get_mut(number as usize)?;
-    let was_in_use = *entry;
-    *entry = false;
+    if number as usize >= in_use.len() {
+        return None;
+    }
+    let was_in_use = in_use[number as usize];
+    in_use[number as usize] = false;
     Some(was_in_use)
 }
 

@@ -1,0 +1,174 @@
+-- Each effect keeps the words sound.
+use Rattle.bb_memory_file_machine.proofs.FileEffects.{below_end, one_value, same_message, set_cases}
+use Rattle.bb_memory_file_machine.proofs.FileInvariant.{Sound}
+use Rattle.bb_memory_file_machine.specs.FileLaws.{Effect, IsFlag, IsHolder, IsInSome, IsOutside, IsSlot, attaches, attaches_number, detaches, detaches_number, empties, fills, frees_lock, gives_back, none, takes, takes_lock}
+use Rattle.bb_memory_file_machine.specs.FileMachine.{DetachedBy, Empty, FileOutcome, FileWords, Flag, Free, HeldBy, Message, Slot, with_slot}
+use Rattle.bb_memory_file_machine.specs.FilePool.{IsTaken}
+use Rattle.bb_memory_lists.proofs.SliceGets.{length-set_at, slice_get-set_apart, slice_get-set_at, slice_get-set_same}
+use Rattle.std.proofs.Common.{Bool, List, Some, ap, arith, false, get_or, inl, inr, length, refl, sym, true, ℕ, ◌∙◌, ◌≡◌, ◌≢◌}
+use Rattle.std.proofs.lemmas.Bool.{cases_eq}
+use Rattle.std.proofs.lemmas.Option.{slice_get-get_or}
+use Rattle.std.specs.Prelude.{slice_get, slice_set, ◌⊎◌}
+
+-- the words with this flag, and what channels outside know
+abbrev with_both : FileWords → ℕ → Flag → List Bool → FileWords
+with_both words bucket flag outside = record words { flags = slice_set words.flags bucket flag; outside = outside }
+
+-- the flag says that a party holds the bucket, or has detached it
+abbrev SaysTaken : Flag → Type 0
+SaysTaken flag = ((party : ℕ) × (flag ≡ HeldBy party)) ⊎ ((party : ℕ) × (flag ≡ DetachedBy party))
+
+taken_there : (words : FileWords) (bucket : ℕ) (flag : Flag) → IsFlag words bucket flag → SaysTaken flag → IsTaken words bucket
+taken_there words bucket flag is (inl (party, held)) = inl (party, is ∙ ap Some held)
+taken_there words bucket flag is (inr (party, detached)) = inr (party, is ∙ ap Some detached)
+
+taken_apart : (words : FileWords) (bucket at : ℕ) (flag : Flag) → at ≢ bucket → IsTaken words bucket →
+    ((party : ℕ) × (slice_get (slice_set words.flags at flag) bucket ≡ Some (HeldBy party)))
+    ⊎ ((party : ℕ) × (slice_get (slice_set words.flags at flag) bucket ≡ Some (DetachedBy party)))
+taken_apart words bucket at flag apart (inl (party, held)) =
+    inl (party, slice_get-set_apart words.flags at bucket flag apart ∙ held)
+taken_apart words bucket at flag apart (inr (party, detached)) =
+    inr (party, slice_get-set_apart words.flags at bucket flag apart ∙ detached)
+
+sound_flag : (words : FileWords) (bucket : ℕ) (old flag : Flag) (outside : List Bool) → Sound words → IsFlag words bucket old →
+    length outside ≡ length words.outside → (IsInSome words bucket → SaysTaken flag) →
+    ((other : ℕ) → bucket ≢ other → IsOutside words other → slice_get outside other ≡ Some true) →
+    ((party : ℕ) → flag ≡ DetachedBy party → IsInSome words bucket ⊎ (slice_get outside bucket ≡ Some true)) →
+    Sound (with_both words bucket flag outside)
+sound_flag words bucket old flag outside sound is same says others known = record {
+  same_length = same ∙ sound.same_length ∙ sym (length-set_at words.flags bucket flag);
+  one_slot = sound.one_slot;
+  taken = λ at slot has. elim (cases_eq bucket at) [
+    | inl here ↦
+        let mine : SaysTaken flag = says (slot, (has.0, has.1 ∙ ap (λ (b : ℕ). Some (Message b has.0)) (sym here))) in
+        taken_there (with_both words bucket flag outside) at flag
+        (slice_get-set_at words.flags bucket at flag old here is) mine
+    | inr apart ↦ taken_apart words at bucket flag apart (sound.taken at slot has)
+  ];
+  known = λ at party now. elim (set_cases words.flags bucket at flag old (DetachedBy party) is now) [
+    | inl before ↦ elim (sound.known at party before.1) [
+      | inl has ↦ inl has
+      | inr told ↦ inr (others at before.0 told)
+    ]
+    | inr this ↦ elim (known party this.1) [
+      | inl has ↦ inl (has.0, (has.1.0, has.1.1 ∙ ap (λ (b : ℕ). Some (Message b has.1.0)) this.0))
+      | inr told ↦ inr (ap (slice_get outside) (sym this.0) ∙ told)
+    ]
+  ];
+}
+
+-- a bucket's number has a place in what channels outside know
+outside_there : (words : FileWords) (bucket : ℕ) (flag : Flag) (known : Bool) → Sound words → IsFlag words bucket flag →
+    slice_get (slice_set words.outside bucket known) bucket ≡ Some known
+outside_there words bucket flag known sound is =
+    let below = below_end words.flags bucket flag is in
+    let length_same = sound.same_length in
+    slice_get-set_same words.outside bucket known (get_or words.outside bucket false)
+    (slice_get-get_or words.outside bucket false (omega (arith, below, length_same)))
+
+told_others : (words : FileWords) (bucket : ℕ) (known : Bool) (other : ℕ) → bucket ≢ other → IsOutside words other →
+    slice_get (slice_set words.outside bucket known) other ≡ Some true
+told_others words bucket known other apart is = slice_get-set_apart words.outside bucket other known apart ∙ is
+
+sound_fill : (words : FileWords) (party slot bucket size : ℕ) → Sound words → IsHolder words bucket party →
+    ¬ IsInSome words bucket → IsSlot words slot Empty → Sound (with_slot words slot (Message bucket size))
+sound_fill words party slot bucket size sound held not_in empty =
+    let word : Slot = Message bucket size in
+    record {
+      same_length = sound.same_length;
+      one_slot = λ at one two has too.
+          elim (set_cases words.slots slot one word Empty (Message at has.0) empty has.1) [
+            | inl first ↦ elim (set_cases words.slots slot two word Empty (Message at too.0) empty too.1) [
+              | inl second ↦ sound.one_slot at one two (has.0, first.1) (too.0, second.1)
+              | inr here ↦
+                  let same : bucket ≡ at = let e = here.1 in cc in
+                  absurd (not_in (one, (has.0, first.1 ∙ ap (λ (b : ℕ). Some (Message b has.0)) (sym same))))
+            ]
+            | inr here ↦ elim (set_cases words.slots slot two word Empty (Message at too.0) empty too.1) [
+              | inl second ↦
+                  let same : bucket ≡ at = let e = here.1 in cc in
+                  absurd (not_in (two, (too.0, second.1 ∙ ap (λ (b : ℕ). Some (Message b too.0)) (sym same))))
+              | inr there ↦ sym here.0 ∙ there.0
+            ]
+          ];
+      taken = λ at one has. elim (set_cases words.slots slot one word Empty (Message at has.0) empty has.1) [
+        | inl before ↦ sound.taken at one (has.0, before.1)
+        | inr here ↦
+            let same : bucket ≡ at = let e = here.1 in cc in
+            inl (party, ap (slice_get words.flags) (sym same) ∙ held)
+      ];
+      known = λ at other is. elim (sound.known at other is) [
+        | inl has ↦ inl (
+          has.0,
+          (
+            has.1.0,
+            slice_get-set_apart words.slots slot has.0 word (λ same.
+                let both = one_value words.slots has.0 Empty (Message at has.1.0)
+                (ap (slice_get words.slots) (sym same) ∙ empty) has.1.1 in absurd (cc)) ∙ has.1.1,
+          ),
+        )
+        | inr told ↦ inr told
+      ];
+    }
+
+sound_empty : (words : FileWords) (party slot bucket size : ℕ) → Sound words → IsHolder words bucket party →
+    IsSlot words slot (Message bucket size) → Sound (with_slot words slot Empty)
+sound_empty words party slot bucket size sound held is =
+    let was : (at one length : ℕ) → slice_get (slice_set words.slots slot Empty) one ≡ Some (Message at length) →
+    IsSlot words one (Message at length) = λ at one length now.
+    elim (set_cases words.slots slot one Empty (Message bucket size) (Message at length) is now) [
+      | inl before ↦ before.1
+      | inr here ↦ let e = here.1 in absurd (cc)
+    ] in
+    record {
+      same_length = sound.same_length;
+      one_slot = λ at one two has too.
+          sound.one_slot at one two (has.0, was at one has.0 has.1) (too.0, was at two too.0 too.1);
+      taken = λ at one has. sound.taken at one (has.0, was at one has.0 has.1);
+      known = λ at other there. elim (sound.known at other there) [
+        | inl has ↦ inl (
+          has.0,
+          (
+            has.1.0,
+            slice_get-set_apart words.slots slot has.0 Empty (λ same.
+                let both = same_message words has.0 bucket at
+                (size, ap (slice_get words.slots) (sym same) ∙ is) has.1 in
+                let flags = one_value words.flags at (HeldBy party) (DetachedBy other)
+                (ap (slice_get words.flags) (sym both) ∙ held) there in absurd (cc)) ∙ has.1.1,
+          ),
+        )
+        | inr told ↦ inr told
+      ];
+    }
+
+pub sound_after : (words later : FileWords) (process : ℕ) (outcome : FileOutcome) → Effect words process outcome later →
+    Sound words → Sound later
+sound_after words later process outcome (none said quiet) sound = sound
+sound_after words later process outcome (takes_lock party free) sound =
+    record { same_length = sound.same_length; one_slot = sound.one_slot; taken = sound.taken; known = sound.known }
+sound_after words later process outcome (frees_lock party own) sound =
+    record { same_length = sound.same_length; one_slot = sound.one_slot; taken = sound.taken; known = sound.known }
+sound_after words later process outcome (takes party bucket own free) sound =
+    sound_flag words bucket Free (HeldBy party) words.outside sound free refl (λ has. inl (party, refl))
+    (λ other apart told. told) (λ other same. absurd (cc))
+sound_after words later process outcome (gives_back party bucket own held not_in) sound =
+    sound_flag words bucket (HeldBy party) Free words.outside sound held refl (λ has. absurd (not_in has))
+    (λ other apart told. told) (λ other same. absurd (cc))
+sound_after words later process outcome (detaches party bucket own held known) sound =
+    sound_flag words bucket (HeldBy party) (DetachedBy party) words.outside sound held refl (λ has. inr (party, refl))
+    (λ other apart told. told) (λ other same. known)
+sound_after words later process outcome (detaches_number party bucket own held not_in) sound =
+    sound_flag words bucket (HeldBy party) (DetachedBy party) (slice_set words.outside bucket true) sound held
+    (length-set_at words.outside bucket true) (λ has. inr (party, refl)) (told_others words bucket true)
+    (λ other same. inr (outside_there words bucket (HeldBy party) true sound held))
+sound_after words later process outcome (attaches party bucket from own is) sound =
+    sound_flag words bucket (DetachedBy from) (HeldBy party) words.outside sound is refl (λ has. inl (party, refl))
+    (λ other apart told. told) (λ other same. absurd (cc))
+sound_after words later process outcome (attaches_number party bucket from own is) sound =
+    sound_flag words bucket (DetachedBy from) (HeldBy party) (slice_set words.outside bucket false) sound is
+    (length-set_at words.outside bucket false) (λ has. inl (party, refl)) (told_others words bucket false)
+    (λ other same. absurd (cc))
+sound_after words later process outcome (fills party slot bucket size own held not_in empty) sound =
+    sound_fill words party slot bucket size sound held not_in empty
+sound_after words later process outcome (empties party slot bucket size own held is) sound =
+    sound_empty words party slot bucket size sound held is

@@ -1,0 +1,247 @@
+-- What holds of a state holds after each step.
+use Rattle.bb_memory_file_machine.proofs.FileEffects.{below_end, one_value, place_rests, rests, same_message, set_cases}
+use Rattle.bb_memory_file_machine.proofs.FileInvariant.{Holds, IsCleared, IsGiven, IsSought, PlaceHas, Sound}
+use Rattle.bb_memory_file_machine.proofs.FileKinds.{Kind, all_flags, all_slots, allocates, anothers, attaches, begins_done, detaches, dies, empties, empty_slot, exchanges, full_slot, gives, in_no_slot, is_anothers, is_holder, is_in_slot, is_kept, is_late, is_unheld, keeps, kind_of, leaves, locks, looks, not_in_slot, posted, posts, puts_back, puts_late, receives, recovers, refuses, releases, sees, settles, unlocks}
+use Rattle.bb_memory_file_machine.proofs.FileSound.{sound_after}
+use Rattle.bb_memory_file_machine.proofs.FileTests.{has_not}
+use Rattle.bb_memory_file_machine.specs.FileLaws.{Effect, IsFlag, IsHolder, IsIn, IsInSome, IsKnown, IsLock, IsPlace, IsSlot}
+use Rattle.bb_memory_file_machine.specs.FileLaws as laws
+use Rattle.bb_memory_file_machine.specs.FileMachine.{DetachedBy, Dies, Empty, FileMove, FileScene, FileState, FileStep, FileWords, Flag, Free, HeldBy, Message, Moves, Outside, Place, Receives, Refused, after_slot, change_at, file_after, file_step, left_by, move_at, opening_state, process_of, with_flag}
+use Rattle.bb_memory_lists.proofs.SliceGets.{slice_get-replicated, slice_get-set_same}
+use Rattle.std.proofs.Common.{List, None, Option, Some, [], ap, arith, false, inl, inr, length, refl, subst, suc, sym, zero, ℕ, ◌+◌, ◌<◌, ◌∙◌, ◌∷◌, ◌≡◌, ◌≢◌}
+use Rattle.std.proofs.lemmas.Bool.{cond_both}
+use Rattle.std.proofs.lemmas.List.{length-replicate}
+use Rattle.std.specs.Prelude.{nat_lt, replicate, slice_get, ◌⊎◌}
+
+-- EFFECTS OF STEPS
+
+-- the effect of a step of a process that has come so far
+pub effect_of : (words : FileWords) (place : Place) (step : FileStep) (move : FileMove) → Kind words place step move →
+    PlaceHas words (process_of step) place → Effect words (process_of step) move.outcome move.words
+effect_of words place step move (locks process party free) has = laws.takes_lock party free
+effect_of words place step move (allocates process party bucket own free) has = laws.takes party bucket own free
+effect_of words place step move (gives process party bucket own held not_in) has = laws.gives_back party bucket own held not_in
+effect_of words place step move (puts_back process party bucket own held known) has =
+    laws.detaches party bucket own held (inl known)
+effect_of words place step move (detaches process party bucket own held not_in) has =
+    laws.detaches_number party bucket own held not_in
+effect_of words place step move (attaches process party bucket from own is) has = laws.attaches_number party bucket from own is
+effect_of words place step move (posts process party slot bucket size own held not_in empty) has =
+    laws.fills party slot bucket size own held not_in empty
+effect_of words place step move (exchanges process party slot bucket size from is) has = laws.attaches party bucket from has is
+effect_of words place step move (posted process party bucket) (own, held, known) = laws.detaches party bucket own held (inl known)
+effect_of words place step move (puts_late process party bucket) (own, held, known) = laws.detaches party bucket own held known
+effect_of words place step move (empties process party slot bucket) (own, held, (size, is)) =
+    laws.empties party slot bucket size own held is
+effect_of words place step move (is_kept process party slot bucket) (own, cleared, held, in_slot) =
+    laws.detaches party bucket own held (inl (slot, in_slot))
+effect_of words place step move (settles process party bucket held) (own, no_message, given) =
+    laws.gives_back party bucket own held (λ known. no_message known.0 bucket known.1 held)
+effect_of words place step move (recovers process party bucket is) (own, no_message, sought) =
+    laws.attaches_number party bucket party own is
+effect_of words place step move (unlocks process party) (own, given) = laws.frees_lock party own
+effect_of words place step move (releases process party own) has = laws.frees_lock party own
+effect_of words place step move (receives process party slot bucket size is) has = laws.none (Receives slot) tt
+effect_of words place step move (dies process at) has = laws.none Dies tt
+effect_of words place step move (refuses at taken) has = laws.none Refused tt
+effect_of words place step move _ has = laws.none Moves tt
+
+-- HOW FAR A PROCESS HAS COME
+
+no_slot_before : (words : FileWords) (party : ℕ) → IsCleared words party 0
+no_slot_before words party before bucket less = absurd (omega (arith, less))
+
+no_bucket_before : (words : FileWords) (party : ℕ) → IsGiven words party 0
+no_bucket_before words party before less = absurd (omega (arith, less))
+
+-- a slot that is there is before one that isn't
+pub before_end : {X : Type 0} (xs : List X) (i j : ℕ) (x : X) → slice_get xs i ≡ None → slice_get xs j ≡ Some x → j < i
+before_end [] i j x none is = absurd (cc)
+before_end (y ∷ ys) zero j x none is = absurd (cc)
+before_end (y ∷ ys) (suc i) zero x none is = omega arith
+before_end (y ∷ ys) (suc i) (suc j) x none is = let less = before_end ys i j x none is in omega (arith, less)
+
+-- a settler goes on by one slot at most
+pub after_at_most : (words : FileWords) (slot before : ℕ) → before < after_slot words slot → before < slot + 1
+after_at_most words slot before = cond_both (nat_lt slot (length words.slots)) (slot + 1) slot
+    (λ after. before < after → before < slot + 1) (λ e less. less) (λ e less. omega (arith, less))
+
+below_or_at : (m n : ℕ) → m < n + 1 → (m < n) ⊎ (n ≡ m)
+below_or_at m n less = grind arith
+
+-- the slots before the next are those before this one, and this one
+cleared_next : (words later : FileWords) (party slot : ℕ) → IsCleared later party slot →
+    ((bucket : ℕ) → IsIn later bucket slot → ¬ IsHolder later bucket party) → IsCleared later party (after_slot words slot)
+cleared_next words later party slot cleared here before bucket less has =
+    elim (below_or_at before slot (after_at_most words slot before less)) [
+      | inl earlier ↦ cleared before bucket earlier has
+      | inr same ↦ here bucket (has.0, ap (slice_get later.slots) same ∙ has.1)
+    ]
+
+sought_next : (words : FileWords) (party bucket slot : ℕ) → IsSought words party bucket slot → ¬ IsIn words bucket slot →
+    IsSought words party bucket (after_slot words slot)
+sought_next words party bucket slot sought not_here is before less has =
+    elim (below_or_at before slot (after_at_most words slot before less)) [
+      | inl earlier ↦ sought is before earlier has
+      | inr same ↦ not_here (has.0, ap (slice_get words.slots) same ∙ has.1)
+    ]
+
+-- what the party holds after another flag of its own is written, it held before at another bucket
+held_before : (words : FileWords) (at party bucket : ℕ) (old flag : Flag) → IsFlag words at old → ¬ (flag ≡ HeldBy party) →
+    IsHolder (with_flag words at flag) bucket party → (at ≢ bucket) × IsHolder words bucket party
+held_before words at party bucket old flag is apart now =
+    elim (set_cases words.flags at bucket flag old (HeldBy party) is now) [
+      | inl before ↦ before
+      | inr this ↦ absurd (apart this.1)
+    ]
+
+-- what holds of a process after its own step
+pub place_after : (words : FileWords) (place : Place) (step : FileStep) (move : FileMove) → Kind words place step move →
+    Sound words → PlaceHas words (process_of step) place → PlaceHas move.words (process_of step) move.place
+place_after words place step move (locks process party free) sound has =
+    (slice_get-set_same words.locks party (Some process) None free, (λ before bucket less. absurd (omega (arith, less))))
+place_after words place step move (leaves process party own) sound has = (own, no_slot_before words party)
+place_after words place step move (posts process party slot bucket size own held not_in empty) sound has =
+    (own, held, (slot, (size, slice_get-set_same words.slots slot (Message bucket size) Empty empty)))
+place_after words place step move (sees process party slot bucket size own is) sound has = own
+place_after words place step move (exchanges process party slot bucket size from is) sound has =
+    (has, slice_get-set_same words.flags bucket (HeldBy party) (DetachedBy from) is, sound.known bucket from is)
+place_after words place step move (begins_done process party slot bucket size own is) sound has = (own, (λ held. (size, is)))
+place_after words place step move (looks process party at bucket) sound (own, no_message, given) =
+    (own, no_message, (λ is before less. absurd (omega (arith, less))))
+place_after words place step move (is_late process party slot bucket size) sound has = has
+place_after words place step move (is_holder process party slot bucket held) sound (own, found) = (own, held, found held)
+place_after words place step move (all_slots process party slot end) sound (own, cleared) = (
+  own,
+  (λ other bucket has. cleared other bucket (before_end words.slots slot other (Message bucket has.0) end has.1) has),
+  no_bucket_before words party,
+)
+place_after words place step move (empty_slot process party slot is) sound (own, cleared) = (
+  own,
+  cleared_next words words party slot cleared
+      (λ bucket has. let same = one_value words.slots slot Empty (Message bucket has.0) is has.1 in absurd (cc)),
+)
+place_after words place step move (full_slot process party slot bucket size is) sound (own, cleared) =
+    (own, cleared, (λ held. (size, is)), (λ other has held. same_message words slot other bucket has (size, is)))
+place_after words place step move (keeps process party slot bucket held) sound (own, cleared, found, one) =
+    (own, cleared, held, found held)
+place_after words place step move (anothers process party slot bucket unheld) sound (own, cleared, found, one) = (
+  own,
+  cleared_next words words party slot cleared
+      (λ other has held. unheld (ap (slice_get words.flags) (sym (one other has held)) ∙ held)),
+)
+place_after words place step move (is_kept process party slot bucket) sound (own, cleared, held, here) =
+    let later : FileWords = with_flag words bucket (DetachedBy party) in
+    let was : (other : ℕ) → IsHolder later other party → (bucket ≢ other) × IsHolder words other party =
+    λ other now. held_before words bucket party other (HeldBy party) (DetachedBy party) held (λ same. absurd (cc)) now in (
+      own,
+      cleared_next words later party slot (λ before other less has now. cleared before other less has (was other now).1)
+          (λ other has now. (was other now).0 (same_message words slot bucket other here has)),
+    )
+place_after words place step move (settles process party bucket held) sound (own, no_message, given) =
+    let later : FileWords = with_flag words bucket Free in
+    let was : (other : ℕ) → IsHolder later other party → (bucket ≢ other) × IsHolder words other party =
+    λ other now. held_before words bucket party other (HeldBy party) Free held (λ same. absurd (cc)) now in (
+      own,
+      (λ slot other has now. no_message slot other has (was other now).1),
+      (λ before less now. elim (below_or_at before bucket less) [
+        | inl earlier ↦ given before earlier (was before now).1
+        | inr same ↦ (was before now).0 same
+      ]),
+    )
+place_after words place step move (is_unheld process party bucket unheld) sound (own, no_message, given) = (
+  own,
+  no_message,
+  (λ before less now. elim (below_or_at before bucket less) [
+    | inl earlier ↦ given before earlier now
+    | inr same ↦ unheld (ap (slice_get words.flags) same ∙ now)
+  ]),
+)
+place_after words place step move (all_flags process party bucket end) sound (own, no_message, given) = (
+  own,
+  (λ other held.
+      let below = below_end words.flags other (HeldBy party) held in given other (omega (arith, below, end)) held),
+)
+place_after words place step move (in_no_slot process party bucket slot end) sound (own, no_message, sought) = (
+  own,
+  no_message,
+  (λ is has.
+      sought is has.0 (before_end words.slots slot has.0 (Message bucket has.1.0) end has.1.1) has.1),
+)
+place_after words place step move (is_in_slot process party bucket slot) sound (own, no_message, sought) =
+    (own, no_message, no_bucket_before words party)
+place_after words place step move (not_in_slot process party bucket slot word is test) sound (own, no_message, sought) = (
+  own,
+  no_message,
+  sought_next words party bucket slot sought
+      (λ has. has_not bucket word has.0 test (one_value words.slots slot word (Message bucket has.0) is has.1)),
+)
+place_after words place step move (recovers process party bucket is) sound (own, no_message, sought) = (
+  own,
+  (λ slot other has now. elim (set_cases words.flags bucket other (HeldBy party) (DetachedBy party) (HeldBy party) is now) [
+    | inl before ↦ no_message slot other has before.1
+    | inr this ↦ sought is (slot, (has.0, has.1 ∙ ap (λ (b : ℕ). Some (Message b has.0)) (sym this.0)))
+  ]),
+  (λ before less. absurd (omega (arith, less))),
+)
+place_after words place step move (is_anothers process party bucket) sound (own, no_message, sought) =
+    (own, no_message, no_bucket_before words party)
+place_after words place step move (refuses at taken) sound has = has
+place_after words place step move _ sound has = tt
+
+-- EACH STEP
+
+own_after : (words : FileWords) (place : Place) (step : FileStep) (move : FileMove) → Kind words place step move →
+    Sound words → PlaceHas words (process_of step) place → (other : ℕ) (there : Place) → process_of step ≡ other →
+    move.place ≡ there → PlaceHas move.words other there
+own_after words place step move kind sound has other there same is =
+    subst (λ (p : ℕ). PlaceHas move.words p there) same
+    (subst (PlaceHas move.words (process_of step)) is (place_after words place step move kind sound has))
+
+at_opening : (words : FileWords) (process : ℕ) (place : Place) → Outside ≡ place → PlaceHas words process place
+at_opening words process place same = subst (PlaceHas words process) same tt
+
+holds_change : (state : FileState) (step : FileStep) (found : Option Place) → slice_get state.places (process_of step) ≡ found →
+    Holds state → Holds (change_at state step found).state
+holds_change state step None is holds = holds
+holds_change state step (Some place) is holds =
+    let process : ℕ = process_of step in
+    let move : FileMove = move_at state.words place step in
+    let kind : Kind state.words place step move = kind_of state.words place step in
+    let own : PlaceHas state.words process place = holds.each process place is in
+    let effect : Effect state.words process move.outcome move.words = effect_of state.words place step move kind own in
+    record {
+      sound = sound_after state.words move.words process move.outcome effect holds.sound;
+      each = λ other there now. elim (set_cases state.places process other move.place place there is now) [
+        | inl before ↦ place_rests state.words move.words other there (holds.each other there before.1)
+            (λ party lock. rests state.words move.words process move.outcome party other effect lock before.0)
+        | inr this ↦ own_after state.words place step move kind holds.sound own other there this.0 this.1
+      ];
+    }
+
+pub holds_step : (state : FileState) (step : FileStep) → Holds state → Holds (file_step state step).state
+holds_step state step holds = holds_change state step (slice_get state.places (process_of step)) refl holds
+
+pub holds_after : (state : FileState) (steps : List FileStep) → Holds state → Holds (file_after state steps)
+holds_after state [] holds = holds
+holds_after state (step ∷ steps) holds = holds_after (file_step state step).state steps (holds_step state step holds)
+
+pub holds_at_opening : (scene : FileScene) → Holds (opening_state scene)
+holds_at_opening scene =
+    let no_message : (slot bucket size : ℕ) → ¬ (slice_get (replicate scene.slots Empty) slot ≡ Some (Message bucket size)) =
+    λ slot bucket size is. let same = slice_get-replicated scene.slots slot Empty (Message bucket size) is in absurd (cc) in
+    record {
+      sound = record {
+        same_length = length-replicate scene.buckets false ∙ sym (length-replicate scene.buckets Free);
+        one_slot = λ bucket slot other has too. absurd (no_message slot bucket has.0 has.1);
+        taken = λ bucket slot has. absurd (no_message slot bucket has.0 has.1);
+        known = λ bucket party is.
+            let same = slice_get-replicated scene.buckets bucket Free (DetachedBy party) is in absurd (cc);
+      };
+      each = λ process place is. at_opening (opening_state scene).words process place
+          (slice_get-replicated scene.processes process Outside place is);
+    }
+
+-- what holds after each list of steps from the opening
+pub holds_always : (scene : FileScene) (steps : List FileStep) → Holds (left_by scene steps)
+holds_always scene steps = holds_after (opening_state scene) steps (holds_at_opening scene)

@@ -1,0 +1,220 @@
+-- What follows from what holds of every state.
+use Rattle.bb_memory_file_machine.proofs.FileEffects.{apart_by_value, one_value, rests, same_process}
+use Rattle.bb_memory_file_machine.proofs.FileInvariant.{Holds, PlaceHas}
+use Rattle.bb_memory_file_machine.proofs.FileKinds.{Kind, empties, kind_of, posts, receives}
+use Rattle.bb_memory_file_machine.proofs.FileSteps.{effect_of, holds_always, holds_at_opening, holds_step}
+use Rattle.bb_memory_file_machine.specs.FileLaws.{AreSettled, Effect, HasReceived, IsAccountedFor, IsFlag, IsHolder, IsIn, IsInCallBy, IsInSome, IsKnown, IsLock, IsPlace, IsSlot, SaysDone, number_of}
+use Rattle.bb_memory_file_machine.specs.FileLaws as laws
+use Rattle.bb_memory_file_machine.specs.FileMachine.{Attached, Checking, DetachedBy, Empty, Ending, FileChange, FileMove, FileOutcome, FileScene, FileState, FileStep, FileWords, Finding, Flag, Flags, Free, HeldBy, Keeping, Late, Looking, Lost, Message, Place, Posting, Receives, Refused, Seen, Settled, Slot, Slots, change_at, file_after, file_step, left_by, move_at, opening_state, process_of}
+use Rattle.bb_memory_file_machine.specs.FilePool.{IsTaken}
+use Rattle.bb_memory_lists.proofs.SliceGets.{length-set_at, slice_get-set_apart}
+use Rattle.std.proofs.Common.{List, None, Option, Some, [], ap, arith, inl, inr, length, refl, suc, sym, zero, ℕ, ◌<◌, ◌∙◌, ◌∷◌, ◌≡◌, ◌≢◌}
+use Rattle.std.proofs.lemmas.Bool.{cases_eq}
+use Rattle.std.proofs.lemmas.List.{length-replicate}
+use Rattle.std.proofs.lemmas.Option.{same_Some}
+use Rattle.std.specs.Prelude.{slice_get, slice_set, ◌⊎◌}
+
+-- the effect of a step, in a state of which it holds what holds of every one
+effect_at : (state : FileState) (step : FileStep) (found : Option Place) → slice_get state.places (process_of step) ≡ found →
+    Holds state → let change = change_at state step found in
+    Effect state.words (process_of step) change.outcome change.state.words
+effect_at state step None is holds = laws.none Refused tt
+effect_at state step (Some place) is holds =
+    effect_of state.words place step (move_at state.words place step) (kind_of state.words place step)
+    (holds.each (process_of step) place is)
+
+pub effect_in : (state : FileState) (step : FileStep) → Holds state → let change = file_step state step in
+    Effect state.words (process_of step) change.outcome change.state.words
+effect_in state step holds = effect_at state step (slice_get state.places (process_of step)) refl holds
+
+pub effect_always : (scene : FileScene) (steps : List FileStep) (step : FileStep) (place : Place) →
+    IsPlace (left_by scene steps) (process_of step) place → let state = left_by scene steps in
+    let change = file_step state step in Effect state.words (process_of step) change.outcome change.state.words
+effect_always scene steps step place there = effect_in (left_by scene steps) step (holds_always scene steps)
+
+pub kept_always : (scene : FileScene) (steps : List FileStep) (step : FileStep) (process party bucket : ℕ) →
+    IsLock (left_by scene steps).words party process → IsHolder (left_by scene steps).words bucket party →
+    process_of step ≢ process → IsHolder (file_step (left_by scene steps) step).state.words bucket party
+kept_always scene steps step process party bucket lock held apart =
+    let state : FileState = left_by scene steps in
+    let change : FileChange = file_step state step in
+    (rests state.words change.state.words (process_of step) change.outcome party process
+    (effect_in state step (holds_always scene steps)) lock apart).kept bucket held
+
+-- RECEIVED
+
+received_by : (state : FileState) (place : Place) (step : FileStep) (move : FileMove) (slot : ℕ) →
+    Kind state.words place step move → PlaceHas state.words (process_of step) place → move.outcome ≡ Receives slot →
+    HasReceived state step slot
+received_by state place step move slot (receives process party at bucket size is) (lock, held, known) said =
+    let same : at ≡ slot = cc in record {
+      party = party;
+      bucket = bucket;
+      size = size;
+      lock = lock;
+      holder = held;
+      message = ap (slice_get state.words.slots) (sym same) ∙ is;
+    }
+received_by state place step move slot _ has said = absurd (cc)
+
+received_at : (state : FileState) (step : FileStep) (slot : ℕ) (found : Option Place) →
+    slice_get state.places (process_of step) ≡ found → Holds state → (change_at state step found).outcome ≡ Receives slot →
+    HasReceived state step slot
+received_at state step slot None is holds said = absurd (cc)
+received_at state step slot (Some place) is holds said =
+    received_by state place step (move_at state.words place step) slot (kind_of state.words place step)
+    (holds.each (process_of step) place is) said
+
+pub received_always : (scene : FileScene) (steps : List FileStep) (step : FileStep) (slot : ℕ) →
+    (file_step (left_by scene steps) step).outcome ≡ Receives slot → HasReceived (left_by scene steps) step slot
+received_always scene steps step slot said =
+    let state : FileState = left_by scene steps in
+    received_at state step slot (slice_get state.places (process_of step)) refl (holds_always scene steps) said
+
+-- STAYS
+
+-- after another slot was written, the message is there
+stays_apart : (slots : List Slot) (at slot : ℕ) (word old message : Slot) → slice_get slots at ≡ Some old →
+    slice_get slots slot ≡ Some message → ¬ (old ≡ message) → slice_get (slice_set slots at word) slot ≡ Some message
+stays_apart slots at slot word old message is there apart =
+    slice_get-set_apart slots at slot word (apart_by_value slots at slot old message is there apart) ∙ there
+
+stays_by : (state : FileState) (place : Place) (step : FileStep) (move : FileMove) (slot bucket size : ℕ) →
+    Kind state.words place step move → PlaceHas state.words (process_of step) place → IsPlace state (process_of step) place →
+    IsSlot state.words slot (Message bucket size) →
+    IsSlot move.words slot (Message bucket size) ⊎ SaysDone state step slot bucket
+stays_by state place step move slot bucket size (posts process party at other length own held not_in empty) has there is =
+    inl (stays_apart state.words.slots at slot (Message other length) Empty (Message bucket size) empty is
+    (λ same. absurd (cc)))
+stays_by state place step move slot bucket size (empties process party at other) (lock, held, (length, message)) there is =
+    elim (cases_eq at slot) [
+      | inl same ↦
+          let words = one_value state.words.slots slot (Message other length) (Message bucket size)
+          (ap (slice_get state.words.slots) (sym same) ∙ message) is in
+          let one : other ≡ bucket = cc in
+          inr record {
+            party = party;
+            done = there ∙ ap (λ (s : ℕ). Some (Ending party s other)) same ∙ ap (λ (b : ℕ). Some (Ending party slot b)) one;
+            lock = lock;
+            holder = ap (slice_get state.words.flags) (sym one) ∙ held;
+          }
+      | inr apart ↦ inl (slice_get-set_apart state.words.slots at slot Empty apart ∙ is)
+    ]
+stays_by state place step move slot bucket size _ has there is = inl is
+
+stays_at : (state : FileState) (step : FileStep) (slot bucket size : ℕ) (found : Option Place) →
+    slice_get state.places (process_of step) ≡ found → Holds state → IsSlot state.words slot (Message bucket size) →
+    IsSlot (change_at state step found).state.words slot (Message bucket size) ⊎ SaysDone state step slot bucket
+stays_at state step slot bucket size None there holds is = inl is
+stays_at state step slot bucket size (Some place) there holds is =
+    stays_by state place step (move_at state.words place step) slot bucket size (kind_of state.words place step)
+    (holds.each (process_of step) place there) there is
+
+pub stays_always : (scene : FileScene) (steps : List FileStep) (step : FileStep) (slot bucket size : ℕ) →
+    IsSlot (left_by scene steps).words slot (Message bucket size) →
+    IsSlot (file_step (left_by scene steps) step).state.words slot (Message bucket size)
+    ⊎ SaysDone (left_by scene steps) step slot bucket
+stays_always scene steps step slot bucket size is =
+    let state : FileState = left_by scene steps in
+    stays_at state step slot bucket size (slice_get state.places (process_of step)) refl (holds_always scene steps) is
+
+-- THE WORDS
+
+never_free_if : (words : FileWords) (bucket : ℕ) → IsTaken words bucket → ¬ IsFlag words bucket Free
+never_free_if words bucket (inl (party, held)) free =
+    let same = one_value words.flags bucket (HeldBy party) Free held free in absurd (cc)
+never_free_if words bucket (inr (party, detached)) free =
+    let same = one_value words.flags bucket (DetachedBy party) Free detached free in absurd (cc)
+
+pub never_free_always : (scene : FileScene) (steps : List FileStep) (bucket : ℕ) →
+    IsInSome (left_by scene steps).words bucket → ¬ IsFlag (left_by scene steps).words bucket Free
+never_free_always scene steps bucket (slot, has) =
+    never_free_if (left_by scene steps).words bucket ((holds_always scene steps).sound.taken bucket slot has)
+
+pub settled_always : (scene : FileScene) (steps : List FileStep) (process party bucket : ℕ) →
+    IsPlace (left_by scene steps) process (Settled party) → ¬ IsHolder (left_by scene steps).words bucket party
+settled_always scene steps process party bucket there =
+    ((holds_always scene steps).each process (Settled party) there).1 bucket
+
+-- NOTHING IS LOST
+
+buckets_effect : (words later : FileWords) (process : ℕ) (outcome : FileOutcome) → Effect words process outcome later →
+    length later.flags ≡ length words.flags
+buckets_effect words later process outcome (laws.takes party bucket own free) = length-set_at words.flags bucket (HeldBy party)
+buckets_effect words later process outcome (laws.gives_back party bucket own held not_in) =
+    length-set_at words.flags bucket Free
+buckets_effect words later process outcome (laws.detaches party bucket own held known) =
+    length-set_at words.flags bucket (DetachedBy party)
+buckets_effect words later process outcome (laws.detaches_number party bucket own held not_in) =
+    length-set_at words.flags bucket (DetachedBy party)
+buckets_effect words later process outcome (laws.attaches party bucket from own is) =
+    length-set_at words.flags bucket (HeldBy party)
+buckets_effect words later process outcome (laws.attaches_number party bucket from own is) =
+    length-set_at words.flags bucket (HeldBy party)
+buckets_effect words later process outcome _ = refl
+
+buckets_after : (state : FileState) (steps : List FileStep) → Holds state →
+    length (file_after state steps).words.flags ≡ length state.words.flags
+buckets_after state [] holds = refl
+buckets_after state (step ∷ steps) holds =
+    let change : FileChange = file_step state step in
+    buckets_after change.state steps (holds_step state step holds)
+    ∙ buckets_effect state.words change.state.words (process_of step) change.outcome (effect_in state step holds)
+
+pub buckets_always : (scene : FileScene) (steps : List FileStep) → length (left_by scene steps).words.flags ≡ scene.buckets
+buckets_always scene steps =
+    buckets_after (opening_state scene) steps (holds_at_opening scene) ∙ length-replicate scene.buckets Free
+
+there_below : {X : Type 0} (xs : List X) (i : ℕ) → i < length xs → (x : X) × (slice_get xs i ≡ Some x)
+there_below [] i below = absurd (omega (arith, below))
+there_below (x ∷ xs) zero below = (x, refl)
+there_below (x ∷ xs) (suc i) below = there_below xs i (omega (arith, below))
+
+accounted : (state : FileState) (bucket : ℕ) (flag : Flag) → Holds state → AreSettled state →
+    IsFlag state.words bucket flag → IsAccountedFor state bucket
+accounted state bucket Free holds settled is = inl is
+accounted state bucket (HeldBy party) holds settled is = inr (inl (party, is, settled bucket party is))
+accounted state bucket (DetachedBy party) holds settled is = inr (inr (party, is, holds.sound.known bucket party is))
+
+pub nothing_lost : (scene : FileScene) (steps : List FileStep) (bucket : ℕ) → AreSettled (left_by scene steps) →
+    bucket < scene.buckets → IsAccountedFor (left_by scene steps) bucket
+nothing_lost scene steps bucket settled below =
+    let state : FileState = left_by scene steps in
+    let same = buckets_always scene steps in
+    let there = there_below state.words.flags bucket (omega (arith, same, below)) in
+    accounted state bucket there.0 (holds_always scene steps) settled there.1
+
+-- LOCKS
+
+own_number : (words : FileWords) (process number party : ℕ) → IsLock words number process → Some number ≡ Some party →
+    IsLock words party process
+own_number words process number party lock is = let same = same_Some number party is in
+    ap (slice_get words.locks) (sym same) ∙ lock
+
+lock_of_place : (words : FileWords) (process party : ℕ) (place : Place) → PlaceHas words process place →
+    number_of place ≡ Some party → IsLock words party process
+lock_of_place words process party (Posting number bucket) has is = own_number words process number party has.0 is
+lock_of_place words process party (Seen number slot bucket size) has is = own_number words process number party has is
+lock_of_place words process party (Attached number slot bucket size) has is = own_number words process number party has.0 is
+lock_of_place words process party (Late number bucket) has is = own_number words process number party has.0 is
+lock_of_place words process party (Finding number slot bucket) has is = own_number words process number party has.0 is
+lock_of_place words process party (Ending number slot bucket) has is = own_number words process number party has.0 is
+lock_of_place words process party (Slots number slot) has is = own_number words process number party has.0 is
+lock_of_place words process party (Checking number slot bucket) has is = own_number words process number party has.0 is
+lock_of_place words process party (Keeping number slot bucket) has is = own_number words process number party has.0 is
+lock_of_place words process party (Flags number bucket) has is = own_number words process number party has.0 is
+lock_of_place words process party (Looking number bucket slot) has is = own_number words process number party has.0 is
+lock_of_place words process party (Lost number bucket) has is = own_number words process number party has.0 is
+lock_of_place words process party (Settled number) has is = own_number words process number party has.0 is
+lock_of_place words process party place has is = absurd (cc)
+
+pub locked_always : (scene : FileScene) (steps : List FileStep) (process party : ℕ) →
+    IsInCallBy (left_by scene steps) process party → IsLock (left_by scene steps).words party process
+locked_always scene steps process party (place, there, number) =
+    lock_of_place (left_by scene steps).words process party place ((holds_always scene steps).each process place there) number
+
+pub one_process : (scene : FileScene) (steps : List FileStep) (process other party : ℕ) →
+    IsInCallBy (left_by scene steps) process party → IsInCallBy (left_by scene steps) other party → process ≡ other
+one_process scene steps process other party one two =
+    same_process (left_by scene steps).words party process other (locked_always scene steps process party one)
+    (locked_always scene steps other party two)

@@ -1,0 +1,11 @@
+pub mod FileCounterexamples
+pub mod FileEffects
+pub mod FileInvariant
+pub mod FileKinds
+pub mod FilePools
+pub mod FileSettles
+pub mod FileSound
+pub mod FileSteps
+pub mod FileTakers
+pub mod FileTests
+pub mod FileTheorem

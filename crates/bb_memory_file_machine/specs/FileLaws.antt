@@ -1,0 +1,180 @@
+-- What is said of the words of a pool in a file, and of its processes.
+use Rattle.bb_memory_file_machine.specs.FileMachine.{AttachFrom, Attached, Checking, Dead, Detach, DetachedBy, Empty, Ending, FileOutcome, FileScene, FileState, FileStep, FileWords, Finding, Flag, Flags, Free, GiveBack, HeldBy, Keeping, Late, Looking, Lost, Message, Next, OnFlag, OnLock, OnSlot, Place, Posting, Seen, Settled, Slot, Slots, TryAt, file_after, file_step, left_by, process_of, with_flag, with_lock, with_outside, with_slot}
+use Rattle.std.specs.Prelude.{Contains, List, None, Option, Some, [], false, replicate, slice_get, true, ℕ, ◌∷◌, ◌≡◌, ◌⊎◌}
+
+-- there is such a bucket, and its flag is this one
+abbrev pub IsFlag : FileWords → ℕ → Flag → Type 0
+IsFlag words bucket flag = slice_get words.flags bucket ≡ Some flag
+
+-- there is such a slot, and its word is this one
+abbrev pub IsSlot : FileWords → ℕ → Slot → Type 0
+IsSlot words slot word = slice_get words.slots slot ≡ Some word
+
+-- the process has the lock of this number
+abbrev pub IsLock : FileWords → ℕ → ℕ → Type 0
+IsLock words party process = slice_get words.locks party ≡ Some (Some process)
+
+-- the party holds the bucket
+abbrev pub IsHolder : FileWords → ℕ → ℕ → Type 0
+IsHolder words bucket party = IsFlag words bucket (HeldBy party)
+
+-- the slot has a message in this bucket
+abbrev pub IsIn : FileWords → ℕ → ℕ → Type 0
+IsIn words bucket slot = (length : ℕ) × IsSlot words slot (Message bucket length)
+
+-- some slot has a message in this bucket
+abbrev pub IsInSome : FileWords → ℕ → Type 0
+IsInSome words bucket = (slot : ℕ) × IsIn words bucket slot
+
+-- a channel outside knows this bucket's number
+abbrev pub IsOutside : FileWords → ℕ → Type 0
+IsOutside words bucket = slice_get words.outside bucket ≡ Some true
+
+-- some slot or a channel outside knows this bucket's number
+abbrev pub IsKnown : FileWords → ℕ → Type 0
+IsKnown words bucket = IsInSome words bucket ⊎ IsOutside words bucket
+
+-- the process has come that far
+abbrev pub IsPlace : FileState → ℕ → Place → Type 0
+IsPlace state process place = slice_get state.places process ≡ Some place
+
+-- the number by which a process is in a call, or None if it is in no call
+abbrev pub number_of : Place → Option ℕ
+number_of (Posting party bucket) = Some party
+number_of (Seen party slot bucket length) = Some party
+number_of (Attached party slot bucket length) = Some party
+number_of (Late party bucket) = Some party
+number_of (Finding party slot bucket) = Some party
+number_of (Ending party slot bucket) = Some party
+number_of (Slots party slot) = Some party
+number_of (Checking party slot bucket) = Some party
+number_of (Keeping party slot bucket) = Some party
+number_of (Flags party bucket) = Some party
+number_of (Looking party bucket slot) = Some party
+number_of (Lost party bucket) = Some party
+number_of (Settled party) = Some party
+number_of _ = None
+
+-- EFFECTS
+
+-- the outcome says that no word and no lock changed
+abbrev pub ChangesNone : FileOutcome → Type 0
+ChangesNone (OnFlag step) = ⊥
+ChangesNone (OnSlot slot) = ⊥
+ChangesNone (OnLock party) = ⊥
+ChangesNone _ = Unit {0}
+
+-- What a step of this process does to the words and locks. It is one of these, and each changes one flag, slot or lock. A process
+-- steps on flags and slots only by a number whose lock it has.
+pub data Effect (words : FileWords) (process : ℕ) : FileOutcome → FileWords → Type 0 where
+  -- no word and no lock changes
+  none : (outcome : FileOutcome) → ChangesNone outcome → Effect words process outcome words
+  -- the process takes a free lock
+  takes_lock : (party : ℕ) → slice_get words.locks party ≡ Some None →
+      Effect words process (OnLock party) (with_lock words party (Some process))
+  -- a lock of the process becomes free
+  frees_lock : (party : ℕ) → IsLock words party process → Effect words process (OnLock party) (with_lock words party None)
+  -- the party takes a free bucket
+  takes : (party bucket : ℕ) → IsLock words party process → IsFlag words bucket Free →
+      Effect words process (OnFlag (TryAt party bucket)) (with_flag words bucket (HeldBy party))
+  -- the party's bucket, which is in no slot, is given back: by itself, or by a settler if the party is dead
+  gives_back : (party bucket : ℕ) → IsLock words party process → IsHolder words bucket party → ¬ IsInSome words bucket →
+      Effect words process (OnFlag (GiveBack party bucket)) (with_flag words bucket Free)
+  -- the party's bucket is detached, and its number is known
+  detaches : (party bucket : ℕ) → IsLock words party process → IsHolder words bucket party → IsKnown words bucket →
+      Effect words process (OnFlag (Detach party bucket)) (with_flag words bucket (DetachedBy party))
+  -- the party's bucket is detached, and a channel outside knows its number from now on
+  detaches_number : (party bucket : ℕ) → IsLock words party process → IsHolder words bucket party → ¬ IsInSome words bucket →
+      Effect words process (OnFlag (Detach party bucket)) (with_flag (with_outside words bucket true) bucket (DetachedBy party))
+  -- the party attaches a bucket whose number it has from a slot
+  attaches : (party bucket from : ℕ) → IsLock words party process → IsFlag words bucket (DetachedBy from) →
+      Effect words process (OnFlag (AttachFrom party bucket from)) (with_flag words bucket (HeldBy party))
+  -- the party attaches a bucket whose number it has from a channel outside
+  attaches_number : (party bucket from : ℕ) → IsLock words party process → IsFlag words bucket (DetachedBy from) →
+      Effect words process (OnFlag (AttachFrom party bucket from))
+      (with_flag (with_outside words bucket false) bucket (HeldBy party))
+  -- the party fills an empty slot with a bucket that it holds, and that is in no slot
+  fills : (party slot bucket size : ℕ) → IsLock words party process → IsHolder words bucket party → ¬ IsInSome words bucket →
+      IsSlot words slot Empty → Effect words process (OnSlot slot) (with_slot words slot (Message bucket size))
+  -- the party empties a slot whose bucket it holds
+  empties : (party slot bucket size : ℕ) → IsLock words party process → IsHolder words bucket party →
+      IsSlot words slot (Message bucket size) → Effect words process (OnSlot slot) (with_slot words slot Empty)
+
+-- WHAT IS PROMISED
+
+-- after the step the process has the slot's message: one of its parties holds the bucket, which is in the slot
+pub record HasReceived (state : FileState) (step : FileStep) (slot : ℕ) : Type 0 where
+  pub party : ℕ
+  pub bucket : ℕ
+  pub size : ℕ
+  pub lock : IsLock state.words party (process_of step)
+  pub holder : IsHolder state.words bucket party
+  pub message : IsSlot state.words slot (Message bucket size)
+
+-- by the step a process says that it is done with the bucket in the slot, which one of its parties holds
+pub record SaysDone (state : FileState) (step : FileStep) (slot bucket : ℕ) : Type 0 where
+  pub party : ℕ
+  pub done : IsPlace state (process_of step) (Ending party slot bucket)
+  pub lock : IsLock state.words party (process_of step)
+  pub holder : IsHolder state.words bucket party
+
+-- some process that isn't dead has the number's lock
+abbrev pub IsAlive : FileState → ℕ → Type 0
+IsAlive state party = (process : ℕ) × IsLock state.words party process × (¬ IsPlace state process Dead)
+
+-- each number that holds a bucket is alive: those of dead parties are settled
+abbrev pub AreSettled : FileState → Type 0
+AreSettled state = (bucket party : ℕ) → IsHolder state.words bucket party → IsAlive state party
+
+-- a living party holds the bucket
+abbrev pub IsHeldAlive : FileState → ℕ → Type 0
+IsHeldAlive state bucket = (party : ℕ) × IsHolder state.words bucket party × IsAlive state party
+
+-- the bucket is detached, and some slot or a channel outside knows its number
+abbrev pub IsOnItsWay : FileState → ℕ → Type 0
+IsOnItsWay state bucket = (party : ℕ) × IsFlag state.words bucket (DetachedBy party) × IsKnown state.words bucket
+
+-- the bucket is free, held by a living party, or detached and known
+abbrev pub IsAccountedFor : FileState → ℕ → Type 0
+IsAccountedFor state bucket = IsFlag state.words bucket Free ⊎ (IsHeldAlive state bucket ⊎ IsOnItsWay state bucket)
+
+-- the process is in a call by this number
+abbrev pub IsInCallBy : FileState → ℕ → ℕ → Type 0
+IsInCallBy state process party = (place : Place) × IsPlace state process place × (number_of place ≡ Some party)
+
+-- SETTLERS
+
+-- the number that a process which has come so far settles, or None if it settles none
+abbrev pub settled_by : Place → Option ℕ
+settled_by (Slots party slot) = Some party
+settled_by (Checking party slot bucket) = Some party
+settled_by (Keeping party slot bucket) = Some party
+settled_by (Flags party bucket) = Some party
+settled_by (Looking party bucket slot) = Some party
+settled_by (Lost party bucket) = Some party
+settled_by (Settled party) = Some party
+settled_by _ = None
+
+-- the process settles this number
+abbrev pub IsSettling : FileState → ℕ → ℕ → Type 0
+IsSettling state process party = (place : Place) × IsPlace state process place × (settled_by place ≡ Some party)
+
+-- the settler is done after some further steps of its own
+abbrev pub CanSettle : FileState → ℕ → ℕ → Type 0
+CanSettle state process party =
+    (steps : ℕ) × IsPlace (file_after state (replicate steps (Next process))) process (Settled party)
+
+-- TAKERS
+
+-- the word is in the slot in this state, and after each of these steps
+abbrev pub StaysIn : FileState → List FileStep → ℕ → Slot → Type 0
+StaysIn state [] slot word = IsSlot state.words slot word
+StaysIn state (step ∷ steps) slot word = IsSlot state.words slot word × StaysIn (file_step state step).state steps slot word
+
+-- by one of these outcomes the party attaches the bucket
+abbrev pub HasAttached : List FileOutcome → ℕ → ℕ → Type 0
+HasAttached outcomes party bucket = (from : ℕ) × Contains outcomes (OnFlag (AttachFrom party bucket from))
+
+-- the state after the step by which a party posts a message
+abbrev pub after_post : FileScene → List FileStep → FileStep → FileState
+after_post scene steps post = (file_step (left_by scene steps) post).state

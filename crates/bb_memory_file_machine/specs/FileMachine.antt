@@ -1,0 +1,372 @@
+-- The machine of a pool in a file: what any number of processes do to the words and locks of the file, one atomic step at a
+-- time. Processes, party numbers, buckets and slots are numbered from 0.
+pub use Rattle.bb_memory_file_machine.specs.declared.steps.file.FileOutcome.{FileOutcome}
+pub use Rattle.bb_memory_file_machine.specs.declared.steps.file.FileOutcome.TheVariants.{Dies, Moves, OnFlag, OnLock, OnSlot, Receives, Refused}
+pub use Rattle.bb_memory_file_machine.specs.declared.steps.file.FileStep.{FileStep}
+pub use Rattle.bb_memory_file_machine.specs.declared.steps.file.FileStep.TheVariants.{Allocate, AttachNumber, Deallocate, DetachNumber, Done, Exchange, Kill, Leave, Lock, Look, Next, Post, Release, Take, Unlock}
+pub use Rattle.bb_memory_file_machine.specs.declared.steps.file.Place.{Place}
+pub use Rattle.bb_memory_file_machine.specs.declared.steps.file.Place.TheVariants.{Attached, Checking, Dead, Ending, Finding, Flags, Keeping, Late, Looking, Lost, Outside, Posting, Seen, Settled, Slots}
+pub use Rattle.bb_memory_file_machine.specs.declared.steps.file.Slot.{Slot}
+pub use Rattle.bb_memory_file_machine.specs.declared.steps.file.Slot.TheVariants.{Empty, Message}
+pub use Rattle.bb_memory_pool_machine.specs.declared.steps.pool.Flag.{Flag}
+pub use Rattle.bb_memory_pool_machine.specs.declared.steps.pool.Flag.TheVariants.{DetachedBy, Free, HeldBy}
+pub use Rattle.bb_memory_pool_machine.specs.declared.steps.pool.PoolStep.{PoolStep}
+pub use Rattle.bb_memory_pool_machine.specs.declared.steps.pool.PoolStep.TheVariants.{AttachFrom, Detach, GiveBack, TryAt}
+use Rattle.std.specs.Prelude.{Bool, List, None, Option, Some, [], false, if◌then◌else◌, length, nat_lt, replicate, slice_get, slice_set, true, ℕ, ◌+◌, ◌==◌, ◌∷◌}
+
+-- WORDS
+
+-- The words and locks of the file: the flag of each bucket, the word of each slot, and the lock of each party number, which is
+-- free or some process's. `outside` isn't in the file: it says of each bucket whether a channel outside knows its number.
+pub record FileWords : Type 0 where
+  pub flags : List Flag
+  pub slots : List Slot
+  pub locks : List (Option ℕ)
+  pub outside : List Bool
+
+-- the state of a machine: the words, and how far each process has come in the call that it is in
+pub record FileState : Type 0 where
+  pub words : FileWords
+  pub places : List Place
+
+-- how many buckets, slots, party numbers and processes a machine has
+pub record FileScene : Type 0 where
+  pub buckets : ℕ
+  pub slots : ℕ
+  pub parties : ℕ
+  pub processes : ℕ
+
+-- the state in which a machine begins: all flags and locks are free, all slots empty, and no process is in a call
+abbrev pub opening_state : FileScene → FileState
+opening_state scene = record {
+  words = record {
+    flags = replicate scene.buckets Free;
+    slots = replicate scene.slots Empty;
+    locks = replicate scene.parties None;
+    outside = replicate scene.buckets false;
+  };
+  places = replicate scene.processes Outside;
+}
+
+-- the words in which this bucket's flag is replaced
+abbrev pub with_flag : FileWords → ℕ → Flag → FileWords
+with_flag words bucket flag = record words { flags = slice_set words.flags bucket flag }
+
+-- the words in which this slot's word is replaced
+abbrev pub with_slot : FileWords → ℕ → Slot → FileWords
+with_slot words slot word = record words { slots = slice_set words.slots slot word }
+
+-- the words in which this number's lock is replaced
+abbrev pub with_lock : FileWords → ℕ → Option ℕ → FileWords
+with_lock words party lock = record words { locks = slice_set words.locks party lock }
+
+-- the words in which it is replaced whether a channel outside knows this bucket's number
+abbrev pub with_outside : FileWords → ℕ → Bool → FileWords
+with_outside words bucket known = record words { outside = slice_set words.outside bucket known }
+
+-- TESTS
+
+-- two flags are the same
+abbrev pub same_flag : Flag → Flag → Bool
+same_flag Free Free = true
+same_flag (HeldBy party) (HeldBy other) = party == other
+same_flag (DetachedBy party) (DetachedBy other) = party == other
+same_flag _ _ = false
+
+-- the flag that was found is this one
+abbrev pub finds_flag : Flag → Option Flag → Bool
+finds_flag flag (Some found) = same_flag found flag
+finds_flag flag None = false
+
+-- there is such a bucket, and its flag is this one
+abbrev pub is_flag : FileWords → ℕ → Flag → Bool
+is_flag words bucket flag = finds_flag flag (slice_get words.flags bucket)
+
+-- two words of slots are the same
+abbrev pub same_slot : Slot → Slot → Bool
+same_slot Empty Empty = true
+same_slot (Message bucket length) (Message other same) = if bucket == other then length == same else false
+same_slot _ _ = false
+
+-- the word that was found is this one
+abbrev pub finds_slot : Slot → Option Slot → Bool
+finds_slot word (Some found) = same_slot found word
+finds_slot word None = false
+
+-- there is such a slot, and its word is this one
+abbrev pub is_slot : FileWords → ℕ → Slot → Bool
+is_slot words slot word = finds_slot word (slice_get words.slots slot)
+
+-- the word has a message in this bucket
+abbrev pub has_bucket : ℕ → Slot → Bool
+has_bucket bucket (Message other length) = other == bucket
+has_bucket bucket Empty = false
+
+-- some slot of these has a message in this bucket
+abbrev pub some_has : ℕ → List Slot → Bool
+some_has bucket [] = false
+some_has bucket (word ∷ words) = if has_bucket bucket word then true else some_has bucket words
+
+-- the lock that was found is free
+abbrev pub finds_free : Option (Option ℕ) → Bool
+finds_free (Some None) = true
+finds_free _ = false
+
+-- the lock that was found is this process's
+abbrev pub finds_own : ℕ → Option (Option ℕ) → Bool
+finds_own process (Some (Some other)) = other == process
+finds_own process _ = false
+
+-- the process has the lock of this number
+abbrev pub is_own : FileWords → ℕ → ℕ → Bool
+is_own words process party = finds_own process (slice_get words.locks party)
+
+-- the process may begin a call by this number: it is in no call, and has the lock
+abbrev pub may_call : FileWords → ℕ → Place → ℕ → Bool
+may_call words process Outside party = is_own words process party
+may_call words process _ party = false
+
+-- MOVES
+
+-- a step's move of one process: its outcome, the words after it, and how far the process has come then
+pub record FileMove : Type 0 where
+  pub outcome : FileOutcome
+  pub words : FileWords
+  pub place : Place
+
+-- the move with this outcome that leaves these words and the process there
+abbrev pub move_of : FileOutcome → FileWords → Place → FileMove
+move_of outcome words place = record { outcome = outcome; words = words; place = place }
+
+-- a step that isn't allowed changes nothing
+abbrev pub refused : FileWords → Place → FileMove
+refused words place = move_of Refused words place
+
+-- the party detaches a bucket
+abbrev pub detaching : FileWords → ℕ → ℕ → Place → FileMove
+detaching words party bucket next = move_of (OnFlag (Detach party bucket)) (with_flag words bucket (DetachedBy party)) next
+
+-- the party attaches a bucket that the party `from` has detached
+abbrev pub attaching : FileWords → ℕ → ℕ → ℕ → Place → FileMove
+attaching words party bucket from next =
+    move_of (OnFlag (AttachFrom party bucket from)) (with_flag words bucket (HeldBy party)) next
+
+-- the party gives back a bucket
+abbrev pub giving_back : FileWords → ℕ → ℕ → Place → FileMove
+giving_back words party bucket next = move_of (OnFlag (GiveBack party bucket)) (with_flag words bucket Free) next
+
+-- a process takes the lock of a number, and begins to settle the number
+abbrev pub lock : FileWords → ℕ → Place → ℕ → FileMove
+lock words process Outside party =
+    if finds_free (slice_get words.locks party) then move_of (OnLock party) (with_lock words party (Some process)) (Slots party 0)
+    else refused words Outside
+lock words process place party = refused words place
+
+-- a process begins to settle a number whose lock it has
+abbrev pub leave : FileWords → ℕ → Place → ℕ → FileMove
+leave words process place party =
+    if may_call words process place party then move_of Moves words (Slots party 0) else refused words place
+
+-- a party takes a free bucket
+abbrev pub allocate : FileWords → ℕ → Place → ℕ → ℕ → FileMove
+allocate words process place party bucket =
+    if may_call words process place party then (if is_flag words bucket Free
+    then move_of (OnFlag (TryAt party bucket)) (with_flag words bucket (HeldBy party)) Outside
+    else refused words place) else refused words place
+
+-- a party gives back a bucket that it holds, and that is in no slot
+abbrev pub deallocate : FileWords → ℕ → Place → ℕ → ℕ → FileMove
+deallocate words process place party bucket =
+    if may_call words process place party then (if is_flag words bucket (HeldBy party)
+    then (if some_has bucket words.slots then refused words place else giving_back words party bucket Outside)
+    else refused words place) else refused words place
+
+-- A party detaches a bucket that it holds. If no slot has the bucket, a channel outside knows its number from now on.
+abbrev pub detach_number : FileWords → ℕ → Place → ℕ → ℕ → FileMove
+detach_number words process place party bucket =
+    if may_call words process place party then (if is_flag words bucket (HeldBy party)
+    then (if some_has bucket words.slots then detaching words party bucket Outside
+    else detaching (with_outside words bucket true) party bucket Outside)
+    else refused words place) else refused words place
+
+-- a party attaches a bucket by its number, which the party `from` has detached
+abbrev pub attach_number : FileWords → ℕ → Place → ℕ → ℕ → ℕ → FileMove
+attach_number words process place party bucket from =
+    if may_call words process place party then (if is_flag words bucket (DetachedBy from)
+    then attaching (with_outside words bucket false) party bucket from Outside
+    else refused words place) else refused words place
+
+-- a party fills an empty slot with a bucket that it holds, and that is in no slot
+abbrev pub post : FileWords → ℕ → Place → ℕ → ℕ → ℕ → ℕ → FileMove
+post words process place party slot bucket length =
+    if may_call words process place party then (if is_flag words bucket (HeldBy party)
+    then (if some_has bucket words.slots then refused words place
+    else (if is_slot words slot Empty
+    then move_of (OnSlot slot) (with_slot words slot (Message bucket length)) (Posting party bucket)
+    else refused words place))
+    else refused words place) else refused words place
+
+-- a take by this party has found this word in its slot
+abbrev pub take_found : FileWords → ℕ → ℕ → Option Slot → FileMove
+take_found words party slot (Some (Message bucket length)) = move_of Moves words (Seen party slot bucket length)
+take_found words party slot _ = refused words Outside
+
+-- a party begins a take: it looks at the slot
+abbrev pub begin_take : FileWords → ℕ → Place → ℕ → ℕ → FileMove
+begin_take words process place party slot =
+    if may_call words process place party then take_found words party slot (slice_get words.slots slot) else refused words place
+
+-- in a take the process attaches the bucket that it has seen
+abbrev pub exchange : FileWords → Place → ℕ → FileMove
+exchange words (Seen party slot bucket length) from =
+    if is_flag words bucket (DetachedBy from) then attaching words party bucket from (Attached party slot bucket length)
+    else refused words (Seen party slot bucket length)
+exchange words place from = refused words place
+
+-- a `done` by this party has found this word in its slot
+abbrev pub done_found : FileWords → ℕ → ℕ → Option Slot → FileMove
+done_found words party slot (Some (Message bucket length)) = move_of Moves words (Finding party slot bucket)
+done_found words party slot _ = refused words Outside
+
+-- a party begins a `done`: it looks at the slot
+abbrev pub begin_done : FileWords → ℕ → Place → ℕ → ℕ → FileMove
+begin_done words process place party slot =
+    if may_call words process place party then done_found words party slot (slice_get words.slots slot) else refused words place
+
+-- a settler begins to look for a bucket in the slots
+abbrev pub look : FileWords → Place → ℕ → FileMove
+look words (Flags party next) bucket = move_of Moves words (Looking party bucket 0)
+look words place bucket = refused words place
+
+-- the slot after this one, at which a settler looks next
+abbrev pub after_slot : FileWords → ℕ → ℕ
+after_slot words slot = if nat_lt slot (length words.slots) then slot + 1 else slot
+
+-- a settler has found this word in a slot, or that it has been over all slots
+abbrev pub settle_slot : FileWords → ℕ → ℕ → Option Slot → FileMove
+settle_slot words party slot None = move_of Moves words (Flags party 0)
+settle_slot words party slot (Some Empty) = move_of Moves words (Slots party (after_slot words slot))
+settle_slot words party slot (Some (Message bucket length)) = move_of Moves words (Checking party slot bucket)
+
+-- a settler gives back the bucket if the settled number holds it
+abbrev pub settle_flag : FileWords → ℕ → ℕ → FileMove
+settle_flag words party bucket =
+    if is_flag words bucket (HeldBy party) then giving_back words party bucket (Flags party (bucket + 1))
+    else move_of Moves words (Flags party (bucket + 1))
+
+-- a settler that looks for a bucket has found this word in a slot, or that it has been over all slots
+abbrev pub look_slot : FileWords → ℕ → ℕ → ℕ → Option Slot → FileMove
+look_slot words party bucket slot None = move_of Moves words (Lost party bucket)
+look_slot words party bucket slot (Some word) =
+    if has_bucket bucket word then move_of Moves words (Flags party 0) else move_of Moves words (Looking party bucket (after_slot words slot))
+
+-- the next step of the call that the process is in
+abbrev pub next : FileWords → Place → FileMove
+next words Outside = refused words Outside
+next words Dead = refused words Dead
+next words (Posting party bucket) = detaching words party bucket Outside
+next words (Seen party slot bucket length) = move_of Moves words Outside
+next words (Attached party slot bucket length) =
+    if is_slot words slot (Message bucket length) then move_of (Receives slot) words Outside
+    else move_of Moves words (Late party bucket)
+next words (Late party bucket) = detaching words party bucket Outside
+next words (Finding party slot bucket) =
+    if is_flag words bucket (HeldBy party) then move_of Moves words (Ending party slot bucket) else move_of Moves words Outside
+next words (Ending party slot bucket) = move_of (OnSlot slot) (with_slot words slot Empty) Outside
+next words (Slots party slot) = settle_slot words party slot (slice_get words.slots slot)
+next words (Checking party slot bucket) =
+    if is_flag words bucket (HeldBy party) then move_of Moves words (Keeping party slot bucket)
+    else move_of Moves words (Slots party (after_slot words slot))
+next words (Keeping party slot bucket) = detaching words party bucket (Slots party (after_slot words slot))
+next words (Flags party bucket) =
+    if nat_lt bucket (length words.flags) then settle_flag words party bucket else move_of Moves words (Settled party)
+next words (Looking party bucket slot) = look_slot words party bucket slot (slice_get words.slots slot)
+next words (Lost party bucket) =
+    if is_flag words bucket (DetachedBy party)
+    then attaching (with_outside words bucket false) party bucket party (Flags party 0)
+    else move_of Moves words (Flags party 0)
+next words (Settled party) = move_of Moves words Outside
+
+-- a settler that is done frees the lock of the settled number
+abbrev pub unlock : FileWords → Place → FileMove
+unlock words (Settled party) = move_of (OnLock party) (with_lock words party None) Outside
+unlock words place = refused words place
+
+-- the process is killed: its words stay as they are
+abbrev pub kill : FileWords → FileMove
+kill words = move_of Dies words Dead
+
+-- the system frees a lock that a dead process had
+abbrev pub release : FileWords → ℕ → Place → ℕ → FileMove
+release words process Dead party =
+    if is_own words process party then move_of (OnLock party) (with_lock words party None) Dead else refused words Dead
+release words process place party = refused words place
+
+-- the process that takes a step
+abbrev pub process_of : FileStep → ℕ
+process_of (Lock process party) = process
+process_of (Leave process party) = process
+process_of (Allocate process party bucket) = process
+process_of (Deallocate process party bucket) = process
+process_of (DetachNumber process party bucket) = process
+process_of (AttachNumber process party bucket from) = process
+process_of (Post process party slot bucket length) = process
+process_of (Take process party slot) = process
+process_of (Exchange process from) = process
+process_of (Done process party slot) = process
+process_of (Look process bucket) = process
+process_of (Next process) = process
+process_of (Unlock process) = process
+process_of (Kill process) = process
+process_of (Release process party) = process
+
+-- the move of a step whose process is there
+abbrev pub move_at : FileWords → Place → FileStep → FileMove
+move_at words place (Lock process party) = lock words process place party
+move_at words place (Leave process party) = leave words process place party
+move_at words place (Allocate process party bucket) = allocate words process place party bucket
+move_at words place (Deallocate process party bucket) = deallocate words process place party bucket
+move_at words place (DetachNumber process party bucket) = detach_number words process place party bucket
+move_at words place (AttachNumber process party bucket from) = attach_number words process place party bucket from
+move_at words place (Post process party slot bucket length) = post words process place party slot bucket length
+move_at words place (Take process party slot) = begin_take words process place party slot
+move_at words place (Exchange process from) = exchange words place from
+move_at words place (Done process party slot) = begin_done words process place party slot
+move_at words place (Look process bucket) = look words place bucket
+move_at words place (Next process) = next words place
+move_at words place (Unlock process) = unlock words place
+move_at words place (Kill process) = kill words
+move_at words place (Release process party) = release words process place party
+
+-- a step's outcome, and the state after it
+pub record FileChange : Type 0 where
+  pub outcome : FileOutcome
+  pub state : FileState
+
+-- the change by a process's move
+abbrev pub change_by : FileState → ℕ → FileMove → FileChange
+change_by state process move =
+    record { outcome = move.outcome; state = record { words = move.words; places = slice_set state.places process move.place } }
+
+-- the change by a step whose process is there, if there is such a process
+abbrev pub change_at : FileState → FileStep → Option Place → FileChange
+change_at state step (Some place) = change_by state (process_of step) (move_at state.words place step)
+change_at state step None = record { outcome = Refused; state = state }
+
+-- the change by a step in this state
+abbrev pub file_step : FileState → FileStep → FileChange
+file_step state step = change_at state step (slice_get state.places (process_of step))
+
+-- the state after these steps
+abbrev pub file_after : FileState → List FileStep → FileState
+file_after state [] = state
+file_after state (step ∷ steps) = file_after (file_step state step).state steps
+
+-- the state after these steps from the opening
+abbrev pub left_by : FileScene → List FileStep → FileState
+left_by scene steps = file_after (opening_state scene) steps
+
+-- the outcomes of these steps, in order
+abbrev pub outcomes_of : FileState → List FileStep → List FileOutcome
+outcomes_of state [] = []
+outcomes_of state (step ∷ steps) = (file_step state step).outcome ∷ outcomes_of (file_step state step).state steps

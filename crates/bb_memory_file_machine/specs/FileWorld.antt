@@ -1,0 +1,38 @@
+-- A file world: the machine of a pool in a file.
+use Rattle.bb_memory_file_machine.specs.FileMachine.{FileMove, FileOutcome, FileState, FileStep, Flag, Place, Slot, file_after, file_step, outcomes_of}
+use Rattle.std.specs.Prelude.{Bool, IfOk, List, OnErr, OnOk, Option, Result, length, ℕ, ◌<◌, ◌^◌, ◌≡◌}
+use Rattle.std.specs.declared.vec.Vec.{Vec}
+
+-- the value of a world: the state of its machine
+abbrev pub FileWorld : Type 0
+FileWorld = FileState
+
+-- the world with these words and processes
+abbrev pub world_of : List Flag → List Slot → List (Option ℕ) → List Bool → List Place → FileWorld
+world_of flags slots locks outside places =
+    record { words = record { flags = flags; slots = slots; locks = locks; outside = outside }; places = places }
+
+-- the invariant of a world: each bucket and each slot has a number that a step can name
+pub record IsFileWorld (world : FileWorld) : Type 0 where
+  pub buckets : length world.words.flags < 2 ^ 32
+  pub slots : length world.words.slots < 2 ^ 32
+
+-- `answer` is the outcome of this step in the world `old`, which becomes `new`
+pub record Steps (old : FileWorld) (step : FileStep) (answer : FileOutcome) (new : FileWorld) : Type 0 where
+  pub outcome : answer ≡ (file_step old step).outcome
+  pub state : new ≡ (file_step old step).state
+
+-- `answer` has the outcomes of these steps in the world `old`, which becomes `new`. If memory ran out, no step was taken.
+pub record Replays {Z E : Type 0} (old : FileWorld) (steps : List FileStep) (answer : Result (Vec FileOutcome Z) E)
+    (new : FileWorld) : Type 0 where
+  pub outcomes : IfOk answer (λ found. found.items ≡ outcomes_of old steps)
+  pub state : OnOk answer (new ≡ file_after old steps)
+  pub unchanged : OnErr answer (new ≡ old)
+
+-- By this move of a process, `answer` is what a world `old` returns, and `there` how far the process has come in the world `new`,
+-- in which this isn't written yet.
+pub record IsMove (old : FileWorld) (move : FileMove) (answer : FileOutcome) (there : Place) (new : FileWorld) : Type 0 where
+  pub outcome : answer ≡ move.outcome
+  pub place : there ≡ move.place
+  pub words : new.words ≡ move.words
+  pub places : new.places ≡ old.places

@@ -1,0 +1,6 @@
+//! The machine's steps with what holds of every list of them, and a machine that a caller steps by hand.
+mod file;
+mod file_world;
+
+pub use file::{FileOutcome, FileStep, Place, Slot, file_theorem, file_variants_theorem};
+pub use file_world::FileWorld;

@@ -1,0 +1,343 @@
+//! The steps of the machine of a pool in a file, and what holds of every list of them.
+ghost use Rattle.bb_memory_file_machine.specs.FileLaws.{AreSettled, CanSettle, Effect, HasAttached, HasReceived, IsAccountedFor, IsFlag, IsHolder, IsIn, IsInCallBy, IsInSome, IsKnown, IsLock, IsPlace, IsSettling, IsSlot, SaysDone, StaysIn, after_post};
+ghost use Rattle.bb_memory_file_machine.specs.FileMachine.{DetachedBy, Ending, FileScene, FileStep, Free, Message, OnSlot, Place, Post, Receives, Settled, file_after, file_step, left_by, outcomes_of, process_of};
+ghost use Rattle.bb_memory_file_machine.specs.FilePool.{IsPool, IsTaken, flag_steps, pool_of};
+ghost use Rattle.bb_memory_file_machine.specs.FileVariants.{FreesMessage, LosesBucket, ReceivesNothing, SharesNumber, TakesAway, attach_from_any, detach_then_post, no_second_look, reaps_the_living, settle_forgets_slots, unlock_before};
+ghost use Rattle.bb_memory_pool_machine.specs.PoolLogs.{AreAsked, IsPoolRun, Layout};
+ghost use Rattle.bb_memory_traits.specs.Chunk.{Chunk, IsSound};
+ghost use Rattle.bb_memory_traits.specs.PoolObject.{IsHeld, IsPoolGeometry, PoolGeometry};
+ghost use Rattle.std.specs.Prelude.{List, Some, slice_get, ℕ, ◌<◌, ◌↔◌, ◌≡◌, ◌≢◌, ◌⊎◌};
+
+use bb_memory_pool_machine::steps::PoolStep;
+
+/// The word of a slot.
+#[derive(Debug, Clone, Copy, PartialEq, Eq)]
+pub enum Slot {
+    /// No message is in the slot.
+    Empty,
+    /// A message is in the slot: its bucket, and how many bytes of the bucket it has.
+    Message { bucket: u32, length: u32 },
+}
+
+/// How far a process has come in the call that it is in, with what it has read there. Each call is by one party number, whose
+/// lock the process has.
+#[derive(Debug, Clone, Copy, PartialEq, Eq)]
+pub enum Place {
+    /// The process is in no call.
+    Outside,
+    /// The process was killed. It takes no step, and its locks become free one by one.
+    Dead,
+    /// A post has filled its slot. Next it detaches the bucket.
+    Posting {
+        party: u32,
+        bucket: u32,
+    },
+    /// A take has found this message in its slot. Next it tries to attach the bucket.
+    Seen {
+        party: u32,
+        slot: u32,
+        bucket: u32,
+        length: u32,
+    },
+    /// A take has attached the bucket. Next it looks at its slot again.
+    Attached {
+        party: u32,
+        slot: u32,
+        bucket: u32,
+        length: u32,
+    },
+    /// A take has found another word in its slot at the second look. Next it detaches the bucket again.
+    Late {
+        party: u32,
+        bucket: u32,
+    },
+    /// A `done` has found this bucket in its slot. Next it looks at the bucket's flag.
+    Finding {
+        party: u32,
+        slot: u32,
+        bucket: u32,
+    },
+    /// A `done` has found that its party holds the bucket in its slot. Next it empties the slot.
+    Ending {
+        party: u32,
+        slot: u32,
+        bucket: u32,
+    },
+    /// A settler goes over the slots. Next it looks at this one.
+    Slots {
+        party: u32,
+        slot: u32,
+    },
+    /// A settler has found this bucket in the slot. Next it looks whether the bucket is held by the settled number.
+    Checking {
+        party: u32,
+        slot: u32,
+        bucket: u32,
+    },
+    /// A settler has found that the bucket in the slot is held by the settled number. Next it detaches the bucket.
+    Keeping {
+        party: u32,
+        slot: u32,
+        bucket: u32,
+    },
+    /// A settler has been over all slots, and goes over the flags. Next it gives back this bucket if the settled number holds it.
+    Flags {
+        party: u32,
+        bucket: u32,
+    },
+    /// A settler looks for a bucket in the slots, which the settled number had detached. Next it looks at this slot.
+    Looking {
+        party: u32,
+        bucket: u32,
+        slot: u32,
+    },
+    /// A settler has found the bucket in no slot. Next it attaches the bucket if the settled number is the one that detached it.
+    Lost {
+        party: u32,
+        bucket: u32,
+    },
+    /// A settler has been over all flags. Next it keeps the lock, as one that joins does, or frees it.
+    Settled {
+        party: u32,
+    },
+}
+
+/// One atomic step of a process over the words and locks of the file. `process` takes the step, and `party` is the number by
+/// which it does so.
+#[derive(Debug, Clone, Copy, PartialEq, Eq)]
+pub enum FileStep {
+    /// The process, which is in no call, takes the free lock of the number and begins to settle the number.
+    Lock {
+        process: u32,
+        party: u32,
+    },
+    /// The process begins to settle a number whose lock it has, as one that leaves does.
+    Leave {
+        process: u32,
+        party: u32,
+    },
+    /// The party takes a free bucket.
+    Allocate {
+        process: u32,
+        party: u32,
+        bucket: u32,
+    },
+    /// The party gives back a bucket that it holds and that is in no slot.
+    Deallocate {
+        process: u32,
+        party: u32,
+        bucket: u32,
+    },
+    /// The party detaches a bucket that it holds. If the bucket is in no slot, a channel outside knows its number then.
+    /// Otherwise the party puts back a message.
+    DetachNumber {
+        process: u32,
+        party: u32,
+        bucket: u32,
+    },
+    /// The party attaches a bucket by its number, which the party `from` has detached.
+    AttachNumber {
+        process: u32,
+        party: u32,
+        bucket: u32,
+        from: u32,
+    },
+    /// The party fills an empty slot with a bucket that it holds and that is in no slot.
+    Post {
+        process: u32,
+        party: u32,
+        slot: u32,
+        bucket: u32,
+        length: u32,
+    },
+    /// The party begins a take: it looks at the slot.
+    Take {
+        process: u32,
+        party: u32,
+        slot: u32,
+    },
+    /// In a take the process attaches the bucket that it has seen, which the party `from` has detached.
+    Exchange {
+        process: u32,
+        from: u32,
+    },
+    /// The party begins a `done`: it looks at the slot.
+    Done {
+        process: u32,
+        party: u32,
+        slot: u32,
+    },
+    /// A settler that goes over the flags begins to look for a bucket in the slots.
+    Look {
+        process: u32,
+        bucket: u32,
+    },
+    /// The process takes the next step of the call that it is in.
+    Next {
+        process: u32,
+    },
+    /// A settler that is done frees the lock of the settled number.
+    Unlock {
+        process: u32,
+    },
+    /// The process is killed, wherever it is.
+    Kill {
+        process: u32,
+    },
+    /// The system frees a lock that a dead process had.
+    Release {
+        process: u32,
+        party: u32,
+    },
+}
+
+/// The outcome of a step: which word or lock the step changed.
+#[derive(Debug, Clone, Copy, PartialEq, Eq)]
+pub enum FileOutcome {
+    /// The step isn't allowed. It changed nothing.
+    Refused,
+    /// Only how far the process has come changed.
+    Moves,
+    /// The process has received the message of this slot, whose bucket its party holds. No word and no lock changed.
+    Receives(u32),
+    /// A flag changed, as by this step of the machine of a shared pool.
+    OnFlag(PoolStep),
+    /// The word of this slot changed.
+    OnSlot(u32),
+    /// The lock of this number was taken or became free.
+    OnLock(u32),
+    /// The process is dead.
+    Dies,
+}
+
+/// The law of each list of steps that any number of processes take over the words and locks of a pool in a file, from the
+/// opening. It does nothing: its contract is the theorem.
+///
+/// A process can be killed after each step. As each clause holds of every list of steps, it holds of each beginning of a list.
+pub fn file_theorem()
+    // Each step of a process has one of the effects: it changes at most one flag, one slot or one lock.
+    ensures effect { (scene : FileScene) (steps : List FileStep) (step : FileStep) (place : Place)
+        → IsPlace (left_by scene steps) (process_of step) place
+        → (let state = left_by scene steps in
+        let change = file_step state step in
+        Effect state.words (process_of step) change.outcome change.state.words) }
+
+    // A bucket has one holder.
+    ensures one_holder { (scene : FileScene) (steps : List FileStep) (bucket party other : ℕ)
+        → IsHolder (left_by scene steps).words bucket party
+        → IsHolder (left_by scene steps).words bucket other → party ≡ other }
+
+    // No step of another process takes a bucket from a party whose lock a process has.
+    ensures kept { (scene : FileScene) (steps : List FileStep) (step : FileStep) (process party bucket : ℕ)
+        → IsLock (left_by scene steps).words party process
+        → IsHolder (left_by scene steps).words bucket party → process_of step ≢ process
+        → IsHolder (file_step (left_by scene steps) step).state.words bucket party }
+
+    // A process that has received a message holds its bucket, which is in the slot.
+    ensures received { (scene : FileScene) (steps : List FileStep) (step : FileStep) (slot : ℕ)
+        → (file_step (left_by scene steps) step).outcome ≡ Receives slot
+        → HasReceived (left_by scene steps) step slot }
+
+    // A message stays in its slot until a process whose party holds the bucket says that it is done.
+    ensures stays { (scene : FileScene) (steps : List FileStep) (step : FileStep) (slot bucket size : ℕ)
+        → IsSlot (left_by scene steps).words slot (Message bucket size)
+        → (IsSlot (file_step (left_by scene steps) step).state.words slot (Message bucket size)
+        ⊎ SaysDone (left_by scene steps) step slot bucket) }
+
+    // The party by which a process says that it is done with a message has attached its bucket since the post: until a
+    // party has taken it, a message stays in its slot.
+    ensures taker { (scene : FileScene) (before after : List FileStep)
+        (process party slot bucket size other taker : ℕ)
+        → (let post = Post process party slot bucket size in
+        (file_step (left_by scene before) post).outcome ≡ OnSlot slot
+        → StaysIn (after_post scene before post) after slot (Message bucket size)
+        → IsPlace (file_after (after_post scene before post) after) other (Ending taker slot bucket)
+        → HasAttached (outcomes_of (after_post scene before post) after) taker bucket) }
+
+    // A bucket is in one slot at most.
+    ensures one_slot { (scene : FileScene) (steps : List FileStep) (bucket slot other : ℕ)
+        → IsIn (left_by scene steps).words bucket slot
+        → IsIn (left_by scene steps).words bucket other → slot ≡ other }
+
+    // A bucket in a slot is never free.
+    ensures never_free { (scene : FileScene) (steps : List FileStep) (bucket : ℕ)
+        → IsInSome (left_by scene steps).words bucket
+        → ¬ IsFlag (left_by scene steps).words bucket Free }
+
+    // Some slot or a channel outside knows the number of a detached bucket.
+    ensures known { (scene : FileScene) (steps : List FileStep) (bucket party : ℕ)
+        → IsFlag (left_by scene steps).words bucket (DetachedBy party)
+        → IsKnown (left_by scene steps).words bucket }
+
+    // When a settler is done, the settled number holds no bucket.
+    ensures settled { (scene : FileScene) (steps : List FileStep) (process party bucket : ℕ)
+        → IsPlace (left_by scene steps) process (Settled party)
+        → ¬ IsHolder (left_by scene steps).words bucket party }
+
+    // A settler is never stuck: however far it has come, some further steps of its own complete it.
+    ensures settles { (scene : FileScene) (steps : List FileStep) (process party : ℕ)
+        → IsSettling (left_by scene steps) process party
+        → CanSettle (left_by scene steps) process party }
+
+    // Nothing is lost: if the numbers of dead parties are settled, each bucket is free, held by a living party, or
+    // detached with a number that some slot or a channel outside knows.
+    ensures nothing_lost { (scene : FileScene) (steps : List FileStep) (bucket : ℕ)
+        → AreSettled (left_by scene steps) → bucket < scene.buckets
+        → IsAccountedFor (left_by scene steps) bucket }
+
+    // Two processes are never in calls by one number: so no two settle one number, nor does one settle a number by which
+    // another steps.
+    ensures one_process { (scene : FileScene) (steps : List FileStep) (process other party : ℕ)
+        → IsInCallBy (left_by scene steps) process party
+        → IsInCallBy (left_by scene steps) other party → process ≡ other }
+
+    // A process in a call by a number has that number's lock.
+    ensures locked { (scene : FileScene) (steps : List FileStep) (process party : ℕ)
+        → IsInCallBy (left_by scene steps) process party
+        → IsLock (left_by scene steps).words party process }
+
+    // The flags are those of a shared pool whose parties are the file's numbers: each step on a flag is one that it
+    // allows. What a settler gives back for a dead party is that party's return.
+    ensures pool { (scene : FileScene) (steps : List FileStep) (geometry : PoolGeometry)
+        → geometry.buckets ≡ scene.buckets → IsPool scene steps geometry }
+
+    // The takings and returns are a run of the pool object from the empty list, whichever layouts within the bucket's
+    // size and alignment are requested.
+    ensures run { (scene : FileScene) (steps : List FileStep) (geometry : PoolGeometry) (layouts : List Layout)
+        → IsPoolGeometry geometry → AreAsked geometry (flag_steps scene steps) layouts
+        → (live : List Chunk) × IsPoolRun (pool_of scene geometry) (flag_steps scene steps) layouts live }
+
+    // The taken flags are the buckets that are held in the list that such a run leaves.
+    ensures taken { (scene : FileScene) (steps : List FileStep) (geometry : PoolGeometry) (layouts : List Layout)
+        (live : List Chunk) (bucket : ℕ) → IsPoolGeometry geometry → geometry.buckets ≡ scene.buckets
+        → IsPoolRun (pool_of scene geometry) (flag_steps scene steps) layouts live → bucket < scene.buckets
+        → (IsTaken (left_by scene steps).words bucket ↔ IsHeld geometry live bucket) }
+
+    // That list is sound: its chunks are inside the region, and no two overlap.
+    ensures sound { (scene : FileScene) (steps : List FileStep) (geometry : PoolGeometry) (layouts : List Layout)
+        (live : List Chunk) → IsPoolGeometry geometry
+        → IsPoolRun (pool_of scene geometry) (flag_steps scene steps) layouts live
+        → IsSound geometry.region live }
+{}
+
+/// The law of the protocols that differ from the machine's at one step: with each of them something goes wrong. It does nothing:
+/// its contract is the law.
+pub fn file_variants_theorem()
+    // A settler that attaches a lost bucket, whoever has detached it, gives back one that is in a slot.
+    ensures attach_from_any { FreesMessage attach_from_any }
+
+    // A take that doesn't look at its slot again receives a message from an empty slot.
+    ensures no_second_look { ReceivesNothing no_second_look }
+
+    // A settler that doesn't go over the slots gives back a bucket that is in one.
+    ensures settle_forgets_slots { FreesMessage settle_forgets_slots }
+
+    // A post that detaches before it fills the slot loses the bucket if its process is killed.
+    ensures detach_then_post { LosesBucket detach_then_post }
+
+    // A process that settles a number whose lock another process has takes away that process's buckets.
+    ensures reaps_the_living { TakesAway reaps_the_living }
+
+    // A process that leaves, and frees the lock before it settles the number, shares the number with the next process.
+    ensures unlock_before { SharesNumber unlock_before }
+{}

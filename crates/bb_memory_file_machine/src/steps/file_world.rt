@@ -1,0 +1,798 @@
+//! The machine of a pool in a file that can be run: the words and locks, and how far each process has come.
+ghost use Rattle.bb_memory_file_machine.specs.FileMachine.{Checking, Flags, Looking, Lost, Slots, after_slot, allocate, attach_number, attaching, begin_done, begin_take, deallocate, detach_number, detaching, exchange, giving_back, has_bucket, is_flag, is_own, is_slot, kill, leave, lock, look, may_call, move_at, move_of, next, opening_state, post, process_of, release, same_flag, same_slot, some_has, unlock, with_flag, with_lock, with_slot};
+ghost use Rattle.bb_memory_file_machine.specs.FileWorld.{FileWorld, IsFileWorld, IsMove, Replays, Steps, world_of};
+ghost use Rattle.std.specs.Prelude.{IfOk, IsSome, length, slice_get, slice_set, ◌<◌, ◌≡◌};
+
+use super::{FileOutcome, FileStep, Place, Slot};
+use bb_memory_pool_machine::steps::{Flag, PoolStep};
+use std::alloc::{AllocError, Global};
+use std::marker::Model;
+
+/// The machine of a pool in a file, with its processes. No step takes memory.
+#[derive(Drop)]
+pub struct FileWorld {
+    alloc: Global,
+    flags: Vec<Flag>,
+    slots: Vec<Slot>,
+    locks: Vec<Option<u32>>,
+    outside: Vec<bool>,
+    places: Vec<Place>,
+}
+
+impl Model for FileWorld {
+    ghost Value = { FileWorld };
+
+    ghost view = { λ w. world_of w.flags.items w.slots.items w.locks.items w.outside.items w.places.items };
+
+    ghost invariant = { λ w. IsFileWorld (world_of w.flags.items w.slots.items w.locks.items w.outside.items w.places.items) };
+}
+
+impl FileWorld {
+    /// Makes the machine over that many buckets, slots and party numbers, with that many processes, all in no call. It fails only
+    /// if memory runs out.
+    pub fn new(
+        alloc: Global,
+        buckets: u32,
+        slots: u32,
+        parties: u32,
+        processes: u32,
+    ) -> Result<FileWorld, AllocError>
+        ensures opened { IfOk result (λ world. world ≡ opening_state (record {
+          buckets = buckets;
+          slots = slots;
+          parties = parties;
+          processes = processes;
+        })) }
+    {
+        let flags = vec![in alloc; Flag::Free; buckets as usize]?;
+        let words = vec![in alloc; Slot::Empty; slots as usize]?;
+        let locks = vec![in alloc; None; parties as usize]?;
+        let outside = vec![in alloc; false; buckets as usize]?;
+        let places = vec![in alloc; Place::Outside; processes as usize]?;
+        Ok(FileWorld {
+            alloc,
+            flags,
+            slots: words,
+            locks,
+            outside,
+            places,
+        })
+    }
+
+    /// Takes one atomic step, and returns which word or lock it changed.
+    pub fn step(&mut self, step: FileStep) -> FileOutcome
+        ensures { Steps self.old step result self.new }
+    {
+        let process = process_of(step);
+        let Some(place) = found_at(&self.places, process as usize) else {
+            return FileOutcome::Refused;
+        };
+        let (outcome, next) = self.move_at(place, step);
+        self.places[process as usize] = next;
+        outcome
+    }
+
+    /// Takes the steps in order, and returns what each changed. The memory for the outcomes is reserved first: if that fails,
+    /// no step is taken.
+    pub fn replay(&mut self, steps: &[FileStep]) -> Result<Vec<FileOutcome>, AllocError>
+        ensures { Replays self.old steps.now result self.new }
+    {
+        let mut outcomes = Vec::with_capacity(self.alloc, steps.len())?;
+        for step in steps {
+            let outcome = self.step(*step);
+            outcomes.push_reserved(outcome);
+        }
+        Ok(outcomes)
+    }
+
+    /// Returns the flag of the bucket, or `None` if there is no such bucket.
+    pub fn flag(&self, bucket: u32) -> Option<Flag>
+        ensures { result ≡ slice_get self.now.words.flags bucket }
+    {
+        found_at(&self.flags, bucket as usize)
+    }
+
+    /// Returns the word of the slot, or `None` if there is no such slot.
+    pub fn slot(&self, slot: u32) -> Option<Slot>
+        ensures { result ≡ slice_get self.now.words.slots slot }
+    {
+        found_at(&self.slots, slot as usize)
+    }
+
+    /// Returns the lock of the number, which is free or some process's, or `None` if there is no such number.
+    pub fn lock(&self, party: u32) -> Option<Option<u32>>
+        ensures { result ≡ slice_get self.now.words.locks party }
+    {
+        found_at(&self.locks, party as usize)
+    }
+
+    /// Returns how far the process has come in the call that it is in, or `None` if there is no such process.
+    pub fn place(&self, process: u32) -> Option<Place>
+        ensures { result ≡ slice_get self.now.places process }
+    {
+        found_at(&self.places, process as usize)
+    }
+
+    /// Moves a process by its step.
+    fn move_at(&mut self, place: Place, step: FileStep) -> (FileOutcome, Place)
+        ensures { IsMove self.old (move_at self.old.words place step) result.0 result.1 self.new }
+    {
+        match step {
+            FileStep::Lock { process, party } => self.take_lock(process, place, party),
+            FileStep::Leave { process, party } => self.leave(process, place, party),
+            FileStep::Allocate {
+                process,
+                party,
+                bucket,
+            } => self.allocate(process, place, party, bucket),
+            FileStep::Deallocate {
+                process,
+                party,
+                bucket,
+            } => self.deallocate(process, place, party, bucket),
+            FileStep::DetachNumber {
+                process,
+                party,
+                bucket,
+            } => self.detach_number(process, place, party, bucket),
+            FileStep::AttachNumber {
+                process,
+                party,
+                bucket,
+                from,
+            } => self.attach_number(process, place, party, bucket, from),
+            FileStep::Post {
+                process,
+                party,
+                slot,
+                bucket,
+                length,
+            } => self.post(process, place, party, slot, bucket, length),
+            FileStep::Take {
+                process,
+                party,
+                slot,
+            } => self.begin_take(process, place, party, slot),
+            FileStep::Exchange { process: _, from } => self.exchange(place, from),
+            FileStep::Done {
+                process,
+                party,
+                slot,
+            } => self.begin_done(process, place, party, slot),
+            FileStep::Look { process: _, bucket } => self.look(place, bucket),
+            FileStep::Next { process: _ } => self.next(place),
+            FileStep::Unlock { process: _ } => self.unlock(place),
+            FileStep::Kill { process: _ } => (FileOutcome::Dies, Place::Dead),
+            FileStep::Release { process, party } => self.release(process, place, party),
+        }
+    }
+
+    /// A process takes the lock of a number, and begins to settle the number.
+    fn take_lock(&mut self, process: u32, place: Place, party: u32) -> (FileOutcome, Place)
+        ensures { IsMove self.old (lock self.old.words process place party) result.0 result.1 self.new }
+    {
+        let Place::Outside = place else {
+            return (FileOutcome::Refused, place);
+        };
+        let Some(None) = found_at(&self.locks, party as usize) else {
+            return (FileOutcome::Refused, place);
+        };
+        self.locks[party as usize] = Some(process);
+        (FileOutcome::OnLock(party), Place::Slots { party, slot: 0 })
+    }
+
+    /// A process begins to settle a number whose lock it has.
+    fn leave(&mut self, process: u32, place: Place, party: u32) -> (FileOutcome, Place)
+        ensures { IsMove self.old (leave self.old.words process place party) result.0 result.1 self.new }
+    {
+        if self.may_call(process, place, party) {
+            (FileOutcome::Moves, Place::Slots { party, slot: 0 })
+        } else {
+            (FileOutcome::Refused, place)
+        }
+    }
+
+    /// A party takes a free bucket.
+    fn allocate(
+        &mut self,
+        process: u32,
+        place: Place,
+        party: u32,
+        bucket: u32,
+    ) -> (FileOutcome, Place)
+        ensures { IsMove self.old (allocate self.old.words process place party bucket) result.0 result.1 self.new }
+    {
+        if !self.may_call(process, place, party) {
+            return (FileOutcome::Refused, place);
+        }
+        if !self.is_flag(bucket, Flag::Free) {
+            return (FileOutcome::Refused, place);
+        }
+        self.set_flag(bucket, Flag::HeldBy(party));
+        (
+            FileOutcome::OnFlag(PoolStep::TryAt { party, bucket }),
+            Place::Outside,
+        )
+    }
+
+    /// A party gives back a bucket that it holds, and that is in no slot.
+    fn deallocate(
+        &mut self,
+        process: u32,
+        place: Place,
+        party: u32,
+        bucket: u32,
+    ) -> (FileOutcome, Place)
+        ensures { IsMove self.old (deallocate self.old.words process place party bucket) result.0 result.1 self.new }
+    {
+        if !self.may_call(process, place, party) {
+            return (FileOutcome::Refused, place);
+        }
+        if !self.is_flag(bucket, Flag::HeldBy(party)) {
+            return (FileOutcome::Refused, place);
+        }
+        if some_has(bucket, &self.slots) {
+            return (FileOutcome::Refused, place);
+        }
+        self.set_flag(bucket, Flag::Free);
+        (
+            FileOutcome::OnFlag(PoolStep::GiveBack { party, bucket }),
+            Place::Outside,
+        )
+    }
+
+    /// A party detaches a bucket that it holds.
+    fn detach_number(
+        &mut self,
+        process: u32,
+        place: Place,
+        party: u32,
+        bucket: u32,
+    ) -> (FileOutcome, Place)
+        ensures { IsMove self.old (detach_number self.old.words process place party bucket) result.0 result.1 self.new }
+    {
+        if !self.may_call(process, place, party) {
+            return (FileOutcome::Refused, place);
+        }
+        if !self.is_flag(bucket, Flag::HeldBy(party)) {
+            return (FileOutcome::Refused, place);
+        }
+        if !some_has(bucket, &self.slots) {
+            set_at(&mut self.outside, bucket as usize, true);
+        }
+        self.set_flag(bucket, Flag::DetachedBy(party));
+        (
+            FileOutcome::OnFlag(PoolStep::Detach { party, bucket }),
+            Place::Outside,
+        )
+    }
+
+    /// A party attaches a bucket by its number.
+    fn attach_number(
+        &mut self,
+        process: u32,
+        place: Place,
+        party: u32,
+        bucket: u32,
+        from: u32,
+    ) -> (FileOutcome, Place)
+        ensures { IsMove self.old (attach_number self.old.words process place party bucket from) result.0 result.1 self.new }
+    {
+        if !self.may_call(process, place, party) {
+            return (FileOutcome::Refused, place);
+        }
+        if !self.is_flag(bucket, Flag::DetachedBy(from)) {
+            return (FileOutcome::Refused, place);
+        }
+        set_at(&mut self.outside, bucket as usize, false);
+        self.set_flag(bucket, Flag::HeldBy(party));
+        (
+            FileOutcome::OnFlag(PoolStep::AttachFrom {
+                party,
+                bucket,
+                from,
+            }),
+            Place::Outside,
+        )
+    }
+
+    /// A party fills an empty slot with a bucket that it holds, and that is in no slot.
+    fn post(
+        &mut self,
+        process: u32,
+        place: Place,
+        party: u32,
+        slot: u32,
+        bucket: u32,
+        length: u32,
+    ) -> (FileOutcome, Place)
+        ensures { IsMove self.old (post self.old.words process place party slot bucket length) result.0 result.1 self.new }
+    {
+        if !self.may_call(process, place, party) {
+            return (FileOutcome::Refused, place);
+        }
+        if !self.is_flag(bucket, Flag::HeldBy(party)) {
+            return (FileOutcome::Refused, place);
+        }
+        if some_has(bucket, &self.slots) {
+            return (FileOutcome::Refused, place);
+        }
+        if !self.is_slot(slot, Slot::Empty) {
+            return (FileOutcome::Refused, place);
+        }
+        let message = Slot::Message { bucket, length };
+        set_at(&mut self.slots, slot as usize, message);
+        (FileOutcome::OnSlot(slot), Place::Posting { party, bucket })
+    }
+
+    /// A party begins a take: it looks at the slot.
+    fn begin_take(
+        &mut self,
+        process: u32,
+        place: Place,
+        party: u32,
+        slot: u32,
+    ) -> (FileOutcome, Place)
+        ensures { IsMove self.old (begin_take self.old.words process place party slot) result.0 result.1 self.new }
+    {
+        if !self.may_call(process, place, party) {
+            return (FileOutcome::Refused, place);
+        }
+        match found_at(&self.slots, slot as usize) {
+            Some(Slot::Message { bucket, length }) => (
+                FileOutcome::Moves,
+                Place::Seen {
+                    party,
+                    slot,
+                    bucket,
+                    length,
+                },
+            ),
+            Some(Slot::Empty) | None => (FileOutcome::Refused, Place::Outside),
+        }
+    }
+
+    /// In a take a process attaches the bucket that it has seen.
+    fn exchange(&mut self, place: Place, from: u32) -> (FileOutcome, Place)
+        ensures { IsMove self.old (exchange self.old.words place from) result.0 result.1 self.new }
+    {
+        let Place::Seen {
+            party,
+            slot,
+            bucket,
+            length,
+        } = place
+        else {
+            return (FileOutcome::Refused, place);
+        };
+        if !self.is_flag(bucket, Flag::DetachedBy(from)) {
+            return (FileOutcome::Refused, place);
+        }
+        self.set_flag(bucket, Flag::HeldBy(party));
+        (
+            FileOutcome::OnFlag(PoolStep::AttachFrom {
+                party,
+                bucket,
+                from,
+            }),
+            Place::Attached {
+                party,
+                slot,
+                bucket,
+                length,
+            },
+        )
+    }
+
+    /// A party begins a `done`: it looks at the slot.
+    fn begin_done(
+        &mut self,
+        process: u32,
+        place: Place,
+        party: u32,
+        slot: u32,
+    ) -> (FileOutcome, Place)
+        ensures { IsMove self.old (begin_done self.old.words process place party slot) result.0 result.1 self.new }
+    {
+        if !self.may_call(process, place, party) {
+            return (FileOutcome::Refused, place);
+        }
+        match found_at(&self.slots, slot as usize) {
+            Some(Slot::Message { bucket, length: _ }) => (
+                FileOutcome::Moves,
+                Place::Finding {
+                    party,
+                    slot,
+                    bucket,
+                },
+            ),
+            Some(Slot::Empty) | None => (FileOutcome::Refused, Place::Outside),
+        }
+    }
+
+    /// A settler begins to look for a bucket in the slots.
+    fn look(&mut self, place: Place, bucket: u32) -> (FileOutcome, Place)
+        ensures { IsMove self.old (look self.old.words place bucket) result.0 result.1 self.new }
+    {
+        match place {
+            Place::Flags { party, bucket: _ } => (
+                FileOutcome::Moves,
+                Place::Looking {
+                    party,
+                    bucket,
+                    slot: 0,
+                },
+            ),
+            _ => (FileOutcome::Refused, place),
+        }
+    }
+
+    /// A process takes the next step of the call that it is in.
+    fn next(&mut self, place: Place) -> (FileOutcome, Place)
+        ensures { IsMove self.old (next self.old.words place) result.0 result.1 self.new }
+    {
+        match place {
+            Place::Outside | Place::Dead => (FileOutcome::Refused, place),
+            Place::Seen { .. } => (FileOutcome::Moves, Place::Outside),
+            Place::Settled { .. } => (FileOutcome::Moves, Place::Outside),
+            Place::Posting { party, bucket } => self.detach(party, bucket, Place::Outside),
+            Place::Late { party, bucket } => self.detach(party, bucket, Place::Outside),
+            Place::Attached {
+                party,
+                slot,
+                bucket,
+                length,
+            } => {
+                if self.is_slot(slot, Slot::Message { bucket, length }) {
+                    (FileOutcome::Receives(slot), Place::Outside)
+                } else {
+                    (FileOutcome::Moves, Place::Late { party, bucket })
+                }
+            }
+            Place::Finding {
+                party,
+                slot,
+                bucket,
+            } => {
+                if self.is_flag(bucket, Flag::HeldBy(party)) {
+                    (
+                        FileOutcome::Moves,
+                        Place::Ending {
+                            party,
+                            slot,
+                            bucket,
+                        },
+                    )
+                } else {
+                    (FileOutcome::Moves, Place::Outside)
+                }
+            }
+            Place::Ending {
+                party: _,
+                slot,
+                bucket: _,
+            } => {
+                set_at(&mut self.slots, slot as usize, Slot::Empty);
+                (FileOutcome::OnSlot(slot), Place::Outside)
+            }
+            Place::Slots { party, slot } => self.settle_slot(party, slot),
+            Place::Checking {
+                party,
+                slot,
+                bucket,
+            } => self.check_slot(party, slot, bucket),
+            Place::Keeping {
+                party,
+                slot,
+                bucket,
+            } => {
+                let slot = self.after_slot(slot);
+                self.detach(party, bucket, Place::Slots { party, slot })
+            }
+            Place::Flags { party, bucket } => self.settle_flag(party, bucket),
+            Place::Looking {
+                party,
+                bucket,
+                slot,
+            } => self.look_slot(party, bucket, slot),
+            Place::Lost { party, bucket } => self.recover(party, bucket),
+        }
+    }
+
+    /// A settler that is done frees the lock of the settled number.
+    fn unlock(&mut self, place: Place) -> (FileOutcome, Place)
+        ensures { IsMove self.old (unlock self.old.words place) result.0 result.1 self.new }
+    {
+        match place {
+            Place::Settled { party } => {
+                set_at(&mut self.locks, party as usize, None);
+                (FileOutcome::OnLock(party), Place::Outside)
+            }
+            _ => (FileOutcome::Refused, place),
+        }
+    }
+
+    /// The system frees a lock that a dead process had.
+    fn release(&mut self, process: u32, place: Place, party: u32) -> (FileOutcome, Place)
+        ensures { IsMove self.old (release self.old.words process place party) result.0 result.1 self.new }
+    {
+        match place {
+            Place::Dead => {
+                if self.is_own(process, party) {
+                    set_at(&mut self.locks, party as usize, None);
+                    (FileOutcome::OnLock(party), Place::Dead)
+                } else {
+                    (FileOutcome::Refused, Place::Dead)
+                }
+            }
+            _ => (FileOutcome::Refused, place),
+        }
+    }
+
+    /// A party detaches a bucket.
+    fn detach(&mut self, party: u32, bucket: u32, next: Place) -> (FileOutcome, Place)
+        ensures { IsMove self.old (detaching self.old.words party bucket next) result.0 result.1 self.new }
+    {
+        self.set_flag(bucket, Flag::DetachedBy(party));
+        (
+            FileOutcome::OnFlag(PoolStep::Detach { party, bucket }),
+            next,
+        )
+    }
+
+    /// A settler looks at a slot.
+    fn settle_slot(&mut self, party: u32, slot: u32) -> (FileOutcome, Place)
+        ensures { IsMove self.old (next self.old.words (Slots party slot)) result.0 result.1 self.new }
+    {
+        let place = match found_at(&self.slots, slot as usize) {
+            None => Place::Flags { party, bucket: 0 },
+            Some(Slot::Empty) => Place::Slots {
+                party,
+                slot: self.after_slot(slot),
+            },
+            Some(Slot::Message { bucket, length: _ }) => Place::Checking {
+                party,
+                slot,
+                bucket,
+            },
+        };
+        (FileOutcome::Moves, place)
+    }
+
+    /// A settler looks whether the settled number holds the bucket that was in the slot.
+    fn check_slot(&mut self, party: u32, slot: u32, bucket: u32) -> (FileOutcome, Place)
+        ensures { IsMove self.old (next self.old.words (Checking party slot bucket)) result.0 result.1 self.new }
+    {
+        if self.is_flag(bucket, Flag::HeldBy(party)) {
+            (
+                FileOutcome::Moves,
+                Place::Keeping {
+                    party,
+                    slot,
+                    bucket,
+                },
+            )
+        } else {
+            let slot = self.after_slot(slot);
+            (FileOutcome::Moves, Place::Slots { party, slot })
+        }
+    }
+
+    /// A settler gives back the bucket if the settled number holds it.
+    fn settle_flag(&mut self, party: u32, bucket: u32) -> (FileOutcome, Place)
+        ensures { IsMove self.old (next self.old.words (Flags party bucket)) result.0 result.1 self.new }
+    {
+        if bucket as usize >= self.flags.len() {
+            return (FileOutcome::Moves, Place::Settled { party });
+        }
+        let next = Place::Flags {
+            party,
+            bucket: bucket + 1,
+        };
+        if self.is_flag(bucket, Flag::HeldBy(party)) {
+            self.set_flag(bucket, Flag::Free);
+            (
+                FileOutcome::OnFlag(PoolStep::GiveBack { party, bucket }),
+                next,
+            )
+        } else {
+            (FileOutcome::Moves, next)
+        }
+    }
+
+    /// A settler looks for a bucket in a slot.
+    fn look_slot(&mut self, party: u32, bucket: u32, slot: u32) -> (FileOutcome, Place)
+        ensures { IsMove self.old (next self.old.words (Looking party bucket slot)) result.0 result.1 self.new }
+    {
+        let Some(word) = found_at(&self.slots, slot as usize) else {
+            return (FileOutcome::Moves, Place::Lost { party, bucket });
+        };
+        if has_bucket(bucket, word) {
+            (FileOutcome::Moves, Place::Flags { party, bucket: 0 })
+        } else {
+            let slot = self.after_slot(slot);
+            (
+                FileOutcome::Moves,
+                Place::Looking {
+                    party,
+                    bucket,
+                    slot,
+                },
+            )
+        }
+    }
+
+    /// A settler attaches a bucket that is in no slot, if the settled number is the one that detached it.
+    fn recover(&mut self, party: u32, bucket: u32) -> (FileOutcome, Place)
+        ensures { IsMove self.old (next self.old.words (Lost party bucket)) result.0 result.1 self.new }
+    {
+        let next = Place::Flags { party, bucket: 0 };
+        if self.is_flag(bucket, Flag::DetachedBy(party)) {
+            set_at(&mut self.outside, bucket as usize, false);
+            self.set_flag(bucket, Flag::HeldBy(party));
+            (
+                FileOutcome::OnFlag(PoolStep::AttachFrom {
+                    party,
+                    bucket,
+                    from: party,
+                }),
+                next,
+            )
+        } else {
+            (FileOutcome::Moves, next)
+        }
+    }
+
+    /// Returns the slot after this one, at which a settler looks next.
+    fn after_slot(&self, slot: u32) -> u32
+        ensures { result ≡ after_slot self.now.words slot }
+    {
+        if (slot as usize) < self.slots.len() {
+            slot + 1
+        } else {
+            slot
+        }
+    }
+
+    /// Writes a bucket's flag.
+    fn set_flag(&mut self, bucket: u32, flag: Flag)
+        ensures words { self.new.words ≡ with_flag self.old.words bucket flag }
+        ensures places { self.new.places ≡ self.old.places }
+    {
+        set_at(&mut self.flags, bucket as usize, flag);
+    }
+
+    /// Returns true if the process is in no call and has the lock of this number.
+    fn may_call(&self, process: u32, place: Place, party: u32) -> bool
+        ensures { result ≡ may_call self.now.words process place party }
+    {
+        match place {
+            Place::Outside => self.is_own(process, party),
+            _ => false,
+        }
+    }
+
+    /// Returns true if the process has the lock of this number.
+    fn is_own(&self, process: u32, party: u32) -> bool
+        ensures { result ≡ is_own self.now.words process party }
+    {
+        match found_at(&self.locks, party as usize) {
+            Some(Some(other)) => other == process,
+            Some(None) | None => false,
+        }
+    }
+
+    /// Returns true if there is such a bucket, and its flag is this one.
+    fn is_flag(&self, bucket: u32, flag: Flag) -> bool
+        ensures { result ≡ is_flag self.now.words bucket flag }
+    {
+        match found_at(&self.flags, bucket as usize) {
+            Some(found) => same_flag(found, flag),
+            None => false,
+        }
+    }
+
+    /// Returns true if there is such a slot, and its word is this one.
+    fn is_slot(&self, slot: u32, word: Slot) -> bool
+        ensures { result ≡ is_slot self.now.words slot word }
+    {
+        match found_at(&self.slots, slot as usize) {
+            Some(found) => same_slot(found, word),
+            None => false,
+        }
+    }
+}
+
+/// Returns true if two flags are the same.
+fn same_flag(one: Flag, other: Flag) -> bool
+    ensures { result ≡ same_flag one other }
+{
+    match (one, other) {
+        (Flag::Free, Flag::Free) => true,
+        (Flag::HeldBy(party), Flag::HeldBy(holder)) => party == holder,
+        (Flag::DetachedBy(party), Flag::DetachedBy(sender)) => party == sender,
+        _ => false,
+    }
+}
+
+/// Returns true if two words of slots are the same.
+fn same_slot(one: Slot, other: Slot) -> bool
+    ensures { result ≡ same_slot one other }
+{
+    match (one, other) {
+        (Slot::Empty, Slot::Empty) => true,
+        (
+            Slot::Message { bucket, length },
+            Slot::Message {
+                bucket: there,
+                length: size,
+            },
+        ) => bucket == there && length == size,
+        _ => false,
+    }
+}
+
+/// Returns true if the word has a message in this bucket.
+fn has_bucket(bucket: u32, word: Slot) -> bool
+    ensures { result ≡ has_bucket bucket word }
+{
+    match word {
+        Slot::Message {
+            bucket: other,
+            length: _,
+        } => other == bucket,
+        Slot::Empty => false,
+    }
+}
+
+/// Returns true if some slot of these has a message in this bucket.
+fn some_has(bucket: u32, slots: &[Slot]) -> bool
+    ensures { result ≡ some_has bucket slots.now }
+{
+    for word in slots {
+        if has_bucket(bucket, *word) {
+            return true;
+        }
+    }
+    false
+}
+
+/// Returns the process that takes a step.
+fn process_of(step: FileStep) -> u32
+    ensures { result ≡ process_of step }
+{
+    match step {
+        FileStep::Lock { process, .. } => process,
+        FileStep::Leave { process, .. } => process,
+        FileStep::Allocate { process, .. } => process,
+        FileStep::Deallocate { process, .. } => process,
+        FileStep::DetachNumber { process, .. } => process,
+        FileStep::AttachNumber { process, .. } => process,
+        FileStep::Post { process, .. } => process,
+        FileStep::Take { process, .. } => process,
+        FileStep::Exchange { process, .. } => process,
+        FileStep::Done { process, .. } => process,
+        FileStep::Look { process, .. } => process,
+        FileStep::Next { process } => process,
+        FileStep::Unlock { process } => process,
+        FileStep::Kill { process } => process,
+        FileStep::Release { process, .. } => process,
+    }
+}
+
+/// Returns the value at a position, or `None` if there is no such position.
+fn found_at<T: Copy>(all: &[T], number: usize) -> Option<T>
+    ensures value { result ≡ slice_get all.now number }
+    ensures within { IsSome result → number < length all.now }
+{
+    all.get(number).copied()
+}
+
+/// Writes the value at a position, if there is such a position.
+fn set_at<T: Drop>(all: &mut [T], number: usize, value: T)
+    ensures { all.new ≡ slice_set all.old number value }
+{
+    if number < all.len() {
+        all[number] = value;
+    }
+}
