@@ -1,7 +1,7 @@
 // bb_memory: allocators over a region of the host's own memory.
 //
 // For C99 or later and C++11 or later, on Linux with an x86-64-v2 processor. bb_memory.hpp has
-// owners for C++17. The contract of each function but `bb_use_memory` and
+// owners for C++17. The contract of each exported function but `bb_use_memory` and
 // `bb_pool_party_recover` is proved, for every caller that keeps the rules below.
 //
 // EXAMPLE
@@ -182,21 +182,22 @@ enum {
     // PTRDIFF_MAX.
     BB_INVALID_LAYOUT = 7,
 
-    // A handle is empty that has to have something.
+    // A handle that must not be empty is empty.
     BB_UNINITIALIZED = 8,
 
     // No chunk that is in use begins at the place; for a party, no bucket that it holds and doesn't
     // cache. For a bucket's number: the bucket isn't detached as the call requires.
     BB_NOT_HELD = 9,
 
-    // A handle that has to be empty isn't.
+    // A handle that must be empty is not.
     BB_ALREADY_INITIALIZED = 10,
 
     // The region, the bucket's size, or the number of buckets or parties is invalid. Each `init`
     // says when.
     BB_INVALID_ARGUMENT = 11,
 
-    // Each party has joined or was abandoned; for a party's number, that one has, or there is none.
+    // Each party has joined or was abandoned. For `join_number`: the party of this number has
+    // joined or was abandoned, or there is none.
     BB_NO_PARTY = 12,
 
     // The place is not a multiple of the old alignment, or the old size of a shrink is greater than
@@ -389,7 +390,7 @@ typedef struct bb_detached {
     bool made;
 } bb_detached;
 
-// A host's word that a detached bucket is lost: see `bb_pool_party_recover`.
+// A host's promise that a detached bucket is lost: see `bb_pool_party_recover`.
 typedef struct bb_lost {
     void *at;
     bool made;
@@ -426,10 +427,10 @@ typedef struct bb_number {
 // empty then, and may be used again. The bytes of chunks that are still in use stay the host's.
 //
 
-// Has the library call these functions in place of `malloc`, `realloc` and `free`. The parameters
-// have the meaning of C's functions of these names, and `release` may be called with NULL. A
-// process calls this before its other calls; no lock guards it. So a host without `malloc` gives
-// the library an arena of its own.
+// Has the library call these functions in place of `malloc`, `realloc` and `free`. They have the
+// meaning of the C functions that they replace, and `release` may be called with NULL. A process
+// calls this before its other calls; no lock guards it. A host without `malloc` can thus give the
+// library an arena.
 void bb_use_memory(void *(*allocate)(size_t size), void *(*resize)(void *block, size_t size),
                    void (*release)(void *block));
 
@@ -826,8 +827,8 @@ uint32_t bb_bump_party_info(bb_bump_party *party, bb_bump_figures *figures);
 // bucket need no further lock.
 //
 // Each bucket has a flag, which says that it is free, or which party holds it or has detached it. A
-// bucket that a party caches counts as held. Calls that look at each bucket say that they take time
-// by the number of buckets.
+// bucket that a party caches counts as held. Calls that look at each bucket say that their time is
+// proportional to the number of buckets.
 //
 
 // Makes a shared pool in an empty handle, over the region of `size` bytes at `start`, for this
@@ -848,8 +849,8 @@ BB_MUST_USE uint32_t bb_shared_pool_init(bb_shared_pool *pool, size_t bucket_siz
                                          uint32_t parties);
 
 // Frees the memory of the shared pool and empties the handle, if no party is joined and no bucket
-// is detached. It takes time by the number of buckets and of parties, and some 100 bytes of stack
-// for each party.
+// is detached. Its time is proportional to the number of buckets and of parties, and it takes some
+// 100 bytes of stack for each party.
 //
 // BB_PARTIES_JOINED if a party has joined and not left, and for good if one was abandoned.
 // BB_BUCKET_DETACHED if a bucket is detached; a party attaches it or returns it. If the call is
@@ -891,8 +892,8 @@ typedef struct bb_shared_pool_figures {
 
 // Stores the figures of the pool in `figures`, which stays as it was if the handle is empty. Held
 // are all buckets that aren't free: held, cached or detached. Each bucket is looked at, at a moment
-// of its own, so the call takes time by the number of buckets. Any thread may call this while
-// parties are used.
+// of its own, so the call's time is proportional to the number of buckets. Any thread may call this
+// while parties are used.
 //
 // Codes, in order: BB_UNINITIALIZED.
 uint32_t bb_shared_pool_info(const bb_shared_pool *pool, bb_shared_pool_figures *figures);
@@ -947,7 +948,7 @@ BB_MUST_USE uint32_t bb_shared_pool_join_number(bb_shared_pool *pool, uint32_t n
 
 // Ends a party of this pool and empties its handle. The party can join again. Each bucket whose
 // flag says that the party holds it, cached or not, is taken back, in the order of their numbers.
-// The host uses none of them any more. It takes time by the number of buckets.
+// The host uses none of them any more. Its time is proportional to the number of buckets.
 //
 // BB_UNINITIALIZED if either handle is empty. BB_OTHER_POOL if the party belongs to another pool.
 //
@@ -975,8 +976,8 @@ bb_number bb_pool_party_number(bb_pool_party *party);
 
 // Allocates `size` bytes at a multiple of `align`, in a bucket that isn't held. The bucket that the
 // party cached last is taken first. Without one, the call searches all buckets once, by next fit:
-// from the bucket that the party returned last, otherwise mostly from the one after the bucket that
-// it took last.
+// from the bucket that the party returned last, if it has taken none since; otherwise mostly from
+// the one after the bucket that it took last.
 //
 // Returns the place of the chunk. BB_SIZE_TOO_LARGE or BB_ALIGNMENT_FAILURE if a bucket can't have
 // such a chunk. BB_OUT_OF_MEMORY if the search found each bucket held, one after the other. While
@@ -1021,8 +1022,8 @@ uint32_t bb_pool_party_deallocate(bb_pool_party *party, bb_address place);
 bb_number bb_pool_party_deallocate_many(bb_pool_party *party, const bb_place *places, size_t count);
 
 // Takes back each bucket whose flag says that this party holds it, cached or not. The party stays,
-// with nothing cached, and goes on caching what it returns from now on. It takes time by the number
-// of buckets.
+// with nothing cached, and goes on caching what it returns from now on. Its time is proportional to
+// the number of buckets.
 //
 // Codes, in order: BB_UNINITIALIZED.
 uint32_t bb_pool_party_give_all_back(bb_pool_party *party);
@@ -1033,8 +1034,8 @@ uint32_t bb_pool_party_give_all_back(bb_pool_party *party);
 bb_number bb_pool_party_holds(bb_pool_party *party, bb_address place);
 
 // Stores the figures of the party's pool in `figures`, which stays as it was if the handle is
-// empty. Held are only the buckets that this party holds and doesn't cache. It takes time by the
-// number of buckets.
+// empty. Held are only the buckets that this party holds and doesn't cache. Its time is
+// proportional to the number of buckets.
 //
 // Codes, in order: BB_UNINITIALIZED.
 uint32_t bb_pool_party_info(bb_pool_party *party, bb_shared_pool_figures *figures);
@@ -1060,8 +1061,8 @@ bb_number bb_pool_party_number_at(const bb_pool_party *party, bb_address place);
 // Has the party cache at most `most` of the buckets that it returns from now on, and never more
 // than the pool has. The party takes the one that it cached last without an atomic step. For other
 // parties a cached bucket is held, so give the pool more buckets than its parties may cache in all.
-// 0 ends caching. What the party cached before is given back first. It takes time by the number of
-// buckets.
+// 0 ends caching. What the party cached before is given back first. Its time is proportional to the
+// number of buckets.
 //
 // Codes, in order: BB_UNINITIALIZED, BB_MALLOC_REFUSED.
 BB_MUST_USE uint32_t bb_pool_party_cache(bb_pool_party *party, uint32_t most);
@@ -1173,9 +1174,9 @@ BB_MUST_USE bb_chunk bb_pool_party_attach(bb_pool_party *party, bb_detached *det
 uint32_t bb_pool_party_return_detached(bb_pool_party *party, bb_detached *detached);
 
 // Gives back the bucket of this number, which was detached into a `bb_detached` that is lost, as
-// that of a dead process. `bb_lost lost = BB_LOST;` is the host's word that nobody has or will use
-// that `bb_detached`. If the party's handle and `lost` aren't empty, the call empties `lost`, also
-// if it is refused, and calls `free` with NULL.
+// that of a dead process. By `bb_lost lost = BB_LOST;` the host promises that nobody has that
+// `bb_detached` or will use it. If the party's handle and `lost` aren't empty, the call empties
+// `lost`, even if it is refused, and calls `free` with NULL.
 //
 // BB_UNINITIALIZED if either handle is empty, and then both stay as they were. BB_NOT_A_BUCKET if
 // the pool has no bucket of this number. BB_NOT_HELD if the bucket isn't detached, or was detached

@@ -2,11 +2,11 @@
 // AddressSanitizer or ThreadSanitizer is on, or if BB_VALGRIND is defined. Each call that takes or
 // returns a bucket is then a function of this file, which makes the call and reports it:
 //
-// - AddressSanitizer and valgrind's memcheck learn that a free bucket is not to be used, and of a
-//   bucket in use only the bytes that were requested. So they stop at a use after return, and at an
+// - AddressSanitizer and valgrind's memcheck learn that a free bucket must not be used, and that in
+//   a bucket in use only the requested bytes may be. So they stop at a use after return, and at an
 //   overflow into a bucket's padding or into a free bucket.
-// - AddressSanitizer learns that a handle is used. So it stops at a copy of a handle that was
-//   destroyed.
+// - AddressSanitizer learns that such a call uses a handle of a pool, its party or a `bb_detached`.
+//   So it stops if that is a copy of a destroyed handle.
 // - ThreadSanitizer and valgrind's helgrind learn that a bucket's return comes before its next
 //   taking. So they find a race only if there is one.
 //

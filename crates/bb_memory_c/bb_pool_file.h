@@ -40,13 +40,13 @@
 //     `bb_pool_file` may run at once, but for `close`.
 //  2. A place is valid in one process. A bucket goes to another process by its number: in a slot,
 //     or by any channel of the host's.
-//  3. Of the calls of a party use those of a single bucket or of many, `cache`, `flush`, `info`,
-//     `holds`, `number`, `number_at`, `place_at` and `give_all_back`. Don't destroy it, and don't
-//     use a `bb_detached` with it.
+//  3. Of bb_memory.h's calls of a party use only `allocate`, `take`, `get`, `deallocate`,
+//     `take_many`, `deallocate_many`, `cache`, `flush`, `info`, `holds`, `number`, `number_at`,
+//     `place_at` and `give_all_back`. Don't abandon it.
 //  4. A forked child has nothing of the file: its handles are empty, and it opens the file anew.
 //     That takes `pthread_atfork`, which a raw `clone` doesn't run. `exec` closes the file.
 //  5. Whoever may write the file is trusted. Wrong words can make two parties hold one bucket, but
-//     no call reads or writes outside the file's pages for them. Whoever cuts the file off kills
+//     no call reads or writes outside the file's pages for them. Whoever truncates the file kills
 //     each process that uses it (SIGBUS). Whoever may only read it can lock its bytes, and so keep
 //     others from opening it and dead parties from being reaped.
 //  6. The file is on a file system of the machine (tmpfs, ext4), or is a memfd; never on NFS.
@@ -70,8 +70,8 @@
 extern "C" {
 #endif
 
-// The codes of these calls, besides those of bb_memory.h, whose numbers they continue. With any
-// code but BB_OK nothing was done, but `open` may have made the file.
+// The codes of these calls, besides those of bb_memory.h. If the code isn't BB_OK, the call did
+// nothing, except that `open` may have made the file and `reap` may have given back some buckets.
 enum {
     // A call of the system failed: `errno` says why. ENOENT if there is no file and no options say
     // what to make, ENOSPC if there is no room for it.
@@ -84,8 +84,8 @@ enum {
     BB_FILE_MISMATCH = 29,
     // The file's length isn't what its figures take, or its figures are impossible.
     BB_FILE_DAMAGED = 30,
-    // It isn't a regular file, it belongs neither to this user nor to root, or others may write it
-    // though `mode` doesn't let them.
+    // It isn't a regular file; others may write it though `mode` doesn't let them; or `mode` lets
+    // no others write, and it belongs neither to this user nor to root.
     BB_FILE_UNSAFE = 31,
     // The file was never finished, or is from before the machine's last start, and no options say
     // to make it anew.
@@ -129,10 +129,10 @@ static inline const char *bb_pool_file_name(uint32_t code) {
 // A pool's file that this process has opened.
 typedef struct bb_pool_file bb_pool_file;
 
-// What a file is made with, and what a file that exists has to have. The size and the alignment of
-// a bucket are in bytes. `parties` is how many may have joined at one time, over all processes, at
-// most 65,535; `slots` is the number of mailboxes for messages, which may be 0. `mode` has the
-// permissions of a file that is made, less the umask; 0 stands for 0600.
+// The figures that a file is made with. A file that exists has to have the same, except for `mode`.
+// The size and the alignment of a bucket are in bytes. `parties` is how many may have joined at one
+// time, over all processes, at most 65,535; `slots` is the number of mailboxes for messages, which
+// may be 0. `mode` has the permissions of a file that is made, less the umask; 0 stands for 0600.
 typedef struct bb_pool_file_options {
     size_t bucket_size;
     size_t bucket_align;
@@ -158,13 +158,13 @@ BB_MUST_USE uint32_t bb_pool_file_open(bb_pool_file **, const char *path,
 // file without a path is as safe as its descriptor: who owns it isn't tested.
 BB_MUST_USE uint32_t bb_pool_file_open_fd(bb_pool_file **, int fd, const bb_pool_file_options *);
 
-// Has all parties of this process leave, unmaps the file, and frees the `bb_pool_file`. `unlink`
-// removes the file itself.
+// Has all parties of this `bb_pool_file` leave, unmaps the file, and frees the `bb_pool_file`.
+// `unlink` removes the file itself.
 uint32_t bb_pool_file_close(bb_pool_file *);
 
 // Makes a party join that no living process uses, after what a dead process left in it is given
-// back. The party is the file's: `leave` or `close` ends it. BB_NO_PARTY if each party is in use,
-// or is just being reaped; BB_FILE_SYSTEM; BB_MALLOC_REFUSED.
+// back. The party is the file's: `leave` or `close` ends it. BB_UNINITIALIZED in a forked child;
+// BB_NO_PARTY if each party is in use or is being reaped; BB_FILE_SYSTEM; BB_MALLOC_REFUSED.
 BB_MUST_USE uint32_t bb_pool_file_join(bb_pool_file *, bb_pool_party **);
 
 // Ends a party, and gives back what it holds, cached or not. A message that it took and isn't done
@@ -196,15 +196,16 @@ typedef struct bb_message {
 // Takes the message in this slot: the party holds its bucket then. Of any number of callers at most
 // one gets it. The message stays in its slot until the party is done with it. If the party dies or
 // leaves before that, the message can be taken again. BB_UNINITIALIZED; BB_INVALID_ARGUMENT if
-// there is no such slot; BB_DETACHED_EMPTY if the slot is empty; BB_NOT_HELD if another party has
-// taken it; BB_NOT_A_BUCKET if the slot has no bucket's number.
+// there is no such slot; BB_DETACHED_EMPTY if the slot is empty; BB_NOT_HELD if a party has taken
+// it, or if its sender is still in `bb_pool_file_post` or was killed there and isn't reaped yet;
+// BB_NOT_A_BUCKET if the slot has no bucket's number.
 BB_MUST_USE bb_message bb_pool_file_take(bb_pool_file *, bb_pool_party *, uint32_t slot);
 
 // Empties the slot whose message this party has taken. The bucket stays the party's, to give back
-// or to post again. A message that is done with right after it was taken comes at most once; one
-// that is done with after the work comes at least once. Don't give the bucket back before. To put a
-// message back, `bb_pool_file_detach` its bucket. BB_UNINITIALIZED; BB_INVALID_ARGUMENT if there is
-// no such slot; BB_NOT_HELD if the party doesn't hold the bucket in the slot.
+// or to post again. Call it right after `take` to process each message at most once, or after the
+// work to process it at least once. Give the bucket back, or post it again, only after this call.
+// To put a message back, `bb_pool_file_detach` its bucket. BB_UNINITIALIZED; BB_INVALID_ARGUMENT if
+// there is no such slot; BB_NOT_HELD if the party doesn't hold the bucket in the slot.
 uint32_t bb_pool_file_done(bb_pool_file *, bb_pool_party *, uint32_t slot);
 
 // Stands for any slot in a wait.
@@ -213,10 +214,11 @@ uint32_t bb_pool_file_done(bb_pool_file *, bb_pool_party *, uint32_t slot);
 // Stands for a wait without an end.
 #define BB_NO_TIMEOUT UINT32_MAX
 
-// Waits until the slot is full, or any slot with BB_ANY_SLOT, for at most this many milliseconds. A
-// message in it may still be another party's. If a sender is killed in `bb_pool_file_post`, its
-// message is noticed within a tenth of a second. BB_UNINITIALIZED in a forked child;
-// BB_INVALID_ARGUMENT if there is no such slot; BB_FILE_TIMED_OUT; BB_FILE_SYSTEM.
+// Waits until a message can be taken from the slot, or from any slot with BB_ANY_SLOT, for at most
+// this many milliseconds. Another party may take it first. If a sender is killed in
+// `bb_pool_file_post`, its message is noticed within a tenth of a second, or only after its party
+// is reaped. BB_UNINITIALIZED in a forked child; BB_INVALID_ARGUMENT if there is no such slot;
+// BB_FILE_TIMED_OUT; BB_FILE_SYSTEM.
 BB_MUST_USE uint32_t bb_pool_file_wait_full(bb_pool_file *, uint32_t slot, uint32_t milliseconds);
 
 // Waits until the slot is empty, or any slot with BB_ANY_SLOT, as `bb_pool_file_wait_full` does.
@@ -229,9 +231,9 @@ BB_MUST_USE uint32_t bb_pool_file_wait_empty(bb_pool_file *, uint32_t slot, uint
 BB_MUST_USE uint32_t bb_pool_file_wait_bucket(bb_pool_file *, uint32_t milliseconds);
 
 // MESSAGES BY ANY CHANNEL: the sender detaches, and sends the number; the receiver attaches by it.
-// If either side is killed while it has the number, the bucket stays detached until a reap is told
-// so. A number that comes late may name a newer message: write an identification into the bucket,
-// compare it, and detach a bucket that isn't yours.
+// If either side is killed while it has the number, the bucket stays detached until a reap with
+// `detached`. A number that comes late may name a newer message: write an identification into the
+// bucket, compare it, and detach a bucket that isn't yours.
 
 // Detaches the bucket at this place, and returns its number. BB_UNINITIALIZED; BB_NOT_HELD if this
 // party doesn't hold the bucket, or caches it.
@@ -239,15 +241,16 @@ BB_MUST_USE bb_number bb_pool_file_detach(bb_pool_file *, bb_pool_party *, bb_ad
 
 // Attaches the bucket of this number, and returns its place: the party holds the bucket then. Of
 // any number of callers at most one gets it. BB_UNINITIALIZED; BB_NOT_A_BUCKET; BB_NOT_HELD if the
-// bucket isn't detached. That may be so for a moment while another party looks at it: if numbers
-// can come late, or slots are used too, try again.
+// bucket isn't detached. A `bb_pool_file_take` of another party may hold it for a moment: if
+// numbers can come late, or slots are used too, try again.
 BB_MUST_USE bb_chunk bb_pool_file_attach(bb_pool_file *, bb_pool_party *, uint32_t number);
 
 // Gives back what dead parties held, while others work; any number of processes may reap at once.
-// Messages in slots stay, and can be taken. With `detached`, it also gives back what dead parties
-// detached and is in no slot: say so if their numbers can't come any more. That waits as long as a
-// later party has the dead one's number. `given_back` may be NULL; it gets the number of buckets.
-// BB_UNINITIALIZED in a forked child; BB_FILE_SYSTEM; BB_MALLOC_REFUSED.
+// Messages in slots stay, and can be taken. If `detached` is true, it also gives back buckets that
+// dead parties detached and that are in no slot: pass true only if their numbers can't arrive any
+// more. Such a bucket stays detached while a later party has the dead one's number. `given_back`
+// may be NULL; it gets the number of buckets. BB_UNINITIALIZED in a forked child; BB_FILE_SYSTEM;
+// BB_MALLOC_REFUSED.
 uint32_t bb_pool_file_reap(bb_pool_file *, bool detached, uint32_t *given_back);
 
 // FIGURES: each flag, slot and lock is looked at once, while others work.
@@ -269,8 +272,8 @@ typedef struct bb_pool_file_figures {
 // Fills in the figures of the file. BB_UNINITIALIZED in a forked child; BB_MALLOC_REFUSED.
 uint32_t bb_pool_file_info(bb_pool_file *, bb_pool_file_figures *);
 
-// Fills in what the flag of the bucket of this number says, as `bb_shared_pool_holder` does. The
-// bucket of a message in a slot is mostly detached by the number that follows the parties'.
+// Fills in what the flag of the bucket of this number says, as `bb_shared_pool_holder` does. For a
+// message in a slot, `party` is mostly `options.parties`, a number that no party has.
 // BB_UNINITIALIZED in a forked child; BB_NOT_A_BUCKET.
 uint32_t bb_pool_file_holder(bb_pool_file *, uint32_t number, bb_holder *);
 
@@ -278,8 +281,9 @@ uint32_t bb_pool_file_holder(bb_pool_file *, uint32_t number, bb_holder *);
 // forked child; BB_NO_PARTY if there is no such number.
 bb_number bb_pool_file_is_alive(bb_pool_file *, uint32_t party);
 
-// Returns what is in this slot, and takes nothing: another party may have taken the message. The
-// codes are those of `bb_pool_file_take`.
+// Returns what is in this slot, and takes nothing: another party may have taken the message. Codes,
+// in order: BB_UNINITIALIZED in a forked child; BB_INVALID_ARGUMENT; BB_DETACHED_EMPTY;
+// BB_NOT_A_BUCKET.
 bb_message bb_pool_file_look(bb_pool_file *, uint32_t slot);
 
 #ifdef __cplusplus
