@@ -127,7 +127,7 @@ class PoolFile:
         """Runs `bb-pool`, and compares what it prints with shown.txt."""
         path = self.folders[0] / "shown"
         shown = subprocess.run(
-            [self.work / "shown.archive", path, self.prefix / "bin/bb-pool"],
+            ["timeout", LONGEST, self.work / "shown.archive", path, self.prefix / "bin/bb-pool"],
             stdin=subprocess.DEVNULL,
             stdout=subprocess.PIPE,
             stderr=subprocess.DEVNULL,
@@ -196,12 +196,17 @@ class PoolFile:
                         each.kill()
             consumer = subprocess.Popen([self.work / "consumer", path], stdout=output)
             last = subprocess.Popen([self.work / "producer", path, "2000"])
-            status = last.wait(timeout=60)
-            # The consumer ends once it has printed what is left in the slots.
-            time.sleep(2)
-            consumer.kill()
-            for each in [*started, consumer]:
-                each.wait()
+            started += [consumer, last]
+            try:
+                status = last.wait(timeout=60)
+                # The consumer prints what is left in the slots.
+                time.sleep(2)
+            except subprocess.TimeoutExpired as error:
+                raise Failed("producer: it hangs") from error
+            finally:
+                for each in started:
+                    each.kill()
+                    each.wait()
         path.unlink()
         lines = set(printed.read_text(encoding="utf-8").splitlines())
         missing = [n for n in range(2000) if f"{last.pid} {n}" not in lines]

@@ -417,7 +417,7 @@ static void free_pool(bb_pool_file *file) {
     if (mmap(file->words, file->words_size, PROT_READ | PROT_WRITE, private, -1, 0) == MAP_FAILED)
         return;
     memory_lend(file->words, 0, 0);
-    bb_shared_pool_destroy(&file->pool);
+    bb_shared_pool_abandon(&file->pool);
     memory_end_loan();
 }
 
@@ -887,7 +887,7 @@ static bb_message message_of(const bb_pool_file *file, uint64_t word) {
     const uint32_t number = number_in(word);
     if (word == 0)
         return (bb_message){BB_DETACHED_EMPTY, 0, NULL, 0};
-    if (number >= file->head.buckets)
+    if (number >= file->head.buckets || word >> 32 > file->head.bucket_size)
         return (bb_message){BB_NOT_A_BUCKET, 0, NULL, 0};
     return (bb_message){BB_OK, number, place_of(file, number), (size_t)(word >> 32)};
 }

@@ -198,7 +198,7 @@ typedef struct bb_message {
 // leaves before that, the message can be taken again. BB_UNINITIALIZED; BB_INVALID_ARGUMENT if
 // there is no such slot; BB_DETACHED_EMPTY if the slot is empty; BB_NOT_HELD if a party has taken
 // it, or if its sender is still in `bb_pool_file_post` or was killed there and isn't reaped yet;
-// BB_NOT_A_BUCKET if the slot has no bucket's number.
+// BB_NOT_A_BUCKET if the slot has no bucket's number, or a length greater than a bucket's size.
 BB_MUST_USE bb_message bb_pool_file_take(bb_pool_file *, bb_pool_party *, uint32_t slot);
 
 // Empties the slot whose message this party has taken. The bucket stays the party's, to give back
@@ -232,8 +232,10 @@ BB_MUST_USE uint32_t bb_pool_file_wait_bucket(bb_pool_file *, uint32_t milliseco
 
 // MESSAGES BY ANY CHANNEL: the sender detaches, and sends the number; the receiver attaches by it.
 // If either side is killed while it has the number, the bucket stays detached until a reap with
-// `detached`. A number that comes late may name a newer message: write an identification into the
-// bucket, compare it, and detach a bucket that isn't yours.
+// `detached`. If a party that takes from a slot in which the bucket was before is killed in that
+// call, a reap gives the bucket back, and the message is lost. A number that comes late may name a
+// newer message: write an identification into the bucket, compare it, and detach a bucket that
+// isn't yours.
 
 // Detaches the bucket at this place, and returns its number. BB_UNINITIALIZED; BB_NOT_HELD if this
 // party doesn't hold the bucket, or caches it.

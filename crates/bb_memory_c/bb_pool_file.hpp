@@ -140,8 +140,10 @@ public:
     std::uint32_t done() noexcept {
         if (message_.code != BB_OK)
             return message_.code;
+        if (is_done_)
+            return BB_NOT_HELD;
         const std::uint32_t code = bb_pool_file_done(file_, party_, slot_);
-        is_done_ = is_done_ || code == BB_OK;
+        is_done_ = code == BB_OK;
         return code;
     }
 

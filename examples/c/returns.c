@@ -132,7 +132,7 @@ static void *send_all(void *argument) {
         const size_t left = MESSAGES - number;
         void *places[GROUP];
         bb_number taken =
-            bb_pool_party_take_many(&self->party, places, left < GROUP ? left : GROUP);
+            bb_pool_party_take_many(&self->party, places, left < GROUP ? left : (size_t)GROUP);
         expect(taken.code == BB_OK, "buckets are given");
         if (taken.number == 0)
             sched_yield();

@@ -126,9 +126,10 @@ fn a_killed_sender_loses_nothing() {
             .stdout(process::Stdio::null())
             .spawn()
             .unwrap();
-        assert!(file.wait_full(Some(3), Duration::from_secs(10)).unwrap());
+        let came = file.wait_full(Some(3), Duration::from_secs(10));
         child.kill().unwrap();
         child.wait().unwrap();
+        assert!(came.unwrap());
         file.reap(true).unwrap();
         for slot in 0..OPTIONS.slots {
             let mut message = party.take(slot).unwrap().unwrap();

@@ -391,7 +391,7 @@ static void on_signal(int unused) {
 // Signals end a request for pages on tmpfs; the file is made all the same.
 static void signals(void) {
     const bb_pool_file_options large = {
-        .bucket_size = 4096, .bucket_align = 64, .buckets = 20000, .parties = 2, .slots = 1};
+        .bucket_size = 4096, .bucket_align = 64, .buckets = 4000, .parties = 2, .slots = 1};
     const struct itimerval often = {{0, 2000}, {0, 2000}};
     const struct itimerval never = {{0, 0}, {0, 0}};
     const struct sigaction action = {.sa_handler = on_signal};
