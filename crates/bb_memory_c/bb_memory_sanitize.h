@@ -70,10 +70,15 @@ extern "C" {
 // REPORTS
 //
 
-// Reports that `size` bytes at `place` are not to be used.
+// Reports that `size` bytes at `place` must not be used. AddressSanitizer keeps one number for 8
+// bytes. Where two buckets share these 8 bytes, they stay usable, since two threads may report the
+// buckets at the same time.
 BB_SANITIZE_INLINE void bb_sanitize_close(const void *place, size_t size) {
 #ifdef BB_SANITIZE_ADDRESS
-    __asan_poison_memory_region(place, size);
+    const uintptr_t first = ((uintptr_t)place + 7) / 8 * 8;
+    const uintptr_t end = ((uintptr_t)place + size) / 8 * 8;
+    if (first < end)
+        __asan_poison_memory_region((const void *)first, end - first);
 #endif
 #ifdef BB_VALGRIND
     VALGRIND_MAKE_MEM_NOACCESS(place, size);
@@ -143,6 +148,12 @@ BB_SANITIZE_INLINE void bb_sanitize_return(bb_address place, size_t stride) {
     bb_sanitize_close(place, stride);
 }
 
+// Reports that these buckets are free. The first one begins at `place`.
+BB_SANITIZE_INLINE void bb_sanitize_close_all(const void *place, size_t stride, size_t buckets) {
+    for (size_t number = 0; number < buckets; number++)
+        bb_sanitize_close((const unsigned char *)place + number * stride, stride);
+}
+
 // Reports that a handle is used, by a read of the first byte of what it owns.
 BB_SANITIZE_INLINE void bb_sanitize_handle(const void *at, bool made) {
 #ifdef BB_SANITIZE_ADDRESS
@@ -171,8 +182,8 @@ BB_SANITIZE_INLINE uint32_t bb_sanitize_pool_made(bb_pool *pool, uint32_t code) 
     bb_pool_figures figures;
     if (code == BB_OK && bb_pool_info(pool, &figures) == BB_OK) {
         size_t stride = BB_STRIDE(figures.bucket_size, figures.max_alignment);
-        bb_sanitize_close(BB_SANITIZE_PLACE(figures.start_address),
-                          stride * figures.number_of_buckets);
+        bb_sanitize_close_all(BB_SANITIZE_PLACE(figures.start_address), stride,
+                              figures.number_of_buckets);
     }
     return code;
 }
@@ -249,8 +260,8 @@ BB_SANITIZE_INLINE uint32_t bb_sanitize_shared_pool_made(bb_shared_pool *pool, u
     bb_shared_pool_figures figures;
     if (code == BB_OK && bb_shared_pool_info(pool, &figures) == BB_OK) {
         size_t stride = BB_STRIDE(figures.bucket_size, figures.max_alignment);
-        bb_sanitize_close(BB_SANITIZE_PLACE(figures.start_address),
-                          stride * figures.number_of_buckets);
+        bb_sanitize_close_all(BB_SANITIZE_PLACE(figures.start_address), stride,
+                              figures.number_of_buckets);
     }
     return code;
 }
