@@ -75,10 +75,10 @@ extern "C" {
 // buckets at the same time.
 BB_SANITIZE_INLINE void bb_sanitize_close(const void *place, size_t size) {
 #ifdef BB_SANITIZE_ADDRESS
-    const uintptr_t first = ((uintptr_t)place + 7) / 8 * 8;
-    const uintptr_t end = ((uintptr_t)place + size) / 8 * 8;
+    const uintptr_t first = (BB_SANITIZE_NUMBER(place) + 7) / 8 * 8;
+    const uintptr_t end = (BB_SANITIZE_NUMBER(place) + size) / 8 * 8;
     if (first < end)
-        __asan_poison_memory_region((const void *)first, end - first);
+        __asan_poison_memory_region(BB_SANITIZE_PLACE(first), end - first);
 #endif
 #ifdef BB_VALGRIND
     VALGRIND_MAKE_MEM_NOACCESS(place, size);
@@ -151,7 +151,7 @@ BB_SANITIZE_INLINE void bb_sanitize_return(bb_address place, size_t stride) {
 // Reports that these buckets are free. The first one begins at `place`.
 BB_SANITIZE_INLINE void bb_sanitize_close_all(const void *place, size_t stride, size_t buckets) {
     for (size_t number = 0; number < buckets; number++)
-        bb_sanitize_close((const unsigned char *)place + number * stride, stride);
+        bb_sanitize_close(BB_SANITIZE_PLACE(BB_SANITIZE_NUMBER(place) + number * stride), stride);
 }
 
 // Reports that a handle is used, by a read of the first byte of what it owns.
