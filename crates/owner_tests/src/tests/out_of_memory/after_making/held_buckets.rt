@@ -194,7 +194,11 @@ fn numbers(rt: &(impl Abort + AllocGlobal), of: Of, stride: usize, buckets: u32)
     }
     let before = start.wrapping_sub(stride);
     let after = start.wrapping_add(stride.wrapping_mul(buckets as usize));
-    has_no_number(rt, &pool, &[before, start.wrapping_sub(1), after, 0, usize::MAX]);
+    has_no_number(
+        rt,
+        &pool,
+        &[before, start.wrapping_sub(1), after, 0, usize::MAX],
+    );
     none_asked(rt);
 }
 
@@ -206,7 +210,12 @@ fn a_number_at_each_place(rt: HostRuntime) {
     numbers(&rt, [4096, 70, 1, 1], 1, 70);
     numbers(&rt, [1, 100, 3, 1], 3, 33);
     numbers(&rt, [4096, 970, 97, 1], 97, 10);
-    numbers(&rt, [1 << 62, usize::MAX - (1 << 62), 1 << 62, 1 << 62], 1 << 62, 2);
+    numbers(
+        &rt,
+        [1 << 62, usize::MAX - (1 << 62), 1 << 62, 1 << 62],
+        1 << 62,
+        2,
+    );
     numbers(&rt, [1, usize::MAX - 1, (1 << 62) + 1, 1], (1 << 62) + 1, 3);
     numbers(&rt, [usize::MAX - 1023, 1000, 96, 32], 96, 10);
     numbers(&rt, [usize::MAX - 97, 97, 97, 1], 97, 1);
