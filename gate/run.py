@@ -5,6 +5,7 @@ the gate's own tests, pages, layout, `./test`, mutants, C plainly and under each
 Rust crate. OOM tests run on what `rt ci` built.
 """
 
+import os
 import re
 import shutil
 import signal
@@ -72,7 +73,10 @@ def copy_for_rt(top: Path, copy: Path) -> None:
 
 
 class Background:
-    """A command that runs beside others. Its output goes to a file, or else to the gate's own."""
+    """A command that runs beside others. Its output goes to a file, or else to the gate's own.
+
+    It leads a process group of its own, so that it can be ended with all that it has started.
+    """
 
     def __init__(self, words: Sequence[str | Path], folder: Path, log: Path | None) -> None:
         self.log = log
@@ -85,6 +89,7 @@ class Background:
                 stdin=subprocess.DEVNULL,
                 stdout=output,
                 stderr=subprocess.STDOUT if output is not None else None,
+                start_new_session=True,
             )
 
     def text(self) -> str:
@@ -99,6 +104,12 @@ class Background:
         if status != 0:
             raise Failed(f"{self.text().rstrip()}\nstatus {status}: {self.command}".strip())
         return self.text()
+
+    def end(self) -> None:
+        """Ends the command if it still runs, and with it what it has started."""
+        if self.process.poll() is None:
+            os.killpg(self.process.pid, signal.SIGTERM)
+            self.process.wait()
 
 
 def show_until_end(command: Background, log: Path, beginning: str) -> None:
@@ -125,9 +136,7 @@ def background(
     try:
         yield started
     finally:
-        if started.process.poll() is None:
-            started.process.terminate()
-            started.process.wait()
+        started.end()
 
 
 def test_gate(top: Path) -> None:
