@@ -225,16 +225,16 @@ def findings(tree: Tree) -> Iterator[str]:
 
 
 def hosts(page: str) -> Iterator[str]:
-    """Yields a script of what a page shows from C, in parts.
+    """Yields a script of what a page shows from C and C++, in parts.
 
-    A text of C goes into the file that the line above it names. Raises Failed if none is named.
+    A program goes into the file that the line above it names. Raises Failed if none is named.
     """
-    blocks = re.findall(r"(?:`([\w.]+)`:\n\n)?^```(sh|c)\n(.*?)^```$", page, re.M | re.S)
+    blocks = re.findall(r"(?:`([\w.]+)`:\n\n)?^```(sh|c|cpp)\n(.*?)^```$", page, re.M | re.S)
     for file, language, text in blocks:
         if language == "sh":
             yield text
         elif not file:
-            raise Failed(f"pages: a program in C whose file isn't named:\n{text}")
+            raise Failed(f"pages: a program whose file isn't named:\n{text}")
         else:
             yield f"cat > {file} <<'END'\n{text}END\n"
 

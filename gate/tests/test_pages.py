@@ -239,6 +239,10 @@ class Shown(unittest.TestCase):
         page = "The whole `a.c`:\n\n```c\nint a;\n```\n\n```rust\nfn a() {}\n```\n\n```sh\ncc a.c\n```\n"
         self.assertEqual(list(pages.hosts(page)), ["cat > a.c <<'END'\nint a;\nEND\n", "cc a.c\n"])
 
+    def test_script_of_a_program_in_cpp(self) -> None:
+        page = "This is `a.cpp`:\n\n```cpp\nint a;\n```\n"
+        self.assertEqual(list(pages.hosts(page)), ["cat > a.cpp <<'END'\nint a;\nEND\n"])
+
     def test_a_program_without_a_name(self) -> None:
         with self.assertRaisesRegex(process.Failed, "isn't named:\nint a;"):
             list(pages.hosts("A program:\n\n```c\nint a;\n```\n"))
