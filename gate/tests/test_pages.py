@@ -7,7 +7,7 @@ from collections.abc import Callable, Iterable
 from pathlib import Path
 from unittest import mock
 
-from gate import contracts, links, pages, process, versions
+from gate import contracts, links, pages, process, versions, wording
 from gate.files import TreeChanged, texts_below
 from gate.pages import Tree
 from gate.tests.sample import TEXTS, changed, checkout
@@ -32,6 +32,7 @@ CHECKS: dict[str, Check] = {
     "folders of edits": pages.lost_edits,
     "crates": pages.unnamed_crates,
     "first words": pages.wrong_first_words,
+    "words": lambda tree: wording.wrong(tree.texts),
     "examples": pages.lost_examples,
 }
 
