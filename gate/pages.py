@@ -227,9 +227,10 @@ def findings(tree: Tree) -> Iterator[str]:
 
 
 def hosts(page: str) -> Iterator[str]:
-    """Yields a script of what a page shows from C and C++, in parts.
+    """Yields a script of what a page shows from C, in parts.
 
-    A program goes into the file that the line above it names. Raises Failed if none is named.
+    A text of C or C++ goes into the file that the line above it names. Raises Failed if none is
+    named.
     """
     blocks = re.findall(r"(?:`([\w.]+)`:\n\n)?^```(sh|c|cpp)\n(.*?)^```$", page, re.M | re.S)
     for file, language, text in blocks:
