@@ -22,12 +22,13 @@ class Word:
         return re.compile(self.pattern.replace(" ", r"(?: +|\n[ ]*)"))
 
 
-# A condition has one of these subjects and one of these verbs, and goes on after the verb. `where`
-# after a comma is mostly a place.
+# A condition has one of these subjects and one of these verbs. If `where` comes after a comma, or if
+# nothing or one of the words of PLACED comes after the verb, it is mostly a place.
 NOT_A_PLACE = r"(?<!,\s)"
 SUBJECT = r"(?:it|this|that|they|these|each|every|all|both|neither|some|any|the|a|an|its)"
 IS = r"(?:is|are|isn't|aren't|was|were)"
-NOT_AT_AN_END = r"(?! *(?:[.,;:)|]|\n\n|\Z))"
+PLACED = r"(?:at|found|in|kept|made|on)\b"
+NOT_PLACED = rf"(?! *(?:[.,;:)|]|\n\n|\Z)| {PLACED})"
 
 WORDS = (
     Word(r"\b[Bb]ehind\b", "after, in, or with"),
@@ -47,7 +48,7 @@ WORDS = (
     Word(r"\bOf several\b", "if several apply"),
     Word(r"\b[Mm]easured of\b", "measured with"),
     Word(r"\b[Ww]here (?:no|none|nothing|nobody|there (?:is|are|was|were))\b", "if"),
-    Word(rf"{NOT_A_PLACE}\b[Ww]here {SUBJECT} (?:[\w'-]+ ){{0,4}}?{IS}\b{NOT_AT_AN_END}", "if"),
+    Word(rf"{NOT_A_PLACE}\b[Ww]here {SUBJECT} (?:[\w'-]+ ){{0,4}}?{IS}\b{NOT_PLACED}", "if"),
 )
 
 # The uses that are right: the phrase in which the word is.

@@ -40,6 +40,8 @@ RIGHT = (
     "The steps of both machines.",
     "Returns where the bucket of this number is.",
     "Returns where the first bucket is, and where it was.",
+    "Where the bucket is in this process.",
+    "A mark shows where the values are made.",
     "It follows from the machine, where the bucket is held after the step.",
     "Something else happens.",
     "A name in code: `behind`, `alone`, `stands`.",
