@@ -55,7 +55,7 @@ WORDS = (
 )
 
 # The uses that are right: the phrase in which the word is.
-ALLOWED = ("Where a peer is faster",)
+ALLOWED = ("Where a peer is quicker",)
 
 PAGE = re.compile(r".*\.md")
 # The page of which only the newest version's part is looked at: what older ones have was published.

@@ -126,8 +126,8 @@ class Places(unittest.TestCase):
 class Allowed(unittest.TestCase):
     """A use is allowed by its phrase, and each phrase is needed."""
 
-    PHRASE = "Where a peer is faster"
-    TEXTS = {"README.md": "Where a peer\nis faster, and where a peer is slower by far.\n"}
+    PHRASE = "Where a peer is quicker"
+    TEXTS = {"README.md": "Where a peer\nis quicker, and where a peer is slower by far.\n"}
 
     def test_only_the_phrase(self) -> None:
         lines = list(wording.wrong(self.TEXTS, [self.PHRASE]))
