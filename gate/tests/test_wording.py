@@ -38,6 +38,7 @@ WRONG = {
 # Sentences in which the same words are right.
 RIGHT = (
     "A value stands for a list, and lists stand for values.",
+    "The memory stands in for the words.",
     "The pool has as many buckets as there is room for.",
     "There are as many as before.",
     "The steps of both machines.",
