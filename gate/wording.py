@@ -1,4 +1,4 @@
-"""Words that crept in, and that a native speaker of English would not use in these places.
+"""Words that crept in and that a native speaker of English would not use in these places.
 
 Pages, the comments of the headers for C and C++, and doc comments have none of them, except for the
 uses that ALLOWED names. Code isn't looked at. A word is here only if it can be found by a pattern
@@ -54,7 +54,7 @@ WORDS = (
     Word(rf"{NOT_A_PLACE}\b[Ww]here {SUBJECT} (?:[\w'-]+ ){{0,4}}?{IS}\b{NOT_PLACED}", "if"),
 )
 
-# The uses that are right: the phrase in which the word is.
+# Uses that are right, each by a phrase that has the word.
 ALLOWED = ("Where a peer is quicker",)
 
 PAGE = re.compile(r".*\.md")
