@@ -101,6 +101,8 @@ class Hosts:
         """Runs what GUIDE.md and README.md show for C, from a fresh copy of the repository."""
         if not has("pkg-config", environment):
             return
+        if not has("c++", environment):
+            return
         script = must_run([self.top / ".ci/pages", "--hosts"], self.top)
         shown = self.work / "shown"
         shown.write_text(script, encoding="utf-8")

@@ -5,9 +5,9 @@
 
 Each example of README.md and GUIDE.md is in that script, or in a file that is proved or that tests
 run. What pages and comments name is there, and so is what they link to. PROMISES.md and the edits
-name calls with labels of their clauses. Numbers that a page repeats are right. No text is new by
-which a call of what threads share could wait, and the files that a person has to read are as they
-were read.
+name calls with labels of their clauses. Numbers that a page repeats are right. Pages and comments
+that users read are free of the words in `gate/wording.py`. No text is new by which a call of what
+threads share could wait, and the files that a person has to read are as they were read.
 """
 
 import re
@@ -16,7 +16,7 @@ from dataclasses import dataclass
 from fnmatch import filter as matching
 from pathlib import Path
 
-from gate import contracts, links, places, process, public, readings, versions
+from gate import contracts, links, places, process, public, readings, versions, wording
 from gate.crates import TOP, Workspace
 from gate.edits import BadEdit, parse_edit
 from gate.files import TreeChanged, texts_below
@@ -219,6 +219,8 @@ def findings(tree: Tree) -> Iterator[str]:
     yield from wrong_promises(tree)
     yield from unnamed_crates(tree)
     yield from wrong_first_words(tree)
+    yield from wording.wrong(tree.texts)
+    yield from wording.unused(tree.texts)
     yield from places.findings(tree.texts)
     yield from readings.findings(tree.texts)
     yield from long_subject(tree.top)
@@ -227,14 +229,15 @@ def findings(tree: Tree) -> Iterator[str]:
 def hosts(page: str) -> Iterator[str]:
     """Yields a script of what a page shows from C, in parts.
 
-    A text of C goes into the file that the line above it names. Raises Failed if none is named.
+    A text of C or C++ goes into the file that the line above it names. Raises Failed if none is
+    named.
     """
-    blocks = re.findall(r"(?:`([\w.]+)`:\n\n)?^```(sh|c)\n(.*?)^```$", page, re.M | re.S)
+    blocks = re.findall(r"(?:`([\w.]+)`:\n\n)?^```(sh|c|cpp)\n(.*?)^```$", page, re.M | re.S)
     for file, language, text in blocks:
         if language == "sh":
             yield text
         elif not file:
-            raise Failed(f"pages: a program in C whose file isn't named:\n{text}")
+            raise Failed(f"pages: a program whose file isn't named:\n{text}")
         else:
             yield f"cat > {file} <<'END'\n{text}END\n"
 

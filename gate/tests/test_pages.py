@@ -7,7 +7,7 @@ from collections.abc import Callable, Iterable
 from pathlib import Path
 from unittest import mock
 
-from gate import contracts, links, pages, process, versions
+from gate import contracts, links, pages, process, versions, wording
 from gate.files import TreeChanged, texts_below
 from gate.pages import Tree
 from gate.tests.sample import TEXTS, changed, checkout
@@ -32,6 +32,7 @@ CHECKS: dict[str, Check] = {
     "folders of edits": pages.lost_edits,
     "crates": pages.unnamed_crates,
     "first words": pages.wrong_first_words,
+    "words": lambda tree: wording.wrong(tree.texts),
     "examples": pages.lost_examples,
 }
 
@@ -238,6 +239,10 @@ class Shown(unittest.TestCase):
     def test_script(self) -> None:
         page = "The whole `a.c`:\n\n```c\nint a;\n```\n\n```rust\nfn a() {}\n```\n\n```sh\ncc a.c\n```\n"
         self.assertEqual(list(pages.hosts(page)), ["cat > a.c <<'END'\nint a;\nEND\n", "cc a.c\n"])
+
+    def test_script_of_a_program_in_cpp(self) -> None:
+        page = "This is `a.cpp`:\n\n```cpp\nint a;\n```\n"
+        self.assertEqual(list(pages.hosts(page)), ["cat > a.cpp <<'END'\nint a;\nEND\n"])
 
     def test_a_program_without_a_name(self) -> None:
         with self.assertRaisesRegex(process.Failed, "isn't named:\nint a;"):

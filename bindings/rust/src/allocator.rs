@@ -73,7 +73,7 @@ pub unsafe trait BaseAllocator {
 /// # Safety
 ///
 /// A resized chunk is as [`BaseAllocator`] requires of an allocated one. It begins where the chunk
-/// began, and has the chunk's bytes up to the smaller of both lengths.
+/// began, and has the chunk's bytes up to the smaller of the two lengths.
 pub unsafe trait Allocator: BaseAllocator {
     /// Grows the chunk at `ptr` to at least `new_layout.size()` bytes.
     ///
