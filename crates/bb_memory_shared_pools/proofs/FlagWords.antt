@@ -44,7 +44,7 @@ held_mark Free party same = same
 held_mark (HeldBy holder) party same = same
 held_mark (DetachedBy sender) party same = absurd (cc)
 
--- the number of a party fits into 32 bits, and so the mark of a bucket with a token is none without one
+-- the number of a party fits into 32 bits, so the mark of a bucket with a token isn't one without a token
 pub flag_named : (party : ℕ) → party < 4294967296 → flag_in (DetachedBy party) ≡ DetachedBy party
 flag_named party small = let same : party % 4294967296 ≡ party = omega arith in ap DetachedBy same
 
@@ -132,7 +132,7 @@ names_within parties most (DetachedBy party) at_most made = omega arith
 abbrev pub exchanged : ℕ → ℕ → ℕ
 exchanged word found = either (eqb found 0) word found
 
--- it leaves the word of a taken bucket
+-- such an exchange leaves the word of a taken bucket
 pub exchange_leaves : (word : ℕ) (mark : Flag) → is_taken mark ≡ true → exchanged word (as_word mark) ≡ as_word mark
 exchange_leaves word mark taken =
     ap (λ b. either b word (as_word mark)) (ne_eqb (as_word mark) 0 (taken_word mark taken))

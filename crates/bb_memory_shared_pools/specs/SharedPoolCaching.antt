@@ -35,7 +35,7 @@ pub record SearchesPool (old : CachingParty) (layout : Layout) (result : Result 
   pub serves : ServesAlone old.party.allocator old.party layout result new.party
   pub unchanged : new ≡ record old { party = new.party }
 
--- a refused request: a search of the pool refused it, and if with OutOfMemory, no bucket was cached
+-- a refused request: a search of the pool refused it. If the error is OutOfMemory, no bucket was cached
 pub record RefusesCaching (old : CachingParty) (layout : Layout) (error : AllocationError) (new : CachingParty) : Type 0 where
   pub answer : MayTakeFrom (hint_of old.party) old.party layout (Err error) new.party
   pub unchanged : new ≡ record old { party = new.party }
