@@ -17,10 +17,10 @@ use thread_layers::pool_messages::{receive, send};
 /// The number of messages that are sent.
 const MESSAGES: u32 = 1000;
 
-/// The number of times that an end looks whether it gets on, and lets others run where it doesn't.
+/// The number of times that an end tries to make progress, and lets others run if it can't.
 const TRIES: u32 = 10_000_000;
 
-/// The pool of a queue's messages, which a type names so.
+/// The pool of a queue's messages, which a type names.
 trait MessagePool {
     ghost use Rattle.bb_memory_shared_pools.specs.SharedPool.{SharedPool};
     ghost use Rattle.std.specs.Prelude.{Option};
@@ -45,7 +45,7 @@ impl<P: MessagePool> Protocol<DetachedBucket> for OfPool<P> {
     ghost allows = { λ before message. P.pool ≡ Some message.allocator };
 }
 
-/// Sends a message, if there is a bucket for it and room in the queue. The bucket of one that finds no room is given back.
+/// Sends a message, if there is a bucket for it and room in the queue. If the queue has no room, the bucket is given back.
 fn send_one<P: MessagePool>(
     pool: &SharedPoolAllocator,
     party: &mut PoolParty,
@@ -121,7 +121,7 @@ fn receive_all<P: MessagePool>(
     (party, received)
 }
 
-/// One thread sends, while another receives. How many messages each counted, and the receiver's party.
+/// Makes one thread send while another receives. Returns how many messages each counted, and the receiver's party.
 fn send_and_receive<P: MessagePool + Send, R: Threads + Sync + AllocGlobal>(
     rt: &R,
     pool: &SharedPoolAllocator,
@@ -150,8 +150,8 @@ fn send_and_receive<P: MessagePool + Send, R: Threads + Sync + AllocGlobal>(
     Ok((receiver, sent, received))
 }
 
-/// Sends a thousand messages in two buckets: each arrives, both buckets are free in the end, and there is no third. The call's
-/// brand names the pool.
+/// Sends a thousand messages in two buckets: each arrives, both buckets are free in the end, and there is no third bucket. The
+/// call's brand names the pool.
 #[test]
 fn threads_pool_queue(rt: HostRuntime) {
     let (small, (pool, sender, receiver)) = (layout(&rt, 48, 4), two(&rt, 256));

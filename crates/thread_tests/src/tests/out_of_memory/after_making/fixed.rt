@@ -13,7 +13,7 @@ use test_marks::refuse_memory;
 
 type Four = SharedFixedSizePoolAllocator<4>;
 
-/// Makes a pool over 1,024 bytes at 4096 for one party, or fails where memory was refused.
+/// Makes a pool over 1,024 bytes at 4096 for one party. Fails if memory ran out.
 fn four(alloc: Global) -> Option<(Four, Vec<PoolParty>)>
     ensures { IfSome result (λ made. All (λ party. party.allocator ≡ made.0) made.1.items) }
 {

@@ -17,7 +17,7 @@ fn two_parties(rt: HostRuntime) {
     none_asked(rt);
 }
 
-/// Where a request for memory is refused, the bump comes back with its text.
+/// If a request for memory fails, the bump comes back with its text.
 // row: share-keeps-position, refused-share
 #[test]
 fn what_was_used_stays_used(rt: HostRuntime) {
@@ -31,7 +31,7 @@ fn what_was_used_stays_used(rt: HostRuntime) {
     none_asked(rt);
 }
 
-/// A thousand parties meet. The last one has seen nothing of what another one took then.
+/// A thousand parties meet. The last one hasn't seen what another one took then.
 #[test]
 fn the_last_party_made_no_step(rt: HostRuntime) {
     let rt = &rt;

@@ -1,4 +1,4 @@
-//! Parties of one thread that share a pool of buckets of 128 bytes. A request answers a bucket's number, place and length.
+//! Parties of one thread that share a pool of buckets of 128 bytes. A request returns a bucket's number, place and length.
 ghost use Rattle.std.specs.Prelude.{All, ◌<◌, ◌≡◌};
 
 use crate::tests::buckets::{add, fit, found, hold, last_of, pool_at_last, take, two};
@@ -42,7 +42,7 @@ fn two_parties_of_one_bucket(rt: HostRuntime) {
     none_asked(rt);
 }
 
-/// The last party's part of the pool is its last bucket, also when all parties have met.
+/// The last party's part of the pool is its last bucket, even after all parties met.
 #[test]
 fn as_many_parties_as_buckets(rt: HostRuntime) {
     let (pool, mut all) = pool_at_last(&rt, 65536, 512);
@@ -127,7 +127,8 @@ fn a_detached_bucket_is_nobodys(rt: HostRuntime) {
     none_asked(rt);
 }
 
-/// Attaches the bucket of this number that `from` may have detached, and gives it back where that won, which is told.
+/// Attaches the bucket of this number, which `from` may have detached, and gives it back if that succeeded. Returns whether it
+/// did.
 fn attaches_number(
     pool: &SharedPoolAllocator,
     party: &mut PoolParty,
@@ -146,7 +147,8 @@ fn attaches_number(
     won
 }
 
-/// A bucket that was detached by its number is attached once, by the number of who detached it, and one with a token is not.
+/// A bucket that was detached by its number is attached once, by the number of the party that detached it. A bucket with a
+/// token is not.
 #[test]
 fn a_number_is_attached_once(rt: HostRuntime) {
     let (small, (pool, mut a, mut b)) = (layout(&rt, 48, 4), two(&rt, 128));
@@ -175,8 +177,8 @@ fn a_number_is_attached_once(rt: HostRuntime) {
     none_asked(rt);
 }
 
-/// A search begins in the party's part. It goes on where the last one ended, or at the bucket that came back last, and then at
-/// bucket 0.
+/// A search begins in the party's part. The next one begins where the last one ended, or at the bucket that came back last, and
+/// goes on at bucket 0.
 #[test]
 fn a_search_goes_on(rt: HostRuntime) {
     let (small, (pool, mut a, mut b)) = (layout(&rt, 48, 4), two(&rt, 1024));
@@ -219,7 +221,7 @@ fn detached(rt: &impl Abort, pool: &SharedPoolAllocator, all: &mut Vec<PoolParty
     pool.has_detached(all)
 }
 
-/// A bucket is detached from its detaching to its return, and no other is.
+/// A bucket is detached from its detaching to its return, and no other bucket is.
 #[test]
 fn a_detached_bucket_is_found(rt: HostRuntime) {
     let (small, (pool, mut all)) = (layout(&rt, 48, 4), pool_at_last(&rt, 384, 2));
@@ -240,7 +242,7 @@ fn a_detached_bucket_is_found(rt: HostRuntime) {
     none_asked(rt);
 }
 
-/// A bucket is held from its taking to its return, also while it is detached. A refusal changes nothing.
+/// A bucket is held from its taking to its return, even while it is detached. A refusal changes nothing.
 #[test]
 fn held_buckets_are_counted(rt: HostRuntime) {
     let (small, (pool, mut a, mut b)) = (layout(&rt, 48, 4), two(&rt, 256));
@@ -281,7 +283,7 @@ fn shrink(
     pool.shrink(bucket, old, new)
 }
 
-/// A chunk is shrunk. Then its bucket is made again by its number, and given back.
+/// A chunk is shrunk. Then a token of its bucket is made from the bucket's number, and the bucket is given back.
 #[test]
 fn a_bucket_by_its_number(rt: HostRuntime) {
     let (small, (pool, mut party, _)) = (layout(&rt, 48, 4), two(&rt, 128));
