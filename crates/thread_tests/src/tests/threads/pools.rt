@@ -24,7 +24,7 @@ struct Work {
     next_fit: bool,
     layout: Layout,
     times: u32,
-    /// Whether each bucket is given back; otherwise its token is dropped.
+    /// True if each bucket is given back, false if its token is dropped.
     returns: bool,
 }
 
