@@ -69,8 +69,8 @@ AllFitting region state = (party : ℕ) (call : OngoingCall) → IsInCall state 
 abbrev pub ending : BumpOutcome → ℕ → PartyMove
 ending outcome position = record { outcome = outcome; position = position; call = None }
 
--- a move with this outcome that leaves the party in a call for this layout, which has seen this
--- position, and the machine there
+-- a move with this outcome that leaves the party in a call for this layout, which has seen this position, and the machine at
+-- this position
 abbrev pub seeing : BumpOutcome → ℕ → Layout → PartyMove
 seeing outcome position layout =
     let call : OngoingCall = record { layout = layout; seen = position } in

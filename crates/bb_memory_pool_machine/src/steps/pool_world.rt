@@ -1,4 +1,4 @@
-//! A pool machine that can be run: of each bucket its flag, and of each party the bucket that its pass tries next.
+//! A pool machine that can be run: for each bucket its flag, and for each party the bucket that its pass tries next.
 ghost use Rattle.bb_memory_pool_machine.specs.PoolMachine.{Attach, AttachFrom, Detach, GiveBack, GiveBackDetached, Try, TryAt, all_free, holder_of};
 ghost use Rattle.bb_memory_pool_machine.specs.PoolWorld.{IsPoolWorld, PoolWorld, Replays, Steps, world_of};
 ghost use Rattle.std.specs.Prelude.{IfOk, IsSome, length, slice_get, ◌<◌, ◌≡◌};
@@ -7,7 +7,7 @@ use super::{Flag, PoolOutcome, PoolStep};
 use std::alloc::{AllocError, Global};
 use std::marker::Model;
 
-/// The pool machine over some buckets, with its parties. No step takes memory.
+/// The pool machine over some buckets, with its parties. No step allocates memory.
 ///
 /// Example: `comments::pool_world` of `crates/examples`.
 #[derive(Drop)]
@@ -26,8 +26,8 @@ impl Model for PoolWorld {
 }
 
 impl PoolWorld {
-    /// Makes the machine over that many buckets, all flags free, with that many parties, all idle. It fails only if memory
-    /// ran out.
+    /// Makes the machine over that many buckets, all flags free, with that many parties, all idle. Fails only if memory ran
+    /// out.
     pub fn new(alloc: Global, buckets: u32, parties: u32) -> Result<PoolWorld, AllocError>
         ensures opened { IfOk result (λ world. world ≡ all_free buckets parties) }
     {
@@ -40,7 +40,7 @@ impl PoolWorld {
         })
     }
 
-    /// Takes one atomic step, and returns what it found. It doesn't allocate.
+    /// Takes one atomic step, and returns what it found. The call allocates no memory.
     pub fn step(&mut self, step: PoolStep) -> PoolOutcome
         ensures { Steps self.old step result self.new }
     {
