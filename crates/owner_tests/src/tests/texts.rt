@@ -1,4 +1,4 @@
-//! Texts of what is displayed.
+//! Texts of `Display` and `Debug`.
 use super::checks::{check, layout};
 use super::kinds::fixed_over;
 use bb_memory_bump::bump_allocator::{BaseAllocator, BumpAllocator};

@@ -1,4 +1,4 @@
-//! Runs of commands. A refused run applies no command, and is made again.
+//! Runs of commands. If memory runs out, a run applies no command, and is made again.
 use super::after_making::held_buckets::Buckets;
 use crate::tests::checks::{check, chunk, layout, refused, same};
 use crate::tests::kinds::{Of, made};
@@ -101,7 +101,7 @@ fn one_chunk_is_resized(rt: HostRuntime) {
     check(&rt, told.as_slice() == wanted.as_slice());
 }
 
-/// Takes two buckets, gives one back, and takes one more. Checks how many are held then, and how many were at most.
+/// Takes two buckets, gives one back, and takes one more. Checks how many are held then, and the greatest number so far.
 fn takes<A: Buckets>(
     rt: &(impl Abort + AllocGlobal),
     pool: &mut Owner<A>,
@@ -114,7 +114,7 @@ fn takes<A: Buckets>(
     told
 }
 
-/// Takes all buckets of a pool of four by two runs. A third one is refused a bucket.
+/// Takes all buckets of a pool of four by two runs. A third run's request is refused.
 fn fills<A: Buckets>(rt: &(impl Abort + AllocGlobal), of: Of) {
     let mut pool = made::<A>(rt, of);
     same(rt, takes(rt, &mut pool, (2, 2, true)).len(), 4);

@@ -1,4 +1,4 @@
-//! Replays of steps. A refused replay leaves its world unchanged, and is made again.
+//! Replays of steps. A failed replay leaves its world unchanged, and is made again.
 use crate::tests::checks::{check, chunk, layout, refused, same};
 use bb_memory_base::steps::PoolOutcome::{Gives, Loses, RefusedAtLoss, Takes};
 use bb_memory_base::steps::PoolStep::{GiveBack, Try};
@@ -17,7 +17,7 @@ pub(super) fn made<W: Drop>(
     world.ok()
 }
 
-/// Replays steps, at a second trial if memory ran out: then the bump is still fresh.
+/// Replays steps, in a second attempt if memory ran out: then the bump is still fresh.
 fn replayed_by_bump(
     rt: &(impl Abort + AllocGlobal),
     world: &mut BumpWorld,
@@ -79,7 +79,7 @@ const OUTCOMES: [PoolOutcome; 6] = [
     RefusedAtLoss(1),
 ];
 
-/// Replays the steps, at a second trial if memory ran out: then the pool is still fresh.
+/// Replays the steps, in a second attempt if memory ran out: then the pool is still fresh.
 fn replayed_by_pool(rt: &(impl Abort + AllocGlobal), world: &mut PoolWorld) -> Vec<PoolOutcome> {
     if let Ok(told) = world.replay(&STEPS) {
         return told;

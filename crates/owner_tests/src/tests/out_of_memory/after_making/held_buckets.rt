@@ -8,7 +8,7 @@ use std::alloc::Global;
 use std::process::Abort;
 use test_marks::refuse_memory;
 
-/// The buckets that are held, the most that were, and whether there is room for one more.
+/// The number of held buckets, the greatest number so far, and whether there is room for one more.
 type Counts = (u32, u32, bool);
 
 /// The place of a number, the number of a place, and whether the bucket there is held.
@@ -50,7 +50,7 @@ fn counts(rt: &impl Abort, pool: &impl Buckets, held: u32, greatest: u32, bucket
     same(rt, pool.told(0, 0).0, (held, greatest, held < buckets));
 }
 
-/// Allocates a bucket, whose place and number agree. By the count of held ones it is another one each time.
+/// Allocates a bucket, whose place and number agree. As the count of held buckets rises, it is another one each time.
 fn takes(rt: &impl Abort, pool: &mut impl Buckets, size: usize) {
     let Ok(chunk) = pool.allocate(layout(rt, size, size)) else {
         panic!(rt; "no bucket is free");
@@ -75,7 +75,7 @@ fn gives(rt: &impl Abort, pool: &mut impl Buckets, number: u32) {
     same(rt, pool.told(number, place).1, (at, found, false));
 }
 
-/// Checks that nothing is held or given back at a place at which no bucket of 16 bytes begins.
+/// Checks that no bucket is held, or given back, at a place at which no bucket of 16 bytes begins.
 fn has_none_between(rt: &impl Abort, pool: &mut impl Buckets, buckets: u32) {
     for wild in [0, 1, 4080, 4095, 4097, 4104, usize::MAX, place_of(buckets)] {
         same(rt, pool.told(buckets, wild).1, (None, None, false));
@@ -110,7 +110,7 @@ fn goes_round(rt: &(impl Abort + AllocGlobal), made: Option<impl Buckets>, bucke
     none_asked(rt);
 }
 
-/// More buckets than a word has bits; one; and none.
+/// Pools with more buckets than a word has bits, with one, and with none.
 #[test]
 fn a_pool_counts_what_it_holds(rt: HostRuntime) {
     for buckets in [70u32, 64, 1, 0] {
@@ -120,7 +120,7 @@ fn a_pool_counts_what_it_holds(rt: HostRuntime) {
     }
 }
 
-/// A fixed pool has no more buckets than its constant.
+/// A fixed pool has at most as many buckets as its constant says.
 #[test]
 fn fixed_counts_what_it_holds(rt: HostRuntime) {
     for (size, buckets) in [(1120, 66u32), (1056, 66), (48, 3), (0, 0)] {
@@ -129,7 +129,7 @@ fn fixed_counts_what_it_holds(rt: HostRuntime) {
     }
 }
 
-/// Requests a byte, which reads one index word. It is given at `place`, or refused if this is `None`.
+/// Requests a byte, which reads one index word. The byte is at `place`, or the request fails if this is `None`.
 fn by_one_read(rt: &impl Abort, pool: &mut PoolAllocator<Global>, place: Option<usize>) {
     let given = pool.allocate(layout(rt, 1, 1));
     same(rt, pool.last_reads(), 1);
@@ -139,7 +139,7 @@ fn by_one_read(rt: &impl Abort, pool: &mut PoolAllocator<Global>, place: Option<
     }
 }
 
-/// Takes all buckets of one byte, by one read each. Then the bucket at `place` goes back, and is the one that is given next.
+/// Takes all buckets of one byte, by one read each. Then the bucket at `place` is given back, and the next request gets it.
 fn fills(rt: &(impl Abort + AllocGlobal), buckets: u32, place: usize) {
     let Some(mut pool) = pool_over(rt.alloc(), layout(rt, 1, 1), 4096, buckets as usize) else {
         return refused(rt);

@@ -16,7 +16,7 @@ use std::alloc::Global;
 use std::process::Abort;
 use test_marks::refuse_memory;
 
-/// Asks for a chunk, and returns its place and its length.
+/// Requests a chunk, and returns its place and its length.
 fn takes<A: BaseAllocator + Drop>(
     rt: &impl Abort,
     owner: &mut Owner<A>,
@@ -54,7 +54,7 @@ fn takes_all<A: BaseAllocator + Drop>(rt: &impl Abort, owner: &mut Owner<A>, zer
     same(rt, owner.allocate(all, zeroed), refused);
 }
 
-/// Makes each call that resizes, plainly and then by clearing bytes, between a request and a return.
+/// Makes each call that resizes, first plainly and then with cleared bytes, between a request and a return.
 fn each_call<A: Kind + Allocator>(rt: &(impl Abort + AllocGlobal), of: Of) {
     let mut owner = fresh::<A>(rt, of);
     for (zeroed, end) in [(false, 4096), (true, 4160)] {
@@ -177,7 +177,8 @@ fn each_bucket_has_its_place(rt: HostRuntime) {
     fills::<PoolAllocator<Global>>(&rt, [4096, 64, 12, 8], (16, 4));
 }
 
-/// Spends a budget of one chunk over a pool of buckets of 128 bytes, which then refuses before its pool. A resize spends nothing.
+/// Spends a budget of one chunk over a pool of buckets of 128 bytes. Then the budget refuses a request before the pool gets it.
+/// A resize spends nothing.
 fn spends<A: Allocator + Drop>(rt: &(impl Abort + AllocGlobal), pool: A)
     requires fresh { A.stands_for pool [] }
     requires region { A.region_of (A.geometry pool) ≡ region_at 4096 1024 }
