@@ -1,4 +1,4 @@
-// What the loops in Rattle and the peers' loops in C share.
+// Declarations that the loops in Rattle and the peers' loops in C share.
 #include <stddef.h>
 #include <stdint.h>
 
@@ -56,7 +56,7 @@ typedef uint64_t rounds_of(const uint32_t *sizes, size_t count, size_t align, ui
 extern rounds_of bench_bump, c_bump, checked_bump, plain_bump;
 extern rounds_of bench_one_chunk, c_one_chunk, checked_one_chunk;
 
-// The other allocators that are timed, likewise.
+// The other allocators that are timed.
 #define OTHER_ROWS(ROW)                         \
     ROW("bump", "Rattle", bench_bump)           \
     ROW("bump", "C", c_bump)                    \
