@@ -77,8 +77,9 @@ def times_of(rounds: Rounds) -> Figures:
 
 
 def ratio(rounds: Rounds, key: Key, peers: tuple[str, ...]) -> float | None:
-    """Returns the median of a figure's ratios to the best of its peers within a round, or None
-    if none of them was timed.
+    """Returns the median of a figure's ratios to the best of its peers within a round.
+
+    Returns None if none of the peers was timed.
     """
     ours = rounds.get(key, {})
     theirs = [rounds[peer] for peer in (key._replace(by=by) for by in peers) if peer in rounds]

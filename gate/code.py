@@ -1,6 +1,4 @@
-"""The code of a source in Rattle: everything that runs, without comments, clauses, ghost items
-and layout.
-"""
+"""The code of a source in Rattle: what runs, without comments, clauses, ghost items and layout."""
 
 import functools
 import hashlib

@@ -114,8 +114,7 @@ class Workspace:
         return lock
 
     def lane(self, name: str, label: str = "0") -> "Workspace":
-        """Makes a lane of a crate in its out/, with the results that earlier checks kept of the
-        crate.
+        """Makes a lane of a crate in its out/, with the results of earlier checks of the crate.
 
         Returns it as a checkout of its own, which has this crate and those below it.
         """

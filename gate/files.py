@@ -15,8 +15,7 @@ class TreeChanged(Failed):
 
 
 def files_below(top: Path, skipped: Collection[str] = MADE) -> Iterator[Path]:
-    """Yields the files below a folder, in order, except those in a folder whose own name is
-    skipped.
+    """Yields the files below a folder, in order, except in folders whose own names are skipped.
 
     Names of folders above `top` don't count, so a checkout may be below a folder named `out`.
     Raises TreeChanged if a folder vanishes during the walk.
