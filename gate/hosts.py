@@ -99,9 +99,7 @@ class Hosts:
             )
 
     def run_pages(self, environment: Mapping[str, str]) -> None:
-        """Runs the programs that GUIDE.md and README.md show for C, from a fresh copy of the
-        repository.
-        """
+        """Runs the programs of GUIDE.md and README.md for C, from a fresh copy of the tree."""
         if not has("pkg-config", environment):
             return
         script = must_run([self.top / ".ci/pages", "--hosts"], self.top)

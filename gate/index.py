@@ -66,9 +66,7 @@ def labels_of(call: Call) -> list[str]:
 
 @dataclass(frozen=True)
 class Type:
-    """A public type, and its steps: the types of which it is another name, each with its
-    parameters.
-    """
+    """A public type, and its steps: the types that it is another name of, with parameters."""
 
     item: rattle.TypeItem
     within: tuple[str, ...]

@@ -90,9 +90,7 @@ def checks(top: Path) -> list[Check]:
 
 
 def is_layout_of(tool: str, environment: Mapping[str, str]) -> bool:
-    """Returns whether a tool has the version by which files are laid out. Otherwise a line says
-    so.
-    """
+    """Returns whether a tool has the version by which files are laid out. A line says if not."""
     if tool not in LAYOUT_OF:
         return True
     version = process.run([tool, "--version"], TOP, environment).text.partition("\n")[0]
@@ -103,9 +101,7 @@ def is_layout_of(tool: str, environment: Mapping[str, str]) -> bool:
 
 
 def findings(check: Check, environment: Mapping[str, str]) -> str | None:
-    """Returns the output of a tool that finds something, or None if it finds nothing or can't be
-    run.
-    """
+    """Returns the findings of a tool, or None if it finds nothing or can't be run."""
     if not has(check.tool, environment) or not is_layout_of(check.tool, environment):
         return None
     ran = process.run(check.words, check.folder, environment)

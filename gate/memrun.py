@@ -54,9 +54,7 @@ class Ended:
 
 @dataclass(frozen=True)
 class Setting:
-    """The setting in which memrun is run: a file instead of a script or of its output, and the
-    environment.
-    """
+    """The setting of a run: a file instead of a script or of its output, and the environment."""
 
     input_file: Path | None = None
     output_file: Path | None = None
@@ -303,9 +301,7 @@ def run_scripts() -> None:
 
 
 def run_out_of_memory(library: Path) -> None:
-    """Runs memrun with each request for memory failing, one in each run, with a library that
-    does so.
-    """
+    """Runs memrun with each request for memory failing, one in each run, by a library."""
     count = 0
     for script in [*MEMORY, *POOLS, stored(), *worked()]:
         count += refuse_in_turn(script, library)

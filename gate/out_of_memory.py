@@ -70,8 +70,9 @@ def tests_of(program: Path) -> list[OomTest]:
 
 
 def refuse_in_turn(test: OomTest, library: Path) -> None:
-    """Runs a test with each of its requests failing, one in each run. Raises Failed if the test
-    fails.
+    """Runs a test with each of its requests failing, one in each run.
+
+    Raises Failed if the test fails.
     """
     for at in range(1, MOST_REQUESTS):
         said = test.run(library, {"REFUSE_AT": str(at)})
@@ -83,8 +84,9 @@ def refuse_in_turn(test: OomTest, library: Path) -> None:
 
 
 def refuse_after_making(test: OomTest, library: Path) -> None:
-    """Runs a test with all requests failing after the making of values. Raises Failed if the
-    test fails.
+    """Runs a test with all requests failing after the making of values.
+
+    Raises Failed if the test fails.
     """
     said = test.run(library, {"REFUSE_MARKED": "1"})
     if said.status != MET_MARKS:

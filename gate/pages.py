@@ -196,9 +196,7 @@ def wrong_promises(tree: Tree) -> Iterator[str]:
 
 
 def long_subject(top: Path) -> Iterator[str]:
-    """Yields the subject of the last commit if it is too long, and if the checkout is one of
-    git.
-    """
+    """Yields the subject of the last commit if it is too long and the checkout is one of git."""
     if not (top / ".git").exists():
         return
     shown = process.run(["git", "log", "-1", "--format=%s"], top)

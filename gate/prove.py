@@ -37,9 +37,7 @@ def product_of(workspace: Workspace, name: str) -> Path:
 
 
 def is_kept(workspace: Workspace, name: str) -> bool:
-    """Returns whether an earlier run proved a crate, and nothing that its proof read has
-    changed.
-    """
+    """Returns whether an earlier run proved a crate, and nothing of what it read has changed."""
     stamp = workspace.out(name) / "proved"
     if not stamp.exists() or not product_of(workspace, name).exists():
         return False
@@ -78,10 +76,9 @@ def bring(made: Path, out: Path) -> None:
 def prove(
     workspace: Workspace, name: str, jobs: int, nice: int, report: Callable[[str], None]
 ) -> bool:
-    """Proves and builds a crate over those below it, unless a proof is kept. Returns whether it is
-    proved.
+    """Proves and builds a crate over those below it, unless a proof is kept.
 
-    Prints the reason if it isn't, and the cost.
+    Returns whether it is proved. Prints the reason if it isn't, and the cost.
     """
     if is_kept(workspace, name):
         return True

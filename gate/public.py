@@ -41,9 +41,7 @@ class Modules:
         }
 
     def exports(self, module: Path) -> dict[str, Path]:
-        """Returns where each public name of a module is declared. Names of libraries aren't
-        among them.
-        """
+        """Returns where each public name of a module is declared, except names of libraries."""
         text = self.texts[module]
         found = {name: (*module, name) for name in MODULE.findall(text)}
         found |= {name: (*module, name) for _, name in ITEM.findall(text)}
@@ -87,9 +85,7 @@ def without_comments(lines: list[str]) -> str:
 
 
 def text_of_type(index: Index, type: Type) -> str:
-    """Returns the text of a type: its public fields or its variants, or the type of which it is
-    another name.
-    """
+    """Returns the text of a type: its public fields or variants, or the type that it renames."""
     lines = index.texts[f"crates/{type.place.file}"].split("\n")[type.place.line - 1 :]
     if type.item.kind == "type" or lines[0].endswith((";", "}")):
         after = next(number for number, line in enumerate(lines) if line.endswith((";", "}")))

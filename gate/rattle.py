@@ -77,9 +77,7 @@ class TypeItem:
 
 @dataclass(frozen=True)
 class Source:
-    """The declarations of a file of `src`. `functions` are those that are in no trait and no
-    impl.
-    """
+    """The declarations of a file of `src`. `functions` are those outside traits and impls."""
 
     functions: tuple[Function, ...]
     blocks: tuple[Block, ...]

@@ -88,9 +88,7 @@ def refused_answers(path: str, text: str) -> Iterator[str]:
 
 
 def compile_errors(text: str) -> list[str]:
-    """Returns the errors with which a check ends before any proof because a text isn't a
-    program.
-    """
+    """Returns the errors that end a check before any proof because a text isn't a program."""
     return re.findall(r"^(?:\S+ error\[[\w-]+\]|rattle: error): .*", text, re.M)
 
 

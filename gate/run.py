@@ -60,10 +60,9 @@ def refuse_waiting_functions(log: str) -> None:
 
 
 def copy_for_rt(top: Path, copy: Path) -> None:
-    """Copies the files that `rt ci` reads, without mutants, since it would prove a crate once more
-    for each.
+    """Copies the files that `rt ci` reads, without mutants.
 
-    `.ci/mutants` judges those.
+    For each mutant it would prove a crate once more. `.ci/mutants` judges them.
     """
     copy.mkdir()
     for file in ("HANDLES", "crates.txt"):
@@ -73,9 +72,7 @@ def copy_for_rt(top: Path, copy: Path) -> None:
 
 
 class Background:
-    """A command that runs beside others. Its output goes to a file, or otherwise to the gate's
-    own output.
-    """
+    """A command that runs beside others. Its output goes to a file, or to the gate's own output."""
 
     def __init__(self, words: Sequence[str | Path], folder: Path, log: Path | None) -> None:
         self.log = log
@@ -105,9 +102,7 @@ class Background:
 
 
 def show_until_end(command: Background, log: Path, beginning: str) -> None:
-    """Shows the lines of a command's output that begin with `beginning`, old and new, until it
-    ends.
-    """
+    """Shows the lines of a command's output that begin with a text, old and new, until it ends."""
     with log.open(encoding="utf-8", errors="replace") as output:
         rest = ""
         has_ended = False
@@ -149,9 +144,7 @@ def show_rows(top: Path) -> None:
 
 
 def check_texts(top: Path) -> None:
-    """Runs the checks that prove nothing, in seconds: the gate's tests, sources, pages, rows and
-    layout.
-    """
+    """Runs the checks that prove nothing: the gate's tests, sources, pages, rows and layout."""
     test_gate(top)
     refuse_waiting_lines(Workspace(top))
     must_show([top / ".ci/pages"], top)

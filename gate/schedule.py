@@ -47,9 +47,7 @@ class Scheduler:
         self.results: dict[str, list[bool]] = {}
 
     def ready(self) -> list[str]:
-        """Returns the crates that have not begun, and whose crates below are all done,
-        successfully or not.
-        """
+        """Returns the crates that have not begun, and below which all are done or have failed."""
         return [
             name
             for name in self.plan.proves

@@ -32,9 +32,7 @@ CHECK_TAKES = 4_000_000
 
 
 def most_at_once() -> int:
-    """Returns how many crates are proved at a time: as many as processors and available memory
-    allow.
-    """
+    """Returns how many crates are proved at a time: as processors and available memory allow."""
     text = Path("/proc/meminfo").read_text(encoding="utf-8")
     available = re.search(r"MemAvailable: +(\d+)", text)
     if available is None:
@@ -123,9 +121,7 @@ class Test:
             return self.part("runs the examples in C", make)
 
     def run(self, names: Sequence[str]) -> list[bool]:
-        """Tests these crates and those below them, or all, and returns for each part whether it
-        succeeded.
-        """
+        """Tests these crates and those below them, or all. Returns whether each part succeeded."""
         wanted = wanted_crates(self.workspace, names)
         plan = plan_of(self.workspace, wanted)
         say(

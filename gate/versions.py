@@ -35,9 +35,7 @@ def pages(texts: Mapping[str, str]) -> Iterator[str]:
 
 
 def copies(texts: Mapping[str, str]) -> Iterator[tuple[str, re.Pattern[str], str]]:
-    """Yields each file that repeats the version, the text in which it does, and the right
-    version.
-    """
+    """Yields each file that repeats the version, the text with it, and the right version."""
     version = version_of(texts)
     for name, number in zip(PARTS, version.split(".")):
         yield HEADER, re.compile(rf"(^#define BB_VERSION_{name} )(\d+)($)", re.M), number
@@ -48,9 +46,7 @@ def copies(texts: Mapping[str, str]) -> Iterator[tuple[str, re.Pattern[str], str
 
 
 def wrong(texts: Mapping[str, str]) -> Iterator[str]:
-    """Yields each place that has another version than the header, and everything that
-    CHANGELOG.md lacks.
-    """
+    """Yields each place that has another version than the header, and what CHANGELOG.md lacks."""
     for file, pattern, right in copies(texts):
         found = pattern.findall(texts[file])
         if not found and pattern is not RELEASE:

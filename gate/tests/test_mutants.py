@@ -88,9 +88,7 @@ class JudgeTest(CheckoutTest):
         self.assertIs(found.outcome, Outcome.NOT_JUDGED)
 
     def test_lanes(self) -> None:
-        """Judges in lanes, with a program `rt` that fails on each text that isn't the edited
-        one.
-        """
+        """Judges in lanes, with a program `rt` that fails on each text but the edited one."""
         self.add(round_up=ROUND_UP, within=WITHIN)
         stored = self.work / "log"
         stored.write_text(log("round"), encoding="utf-8")
