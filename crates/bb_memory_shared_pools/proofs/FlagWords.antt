@@ -1,4 +1,4 @@
--- Each bucket of a shared pool has a word of its own, which says its mark. What a step on that word makes of the marks.
+-- Each bucket of a shared pool has a word of its own, which encodes its mark. The effect of a step on that word on the marks.
 use Rattle.atomic_table.specs.Table.{Allows, Me, State}
 use Rattle.bb_memory_pool_machine.specs.PoolLogs.{IsDetachedIn, LogsAgree, PoolLog, is_taken}
 use Rattle.bb_memory_pool_machine.specs.PoolMachine.{NamesMade, PoolScene}
@@ -58,7 +58,7 @@ no_token marks bucket party small there (sender, is) =
 
 -- WORDS AND MARKS
 
--- what is found in the word of a bucket with this mark
+-- the value that is found in the word of a bucket with this mark
 pub found_in : (words : List ℕ) (marks : List Flag) (bucket : ℕ) (mark : Flag) → words ≡ words_of marks →
     slice_get marks bucket ≡ Some mark → get_or words (word_of bucket) 0 ≡ as_word mark
 found_in words marks bucket mark have at =
@@ -67,7 +67,7 @@ found_in words marks bucket mark have at =
     ∙ get_or-map as_word marks bucket Free 0 (slice_get_within marks bucket mark at)
     ∙ ap as_word (get_or_from_slice_get marks bucket mark Free at)
 
--- a write after the words in front
+-- a write after the words before the flags
 set-append-add : (front words : List ℕ) (i word : ℕ) → set (front ++ words) (length front + i) word ≡ front ++ set words i word
 set-append-add [] words i word = let none : 0 + i ≡ i = omega arith in ap (λ (k : ℕ). set words k word) none
 set-append-add (first ∷ front) words i word =

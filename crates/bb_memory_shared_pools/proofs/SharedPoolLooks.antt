@@ -48,7 +48,7 @@ looks_as scene slots seat word bucket parties me there is below =
 
 -- WHAT A WORD SAYS
 
--- a word that is even and not 0 says that its bucket is detached
+-- a word that is even and not 0 encodes that its bucket is detached
 even_word : (mark : Flag) → as_word mark ≢ 0 → as_word mark % 2 ≡ 0 → (sender : ℕ) × (flag_in mark ≡ DetachedBy sender)
 even_word Free some even = absurd (some refl)
 even_word (HeldBy party) some even = absurd (omega arith)

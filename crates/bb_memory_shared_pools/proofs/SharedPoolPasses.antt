@@ -12,7 +12,7 @@ use Rattle.bb_memory_shared_pools.specs.SharedPoolRule.{AfterPassWin, AfterRefus
 use Rattle.std.proofs.Common.{None, Some, [], add-one, ap, append-nil, append_assoc, arith, subst, sym, ℕ, ◌++◌, ◌+◌, ◌<◌, ◌∙◌, ◌∷◌, ◌≡◌}
 use borrow.Author.Count.{below_more}
 
--- a pass under way: since it began, the seat's party has lost at the buckets below this one
+-- a pass in progress: since it began, the seat's party has lost at the buckets below this one
 pub record IsPassing (scene : PoolScene) (number : ℕ) (log : PoolLog) (bucket : ℕ) (me : Me ℕ SeatView) : Type 0 where
   pub seat : IsSeatOf scene number (log ++ losses scene.geometry.buckets number bucket) me
   pub held : scene.parties ≡ 1 → AreAllHeldAfter log bucket

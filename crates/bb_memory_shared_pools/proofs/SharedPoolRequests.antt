@@ -40,7 +40,7 @@ other_with None bucket held apart is = is
 other_with (Some taken) bucket held apart is =
     sym (ap (λ (b : Bool). if b then true else held) (test_apart taken bucket (λ same. apart (sym same)))) ∙ is
 
--- tries that have ended: what they add to the log, what is held then, and what they found
+-- tries that have ended: their entries in the log, the buckets that are held then, and their result
 pub record HasAsked (scene : PoolScene) (number : ℕ) (log added : PoolLog) (result : Option ℕ) (new : Me ℕ SeatView)
     : Type 0 where
   pub ended : AfterCall scene number log added new

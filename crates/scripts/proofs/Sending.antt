@@ -37,14 +37,14 @@ pub keeps_same : (known : Option (List ℕ)) → Keeps known known
 keeps_same None = tt
 keeps_same (Some a) = refl
 
--- or no byte is
+-- nothing changes if no byte is appended
 pub kept_by_none : (old new : Option (List ℕ)) (left : List ℕ) (count : ℕ) → count ≡ 0 → Appends old new (take count left)
     → Keeps old new
 kept_by_none None new left count none wrote = tt
 kept_by_none (Some a) None left count none wrote = absurd wrote
 kept_by_none (Some a) (Some b) left count none wrote = (rw none at wrote) ∙ append-nil a
 
--- what isn't left of a text is written
+-- the part of a text that isn't left is written
 abbrev pub Sent : List ℕ → List ℕ → Option (List ℕ) → Option (List ℕ) → Type 0
 Sent text left old new = (sent : List ℕ) × (text ≡ sent ++ left) × Appends old new sent
 
