@@ -158,7 +158,7 @@ error! {
 }
 
 error! {
-    /// The reason why a shared bump wasn't reset. It is unchanged.
+    /// Why a bump that threads share wasn't reset. It is unchanged.
     ResetError {
         /// A party is joined.
         PartiesJoined = PARTIES_JOINED: "a party is joined",

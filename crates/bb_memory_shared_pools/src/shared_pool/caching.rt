@@ -349,8 +349,8 @@ impl CachingParty {
         pool.recover(&mut self.party, number, lost)
     }
 
-    /// Gives all cached buckets back to the pool, as `flush` does, and caches at most `most` from then on. The call allocates
-    /// memory for their list. If it fails, with `OutOfMemory`, nothing changes. The party has to be this pool's.
+    /// Gives all cached buckets back to the pool, as `flush` does, and caches at most `most` from then on. It takes memory for
+    /// their list. A refusal, with `OutOfMemory`, changes nothing. The party has to be this pool's.
     #[tactic(auto, unfolding(crate::specs::SharedPoolCaching::IsOut))]
     pub fn cache_at_most<const CAPPED: usize, const MOST: usize>(
         &mut self,

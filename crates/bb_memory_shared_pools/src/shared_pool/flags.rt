@@ -386,8 +386,8 @@ impl Flags {
         flag_of(word)
     }
 
-    /// Loads the flag of `bucket` by a seat at which the bucket is detached. Returns whether the flag says so: the flag of a
-    /// bucket that was detached without a token differs.
+    /// Loads the flag of `bucket` by a seat at which the bucket is detached. Returns whether the flag says so: a bucket that was
+    /// detached without a token isn't taken for one that has it.
     pub(super) fn is_detached(&self, seat: &mut Seat<u8, View>, bucket: u32) -> bool
         requires { IsDetachedAt self.now seat.old.table_id seat.old.me bucket }
         ensures seat { Stays seat.old.table_id seat.new.table_id (seat.new.me ≡ seat.old.me) }
@@ -398,8 +398,8 @@ impl Flags {
         found > 2 * WITH_TOKEN && found % 2 == 0
     }
 
-    /// Makes a store by the party after whose log this bucket is held, and which isn't the only one. The returned seat has the
-    /// bucket detached.
+    /// A store by the party after whose log this bucket is held, and which isn't the only one. What is returned has the bucket
+    /// detached.
     pub(super) fn detach(
         &self,
         party: u32,

@@ -29,8 +29,8 @@ impl Hint {
         self.bucket = self.rover;
     }
 
-    /// Moves the hint after this bucket was given back: the next search begins at it. The rover moves to the bucket where that
-    /// search would have begun, unless that is at most 128 ahead of the rover.
+    /// Follows a return of this bucket: the next search begins there. The rover goes to the bucket where it would have begun, but
+    /// stays where that lies at most 128 ahead of it.
     pub(super) fn follow_return(&mut self, bucket: u32)
         ensures { self.new ≡ hint_after self.old (Gives bucket) }
     {
