@@ -27,7 +27,7 @@ counts-none joined = record {
   counted = refl;
 }
 
--- one bucket more, which is out or not
+-- one more bucket, which is out or not
 module _ (joined : CachingParty) (number count : ℕ) (before : CountsBelow joined number count) where
   with-flag : (flag : Bool) → ((flag ≡ true) ↔ IsOut joined number) → (more : ℕ) →
       more ≡ count_by (λ f. f) (before.flags ++ flag ∷ []) → CountsBelow joined (number + 1) more
