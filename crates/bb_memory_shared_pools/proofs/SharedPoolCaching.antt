@@ -77,7 +77,7 @@ last_apart party cached before last is are at =
     (subst (AreCached party) is are).differ at.0 (length before) last at.1 (omega arith)
     (get_or_append_left before (last ∷ []) last at.0 at.1 ∙ at.2 ∙ sym (get_or_push before last last (length before) refl))
 
--- buckets stay cached while the party gives back one that is out
+-- buckets stay cached while the party gives back one that is in use
 pub cached_while : (old new : PoolParty) (cached : List ℕ) (bucket : ℕ) → AreCached old cached → ¬ Contains cached bucket →
     ((other : ℕ) → other ≢ bucket → IsHeldAfter old.log other → IsHeldAfter new.log other) → AreCached new cached
 cached_while old new cached bucket are uncached still = record {
@@ -201,7 +201,7 @@ returns_last party new cached before last bucket is same then =
 
 -- WHAT IS OUT
 
--- a bucket that is out goes to the cache
+-- a bucket that is in use goes to the cache
 pub out_cached : (old : CachingParty) (party : PoolParty) (cached now : List ℕ) (most bucket number : ℕ) →
     record { party = party; cached = cached; most = most } ≡ old → number ≡ bucket → AreCached party cached →
     IsOut old bucket → now ≡ cached ++ number ∷ [] → AreCached party now
@@ -210,7 +210,7 @@ out_cached old party cached now most bucket number own same are out is =
     let its = subst (λ (p : CachingParty). IsOut p bucket) (sym own) out in
     subst (AreCached party) (sym (is ∙ ap (λ (n : ℕ). cached ++ n ∷ []) same)) (cached_more party cached bucket are its.0 its.1)
 
--- a bucket that is out goes to the pool
+-- a bucket that is in use goes to the pool
 pub out_returned : (old : CachingParty) (party new : PoolParty) (cached : List ℕ) (most bucket : ℕ) →
     record { party = party; cached = cached; most = most } ≡ old → AreCached party cached → IsOut old bucket →
     ((other : ℕ) → other ≢ bucket → IsHeldAfter party.log other → IsHeldAfter new.log other) → AreCached new cached
@@ -218,7 +218,7 @@ unfolding IsOut
 out_returned old party new cached most bucket own are out still =
     cached_while party new cached bucket are (subst (λ (p : CachingParty). IsOut p bucket) (sym own) out).1 still
 
--- the token of the last is that of a bucket that is out once it isn't cached any more
+-- the token of the last is that of a bucket that is in use once it isn't cached any more
 pub last_out : (party : PoolParty) (cached before : List ℕ) (most last len : ℕ) (pool : SharedPool) (token : TakenBucket) →
     AreCached party cached → cached ≡ before ++ last ∷ [] → token ≡ taken_bucket pool last len →
     IsOut (record { party = party; cached = before; most = most }) token.number
@@ -229,7 +229,7 @@ last_out party cached before most last len pool token are is its =
       λ at. last_apart party cached before last is are (subst (λ (n : ℕ). Contains before n) same at),
     )
 
--- no bucket that was out is the last
+-- no bucket that was in use is the last
 pub last_fresh : (old : CachingParty) (cached before : List ℕ) (last len : ℕ) (pool : SharedPool) (token : TakenBucket)
     (other : ℕ) → cached ≡ old.cached → cached ≡ before ++ last ∷ [] → token ≡ taken_bucket pool last len →
     IsOut old other → other ≢ token.number
@@ -237,7 +237,7 @@ unfolding IsOut
 last_fresh old cached before last len pool token other own is its out same =
     out.1 (has_last old.cached before last other (sym own ∙ is) (same ∙ number_of pool token last len its))
 
--- the bucket that was cached last isn't out, so not all are
+-- the bucket that was cached last isn't in use, so not all are
 pub last_not_all : (old : CachingParty) (cached before : List ℕ) (last : ℕ) → IsParty old.party →
     AreCached old.party old.cached → cached ≡ old.cached → cached ≡ before ++ last ∷ [] → ¬ AreAllOut old
 unfolding IsOut
@@ -246,7 +246,7 @@ last_not_all old cached before last is are own cut all =
     let held = last_held old.party old.cached before last its are in
     (all last (held_below old.party is last held)).1 (has_last old.cached before last last its refl)
 
--- a bucket that is out stays out if another bucket is cached
+-- a bucket that is in use stays in use if another bucket is cached
 pub out_more : (old new : CachingParty) (bucket other : ℕ) → new.party ≡ old.party → new.cached ≡ old.cached ++ bucket ∷ [] →
     other ≢ bucket → IsOut old other → IsOut new other
 unfolding IsOut
@@ -255,7 +255,7 @@ out_more old new bucket other own is apart out = (
   λ at. ⊎_elim out.1 (λ same. apart (sym same)) (has_either new.cached old.cached bucket other is at),
 )
 
--- a bucket that is out stays out if one bucket less is cached
+-- a bucket that is in use stays in use if one bucket less is cached
 pub out_less : (old new : CachingParty) (bucket other : ℕ) → new.party ≡ old.party → old.cached ≡ new.cached ++ bucket ∷ [] →
     IsOut old other → IsOut new other
 unfolding IsOut
@@ -264,7 +264,7 @@ out_less old new bucket other own is out = (
   λ at. out.1 (has_others old.cached new.cached bucket other is at),
 )
 
--- the buckets that are out after a search of the pool
+-- the buckets that are in use after a search of the pool
 module _ (old new : CachingParty) (layout : Layout) (none : old.cached ≡ []) (none_now : new.cached ≡ []) where
   uncached : (cached : List ℕ) (other : ℕ) → cached ≡ [] → ¬ Contains cached other
   uncached cached other is at = let within = (subst (λ (xs : List ℕ). Contains xs other) is at).1 in absurd (omega arith)

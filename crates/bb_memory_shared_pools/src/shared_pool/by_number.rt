@@ -88,8 +88,8 @@ impl<const CAPPED: usize, const MOST: usize> SharedBucketPool<CAPPED, MOST> {
 /// since. The length has to be at most the bucket's size. Earlier tokens stay. After a return by one token the others are
 /// stale: they still return the bucket's number and chunk when another party has taken it.
 ///
-/// A caching party also holds the buckets that it caches, and its next requests take those. So pass only a bucket that is out,
-/// if the party caches. No condition requires this, and no call of a caching party lends a bucket that it caches.
+/// A caching party also holds the buckets that it caches, and its next requests take those. So pass only a bucket that is in
+/// use, if the party caches. No condition requires this, and no call of a caching party lends a bucket that it caches.
 ///
 /// Example: `comments::shared_pool_by_number` of `crates/examples`.
 pub fn bucket<'a, const CAPPED: usize, const MOST: usize>(

@@ -34,7 +34,7 @@ fn list_of(alloc: Global, most: u32) -> Result<Vec<u32>, AllocError>
 /// [`SharedPoolAllocator`](super::SharedPoolAllocator) or a
 /// [`SharedFixedSizePoolAllocator`](super::SharedFixedSizePoolAllocator).
 ///
-/// A cached bucket stays held, so the other parties' requests fail if each bucket is cached or out. Give a pool more buckets
+/// A cached bucket stays held, so the other parties' requests fail if each bucket is cached or in use. Give a pool more buckets
 /// than all its parties together may cache. Dropping a caching party leaks the buckets that it caches; `into_party` gives them
 /// back.
 ///
@@ -60,9 +60,9 @@ impl Model for CachingParty {
 }
 
 impl CachingParty {
-    /// Makes this party a caching party. Each bucket that the party holds is out, as none is cached yet. At most `most` buckets
-    /// will be cached; with 0, each call does what the pool's call does. The list of cached buckets takes memory here and in
-    /// `cache_at_most`; no other call allocates. If memory runs out, the party is returned unchanged.
+    /// Makes this party a caching party. Each bucket that the party holds is in use, as none is cached yet. At most `most`
+    /// buckets will be cached; with 0, each call does what the pool's call does. The list of cached buckets takes memory here
+    /// and in `cache_at_most`; no other call allocates. If memory runs out, the party is returned unchanged.
     #[inline(always)]
     #[tactic(auto, unfolding(crate::specs::SharedPoolCaching::IsOut))]
     pub fn new(alloc: Global, party: PoolParty, most: u32) -> Result<Self, PoolParty>
@@ -98,14 +98,14 @@ impl CachingParty {
         self.cached.as_slice()
     }
 
-    /// Returns the party. It holds the buckets that are out and those that are cached.
+    /// Returns the party. It holds the buckets that are in use and those that are cached.
     pub fn party(&self) -> &PoolParty
         ensures { result.now ≡ self.now.party }
     {
         &self.party
     }
 
-    /// Returns the party as it is, without a step: it holds the buckets that are out and those that were cached.
+    /// Returns the party as it is, without a step: it holds the buckets that are in use and those that were cached.
     pub fn into_inner(self) -> PoolParty
         ensures { result ≡ self.party }
     {
@@ -117,7 +117,7 @@ impl CachingParty {
         party
     }
 
-    /// Returns whether the party holds the bucket of this number, out or cached, as
+    /// Returns whether the party holds the bucket of this number, in use or cached, as
     /// [`SharedPoolAllocator::is_held_by`](super::SharedPoolAllocator::is_held_by) does. The party has to be this pool's.
     pub fn is_held<const CAPPED: usize, const MOST: usize>(
         &mut self,
@@ -205,7 +205,7 @@ impl CachingParty {
         }
     }
 
-    /// Detaches a bucket that is out, as [`SharedPoolAllocator::detach`](super::SharedPoolAllocator::detach) does. The pool
+    /// Detaches a bucket that is in use, as [`SharedPoolAllocator::detach`](super::SharedPoolAllocator::detach) does. The pool
     /// needs at least two parties. The party and the bucket have to be this pool's.
     #[tactic(auto, unfolding(crate::specs::SharedPoolCaching::IsOut))]
     pub fn detach<const CAPPED: usize, const MOST: usize>(
@@ -232,7 +232,7 @@ impl CachingParty {
     }
 
     /// Attaches a detached bucket, as [`SharedPoolAllocator::attach`](super::SharedPoolAllocator::attach) does. Afterwards the
-    /// bucket is out. The party and the bucket have to be this pool's.
+    /// bucket is in use. The party and the bucket have to be this pool's.
     #[tactic(auto, unfolding(crate::specs::SharedPoolCaching::IsOut))]
     pub fn attach<'p, const CAPPED: usize, const MOST: usize>(
         &mut self,
@@ -256,7 +256,7 @@ impl CachingParty {
         pool.attach(&mut self.party, detached)
     }
 
-    /// Detaches a bucket that is out, and returns its number, as
+    /// Detaches a bucket that is in use, and returns its number, as
     /// [`SharedPoolAllocator::detach_number`](super::SharedPoolAllocator::detach_number) does. The pool needs at least two
     /// parties. The party and the bucket have to be this pool's.
     #[tactic(auto, unfolding(crate::specs::SharedPoolCaching::IsOut))]
@@ -285,7 +285,7 @@ impl CachingParty {
 
     /// Attaches the bucket of this number if the party of number `from` has detached it by `detach_number`, and returns whether
     /// that succeeded, as [`SharedPoolAllocator::attach_number`](super::SharedPoolAllocator::attach_number) does. Afterwards
-    /// the bucket is out. A loss changes nothing. The party has to be this pool's.
+    /// the bucket is in use. A loss changes nothing. The party has to be this pool's.
     #[tactic(auto, unfolding(crate::specs::SharedPoolCaching::IsOut))]
     pub fn attach_number<const CAPPED: usize, const MOST: usize>(
         &mut self,
@@ -380,7 +380,7 @@ impl CachingParty {
     }
 
     /// Gives all cached buckets back to the pool, each by one store, beginning with the one that was cached last. Then the
-    /// party holds only the buckets that are out. The party has to be this pool's.
+    /// party holds only the buckets that are in use. The party has to be this pool's.
     #[tactic(auto, unfolding(crate::specs::SharedPoolCaching::IsOut))]
     pub fn flush<const CAPPED: usize, const MOST: usize>(
         &mut self,
@@ -401,7 +401,7 @@ impl CachingParty {
         return_all(pool, &mut self.party, &mut self.cached);
     }
 
-    /// Gives back each bucket that the party holds, out or cached, as
+    /// Gives back each bucket that the party holds, in use or cached, as
     /// [`SharedPoolAllocator::give_all_back`](super::SharedPoolAllocator::give_all_back) does. Afterwards none is cached. The
     /// party has to be this pool's.
     pub fn give_all_back<const CAPPED: usize, const MOST: usize>(
@@ -418,8 +418,8 @@ impl CachingParty {
     }
 
     /// Makes two parties meet, as [`SharedPoolAllocator::meet`](super::SharedPoolAllocator::meet) does: no bucket is held by
-    /// both. So a bucket that is out at one of them is neither out nor cached at the other. Nothing changes. The parties have
-    /// to be this pool's.
+    /// both. So a bucket that is in use at one of them is neither in use nor cached at the other. Nothing changes. The parties
+    /// have to be this pool's.
     #[tactic(auto, unfolding(crate::specs::SharedPoolCaching::IsOut))]
     pub fn meet<const CAPPED: usize, const MOST: usize>(
         &mut self,
