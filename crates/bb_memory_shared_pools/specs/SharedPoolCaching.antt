@@ -54,7 +54,7 @@ pub record TakesCaching (old : CachingParty) (layout : Layout) (result : Result 
 
 -- All promises of a caching party's request. The bucket that it takes is in use then, and wasn't before; each other bucket is
 -- in use if it was before. In a pool with one party, a request within the bucket's size and alignment is refused exactly if
--- each bucket is out.
+-- each bucket is in use.
 pub record ServesCaching (old : CachingParty) (layout : Layout) (result : Result TakenBucket AllocationError) (new : CachingParty)
     : Type 0 where
   pub answer : TakesCaching old layout result new

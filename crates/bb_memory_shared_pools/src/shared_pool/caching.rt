@@ -176,7 +176,7 @@ impl CachingParty {
     }
 
     /// Gives back a bucket. If fewer than `most` are cached, the bucket is cached without a step. Otherwise it goes back to the
-    /// pool by one store. The party and the bucket have to be this pool's, and the bucket has to be out: the party holds it,
+    /// pool by one store. The party and the bucket have to be this pool's, and the bucket has to be in use: the party holds it,
     /// and doesn't cache it.
     #[tactic(auto, unfolding(crate::specs::SharedPoolCaching::IsOut))]
     pub fn deallocate<const CAPPED: usize, const MOST: usize>(
@@ -439,7 +439,7 @@ impl CachingParty {
     }
 
     /// Gives all cached buckets back to the pool, as `flush` does, and returns the party, which holds only the buckets that are
-    /// out. The party has to be this pool's.
+    /// in use. The party has to be this pool's.
     #[tactic(auto, unfolding(crate::specs::SharedPoolCaching::IsOut))]
     pub fn into_party<const CAPPED: usize, const MOST: usize>(
         mut self,
