@@ -54,7 +54,7 @@ fits region position layout = nat_le (chunk_end (chunk_at region position layout
 abbrev pub position_behind : Region → Chunk → ℕ
 position_behind region chunk = chunk_end chunk - region.start
 
--- the call asks for at least one byte, and its chunk fits at the position that it has seen
+-- the call requests at least one byte, and its chunk fits at the position that it has seen
 pub record IsFitting (region : Region) (call : OngoingCall) : Type 0 where
   pub asks : 0 < call.layout.size
   pub fitting : fits region call.seen call.layout ≡ true
