@@ -14,10 +14,10 @@ typedef struct {
 // is at that index of those that are kept: the last place moves there.
 #define TAKE UINT32_MAX
 
-// The answer where there is no such pool.
+// The result if the machine doesn't have the pool.
 #define NOT_THERE UINT64_MAX
 
-// Makes a pool, and the calls of a script. The answer is how many buckets were taken.
+// Makes a pool, and the calls of a script. Returns how many buckets were taken.
 typedef uint64_t follow(const task *, const uint32_t *script, size_t calls);
 
 // The pools that are timed: by what, and the loop. A new one is a row here, and its loop in

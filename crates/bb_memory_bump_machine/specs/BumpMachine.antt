@@ -113,8 +113,8 @@ moved state party turn = record {
 }
 
 -- A read, by what the machine has for its party: idle is `Some None`, a call in progress is `Some
--- (Some call)`, and `None` is no party of the machine. It is allowed if the party is idle and asks
--- for at least one byte.
+-- (Some call)`, and `None` isn't a party of the machine. The read is allowed if the party is idle
+-- and requests at least one byte.
 abbrev pub read : Region → BumpState → ℕ → Layout → Option (Option OngoingCall) → BumpMove
 read region state party layout (Some None) =
     if layout.size == 0 then passed state else moved state party (read_move region state.position layout)

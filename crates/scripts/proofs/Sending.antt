@@ -97,7 +97,7 @@ ends_unreadable input old new number ends unread (inl (is, wrote)) = rw is (reco
 ends_unreadable input old new number ends unread (inr (is, part)) =
     rw is (ends_failed input old new (unreadable_text number) part (inr (number, unread, refl)))
 
--- memory is refused before anything is written
+-- memory runs out before anything is written
 pub ends_refused : {table : List Kind} (input : List ℕ) (old : Option (List ℕ)) → Ends table input old old OutOfMemory
 ends_refused input old = record {
   done = λ is. absurd (cc);

@@ -42,7 +42,7 @@ impl Hint {
 }
 
 /// One user of a shared pool. A party moves with its thread, and each call that takes or gives back a bucket needs it. Only
-/// contracts know the list of its steps, its log. A dropped party meets no more, so no later meeting is of all parties.
+/// contracts know the list of its steps, its log. A dropped party doesn't meet any more, so no later meeting is of all parties.
 #[derive(Drop)]
 pub struct PoolParty {
     pub(super) number: u32,

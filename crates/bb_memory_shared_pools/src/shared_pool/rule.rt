@@ -3,7 +3,7 @@ use atomic_table::TableRule;
 use bb_memory_traits::geometry::Geometry;
 use std::marker::Model;
 
-/// The scene of a shared pool's machine: where it begins.
+/// The scene of a shared pool's machine: the state in which it begins.
 #[derive(Drop)]
 pub(crate) struct Scene {
     pub(crate) geometry: Geometry,
