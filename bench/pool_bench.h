@@ -20,8 +20,8 @@ typedef struct {
 // Makes a pool, and the calls of a script. Returns how many buckets were taken.
 typedef uint64_t follow(const task *, const uint32_t *script, size_t calls);
 
-// The pools that are timed: by what, and the loop. A new one is a row here, and its loop in
-// pool_bench/src, border.c or peers.c.
+// The pools that are timed: the name of the allocator, and the loop. A new one is a row here, and
+// its loop in pool_bench/src, border.c or peers.c.
 #define POOL_ROWS(ROW)                            \
     ROW("Rattle", bench_words)                    \
     ROW("Rattle fixed", bench_fixed)              \
