@@ -1,4 +1,4 @@
--- The list of the buckets that a party has in use: the meaning of an entry, and the list after a step on one bucket or on none.
+-- The list of the buckets that a party has in use: what an entry says, and the list after a step on one bucket or on none.
 use Rattle.bb_memory_c.specs.SharedPools.{AreFlagged, AreListed, IsJoinedAt, geometry_of}
 use Rattle.bb_memory_index_set.specs.IndexSets.{Has}
 use Rattle.bb_memory_lists.proofs.SliceGets.{length-set_at, slice_get-replicated, slice_get-set, slice_get-set_other, slice_get-set_same}
@@ -13,7 +13,7 @@ use Rattle.std.proofs.lemmas.List.{length-replicate}
 use Rattle.std.proofs.lemmas.Option.{same_Some, slice_get-get_or}
 use Rattle.std.specs.Prelude.{IsTrue, slice_get}
 
--- a list without entries has none for any number
+-- a list of no entry has none for any number
 no-entry : (list : List Bool) (number : ℕ) (is : Bool) → list ≡ [] → ¬ (slice_get list number ≡ Some is)
 no-entry list number is none there =
     let wrong : slice_get [] number ≡ Some is = subst (λ (l : List Bool). slice_get l number ≡ Some is) none there in absurd (cc)
@@ -80,7 +80,7 @@ flagged-noted {pool} {before} {after} number is {list} are below here others = r
 
 -- NO ENTRY
 
--- a list is the same for a party with the same buckets in use
+-- a list says the same of a party with the same buckets in use
 pub listed-same : {joined after : CachingParty} {most : ℕ} {list : List Bool} → AreListed joined most list →
     after.party.allocator ≡ joined.party.allocator → ((other : ℕ) → IsOut joined other ↔ IsOut after other) →
     AreListed after most list
@@ -98,7 +98,7 @@ listed-same {joined} {after} {most} {list} listed same outs = record {
   none = listed.none;
 }
 
--- for the first buckets, the list says which are in use, and no other entry of it is set
+-- of the first buckets, the list says which are in use, and it has no other entry that is set
 pub record AreListedBelow (joined : CachingParty) (number : ℕ) (list : List Bool) : Type 0 where
   pub exact : (bucket : ℕ) → Has list bucket ↔ ((bucket < number) × IsOut joined bucket)
 
@@ -167,7 +167,7 @@ joined-noted {pool} {joined} {after} number is {list} at same most below here ot
       };
     }
 
--- after a step by which a bucket comes into use, or stops being in use
+-- after a step by which a bucket comes into use, or goes out of it
 pub joined-gains : {pool : SharedPool} {joined after : CachingParty} (number : ℕ) {list : List Bool} →
     IsJoinedAt pool joined list → after.party.allocator ≡ joined.party.allocator → after.most ≡ joined.most →
     number < pool.scene.geometry.buckets → IsOut after number → ((other : ℕ) → IsOut joined other → IsOut after other) →

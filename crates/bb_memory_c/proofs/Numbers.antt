@@ -1,4 +1,4 @@
--- Parties by their numbers: the position of one among those that haven't joined, and how it joins.
+-- Parties by their numbers: where one stands among those that haven't joined, and how it joins.
 use Rattle.bb_memory_c.specs.SharedPools.{HasUnjoined, IsNumberAt, IsWithout, PoolParties, with_last, with_unjoined}
 use Rattle.bb_memory_lists.proofs.SliceGets.{slice_get-last}
 use Rattle.bb_memory_shared_pools.specs.SharedPool.{PoolParty}
@@ -13,13 +13,13 @@ use Rattle.std.specs.Prelude.{slice_get, swap}
 
 -- A PLACE
 
--- a party of another number isn't the one that joins
+-- a party of another number isn't the one
 pub other-number : (parties : List PoolParty) (at number : ℕ) (party : PoolParty) → slice_get parties at ≡ Some party →
     party.number ≢ number → ¬ IsNumberAt parties at number
 other-number parties at number party there apart (it, is, named) =
     apart (ap (λ (p : PoolParty). p.number) (same_Some party it (sym there ∙ is)) ∙ named)
 
--- one more position
+-- one place more
 pub none-more : (parties : List PoolParty) (at number : ℕ) → ((k : ℕ) → k < at → ¬ IsNumberAt parties k number) →
     ¬ IsNumberAt parties at number → (k : ℕ) → k < at + 1 → ¬ IsNumberAt parties k number
 none-more parties at number before here k below = elim (cases_eq k at) [
@@ -58,7 +58,7 @@ with_last-back all at party there =
 
 -- JOINING
 
--- the last one joined, after the party of the number was made the last one
+-- the last one joined, where the party of the number was made the last one
 pub joined-by-number : (all swapped after : PoolParties) (at number : ℕ) (joined : CachingParty) →
     IsNumberAt all.parties at number → swapped ≡ with_last all at → swapped ≡ with_unjoined after joined →
     (joined.party.number ≡ number) × IsWithout all joined.party after

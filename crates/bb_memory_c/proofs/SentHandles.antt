@@ -1,4 +1,4 @@
--- Handles may go to other threads if what they own may.
+-- Handles go to other threads: what they own may.
 use Rattle.bb_memory_c_calls.specs.Handles.{heap, owns_if}
 use Rattle.std.proofs.Crossing.{frees}
 use Rattle.std.specs.Prelude.{None, Option, Some}
@@ -14,7 +14,7 @@ use mathlib.Core.Bool.{Bool, false, true}
 use mathlib.Core.List.{[], ◌∷◌}
 use mir.Raw.{raw}
 
--- the two fields of a handle may go to other threads
+-- the two fields of a handle may
 pub two_send : AllSend (RawPtr ∷ bool ∷ [])
 two_send = let at : IsSend RawPtr = search sendable in let made : IsSend bool = search sendable in (at, (made, tt))
 

@@ -1,4 +1,4 @@
--- Parties that haven't joined: when a shared pool is made, and after one more.
+-- Parties that haven't joined: when a shared pool is made, and one more.
 use Rattle.bb_memory_c.specs.SharedPools.{AreUnjoined}
 use Rattle.bb_memory_shared_pools.specs.SharedPool.{AreFresh, PoolParty, SharedPool}
 use Rattle.std.proofs.Common.{List, [], ap, arith, length, subst, sym, ℕ, ◌++◌, ◌<◌, ◌∙◌, ◌∷◌, ◌≡◌, ◌≤◌}
@@ -6,7 +6,7 @@ use Rattle.std.proofs.lemmas.List.{length-append}
 use Rattle.std.proofs.lemmas.List.Elements.{All-push, All-same}
 use Rattle.std.specs.Prelude.{All}
 
--- fresh parties, for which a vector has room
+-- fresh parties, which a vector has room for
 pub unjoined-fresh : {made pool : SharedPool} {count room : ℕ} {parties : List PoolParty} → AreFresh made count parties →
     pool ≡ made → length parties ≤ room → AreUnjoined pool room parties
 unjoined-fresh {made} {pool} {count} {room} {parties} are same fits =

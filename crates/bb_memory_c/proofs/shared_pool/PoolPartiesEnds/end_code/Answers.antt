@@ -6,7 +6,7 @@ use Rattle.bb_memory_shared_pools.specs.SharedPool.{PoolParty, SharedPool}
 use Rattle.bb_memory_shared_pools.specs.SharedPoolMeetings.{MetDetached, MetUndetached}
 use Rattle.std.proofs.Common.{List, ap, arith, length, refl, subst, sym, ℕ, ◌<◌, ◌∙◌, ◌≡◌}
 
--- a detached bucket that was found is one of the pool and the parties of the handle
+-- what was found for the pool and the parties of the handle
 found-detached : (was scene : PoolScene) (items parties : List PoolParty) → was ≡ scene → items ≡ parties →
     (bucket : ℕ) × MetDetached was items bucket → (bucket : ℕ) × MetDetached scene parties bucket
 found-detached was scene items parties same are found =
