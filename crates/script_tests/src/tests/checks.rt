@@ -25,8 +25,8 @@ pub(super) fn refused(rt: &(impl Abort + AllocGlobal)) {
 }
 
 /// Checks that no call requested memory since the values were made, and ends the time in which requests may fail.
-pub(super) fn none_asked(rt: &(impl Abort + AllocGlobal)) {
-    assert!(rt; none_was_asked(rt.alloc()), "a call asked for memory");
+pub(super) fn none_requested(rt: &(impl Abort + AllocGlobal)) {
+    assert!(rt; none_was_asked(rt.alloc()), "a call requested memory");
 }
 
 /// Makes a layout. The numbers have to make one.

@@ -86,14 +86,18 @@ fn reads(
     ends: Status,
     lines: &[u8],
 ) {
-    let mut told = Vec::new(rt.alloc());
+    let mut output = Vec::new(rt.alloc());
     let reader = FailingReader {
         left: FIRST_PATH,
         reads: 0,
         fails_read,
     };
-    let ended = run(rt.alloc(), reader, &mut told);
-    check_at(rt, ended == ends && told.as_slice() == lines, fails_read.0);
+    let ended = run(rt.alloc(), reader, &mut output);
+    check_at(
+        rt,
+        ended == ends && output.as_slice() == lines,
+        fails_read.0,
+    );
 }
 
 /// Fails each read in turn. The script has 70 bytes: ten reads, and one that finds its end.

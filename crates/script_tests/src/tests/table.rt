@@ -20,8 +20,8 @@ pub(super) fn lines(alloc: Global, text: &str) -> Result<String, AllocError> {
 
 /// Returns whether a script ends with this status and writes exactly these lines.
 pub(super) fn ends(alloc: Global, script: &[u8], status: Status, lines: &[u8]) -> bool {
-    let mut told = Vec::new(alloc);
-    run(alloc, script, &mut told) == status && told.as_slice() == lines
+    let mut output = Vec::new(alloc);
+    run(alloc, script, &mut output) == status && output.as_slice() == lines
 }
 
 /// Returns whether a row's script ends with this status and writes exactly the row's output.

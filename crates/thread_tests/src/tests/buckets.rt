@@ -98,7 +98,7 @@ pub(super) fn two(
 }
 
 /// Requests a bucket by a next-fit search, or by a pass.
-pub(super) fn ask<'a>(
+pub(super) fn request<'a>(
     pool: &'a SharedPoolAllocator,
     party: &mut PoolParty,
     layout: Layout,
@@ -129,7 +129,7 @@ pub(super) fn hold<'a>(
     ensures bucket { result.allocator ≡ pool.now }
     ensures held { IsHeldAfter party.new.log result.number }
 {
-    let bucket = ask(pool, party, layout, false).ok();
+    let bucket = request(pool, party, layout, false).ok();
     bucket.expect(rt, "a bucket is free")
 }
 
@@ -148,7 +148,7 @@ pub(super) fn take(
     ensures party { party.new.allocator ≡ pool.now }
     ensures kept { (other : ℕ) → IsHeldAfter party.old.log other → IsHeldAfter party.new.log other }
 {
-    Ok(found(&ask(pool, party, layout, false)?))
+    Ok(found(&request(pool, party, layout, false)?))
 }
 
 /// Requests a bucket by a next-fit search, and drops its token.
@@ -160,5 +160,5 @@ pub(super) fn fit(
     requires { party.old.allocator ≡ pool.now }
     ensures { party.new.allocator ≡ pool.now }
 {
-    Ok(found(&ask(pool, party, layout, true)?))
+    Ok(found(&request(pool, party, layout, true)?))
 }

@@ -34,8 +34,8 @@ fn is_unchanged(rt: &(impl Abort + AllocGlobal), bump: &BumpAllocator, of: Of) {
     let text = format!(in rt.alloc();
         "BumpAllocator {{ start: {start}, size: {size}, current_position: {used} }}"
     );
-    let told = format!(in rt.alloc(); "{bump}").expect(rt, "there is memory for a text");
-    check(rt, told == text.expect(rt, "there is memory for a text"));
+    let got = format!(in rt.alloc(); "{bump}").expect(rt, "there is memory for a text");
+    check(rt, got == text.expect(rt, "there is memory for a text"));
 }
 
 /// Shares a bump, a second time if memory ran out: then the bump came back unchanged. From here on, requests for memory may

@@ -10,21 +10,21 @@ use std::process::Abort;
 /// A block, or the old one with the error.
 type Resized<E> = Result<HeapBlock, (HeapBlock, E)>;
 
-fn allocate(alloc: Global, asked: Layout, zeroed: bool) -> Result<HeapBlock, AllocationError> {
+fn allocate(alloc: Global, requested: Layout, zeroed: bool) -> Result<HeapBlock, AllocationError> {
     let heap = HeapAllocator::new(alloc);
     if zeroed {
-        heap.allocate_zeroed(asked)
+        heap.allocate_zeroed(requested)
     } else {
-        heap.allocate(asked)
+        heap.allocate(requested)
     }
 }
 
 /// Makes a block, in a second attempt if memory ran out.
-pub(super) fn made(rt: &(impl Abort + AllocGlobal), asked: Layout, zeroed: bool) -> HeapBlock {
-    match allocate(rt.alloc(), asked, zeroed) {
+pub(super) fn made(rt: &(impl Abort + AllocGlobal), requested: Layout, zeroed: bool) -> HeapBlock {
+    match allocate(rt.alloc(), requested, zeroed) {
         Err(AllocationError::OutOfMemory) => {
             refused(rt);
-            allocate(rt.alloc(), asked, zeroed).expect(rt, "there is memory for a block")
+            allocate(rt.alloc(), requested, zeroed).expect(rt, "there is memory for a block")
         }
         other => other.expect(rt, "the block isn't empty"),
     }

@@ -13,10 +13,10 @@ fn initialised(rt: &(impl Abort + AllocGlobal), bucket: Layout) -> Option<PoolAl
     }
     match PoolAllocator::new_uninit(bucket, 4097, 1024).init(rt.alloc()) {
         Ok(pool) => Some(pool),
-        Err((handed_back, error)) => {
+        Err((returned, error)) => {
             same(rt, error, AllocationError::OutOfMemory);
             refused(rt);
-            handed_back.init(rt.alloc()).ok()
+            returned.init(rt.alloc()).ok()
         }
     }
 }

@@ -52,9 +52,9 @@ fn loan<A: Allocator + Drop>(
     size: usize,
     next: u64,
 ) -> LoanReply {
-    let told = reply(book, Loan(size));
-    if told != NO_MEMORY {
-        return told;
+    let got = reply(book, Loan(size));
+    if got != NO_MEMORY {
+        return got;
     }
     refused(rt);
     same(rt, reply(book, IsOut(0)), Out(next > 0));
@@ -97,8 +97,8 @@ fn a_list_of_loans_keeps_the_book(rt: HostRuntime) {
 }
 
 /// Checks that a loan gave a chunk of 64 bytes under this number.
-fn is_loaned(rt: &impl Abort, told: LoanReply, wanted: u64) {
-    match told {
+fn is_loaned(rt: &impl Abort, got: LoanReply, wanted: u64) {
+    match got {
         Loaned(id, chunk) => same(rt, (id, chunk.len()), (wanted, 64)),
         _ => panic!(rt; "nothing is loaned"),
     }

@@ -7,19 +7,19 @@ use std::process::Abort;
 
 /// Runs a script, a second time if memory ran out, and checks its status and its output.
 fn ends_with_status_4(rt: &(impl Abort + AllocGlobal), ends: Status, script: &[u8], lines: &[u8]) {
-    let mut told = Vec::new(rt.alloc());
-    if told.reserve(lines.len()).is_err() {
+    let mut output = Vec::new(rt.alloc());
+    if output.reserve(lines.len()).is_err() {
         return;
     }
-    let status = run(rt.alloc(), script, &mut told);
+    let status = run(rt.alloc(), script, &mut output);
     if status != ends {
         refused(rt);
         same(rt, (status, status.code()), (Status::OutOfMemory, 4));
-        check(rt, lines.starts_with(told.as_slice()));
-        told.clear();
-        check(rt, run(rt.alloc(), script, &mut told) == ends);
+        check(rt, lines.starts_with(output.as_slice()));
+        output.clear();
+        check(rt, run(rt.alloc(), script, &mut output) == ends);
     }
-    check(rt, told.as_slice() == lines);
+    check(rt, output.as_slice() == lines);
 }
 
 /// Runs a row's script. If memory for the test itself runs out, skips the row.

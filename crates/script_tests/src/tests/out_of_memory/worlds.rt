@@ -23,8 +23,8 @@ fn replayed_by_bump(
     world: &mut BumpWorld,
     steps: &[BumpStep],
 ) -> Vec<BumpOutcome> {
-    if let Ok(told) = world.replay(steps) {
-        return told;
+    if let Ok(got) = world.replay(steps) {
+        return got;
     }
     refused(rt);
     let loaded = world.step(BumpStep::Load { party: 0 });
@@ -51,8 +51,8 @@ fn a_bump_is_raced_for(rt: HostRuntime) {
     let Some(mut world) = made(&rt, BumpWorld::new(rt.alloc(), 4096, 64, 64)) else {
         return;
     };
-    let told = replayed_by_bump(&rt, &mut world, &steps);
-    check(&rt, told.as_slice() == outcomes.as_slice());
+    let got = replayed_by_bump(&rt, &mut world, &steps);
+    check(&rt, got.as_slice() == outcomes.as_slice());
     same(&rt, world.used_space(), 40);
 }
 
@@ -81,8 +81,8 @@ const OUTCOMES: [PoolOutcome; 6] = [
 
 /// Replays the steps, in a second attempt if memory ran out: then the pool is still fresh.
 fn replayed_by_pool(rt: &(impl Abort + AllocGlobal), world: &mut PoolWorld) -> Vec<PoolOutcome> {
-    if let Ok(told) = world.replay(&STEPS) {
-        return told;
+    if let Ok(got) = world.replay(&STEPS) {
+        return got;
     }
     refused(rt);
     same(rt, (world.holder(0), world.holder(1)), (None, None));
@@ -96,7 +96,7 @@ fn a_pool_is_never_full(rt: HostRuntime) {
     let Some(mut world) = made(&rt, PoolWorld::new(rt.alloc(), 2, 64)) else {
         return;
     };
-    let told = replayed_by_pool(&rt, &mut world);
-    check(&rt, told.as_slice() == OUTCOMES.as_slice());
+    let got = replayed_by_pool(&rt, &mut world);
+    check(&rt, got.as_slice() == OUTCOMES.as_slice());
     same(&rt, (world.holder(0), world.holder(1)), (None, Some(1)));
 }

@@ -2,7 +2,7 @@
 ghost use Rattle.std.specs.Arc.{arc_value};
 ghost use Rattle.std.specs.Prelude.{All, IfOk, ◌≡◌};
 
-use crate::tests::bumps::{Of, add, last_of, share, spaces, take as ask};
+use crate::tests::bumps::{Of, add, last_of, share, spaces, take as request};
 use crate::tests::checks::{check, layout, same};
 use crate::tests::slots::Slots;
 use bb_memory_bump::bump_allocator::AllocationError::OutOfMemory;
@@ -217,8 +217,8 @@ fn four_take_ten_bytes(rt: HostRuntime) {
     same(rt, marked, 4000);
     let mut last = last_of(rt, &shared, &mut back);
     same(rt, spaces(&shared, &mut last), (4000, 96));
-    same(rt, ask(&shared, &mut last, 97, 1), Err(OutOfMemory));
-    same(rt, ask(&shared, &mut last, 96, 1), Ok((8096, 96)));
+    same(rt, request(&shared, &mut last, 97, 1), Err(OutOfMemory));
+    same(rt, request(&shared, &mut last, 96, 1), Ok((8096, 96)));
 }
 
 /// Each of three threads takes chunks as long as there is room, by a layout of its own. Each pair of parties meets.
@@ -236,9 +236,9 @@ fn three_take_all(rt: HostRuntime) {
     let mut a = last_of(rt, &shared, &mut back);
     let mut b = last_of(rt, &shared, &mut back);
     let mut c = last_of(rt, &shared, &mut back);
-    same(rt, ask(&shared, &mut a, 24, 16), Err(OutOfMemory));
-    same(rt, ask(&shared, &mut b, 5, 1), Err(OutOfMemory));
-    same(rt, ask(&shared, &mut c, 8, 8), Err(OutOfMemory));
+    same(rt, request(&shared, &mut a, 24, 16), Err(OutOfMemory));
+    same(rt, request(&shared, &mut b, 5, 1), Err(OutOfMemory));
+    same(rt, request(&shared, &mut c, 8, 8), Err(OutOfMemory));
     shared.meet(&mut a, &mut b);
     shared.meet(&mut b, &mut c);
     shared.meet(&mut a, &mut c);

@@ -2,7 +2,7 @@
 ghost use Rattle.std.specs.Arc.{arc_value};
 ghost use Rattle.std.specs.Prelude.{All, IfOk, ◌≡◌};
 
-use crate::tests::buckets::{add, ask, last_of, pool_at_last, take as found};
+use crate::tests::buckets::{add, last_of, pool_at_last, request, take as found};
 use crate::tests::checks::{check, layout, same};
 use crate::tests::slots::Slots;
 use bb_memory_shared_pools::shared_pool::AllocationError::OutOfMemory;
@@ -33,7 +33,7 @@ fn take_one(pool: &SharedPoolAllocator, work: &Work, party: &mut PoolParty) -> b
     requires { party.old.allocator ≡ pool.now }
     ensures { party.new.allocator ≡ pool.now }
 {
-    let Ok(bucket) = ask(pool, party, work.layout, work.next_fit) else {
+    let Ok(bucket) = request(pool, party, work.layout, work.next_fit) else {
         return true;
     };
     let at = bucket.number() as usize;
@@ -180,8 +180,8 @@ fn all_take(
     let mut party = last_of(rt, &pool, &mut parties);
     for number in left..pool.number_of_buckets() {
         let place = (number as usize).saturating_mul(128).saturating_add(4096);
-        let told = found(&pool, &mut party, work.layout);
-        same(rt, told, Ok((number, place, 48)));
+        let got = found(&pool, &mut party, work.layout);
+        same(rt, got, Ok((number, place, 48)));
     }
     same(rt, found(&pool, &mut party, work.layout), Err(OutOfMemory));
     work.buckets.count()

@@ -50,14 +50,14 @@ fn send_one<P: MessagePool>(
     pool: &SharedPoolAllocator,
     party: &mut PoolParty,
     queue: &mut Producer<DetachedBucket, Global, OfPool<P>>,
-    asked: Layout,
+    requested: Layout,
 ) -> bool
     requires pool { P.pool ≡ Some pool.now }
     requires others { 1 < pool.now.scene.parties }
     requires party { party.old.allocator ≡ pool.now }
     ensures { party.new.allocator ≡ pool.now }
 {
-    let Ok(message) = send(pool, party, asked) else {
+    let Ok(message) = send(pool, party, requested) else {
         return false;
     };
     match queue.push(message) {
@@ -74,7 +74,7 @@ fn send_all<P: MessagePool>(
     pool: &SharedPoolAllocator,
     mut party: PoolParty,
     mut queue: Producer<DetachedBucket, Global, OfPool<P>>,
-    asked: Layout,
+    requested: Layout,
 ) -> (PoolParty, u32)
     requires pool { P.pool ≡ Some pool.now }
     requires others { 1 < pool.now.scene.parties }
@@ -86,7 +86,7 @@ fn send_all<P: MessagePool>(
         if sent == MESSAGES {
             break;
         }
-        if send_one::<P>(pool, &mut party, &mut queue, asked) {
+        if send_one::<P>(pool, &mut party, &mut queue, requested) {
             sent = sent.saturating_add(1);
         } else {
             thread::yield_now();
@@ -127,13 +127,13 @@ fn send_and_receive<P: MessagePool + Send, R: Threads + Sync + AllocGlobal>(
     pool: &SharedPoolAllocator,
     sender: PoolParty,
     receiver: PoolParty,
-    asked: Layout,
+    requested: Layout,
 ) -> Result<(PoolParty, u32, u32), AllocError>
     requires pool { P.pool ≡ Some pool.now }
     requires others { 1 < pool.now.scene.parties }
     requires sender { sender.allocator ≡ pool.now }
     requires receiver { receiver.allocator ≡ pool.now }
-    ensures { IfOk result (λ told. told.0.allocator ≡ pool.entry.now) }
+    ensures { IfOk result (λ got. got.0.allocator ≡ pool.entry.now) }
 {
     let (producer, consumer) = RingBuffer::with_protocol::<Global, OfPool<P>>(rt.alloc(), 4)?;
     let ((_, sent), (receiver, received)) = thread::join(
@@ -141,7 +141,7 @@ fn send_and_receive<P: MessagePool + Send, R: Threads + Sync + AllocGlobal>(
         move || -> (PoolParty, u32)
             requires { (P.pool ≡ Some pool.now) × (sender.allocator ≡ pool.now)
                 × (1 < pool.now.scene.parties) }
-        { send_all::<P>(pool, sender, producer, asked) },
+        { send_all::<P>(pool, sender, producer, requested) },
         move || -> (PoolParty, u32)
             requires { (P.pool ≡ Some pool.now) × (receiver.allocator ≡ pool.now) }
             ensures { result.0.allocator ≡ pool.entry.now }
@@ -156,8 +156,8 @@ fn send_and_receive<P: MessagePool + Send, R: Threads + Sync + AllocGlobal>(
 fn threads_pool_queue(rt: HostRuntime) {
     let (small, (pool, sender, receiver)) = (layout(&rt, 48, 4), two(&rt, 256));
     let (rt, pool) = (&rt, &pool);
-    let told = send_and_receive::<Brand, HostRuntime>(rt, pool, sender, receiver, small);
-    let (mut receiver, sent, received) = told.expect(rt, "there is memory for a queue");
+    let got = send_and_receive::<Brand, HostRuntime>(rt, pool, sender, receiver, small);
+    let (mut receiver, sent, received) = got.expect(rt, "there is memory for a queue");
     same(rt, (sent, received), (MESSAGES, MESSAGES));
     same(rt, take(pool, &mut receiver, small), Ok((0, 4096, 48)));
     same(rt, take(pool, &mut receiver, small), Ok((1, 4224, 48)));

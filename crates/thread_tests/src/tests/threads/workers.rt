@@ -10,8 +10,8 @@ use thread_layers::pool_workers::four_workers;
 
 /// Returns how much of 1024 bytes is used when four threads have each requested `size` bytes, or `None` if memory ran out.
 fn used_by_four<R: Threads + Sync>(rt: &R, alloc: Global, size: usize) -> Option<usize> {
-    let asked = Layout::from_size_align(size, 4).ok()?;
-    let again = carved_by_four(rt, alloc, BumpAllocator::new(4096, 1024), asked).ok()?;
+    let requested = Layout::from_size_align(size, 4).ok()?;
+    let again = carved_by_four(rt, alloc, BumpAllocator::new(4096, 1024), requested).ok()?;
     Some(again.used_space())
 }
 

@@ -3,7 +3,7 @@ ghost use Rattle.bb_memory_shared_pools.specs.SharedPoolCaching.{IsOut};
 ghost use Rattle.std.specs.Prelude.{IfSome, ◌<◌, ◌≡◌};
 
 use crate::tests::buckets::{last_of, pool_of};
-use crate::tests::checks::{check, none_asked, refused, same};
+use crate::tests::checks::{check, none_requested, refused, same};
 use bb_memory_shared_pools::shared_pool::{Bucket, CachingParty, SharedPoolAllocator, by_number};
 use std::alloc::Global;
 use std::process::Abort;
@@ -64,7 +64,7 @@ fn caches(rt: &impl Abort, pool: &SharedPoolAllocator, a: &mut CachingParty, b: 
 }
 
 /// Takes the cached bucket, and passes it to the other party by its token and by its number.
-fn hands_over(
+fn passes_on(
     rt: &impl Abort,
     pool: &SharedPoolAllocator,
     a: &mut CachingParty,
@@ -121,7 +121,7 @@ fn parties_that_cache(rt: HostRuntime) {
     };
     refuse_memory(rt.alloc());
     caches(&rt, &pool, &mut a, &mut b);
-    hands_over(&rt, &pool, &mut a, &mut b);
+    passes_on(&rt, &pool, &mut a, &mut b);
     ends(&rt, &pool, a, b);
-    none_asked(&rt);
+    none_requested(&rt);
 }
