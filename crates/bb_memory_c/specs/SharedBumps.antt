@@ -49,8 +49,9 @@ pub record IsShareable (region : Region) (parties : ℕ) : Type 0 where
   pub is_region : IsRegion region
   pub some : 1 ≤ parties
 
--- The answer to a party's request: the chunk that it won, or the reason why it won none. Each position that it found is at
--- least the party's floor, so its chunk begins at the floor or after it.
+-- The answer to a party's request: the chunk that it won, or the reason why it won none. Each
+-- position that it found is at least the party's floor, so its chunk begins at the floor or after
+-- it.
 pub record GivesChunk (party : BumpParty) (layout : Layout) (result : Result Chunk AllocationError) (after : BumpParty)
     : Type 0 where
   pub answer : MayTake party layout result after

@@ -1,4 +1,5 @@
--- Answers in the form that C gets them. Passes on the codes of `src/code.rt`, under the names that clauses use.
+-- Answers in the form that C gets them. Passes on the codes of `src/code.rt`, under the names that
+-- clauses use.
 use Rattle.bb_memory_c_calls.specs.declared.answer.Answer.{Answer}
 use Rattle.bb_memory_c_calls.specs.declared.answer.Figure.{Figure}
 use Rattle.bb_memory_c_calls.specs.declared.answer.Holder.{Holder}

@@ -44,7 +44,8 @@ pub record IsTally (set : List Bool) (count most : ℕ) : Type 0 where
 abbrev pub index_words : ℕ → ℕ
 index_words numbers = (numbers + 63) / 64
 
--- how many words of memory a set takes: its index words, and a list with room for all of them except one
+-- how many words of memory a set takes: its index words, and a list with room for all of them
+-- except one
 abbrev pub words_with_list : ℕ → ℕ
 words_with_list numbers = index_words numbers + (index_words numbers - 1)
 
@@ -68,8 +69,8 @@ numbers_of bound words = map (has_bit words) (range_with_len 0 bound)
 abbrev pub less_last_freed : List Bool → ℕ → List Bool
 less_last_freed numbers last_freed = slice_set numbers last_freed false
 
--- The number that was freed last still has its bit set. If no number was, `last_freed` is 2 ^ 64 - 1, which is above each
--- bound.
+-- The number that was freed last still has its bit set. If no number was, `last_freed` is 2 ^ 64 -
+-- 1, which is above each bound.
 abbrev pub IsLastFreed : List Bool → ℕ → Type 0
 IsLastFreed numbers last_freed = last_freed ≢ 2 ^ 64 - 1 → Has numbers last_freed
 

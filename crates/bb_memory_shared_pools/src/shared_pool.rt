@@ -93,13 +93,14 @@ impl SharedPoolAllocator {
 /// which the party's steps are exactly its log. The steps of the others explain the log, and need not be those that they made.
 /// Two parties that met have one such list together: `AreInterleaved`.
 pub fn shared_pool_law()
-    // The takings and returns of a party's history are a run of the pool object from the empty list, for any requested layouts
-    // that fit the bucket's size and alignment.
+    // The takings and returns of a party's history are a run of the pool object from the empty
+    // list, for any requested layouts that fit the bucket's size and alignment.
     ensures run { (party : PoolParty) (is : IsParty party) (layouts : List Layout)
         → AreAsked party.allocator.scene.geometry is.interleaved.steps layouts
         → (live : List Chunk) × IsHistoryRun party is layouts live }
 
-    // A bucket that is held after the party's log is one of the pool's, and is in the list of chunks that the run leaves.
+    // A bucket that is held after the party's log is one of the pool's, and is in the list of
+    // chunks that the run leaves.
     ensures held { (party : PoolParty) (is : IsParty party) (layouts : List Layout)
         (live : List Chunk) (bucket : ℕ) → IsHistoryRun party is layouts live
         → IsHeldAfter party.log bucket
@@ -111,20 +112,22 @@ pub fn shared_pool_law()
         (live : List Chunk) → IsHistoryRun party is layouts live
         → IsSound party.allocator.scene.geometry.region live }
 
-    // If the log has a pass that was refused, that pass found each bucket held in the run, each at a step of its own.
+    // If the log has a pass that was refused, that pass found each bucket held in the run, each at
+    // a step of its own.
     ensures refused { (party : PoolParty) (is : IsParty party) (before after : PoolLog)
         → let buckets = party.allocator.scene.geometry.buckets in
         let beginning = before ++ refused_pass buckets party.number in
         0 < buckets → party.log ≡ beginning ++ after → HasFoundAllHeld party is beginning }
 
-    // If the log has a search that was refused, that search missed each bucket, which was held in the run at that moment, each
-    // at a step of its own.
+    // If the log has a search that was refused, that search missed each bucket, which was held in
+    // the run at that moment, each at a step of its own.
     ensures missed { (party : PoolParty) (is : IsParty party) (before after : PoolLog) (first : ℕ)
         → let buckets = party.allocator.scene.geometry.buckets in
         party.log ≡ (before ++ refused_search buckets party.number first) ++ after
         → HasMissedAll party is before first }
 
-    // Two parties that met have one history together, whose takings and returns are also a run: one run has those of both.
+    // Two parties that met have one history together, whose takings and returns are also a run: one
+    // run has those of both.
     ensures both_run { (a b : PoolParty) (met : AreInterleaved a b) (layouts : List Layout)
         → let scene = a.allocator.scene in
         IsParty a → AreAsked scene.geometry met.steps layouts
@@ -142,8 +145,8 @@ pub fn shared_pool_law()
         → AreInterleaved a b → a.number ≢ b.number
         → IsHeldAfter a.log bucket → ¬ IsHeldAfter b.log bucket }
 
-    // Chunks in two different buckets of a pool begin at least a stride apart. If neither is longer than its bucket, they don't
-    // overlap.
+    // Chunks in two different buckets of a pool begin at least a stride apart. If neither is longer
+    // than its bucket, they don't overlap.
     ensures a_stride_apart { (one other : TakenBucket)
         → one.allocator ≡ other.allocator → one.number ≢ other.number
         → AreAStrideApart one.allocator.scene.geometry.bucket

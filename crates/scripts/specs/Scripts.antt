@@ -166,7 +166,8 @@ abbrev pub IsUnreadableAt : List Kind → List (List ℕ) → ℕ → Type 0
 IsUnreadableAt table lines number =
     ((number ≡ 1) ⊎ AreReadable table (take (number - 1) lines)) × ¬ AreReadable table (take number lines)
 
--- The outcome for these lines: the transcript of their script, the number of the first unreadable line, or that memory ran out.
+-- The outcome for these lines: the transcript of their script, the number of the first unreadable
+-- line, or that memory ran out.
 abbrev pub IsOutcome : List Kind → List (List ℕ) → Outcome → Type 0
 IsOutcome table lines (outcome.Answered text) = SomeOf table (IsAnsweredBy lines text.items)
 IsOutcome table lines (outcome.Unreadable number) = IsUnreadableAt table lines number
@@ -180,7 +181,8 @@ IsAnswered table input text = SomeOf table (IsAnsweredBy (lines_of input) text)
 abbrev pub IsUnreadable : List Kind → List ℕ → ℕ → Type 0
 IsUnreadable table input number = IsUnreadableAt table (lines_of input) number
 
--- the text is what is written for the input: a transcript, or the line about the first unreadable line
+-- the text is what is written for the input: a transcript, or the line about the first unreadable
+-- line
 abbrev pub IsOutput : List Kind → List ℕ → List ℕ → Type 0
 IsOutput table input text =
     IsAnswered table input text ⊎ ((number : ℕ) × IsUnreadable table input number × (text ≡ unreadable_text number))
