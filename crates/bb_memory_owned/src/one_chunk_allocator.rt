@@ -191,10 +191,13 @@ impl Allocator for OneChunkAllocator {
         end - place
     }
 
-    /// Gives the chunk all that is reserved for it. Fails, in this order, with `GrowWouldShrink` if the new size isn't greater
-    /// than the old one, with `AlignmentFailure` if the new alignment is greater than the old one, and with `OutOfMemory` if
-    /// less than the new size is reserved. The allocator doesn't change. The place has to be that of the chunk in use and a
-    /// multiple of the old alignment.
+    /// Gives the chunk all that is reserved for it. Fails with the first of these errors that applies:
+    ///
+    /// - `GrowWouldShrink` if the new size isn't greater than the old one.
+    /// - `AlignmentFailure` if the new alignment is greater than the old one.
+    /// - `OutOfMemory` if less than the new size is reserved.
+    ///
+    /// The allocator doesn't change. The place has to be that of the chunk in use and a multiple of the old alignment.
     #[inline]
     fn grow(
         &mut self,

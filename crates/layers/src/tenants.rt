@@ -186,11 +186,16 @@ impl<A: Allocator + Drop> Tenants<A> {
         lease_of(&self.leases, tenant, place).is_some()
     }
 
-    /// Requests a chunk for a tenant. Fails, in this order, with `NoTenant` if no tenant has the number, with `OverLimit`
-    /// exactly if the requested bytes would exceed the tenant's limit, with `List` if memory ran out, with `Refused` if the
-    /// allocator refuses the layout, and with `TooLong` if it gives a chunk so much longer that the limit would be exceeded,
-    /// which is then given back. A refusal changes nothing. The allocator gets one request, and only after the first three
-    /// tests.
+    /// Requests a chunk for a tenant. Fails with the first of these errors that applies:
+    ///
+    /// - `NoTenant` if no tenant has the number.
+    /// - `OverLimit` exactly if the requested bytes would exceed the tenant's limit.
+    /// - `List` if memory ran out.
+    /// - `Refused` if the allocator refuses the layout.
+    /// - `TooLong` if the allocator gives a chunk so much longer that the limit would be exceeded. The chunk is then given
+    ///   back.
+    ///
+    /// A refusal changes nothing. The allocator gets one request, and only after the first three tests.
     pub fn allocate(&mut self, tenant: usize, layout: Layout) -> Result<Chunk, LeaseError>
         ensures given { IfOk result (λ chunk. A.may_allocate (A.geometry self.old.allocator)
             (chunks_of self.old.leases) layout (Ok chunk)) }

@@ -62,9 +62,14 @@ impl<A: Allocator> LoanBook<A> {
     /// Loans a chunk of at least `size` bytes, at any place, and returns the sample's id and its chunk. Ids count up from 0 in
     /// the order of the loans, and a failed loan uses up no id.
     ///
-    /// Fails, in this order, with `Size` if `size` exceeds `isize::MAX`, with `IdsExhausted` if the greatest id was loaned
-    /// before, with `Memory` if memory for the sample's record ran out, and with `Allocation` if the allocator refused. A
-    /// refusal leaves the book unchanged. The allocator gets one request, and only after the first three tests.
+    /// Fails with the first of these errors that applies:
+    ///
+    /// - `Size` if `size` exceeds `isize::MAX`.
+    /// - `IdsExhausted` if the greatest id was loaned before.
+    /// - `Memory` if memory for the sample's record ran out.
+    /// - `Allocation` if the allocator refused.
+    ///
+    /// A refusal leaves the book unchanged. The allocator gets one request, and only after the first three tests.
     pub fn loan(&mut self, size: usize) -> Result<(u64, Chunk), LoanError>
         ensures answer { Loans (A.may_allocate (A.geometry self.old.allocator))
             self.old.book size result self.new.book }

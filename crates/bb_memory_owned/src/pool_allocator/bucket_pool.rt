@@ -315,10 +315,13 @@ impl<S: IndexSet> Allocator for BucketPool<S> {
         self.bucket_size()
     }
 
-    /// Gives the chunk the new size, in its bucket. Fails, in this order, with `GrowWouldShrink` if the new size isn't greater
-    /// than the old one, with `AlignmentFailure` if the new alignment is greater than the bucket's, and with `OutOfMemory` if
-    /// the new size is greater than the bucket's. The pool doesn't change. The place has to be a held bucket's and a multiple
-    /// of the old alignment.
+    /// Gives the chunk the new size, in its bucket. Fails with the first of these errors that applies:
+    ///
+    /// - `GrowWouldShrink` if the new size isn't greater than the old one.
+    /// - `AlignmentFailure` if the new alignment is greater than the bucket's.
+    /// - `OutOfMemory` if the new size is greater than the bucket's.
+    ///
+    /// The pool doesn't change. The place has to be a held bucket's and a multiple of the old alignment.
     #[inline]
     fn grow(
         &mut self,

@@ -240,14 +240,15 @@ impl<const CAPPED: usize, const MOST: usize> SharedBucketPool<CAPPED, MOST> {
         told
     }
 
-    /// Gives the bucket's chunk the new size, in its bucket and without a step.
+    /// Gives the bucket's chunk the new size, in its bucket and without a step. Fails with the first of these errors that
+    /// applies:
     ///
-    /// Fails, in this order, with `GrowWouldShrink` if the new size isn't greater than the old one, with `AlignmentFailure` if
-    /// the new alignment is greater than the bucket's, and with `OutOfMemory` if the new size is greater than the bucket's. A
-    /// failure changes nothing.
+    /// - `GrowWouldShrink` if the new size isn't greater than the old one.
+    /// - `AlignmentFailure` if the new alignment is greater than the bucket's.
+    /// - `OutOfMemory` if the new size is greater than the bucket's.
     ///
-    /// The bucket has to be this pool's, and its place a multiple of the old alignment. The old size is the caller's: the
-    /// token's own length isn't compared with it.
+    /// A failure changes nothing. The bucket has to be this pool's, and its place a multiple of the old alignment. The old size
+    /// is the caller's: the token's own length isn't compared with it.
     pub fn grow(
         &self,
         bucket: &mut Bucket<'_>,
