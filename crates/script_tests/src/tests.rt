@@ -1,4 +1,4 @@
-//! Scripts with their output, each row by its name, faults of readers, of writers and of memory, and the machines that scripts
+//! Scripts with what they write, each row by its name, faults of readers, of writers and of memory, and the machines that scripts
 //! step.
 mod checks;
 mod faults;
