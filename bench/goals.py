@@ -14,7 +14,7 @@ from figures import Key, Rounds, ratio, read_medians, read_rounds, times_of
 
 
 class Ratio(NamedTuple):
-    """A time through C by that of the quickest of its peers, and the most that this may be."""
+    """A time through C divided by its fastest peer's, and the most that this may be."""
 
     label: str
     key: Key

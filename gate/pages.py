@@ -44,7 +44,7 @@ ATTEMPTS = 3
 
 @dataclass(frozen=True)
 class Tree:
-    """A checkout: its texts by their paths, the words of those that are no pages, and its index."""
+    """A checkout: its texts by their paths, the words of those that aren't pages, and its index."""
 
     top: Path
     texts: Mapping[str, str]
@@ -63,7 +63,7 @@ class Tree:
 def read_texts(top: Path, read: Callable[[Path], dict[str, str]] = texts_below) -> dict[str, str]:
     """Returns the texts of a checkout, which others may write to meanwhile.
 
-    Where a file vanishes while it is read, all is read again. Raises TreeChanged after some times.
+    If a file vanishes while it is read, all is read again. Raises TreeChanged after some attempts.
     """
     for _ in range(ATTEMPTS - 1):
         try:
@@ -196,7 +196,7 @@ def wrong_promises(tree: Tree) -> Iterator[str]:
 
 
 def long_subject(top: Path) -> Iterator[str]:
-    """Yields the subject of the last commit if it is too long, where the checkout is one of git."""
+    """Yields the subject of the last commit if it is too long and the checkout is one of git."""
     if not (top / ".git").exists():
         return
     shown = process.run(["git", "log", "-1", "--format=%s"], top)
@@ -206,7 +206,7 @@ def long_subject(top: Path) -> Iterator[str]:
 
 
 def findings(tree: Tree) -> Iterator[str]:
-    """Yields all that isn't so."""
+    """Yields all findings."""
     yield from untested_examples(tree)
     yield from lost_examples(tree)
     yield from lost_names(tree)
@@ -227,7 +227,7 @@ def findings(tree: Tree) -> Iterator[str]:
 
 
 def hosts(page: str) -> Iterator[str]:
-    """Yields a script of what a page shows from C, in parts.
+    """Yields a script of the programs and commands that a page shows for C, in parts.
 
     A text of C or C++ goes into the file that the line above it names. Raises Failed if none is
     named.

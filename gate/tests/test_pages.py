@@ -38,14 +38,14 @@ CHECKS: dict[str, Check] = {
 
 
 def found_in(changes: dict[str, str], name: str = "tree") -> list[str]:
-    """Returns what the checks find in the sample with some changes."""
+    """Returns the findings of the checks in the sample with some changes."""
     with checkout(changes, name) as top:
         tree = pages.read_tree(top)
         return [line for check in CHECKS.values() for line in check(tree)]
 
 
 class Faults(unittest.TestCase):
-    """Each fault is the one finding."""
+    """Each fault is the only finding."""
 
     def finds(self, changes: dict[str, str], *parts: str) -> None:
         found = found_in(changes)
@@ -226,7 +226,7 @@ class Checkouts(unittest.TestCase):
 
 
 def vanishing(walk: Iterable[Step], folder: Path) -> Iterable[Step]:
-    """Goes on with a walk, but takes a folder away once the walk has seen its name."""
+    """Goes on with a walk, but removes a folder once the walk has seen its name."""
     for step in walk:
         yield step
         if Path(step[0]) == folder.parent:
@@ -250,7 +250,7 @@ class Shown(unittest.TestCase):
 
 
 class Fixes(unittest.TestCase):
-    """`--fix` writes what nobody counts by hand."""
+    """`--fix` writes the numbers that nobody counts by hand."""
 
     def test_fix(self) -> None:
         changes = {

@@ -148,7 +148,7 @@ class RealTree(unittest.TestCase):
         self.assertEqual(len(places.recursions(texts)), 2)
 
     def after_probe(self, code: str) -> list[str]:
-        """Returns what is misplaced where `probe` of flags.rt begins with this code."""
+        """Returns the misplaced texts if `probe` of flags.rt begins with this code."""
         sources = places.sources_of(self.texts)
         path = f"{places.POOL}flags"
         first = "        let seen = self.table.shared.load::<LooksAt>(seat, word_of(bucket));"

@@ -1,4 +1,4 @@
-"""The merge gate, on a checkout whose commands only end well or badly."""
+"""The merge gate, on a checkout whose commands only succeed or fail."""
 
 import io
 import os

@@ -39,7 +39,7 @@ pub struct Number {
 pub struct BumpInfo {
     /// The address of the region's start.
     pub start_address: usize,
-    /// The bytes that are used, the padding between chunks among them.
+    /// The bytes that are used, including the padding between chunks.
     pub used_space: usize,
     /// The bytes after the last chunk.
     pub free_space: usize,
@@ -56,7 +56,7 @@ pub struct OneChunkInfo {
     pub start_address: usize,
     /// The bytes of the region.
     pub size: usize,
-    /// Whether the chunk is free.
+    /// True if the chunk is free.
     pub has_chunk_available: bool,
 }
 
@@ -70,14 +70,14 @@ pub struct PoolInfo {
     pub start_address: usize,
     /// The bytes of the region, with the padding before bucket 0.
     pub size: usize,
-    /// The bytes of a bucket, as they were requested.
+    /// The bytes of a bucket, as requested.
     pub bucket_size: usize,
     /// The greatest alignment that a request may have, which is the bucket's.
     pub max_alignment: usize,
     /// The number of buckets.
     pub number_of_buckets: usize,
-    /// The number of buckets that are held: of a party, those that it holds; of a shared pool, those
-    /// that are held, cached or detached.
+    /// The number of buckets that are held: for a party, those that it holds; for a shared pool,
+    /// those that are held, cached or detached.
     pub held_buckets: usize,
 }
 
@@ -130,7 +130,7 @@ pub type Take = unsafe extern "C" fn(*mut Handle) -> Chunk;
 /// Resizes the chunk at this place, of this old size and alignment, to these new ones.
 pub type Resize =
     unsafe extern "C" fn(*mut Handle, *const c_void, usize, usize, usize, usize) -> Chunk;
-/// Lets the party of the second handle join, or leave.
+/// Makes the party of the second handle join, or leave.
 pub type Parties = unsafe extern "C" fn(*mut Handle, *mut Handle) -> u32;
 
 /// Replaces `malloc`.

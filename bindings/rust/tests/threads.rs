@@ -1,4 +1,4 @@
-//! What threads share: each thread is a party, which it takes along.
+//! Shared allocators: each thread has a party of its own.
 use bb_memory::{
     AllocationError, AttachError, BaseAllocator, BumpParty, DeallocationError, DetachError,
     DetachedBucket, Holder, InitError, JoinError, Pool, PoolParty, RecoverError, ResetError,
@@ -21,7 +21,7 @@ fn bucket() -> Layout {
     Layout::from_size_align(64, 8).unwrap()
 }
 
-/// Takes buckets, and writes into each what no other thread writes.
+/// Takes buckets, and writes into each a value that no other thread writes.
 fn use_pool(party: &PoolParty<'_>, number: u32) {
     let mut taken = 0;
     while taken < ROUNDS {
@@ -60,8 +60,8 @@ fn no_bucket_has_two_holders() {
     });
 }
 
-/// Takes as many chunks of 8 bytes as there are, and returns how many. Each has what this party
-/// wrote at the end.
+/// Takes chunks of 8 bytes until none is left, and returns how many. At the end each has what this
+/// party wrote.
 fn use_bump(party: &BumpParty<'_>, number: u64) -> usize {
     let mut chunks: Vec<NonNull<u64>> = Vec::new();
     while let Ok(chunk) = party.allocate(Layout::new::<u64>()) {
@@ -146,7 +146,7 @@ fn threads_that_come_and_go_lose_nothing() {
             }
             assert!(worker.allocate(bucket()).is_ok() && worker.allocate(bucket()).is_ok());
             refuses(worker.allocate(bucket()), AllocationError::OutOfMemory);
-            // A panic without the text of one, so that the test says nothing.
+            // Panics without a message, so that the test prints nothing.
             if round % 2 == 0 {
                 std::panic::resume_unwind(Box::new("a worker"));
             }
@@ -168,7 +168,8 @@ fn the_memory_lives_as_long_as_what_is_of_the_pool() {
     let mut detached = DetachedBucket::new().unwrap();
     drop(pool);
     let chunk = party.allocate(bucket()).unwrap().cast::<u64>();
-    // SAFETY: the chunk is this thread's until it is detached, and then read as long as it is.
+    // SAFETY: the chunk is this thread's until it is detached, and is only read while it is
+    // detached.
     unsafe {
         chunk.write(7);
         party.detach(chunk.cast(), 64, &mut detached).unwrap();

@@ -23,7 +23,7 @@ use Rattle.std.proofs.lemmas.Option.{same_Some}
 use Rattle.std.specs.Prelude.{slice_get, slice_set}
 use mathlib.Core.Option.{none}
 
--- what a longer log is interleaved with
+-- the interleavings of a longer log
 longer_interleaved : (scene : PoolScene) (flags : List Flag) (logs : List PoolLog) (party : ℕ) (log : PoolLog)
     (entry : PoolEntry) → HasLog logs party log → LogsAgree scene flags (with_entry logs party log entry) →
     Interleaving scene party (log ++ entry ∷ [])

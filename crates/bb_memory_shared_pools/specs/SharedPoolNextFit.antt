@@ -1,5 +1,5 @@
--- Next fit: requests of a shared pool's party that probe each bucket from the party's hint on, what they add to the party's log,
--- and what they may be answered.
+-- Next fit: requests of a shared pool's party that probe each bucket from the party's hint on, what they add to the party's
+-- log, and which answers they may have.
 use Rattle.bb_memory_pool_machine.specs.PoolLogs.{IsHeldInRun, MissesAt, PoolLog, entries_by, entry_of, history_of}
 use Rattle.bb_memory_pool_machine.specs.PoolMachine.{PoolScene}
 use Rattle.bb_memory_pool_machine.specs.declared.steps.pool.PoolOutcome.{PoolOutcome}
@@ -55,7 +55,7 @@ taking_at party bucket = entry_of (TryAt party bucket) (Takes bucket) ∷ []
 abbrev pub miss_at : ℕ → ℕ → PoolLog
 miss_at party bucket = entry_of (TryAt party bucket) (Misses bucket) ∷ []
 
--- where a search over `buckets` buckets begins: at bucket `first`, or at bucket 0 if there is no such bucket
+-- where a search over `buckets` buckets begins: at bucket `first`, or at bucket 0 if the pool has no bucket `first`
 abbrev pub start_of : ℕ → ℕ → ℕ
 start_of buckets first = if nat_lt first buckets then first else 0
 

@@ -1,5 +1,5 @@
--- The rule of a shared pool's words, what its seats and fields stand for, and what each step on a word leaves of the seat that
--- makes it.
+-- The rule of a shared pool's words, the meaning of its seats and fields, and the effect of each step on a word on the seat
+-- that makes it.
 use Rattle.atomic_table.specs.Seated.{TableId}
 use Rattle.atomic_table.specs.Table.{Me, State, Step}
 use Rattle.bb_memory_pool_machine.specs.PoolLogs.{CommonInterleaving, Interleaving, IsDetachedIn, IsHeldAfter, LogsAgree, MayBeFound, PoolEntry, PoolLog, entry_of, loss_at, pass_in}
@@ -104,8 +104,9 @@ pub record AreDetached (marks : List Flag) (views : List SeatView) : Type 0 wher
   pub each : (bucket : ℕ) → 0 < times_detached bucket views → HasToken marks bucket
   pub once : (bucket : ℕ) → times_detached bucket views ≤ 1
 
--- The rule: there is a log for each party, and these logs agree with the flags that the words say. No word says anything else.
--- Each party is in exactly one view, with its log. The view of a dropped party stays, and so does that of a detached bucket.
+-- The rule: there is a log for each party, and these logs agree with the flags that the words encode. No word encodes anything
+-- else. Each party is in exactly one view, with its log. The view of a dropped party stays, and so does that of a detached
+-- bucket.
 pub record WordsAndLogsAgree (scene : PoolScene) (state : State ℕ SeatView) : Type 0 where
   pub marks : List Flag
   pub logs : List PoolLog
@@ -142,7 +143,7 @@ no_bytes = record {
   };
 }
 
--- a view that stands for no party, of a scene without buckets: what a seat leaves that joined another one
+-- a view that stands for no party, of a scene without buckets: the view of a seat after it joined another one
 abbrev pub nobody : SeatView
 nobody = standing_for (scene_at (pool_geometry (region_at 0 0) no_bytes 0) 0) []
 
@@ -231,8 +232,8 @@ FoundDetached scene parties bucket = (met : AfterMeetingLoad scene parties) × I
 abbrev pub FoundOther : PoolScene → List NumberedLog → ℕ → Type 0
 FoundOther scene parties bucket = (met : AfterMeetingLoad scene parties) × (¬ IsDetachedIn met.flags bucket)
 
--- A load of the flag of this bucket by a seat that stands for these parties, which found this word. Of the flags that agree with
--- the parties' logs, the bucket's is the one that the word says.
+-- A load of the flag of this bucket by a seat that stands for these parties, which found this word. Among the flags that agree
+-- with the parties' logs, the bucket's is the one that the word encodes.
 pub record AfterMeetingLook (scene : PoolScene) (parties : List NumberedLog) (bucket found : ℕ) : Type 0 where
   pub met : AfterMeetingLoad scene parties
   pub mark : Flag

@@ -30,7 +30,7 @@ fn probed(buckets: u32, first: u32, probe: u32) -> u32
 }
 
 impl<const CAPPED: usize, const MOST: usize> SharedBucketPool<CAPPED, MOST> {
-    /// Returns the first bucket of a party's own part of the pool, which is cut into as many parts as it has parties.
+    /// Returns the first bucket of a party's own part of the pool. The pool is cut into one part for each party.
     pub(super) fn part_of(&self, number: u32) -> u32
         requires { number < self.now.scene.parties }
         ensures { result ≡ part_of self.now.scene number }
@@ -39,8 +39,8 @@ impl<const CAPPED: usize, const MOST: usize> SharedBucketPool<CAPPED, MOST> {
         (before / self.number_of_parties() as u64) as u32
     }
 
-    /// One whole search: a probe of each bucket from bucket `first` up, and then of each below it, until one is taken. The first
-    /// probe makes its exchange without a load before it: at the hint a bucket is mostly free.
+    /// Makes one whole search: a probe of each bucket from bucket `first` up, and then of each below it, until one is taken.
+    /// The first probe makes its exchange without a load before it, since the bucket at the hint is mostly free.
     fn next_fit(&self, party: u32, seat: &mut Seat<u8, View>, first: u32) -> Option<u32>
         requires party { number_of seat.old.me.0 ≡ party }
         requires seat { IsIdleAt self.now seat.old.table_id seat.old.me }
@@ -63,8 +63,9 @@ impl<const CAPPED: usize, const MOST: usize> SharedBucketPool<CAPPED, MOST> {
         self.later_probes(party, seat, first)
     }
 
-    /// The probes of a search behind its first, which missed: the clause holds for each log with which the search may have begun.
-    /// The loop stands apart, and isn't inlined, so that a search whose first probe takes a bucket is straight-line code.
+    /// Makes the probes of a search after its first, which missed. The clause holds for each log with which the search may have
+    /// begun. The loop is a function of its own, and isn't inlined, so that a search whose first probe takes a bucket is
+    /// straight-line code.
     #[inline(never)]
     fn later_probes(&self, party: u32, seat: &mut Seat<u8, View>, first: u32) -> Option<u32>
         requires party { number_of seat.old.me.0 ≡ party }

@@ -8,8 +8,8 @@ use super::rule::View;
 use atomic_table::Seat;
 use std::marker::Model;
 
-/// A party's hint: the bucket at which its next search begins, and its rover, where a search begins that follows a taking. The
-/// two differ only where the party gave back a bucket since it took its last one.
+/// A party's hint: the bucket at which its next search begins, and its rover, at which a search begins that follows a taking.
+/// The two differ only if the party has given back a bucket since it took its last one.
 #[derive(Clone, Copy)]
 pub(super) struct Hint {
     pub(super) bucket: u32,
@@ -17,8 +17,8 @@ pub(super) struct Hint {
 }
 
 impl Hint {
-    /// Follows the taking of this bucket: the rover goes behind it, but stays where the bucket is the one that came back last, and
-    /// the rover is elsewhere. The next search begins at the rover.
+    /// Moves the hint after this bucket was taken. The rover moves to the bucket after it, unless this bucket is the one that
+    /// came back last and the rover is elsewhere. The next search begins at the rover.
     pub(super) fn follow_taking(&mut self, bucket: u32)
         requires { bucket + 1 < 2 ^ 32 }
         ensures { self.new ≡ hint_after self.old (Takes bucket) }
@@ -41,8 +41,8 @@ impl Hint {
     }
 }
 
-/// One user of a shared pool. It goes with its thread, and each call that takes or gives back a bucket asks for it. The list
-/// of its steps, its log, is known to contracts alone. A dropped party meets no more, so no later meeting is of all parties.
+/// One user of a shared pool. A party moves with its thread, and each call that takes or gives back a bucket needs it. Only
+/// contracts know the list of its steps, its log. A dropped party doesn't meet any more, so no later meeting is of all parties.
 #[derive(Drop)]
 pub struct PoolParty {
     pub(super) number: u32,
@@ -62,7 +62,7 @@ impl Model for PoolParty {
 }
 
 impl PoolParty {
-    /// Returns the party's number, from 0 and below how many parties there are.
+    /// Returns the party's number, from 0 and less than the number of parties.
     pub fn number(&self) -> u32
         ensures value { result ≡ self.now.number }
 
