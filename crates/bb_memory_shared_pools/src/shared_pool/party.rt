@@ -1,7 +1,7 @@
 //! Parties: each is one user's right to step on a shared pool.
 ghost use Rattle.bb_memory_pool_machine.specs.declared.steps.pool.PoolOutcome.TheVariants.{Gives, Takes};
 ghost use Rattle.bb_memory_shared_pools.specs.SharedPool.{IsParty};
-ghost use Rattle.bb_memory_shared_pools.specs.SharedPoolNextFit.{hint_after};
+ghost use Rattle.bb_memory_shared_pools.specs.SharedPoolNextFit.{hint_after, stays_at};
 ghost use Rattle.std.specs.Prelude.{◌+◌, ◌<◌, ◌^◌, ◌≡◌};
 
 use super::rule::View;
@@ -29,11 +29,26 @@ impl Hint {
         self.bucket = self.rover;
     }
 
-    /// Follows a return of this bucket: the next search begins there. The rover goes to the bucket where it would have begun, but
-    /// stays where that lies at most 128 ahead of it.
+    /// Returns whether a return of this bucket leaves the next search where it would have begun. That is at a bucket that came back
+    /// since the party's last taking, which being before the rover shows, and that is at most 128 before this one.
+    fn stays_at(&self, bucket: u32) -> bool
+        ensures { result ≡ stays_at self.now bucket }
+    {
+        self.bucket < self.rover && self.bucket < bucket && bucket - self.bucket <= 128
+    }
+
+    /// Follows a return of this bucket. If the next search stays where it would have begun, a rover after this bucket goes to it.
+    /// Otherwise the next search begins at this bucket, and the rover goes to the bucket at which it would have begun, unless that
+    /// bucket is at most 128 ahead of the rover.
     pub(super) fn follow_return(&mut self, bucket: u32)
         ensures { self.new ≡ hint_after self.old (Gives bucket) }
     {
+        if self.stays_at(bucket) {
+            if bucket < self.rover {
+                self.rover = bucket;
+            }
+            return;
+        }
         if self.bucket < self.rover || self.bucket - self.rover > 128 {
             self.rover = self.bucket;
         }
