@@ -27,13 +27,14 @@ rover_on hint bucket = if bucket == hint.bucket && not (bucket == hint.rover) th
 abbrev pub rover_back : Hint → ℕ
 rover_back hint = if nat_lt hint.bucket hint.rover || nat_lt (hint.rover + 128) hint.bucket then hint.bucket else hint.rover
 
--- A return of this bucket leaves the next search where it would have begun: at a bucket that came back since the party's last
--- taking, as it is before the rover, and that is at most 128 before the returned one.
+-- The next search begins where it would have begun, even after a return of this bucket: at a bucket at most 128 before this one
+-- that came back since the party's last taking. It did if it is before the rover.
 abbrev pub stays_at : Hint → ℕ → Bool
 stays_at hint bucket =
     nat_lt hint.bucket hint.rover && nat_lt hint.bucket bucket && not (nat_lt (hint.bucket + 128) bucket)
 
--- the hint after one more step: after a return as above, and otherwise at the bucket that came back; after a taking at the rover
+-- The hint after one more step: after a return at the bucket that came back, unless it stays as above, and then a rover after
+-- that bucket moves to it; after a taking at the rover.
 abbrev pub hint_after : Hint → PoolOutcome → Hint
 hint_after hint (Takes bucket) = record { bucket = rover_on hint bucket; rover = rover_on hint bucket }
 hint_after hint (Gives bucket) = if stays_at hint bucket

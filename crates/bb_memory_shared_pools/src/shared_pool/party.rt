@@ -17,8 +17,8 @@ pub(super) struct Hint {
 }
 
 impl Hint {
-    /// Follows the taking of this bucket: the rover goes behind it, but stays where the bucket is the one that came back last, and
-    /// the rover is elsewhere. The next search begins at the rover.
+    /// Moves the hint after this bucket was taken. The rover moves to the bucket after it, unless this bucket is the one at which
+    /// the search began and the rover is elsewhere. The next search begins at the rover.
     pub(super) fn follow_taking(&mut self, bucket: u32)
         requires { bucket + 1 < 2 ^ 32 }
         ensures { self.new ≡ hint_after self.old (Takes bucket) }
@@ -29,17 +29,17 @@ impl Hint {
         self.bucket = self.rover;
     }
 
-    /// Returns whether a return of this bucket leaves the next search where it would have begun. That is at a bucket that came back
-    /// since the party's last taking, which being before the rover shows, and that is at most 128 before this one.
+    /// Returns whether the next search begins where it would have begun, even after a return of this bucket: at a bucket at most
+    /// 128 before this one that came back since the party's last taking. It did if it is before the rover.
     fn stays_at(&self, bucket: u32) -> bool
         ensures { result ≡ stays_at self.now bucket }
     {
         self.bucket < self.rover && self.bucket < bucket && bucket - self.bucket <= 128
     }
 
-    /// Follows a return of this bucket. If the next search stays where it would have begun, a rover after this bucket goes to it.
-    /// Otherwise the next search begins at this bucket, and the rover goes to the bucket at which it would have begun, unless that
-    /// bucket is at most 128 ahead of the rover.
+    /// Moves the hint after a return of this bucket. If the next search stays where it would have begun, a rover after this bucket
+    /// moves to it. Otherwise the next search begins at this bucket, and the rover moves to the bucket at which it would have
+    /// begun, unless that bucket is at most 128 ahead of the rover.
     pub(super) fn follow_return(&mut self, bucket: u32)
         ensures { self.new ≡ hint_after self.old (Gives bucket) }
     {
