@@ -89,11 +89,15 @@ impl<const CAPPED: usize, const MOST: usize> SharedBucketPool<CAPPED, MOST> {
     }
 
     /// Takes a bucket for the party, as `allocate` does, but tries the buckets in another order: after the same tests of size and
-    /// alignment it probes each bucket once, until one is taken. The search begins at the party's hint: at the bucket that it
-    /// gave back last, or else at its rover; before its first step, at the first bucket of a part of the pool of its own. The
-    /// rover is behind the bucket that the party took last, or at one that it gave back before its last one. The search goes on
-    /// to the last bucket, and then from bucket 0 up. It is refused with `OutOfMemory` where each probe misses. Where other
-    /// parties step meanwhile, that doesn't mean that all buckets were held at one moment. The party has to be this pool's.
+    /// alignment it probes each bucket once, until one is taken.
+    ///
+    /// The search begins at the party's hint, goes on to the last bucket, and then from bucket 0 up. The hint is the bucket that
+    /// the party gave back last, or one at most 128 before it that it gave back earlier, or otherwise its rover. The rover is just
+    /// after the bucket that the party took last, or at one that it gave back before. Before the party's first step, it is the
+    /// first bucket of the party's own part of the pool.
+    ///
+    /// Fails with `OutOfMemory` if each probe misses. If other parties step meanwhile, that doesn't mean that all buckets were held
+    /// at one moment. The party has to be this pool's.
     #[inline(always)]
     pub fn allocate_next_fit(
         &self,

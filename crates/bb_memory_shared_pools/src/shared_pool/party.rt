@@ -1,7 +1,7 @@
 //! Parties: each is one user's right to step on a shared pool.
 ghost use Rattle.bb_memory_pool_machine.specs.declared.steps.pool.PoolOutcome.TheVariants.{Gives, Takes};
 ghost use Rattle.bb_memory_shared_pools.specs.SharedPool.{IsParty};
-ghost use Rattle.bb_memory_shared_pools.specs.SharedPoolNextFit.{hint_after};
+ghost use Rattle.bb_memory_shared_pools.specs.SharedPoolNextFit.{hint_after, stays_at};
 ghost use Rattle.std.specs.Prelude.{◌+◌, ◌<◌, ◌^◌, ◌≡◌};
 
 use super::rule::View;
@@ -17,8 +17,8 @@ pub(super) struct Hint {
 }
 
 impl Hint {
-    /// Moves the hint after this bucket was taken. The rover moves to the bucket after it, unless this bucket is the one that
-    /// came back last and the rover is elsewhere. The next search begins at the rover.
+    /// Moves the hint after this bucket was taken. The rover moves to the bucket after it, unless this bucket is the one at which
+    /// the search began and the rover is elsewhere. The next search begins at the rover.
     pub(super) fn follow_taking(&mut self, bucket: u32)
         requires { bucket + 1 < 2 ^ 32 }
         ensures { self.new ≡ hint_after self.old (Takes bucket) }
@@ -29,11 +29,26 @@ impl Hint {
         self.bucket = self.rover;
     }
 
-    /// Follows a return of this bucket: the next search begins there. The rover goes to the bucket where it would have begun, but
-    /// stays where that lies at most 128 ahead of it.
+    /// Returns whether the next search stays where it would have begun if this bucket is given back. It stays if that place is a
+    /// bucket that came back since the party's last taking (it is before the rover), and is at most 128 before this bucket.
+    fn stays_at(&self, bucket: u32) -> bool
+        ensures { result ≡ stays_at self.now bucket }
+    {
+        self.bucket < self.rover && self.bucket < bucket && bucket - self.bucket <= 128
+    }
+
+    /// Moves the hint after this bucket was given back. If the next search stays where it would have begun, a rover after this
+    /// bucket moves to it. Otherwise the next search begins at this bucket, and the rover moves to where it would have begun,
+    /// unless that is at most 128 ahead of the rover.
     pub(super) fn follow_return(&mut self, bucket: u32)
         ensures { self.new ≡ hint_after self.old (Gives bucket) }
     {
+        if self.stays_at(bucket) {
+            if bucket < self.rover {
+                self.rover = bucket;
+            }
+            return;
+        }
         if self.bucket < self.rover || self.bucket - self.rover > 128 {
             self.rover = self.bucket;
         }
