@@ -113,7 +113,7 @@ PLACES = (
                 "split_seat": 2,
                 "join_seat": 2,
                 "compare_exchange": 3,
-                "load": 5,
+                "load": 4,
                 "load_new_seat": 1,
                 "store": 5,
                 "peek": 1,
@@ -137,7 +137,7 @@ PLACES = (
         SHARED,
         re.compile(
             r"(?:\.|::)(try_flag|try_at|probe|attach_number|meet|meet_rest"
-            r"|load_for_meeting|found|holder|is_held|is_held_by|held_at|is_detached|is_out"
+            r"|load_for_meeting|found|holder|is_held|is_held_by|held_at|is_out"
             r"|is_detached_when_met|have_detached|meet_detached|has_detached"
             r"|count_out|count_taken|held_buckets)\b"
         ),
@@ -147,7 +147,7 @@ PLACES = (
             POOL + "next_fit": {"try_at": 1, "probe": 1},
             POOL + "by_number": {"found": 1, "is_held": 1, "is_held_by": 1, "count_taken": 1},
             POOL + "caching": {"attach_number": 1, "is_held_by": 1, "meet": 1},
-            POOL + "detached": {"attach_number": 1, "is_detached": 1},
+            POOL + "detached": {"attach_number": 1},
             POOL
             + "meeting": {
                 "load_for_meeting": 1,

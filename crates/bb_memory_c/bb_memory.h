@@ -1,8 +1,8 @@
 // bb_memory: allocators over a region of the host's own memory.
 //
 // For C99 or later and C++11 or later, on Linux with an x86-64-v2 processor. bb_memory.hpp has
-// owners for C++17. The contract of each exported function but `bb_use_memory` and
-// `bb_pool_party_recover` is proved, for every caller that keeps the rules below.
+// owners for C++17. The contract of each exported function but `bb_use_memory` is proved, for every
+// caller that keeps the rules below.
 //
 // EXAMPLE
 //
@@ -69,11 +69,11 @@
 //  8. A call that has two handles as parameters gets two different ones.
 //  9. No function is called in a signal handler. The handler may have interrupted a call with the
 //     handle, or `malloc`.
-// 10. No function is called in a child that a process of several threads forked: another thread
-//     may have locked `malloc`. After any other fork, only one of the two processes goes on using
-//     a handle. PROCESSES, at the end, has the exception.
-// 11. `malloc`, `realloc` and `free`, or the functions that replace them by `bb_use_memory`, belong
-//     to one allocator, and align memory as C requires.
+// 10. After `fork`, only one of the two processes goes on using a handle. If the process had several
+//     threads, that is the parent: in the child `malloc` may be locked for good. Processes share a
+//     pool through bb_pool_file.h.
+// 11. A call that takes or frees memory calls `malloc` or `free`, or the two functions that
+//     `bb_use_memory` named. These keep the conditions that its comment has.
 //
 // Functions with a `const` handle are the exception to rule 1: they may run beside other calls with
 // their handle, except those that make it or empty it. That is tested (examples/c/places.c) and
@@ -105,10 +105,10 @@ extern "C" {
 //
 
 // The version of this header and of the library, as text.
-#define BB_VERSION "2.0.0"
+#define BB_VERSION "3.0.0"
 
 // The first number of the version.
-#define BB_VERSION_MAJOR 2
+#define BB_VERSION_MAJOR 3
 
 // The second number of the version.
 #define BB_VERSION_MINOR 0
@@ -122,7 +122,7 @@ extern "C" {
 // The number in the shared library's SONAME. It grows if a function goes, or if a type, a struct's
 // fields or a code's number changes. It stays if functions or codes are added. A program runs with
 // each library of its number, from the version on with which it was linked.
-#define BB_ABI 3
+#define BB_ABI 4
 
 //
 // PLACES
@@ -150,9 +150,10 @@ typedef const void *bb_address;
 // CODES
 //
 // A call that can be refused returns a code, or a struct that begins with one. If the code isn't
-// BB_OK, the call did nothing (`bb_pool_party_recover` says what it does), and the rest of a
-// returned struct is 0. The last line of a function's comment lists its codes other than BB_OK. If
-// several apply, the first one in that list is returned.
+// BB_OK, the call changed nothing, and the rest of a returned struct is 0.
+//
+// The last line of a function's comment lists its codes other than BB_OK. If several apply, the
+// first one in that list is returned.
 //
 
 enum {
@@ -326,11 +327,6 @@ static inline const char *bb_text(uint32_t code) {
 #define BB_EMPTY {BB_NULL, false}
 // clang-format on
 
-// A `bb_lost` before its use: `bb_lost lost = BB_LOST;`.
-// clang-format off
-#define BB_LOST {BB_NULL, true}
-// clang-format on
-
 // The size and the alignment of a type, for two parameters: `bb_pool_allocate(&pool,
 // BB_OF(message))`.
 #define BB_OF(type) sizeof(type), BB_ALIGN_OF(type)
@@ -390,12 +386,6 @@ typedef struct bb_detached {
     bool made;
 } bb_detached;
 
-// A host's promise that a detached bucket is lost: see `bb_pool_party_recover`.
-typedef struct bb_lost {
-    void *at;
-    bool made;
-} bb_lost;
-
 // What a request returns: a code, and with BB_OK the place where the chunk begins. Returned in
 // registers.
 typedef struct bb_chunk {
@@ -427,12 +417,21 @@ typedef struct bb_number {
 // empty then, and may be used again. The bytes of chunks that are still in use stay the host's.
 //
 
-// Has the library call these functions in place of `malloc`, `realloc` and `free`. They have the
-// meaning of the C functions that they replace, and `release` may be called with NULL. A process
-// calls this before its other calls; no lock guards it. A host without `malloc` can thus give the
-// library an arena.
-void bb_use_memory(void *(*allocate)(size_t size), void *(*resize)(void *block, size_t size),
-                   void (*release)(void *block));
+// Has the library call `allocate` in place of `malloc`, and `release` in place of `free`. Each of
+// them gets `context` as its first parameter. So a host without `malloc` can give the library an
+// arena. A process calls this once, before its other calls; no lock guards it.
+//
+// `allocate` returns a block of at least `size` bytes at a multiple of `align`, or NULL if it has
+// none. The block overlaps no other one, and nobody else writes it until it is released. `size` is
+// never 0, and `align` is 16.
+//
+// `release` gets a block that `allocate` returned, once. It is never NULL.
+//
+// Any thread that is in a call of the library may call either function, and several threads at
+// once. Neither function calls this library, and each returns to its caller: neither throws, and
+// neither calls `longjmp`.
+void bb_use_memory(void *(*allocate)(void *context, size_t size, size_t align),
+                   void (*release)(void *context, void *block), void *context);
 
 //
 // BUMP: chunks of any size, one after another, all given back at once.
@@ -920,8 +919,7 @@ typedef struct bb_holder {
 } bb_holder;
 
 // Stores in `holder` what the flag of the bucket of this number says. It is found by one load. If
-// the call is refused, `holder` stays as it was. Any thread or process may call this while parties
-// are used.
+// the call is refused, `holder` stays as it was. Any thread may call this while parties are used.
 //
 // BB_NOT_A_BUCKET if the pool has no bucket of this number.
 //
@@ -1173,22 +1171,6 @@ BB_MUST_USE bb_chunk bb_pool_party_attach(bb_pool_party *party, bb_detached *det
 // Codes, in order: BB_UNINITIALIZED, BB_DETACHED_EMPTY, BB_OTHER_POOL.
 uint32_t bb_pool_party_return_detached(bb_pool_party *party, bb_detached *detached);
 
-// Gives back the bucket of this number, which was detached into a `bb_detached` that is lost, as
-// that of a dead process. By `bb_lost lost = BB_LOST;` the host promises that nobody has that
-// `bb_detached` or will use it. If the party's handle and `lost` aren't empty, the call empties
-// `lost`, even if it is refused, and calls `free` with NULL.
-//
-// BB_UNINITIALIZED if either handle is empty, and then both stay as they were. BB_NOT_A_BUCKET if
-// the pool has no bucket of this number. BB_NOT_HELD if the bucket isn't detached, or was detached
-// by its number.
-//
-// A process that died in `bb_pool_party_return_detached`, or in this call, may have given the
-// bucket back already, and another party may have taken it and detached it since. Neither this call
-// nor `bb_shared_pool_holder` can find that out, and this call would free that party's message.
-//
-// Codes, in order: BB_UNINITIALIZED, BB_NOT_A_BUCKET, BB_NOT_HELD.
-uint32_t bb_pool_party_recover(bb_pool_party *party, uint32_t number, bb_lost *lost);
-
 // Detaches the bucket at `place` by its number. The host passes the number to another party, with
 // the number of this party, and that one attaches the bucket by these two numbers.
 //
@@ -1208,33 +1190,6 @@ BB_MUST_USE bb_number bb_pool_party_detach_number(bb_pool_party *party, bb_addre
 // Codes, in order: BB_UNINITIALIZED, BB_NOT_A_BUCKET, BB_NOT_HELD.
 BB_MUST_USE bb_chunk bb_pool_party_attach_number(bb_pool_party *party, uint32_t number,
                                                  uint32_t from);
-
-//
-// PROCESSES share a pool as threads do, under these conditions:
-//
-// - The region and the library's memory (`bb_use_memory`) lie in a mapping that all processes have
-//   at one address: one that `fork` copies (examples/c/workers.c), or one of a file
-//   (examples/c/processes.c).
-// - All processes have one version of the library.
-// - A handle is copied by `fork`, or lies in the mapping. One process at a time uses it.
-// - Only one process at a time joins and leaves. A supervisor does that best: the others get
-//   parties that have joined.
-//
-// A process may be killed at any instruction, except in a call that takes or frees memory: `init`,
-// `join`, `join_number`, `leave`, `forget`, `cache`, `recover`, `reset`, `destroy` or `abandon`. If
-// a process died in one of these, what it shared is not used any more.
-//
-// After a process died, another one does this:
-//
-// - It calls `leave` for the dead process's party. Exactly what the party held is free then.
-//   `leave` trusts the pool's words. Of what the party's handle owns, it trusts only what never
-//   changes: where the pool and the cache lie, and the party's number. All else may be torn.
-// - It destroys each `bb_detached` that the dead process was in a call with, which may be torn.
-//   The bucket of such a one is held by the dead party until that leaves, or it is still detached.
-//   `bb_shared_pool_holder`, called before `leave`, says which. If it is detached,
-//   `bb_pool_party_recover` gives it back. If the dead process was in
-//   `bb_pool_party_return_detached`, the bucket may already be another party's.
-//
 
 #ifdef __cplusplus
 }

@@ -370,12 +370,6 @@ public:
         return static_cast<error>(bb_pool_party_return_detached(get(), from.get()));
     }
 
-    // Gives back the detached bucket of this number, whose `bb_detached` nobody has or will use.
-    error recover(std::uint32_t number) noexcept {
-        bb_lost lost = BB_LOST;
-        return static_cast<error>(bb_pool_party_recover(get(), number, &lost));
-    }
-
     // Gives back each bucket that this party holds, cached ones too. The party stays.
     error give_all_back() noexcept {
         return static_cast<error>(bb_pool_party_give_all_back(get()));

@@ -15,8 +15,7 @@
 // destroys a pool before it uses the region for something else, for example a region on a stack.
 //
 // Each process has reports of its own. One that reads a bucket that another process took, and
-// doesn't attach it, first calls `bb_sanitize_open`. A bucket that `bb_pool_party_recover` gives
-// back is reported as free only after its next return.
+// doesn't attach it, first calls `bb_sanitize_open`.
 #ifndef BB_MEMORY_SANITIZE_H
 #define BB_MEMORY_SANITIZE_H
 
@@ -515,17 +514,6 @@ BB_SANITIZE_INLINE uint32_t bb_sanitize_pool_party_return_detached(bb_pool_party
     return code == BB_OK ? bb_pool_party_return_detached(party, detached) : code;
 }
 
-// Calls `bb_pool_party_recover`, and reports that another thread may have the bucket.
-BB_SANITIZE_INLINE uint32_t bb_sanitize_pool_party_recover(bb_pool_party *party, uint32_t number,
-                                                           bb_lost *lost) {
-    bb_chunk bucket;
-    bb_sanitize_handle(party->at, party->made);
-    bucket = bb_pool_party_place_at(party, number);
-    if (bucket.code == BB_OK)
-        bb_sanitize_sending(bucket.place);
-    return bb_pool_party_recover(party, number, lost);
-}
-
 // Calls `bb_pool_party_detach_number`, and reports that another thread may have the bucket.
 BB_MUST_USE BB_SANITIZE_INLINE bb_number bb_sanitize_pool_party_detach_number(bb_pool_party *party,
                                                                               bb_address place) {
@@ -578,7 +566,6 @@ BB_MUST_USE BB_SANITIZE_INLINE bb_chunk bb_sanitize_pool_party_attach_number(bb_
 #define bb_pool_party_detach bb_sanitize_pool_party_detach
 #define bb_pool_party_attach bb_sanitize_pool_party_attach
 #define bb_pool_party_return_detached bb_sanitize_pool_party_return_detached
-#define bb_pool_party_recover bb_sanitize_pool_party_recover
 #define bb_pool_party_detach_number bb_sanitize_pool_party_detach_number
 #define bb_pool_party_attach_number bb_sanitize_pool_party_attach_number
 

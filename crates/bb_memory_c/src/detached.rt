@@ -1,15 +1,15 @@
 //! Detached buckets behind handles, which go from party to party of a shared pool, and those that go by their numbers alone.
-ghost use Rattle.bb_memory_c.specs.SharedPools.{Detached, IsLostAt, KnowsInside, TakesInside, TellsAttach, TellsAttachNumber, TellsDetach, TellsDetachNumber, TellsLen, TellsRecover, TellsReturnDetached, start_of};
+ghost use Rattle.bb_memory_c.specs.SharedPools.{Detached, KnowsInside, TakesInside, TellsAttach, TellsAttachNumber, TellsDetach, TellsDetachNumber, TellsLen, TellsReturnDetached, start_of};
 ghost use Rattle.bb_memory_c_calls.specs.Answers.{no_figure, refused};
 ghost use Rattle.bb_memory_c_calls.specs.Calls.{Answers, AnswersFree, AnswersMake, AnswersOfBoth, IfBoth};
 ghost use Rattle.bb_memory_c_calls.specs.declared.code.TheConstants.{UNINITIALIZED as uninitialized};
-ghost use Rattle.std.specs.Prelude.{IfOk, IfSome, MatchOption, None, Some, ◌≡◌};
+ghost use Rattle.std.specs.Prelude.{IfOk, IfSome, None, Some, ◌≡◌};
 
-use crate::handle::{DetachedHandle, Handle, LostHandle, PoolPartyHandle};
+use crate::handle::{DetachedHandle, Handle, PoolPartyHandle};
 use crate::shared_pool::{JoinedPool, note};
 use bb_memory_c_calls::answer::{Answer, Figure};
 use bb_memory_c_calls::{call, code};
-use bb_memory_shared_pools::shared_pool::{DetachedBucket, LostBucket, by_number};
+use bb_memory_shared_pools::shared_pool::{DetachedBucket, by_number};
 use bb_memory_traits::layout::Chunk;
 use std::alloc::Global;
 use std::marker::Model;
@@ -133,21 +133,6 @@ impl JoinedPool {
                 code::OK
             }
             Err(code) => code,
-        }
-    }
-
-    /// Gives back the detached bucket of this number, whose token was lost.
-    fn recover(&mut self, number: u32, lost: LostBucket) -> u32
-        requires { IsLostAt self.old number lost }
-        ensures { TellsRecover self.old number result self.new }
-    {
-        if number >= self.pool.number_of_buckets() {
-            return code::NOT_A_BUCKET;
-        }
-        if self.party.recover(&*self.pool, number, lost) {
-            code::OK
-        } else {
-            code::NOT_HELD
         }
     }
 }
@@ -281,26 +266,4 @@ pub extern "C" fn bb_pool_party_return_detached(
         return code::UNINITIALIZED;
     };
     joined.return_detached(inside)
-}
-
-/// Gives back the detached bucket of this number, whose `bb_detached` was lost. The token of the bucket, which has no bytes, is
-/// behind the second handle, as nobody else has it. A number past the last is refused.
-#[unsafe(no_mangle)]
-pub extern "C" fn bb_pool_party_recover(
-    alloc: Global,
-    handle: &mut PoolPartyHandle,
-    number: u32,
-    lost: &mut LostHandle,
-) -> u32
-    requires { IfBoth handle.old.value lost.old.value (λ joined token. IsLostAt joined number token) }
-    ensures { Answers handle.old.value handle.new.value (result ≡ uninitialized) (λ joined after. MatchOption lost.old.value
-        ((result ≡ uninitialized) × (after ≡ joined)) (λ token. TellsRecover joined number result after)) }
-{
-    let Some(joined) = handle.made_mut() else {
-        return code::UNINITIALIZED;
-    };
-    let Some(token) = lost.take(alloc) else {
-        return code::UNINITIALIZED;
-    };
-    joined.recover(number, Box::into_inner(token))
 }
