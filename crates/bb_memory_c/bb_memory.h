@@ -1,9 +1,9 @@
 // bb_memory: allocators over a region of the host's own memory.
-//
+
 // For C99 or later and C++11 or later, on Linux with an x86-64-v2 processor. bb_memory.hpp has
 // owners for C++17. The contract of each exported function but `bb_use_memory` is proved, for every
 // caller that keeps the rules below.
-//
+
 // EXAMPLE
 //
 //     #include <stdio.h>
@@ -30,7 +30,7 @@
 //         bb_pool_destroy(&pool);
 //         return 0;
 //     }
-//
+
 // HANDLES
 //
 // | Handle                            | Gives                            | Takes back        |
@@ -41,50 +41,62 @@
 // | `bb_shared_bump`, `bb_bump_party` | as a bump, to threads            | all, by `reset`   |
 // | `bb_shared_pool`, `bb_pool_party` | as a pool, to threads            | each by its party |
 // | `bb_detached`                     | no bucket: it carries one        |                   |
-//
+
 // Sizes and alignments are in bytes. No function reads or writes a byte of a region. Chunks that
 // are in use lie inside the region, at multiples of the requested alignment, and never overlap.
-//
+
 // RULES
 //
 // No function tests these rules. Breaking one may give a chunk to two holders, or corrupt the
 // library's memory. The most dangerous ones come first.
-//
+
 //  1. Only one call at a time uses a handle. A data race on a handle is undefined behaviour, and
 //     may give one chunk twice. Threads that call at once have a party each, or a lock.
+
 //  2. A handle goes to another thread by a lock, an atomic, or the start or join of a thread.
+
 //  3. Return each chunk once. A second return is refused until the place is given again; from then
 //     on it takes the chunk from its new holder.
+
 //  4. A region serves one allocator at a time. The host keeps the region while a chunk in it is in
-//     use. It may be a chunk of another allocator: that chunk then serves nothing else, and is
+//     use. A region may be a chunk of another allocator. That chunk then serves nothing else, and is
 //     returned after the inner allocator is destroyed.
+
 //  5. While a shared pool or bump exists, no other one has the same start, not even one that lies
 //     in a chunk of the first. Parties and detached buckets are known by that start. It is
 //     `start_address` of the figures. `bb_shared_pool_abandon` and `bb_shared_bump_abandon` say
 //     how long an abandoned one exists.
+
 //  6. A handle is a variable with both fields zero before its first use: `bb_pool pool =
 //     BB_EMPTY;`. It is passed by its address, which is never null.
+
 //  7. Only these functions write a handle, and it keeps its kind. A compiler refuses a handle of
 //     another kind, unless the host casts. A handle may be moved; its old copy is not used again.
-//  8. A call that has two handles as parameters gets two different ones.
+
+//  8. Two handles that are passed to one call are different ones.
+
 //  9. No function is called in a signal handler. The handler may have interrupted a call with the
 //     handle, or `malloc`.
+
 // 10. After `fork`, only one of the two processes goes on using a handle. If the process had several
 //     threads, that is the parent: in the child `malloc` may be locked for good. Processes share a
 //     pool through bb_pool_file.h.
-// 11. A call that takes or frees memory calls `malloc` or `free`, or the two functions that
-//     `bb_use_memory` named. These keep the conditions that its comment has.
-//
+
+// 11. `malloc` and `free` are those of C, or two functions of the host with the same meaning. The
+//     comment of `bb_use_memory` says what the functions that it names have to do.
+
 // Functions with a `const` handle are the exception to rule 1: they may run beside other calls with
 // their handle, except those that make it or empty it. That is tested (examples/c/places.c) and
 // not proved, since the proofs are of one call at a time.
-//
+
 // CHECKERS
 //
 // If AddressSanitizer or ThreadSanitizer is on, or if BB_VALGRIND is defined before the first
 // include, bb_memory_sanitize.h reports to the checker what is in use. BB_NO_SANITIZE turns that
-// off. Both are defined for all files of a program, or for none. MemorySanitizer needs
-// `__msan_unpoison` of each struct that a call filled.
+// off. Either macro is defined for all files of a program, or for none.
+
+// MemorySanitizer needs `__msan_unpoison` of each struct that a call filled.
+
 #ifndef BB_MEMORY_H
 #define BB_MEMORY_H
 
@@ -121,40 +133,44 @@ extern "C" {
 
 // The number in the shared library's SONAME. It grows if a function goes, or if a type, a struct's
 // fields or a code's number changes. It stays if functions or codes are added. A program runs with
-// each library of its number, from the version on with which it was linked.
+// any library of this number that is at least as new as the one that it was linked with.
 #define BB_ABI 4
 
 //
 // PLACES
 //
-// A place is where a region, a bucket or a chunk begins. The functions use only its number. A host
-// whose places are numbers, such as offsets, defines BB_PLACES_ARE_NUMBERS before the first
-// include.
-//
+
+// A place is where a region, a bucket or a chunk begins. The functions compute with its number, and
+// never read or write there. A host whose places are numbers, such as offsets, defines
+// BB_PLACES_ARE_NUMBERS before the first include.
 
 #ifdef BB_PLACES_ARE_NUMBERS
+
 // Where a region begins, or a chunk that a call gives.
 typedef size_t bb_place;
 
 // A place that is only passed to a call.
 typedef size_t bb_address;
+
 #else
+
 // Where a region begins, or a chunk that a call gives.
 typedef void *bb_place;
 
 // A place that is only passed to a call.
 typedef const void *bb_address;
+
 #endif
 
 //
 // CODES
 //
+
 // A call that can be refused returns a code, or a struct that begins with one. If the code isn't
-// BB_OK, the call changed nothing, and the rest of a returned struct is 0.
-//
+// BB_OK, the call did nothing, and the rest of a returned struct is 0.
+
 // The last line of a function's comment lists its codes other than BB_OK. If several apply, the
 // first one in that list is returned.
-//
 
 enum {
     // Done.
@@ -186,8 +202,8 @@ enum {
     // A handle that must not be empty is empty.
     BB_UNINITIALIZED = 8,
 
-    // No chunk that is in use begins at the place; for a party, no bucket that it holds and doesn't
-    // cache. For a bucket's number: the bucket isn't detached as the call requires.
+    // No chunk in use begins at the place; for a party, no bucket that it holds and doesn't cache.
+    // For `attach_number`: that party hasn't detached the bucket by its number.
     BB_NOT_HELD = 9,
 
     // A handle that must be empty is not.
@@ -310,21 +326,35 @@ static inline const char *bb_text(uint32_t code) {
 // Marks a function whose result has to be used: compilers warn if it is not.
 #define BB_MUST_USE __attribute__((warn_unused_result))
 
-// What C and C++ write differently: a null pointer, the alignment of a type, and a conversion to
-// size_t. The macros below use these.
 #ifdef __cplusplus
+
+// A null pointer of C++.
 #define BB_NULL nullptr
+
+// The alignment of a type, as C++ writes it.
 #define BB_ALIGN_OF(type) alignof(type)
+
+// A conversion to size_t, as C++ writes it.
 #define BB_SIZE(number) static_cast<size_t>(number)
+
 #else
+
+// A null pointer of C.
 #define BB_NULL NULL
+
+// The alignment of a type, as C writes it.
 #define BB_ALIGN_OF(type) __alignof__(type)
+
+// A conversion to size_t, as C writes it.
 #define BB_SIZE(number) ((size_t)(number))
+
 #endif
 
-// A handle before its first use: `bb_pool pool = BB_EMPTY;`.
 // clang-format off
+
+// A handle before its first use: `bb_pool pool = BB_EMPTY;`.
 #define BB_EMPTY {BB_NULL, false}
+
 // clang-format on
 
 // The size and the alignment of a type, for two parameters: `bb_pool_allocate(&pool,
@@ -334,9 +364,9 @@ static inline const char *bb_text(uint32_t code) {
 //
 // TYPES
 //
+
 // A handle is a variable of the host's, of a type for each kind. Its fields `at` and `made` are
 // read and written only by these functions. An empty handle has both fields zero.
-//
 
 // A bump: one chunk after another.
 typedef struct bb_bump {
@@ -386,25 +416,32 @@ typedef struct bb_detached {
     bool made;
 } bb_detached;
 
-// What a request returns: a code, and with BB_OK the place where the chunk begins. Returned in
-// registers.
+// The result of a request: a code, and with BB_OK the place where the chunk begins. It is returned
+// in registers.
 typedef struct bb_chunk {
+    // BB_OK, or why nothing was allocated.
     uint32_t code;
+
+    // Where the chunk begins, or 0.
     bb_place place;
 } bb_chunk;
 
-// What a question returns: a code, and with BB_OK a number. Returned in registers.
+// The result of a question: a code, and with BB_OK a number. It is returned in registers.
 typedef struct bb_number {
+    // BB_OK, or why there is no number.
     uint32_t code;
+
+    // The number, or 0.
     size_t number;
 } bb_number;
 
 //
 // MEMORY
 //
+
 // Only `init`, `join`, `join_number`, `cache` and `reset` take memory, and always outside the
 // region. They request at most this many bytes of `malloc` in all:
-//
+
 //     bb_bump, bb_one_chunk    64
 //     bb_pool                  256, and 16 for each 64 buckets
 //     bb_shared_bump           256, and 16 for each party; to join 64; to reset as much as at
@@ -412,10 +449,9 @@ typedef struct bb_number {
 //     bb_shared_pool           336, 16 for each bucket, 12 for each party; to join 256; to cache
 //                              256, 1 for each bucket, 4 for each that may be cached
 //     bb_detached              128
-//
+
 // `destroy` frees that memory, and `leave`, `forget` and `abandon` free a party's. The handle is
 // empty then, and may be used again. The bytes of chunks that are still in use stay the host's.
-//
 
 // Has the library call `allocate` in place of `malloc`, and `release` in place of `free`. Each of
 // them gets `context` as its first parameter. So a host without `malloc` can give the library an
@@ -578,10 +614,10 @@ uint32_t bb_one_chunk_info(bb_one_chunk *one, bb_one_chunk_figures *figures);
 //
 // POOL: a region that is cut into buckets of one layout.
 //
+
 // Bucket 0 begins at the first multiple of the alignment in the region. Each further bucket begins
 // a stride after the one before it, and the region has a whole stride for the last one, too. A
 // chunk is at the start of its bucket.
-//
 
 // The stride of buckets of `size` bytes at multiples of `align`: the size rounded up to the
 // alignment. Nothing is tested. With constants it is a constant.
@@ -593,12 +629,14 @@ uint32_t bb_one_chunk_info(bb_one_chunk *one, bb_one_chunk_figures *figures);
 // for `static unsigned char region[BB_BYTES_FOR(48, 8, 16)]`.
 #define BB_BYTES_FOR(size, align, buckets) (BB_STRIDE(size, align) * BB_SIZE(buckets))
 
-// Returns BB_BYTES_FOR of numbers that are known only at run time, or 0 if the numbers make no
-// bucket or if the result is greater than PTRDIFF_MAX.
+// Returns BB_BYTES_FOR(size, align, buckets), for numbers that are known only at run time. Returns 0
+// if `size` is 0, if `align` isn't a power of two, or if the result exceeds PTRDIFF_MAX.
 static inline size_t bb_bytes_for(size_t size, size_t align, uint32_t buckets) {
     const size_t most = BB_SIZE(PTRDIFF_MAX);
+
     if (size == 0 || align == 0 || (align & (align - 1)) != 0 || size > most - (align - 1))
         return 0;
+
     return buckets > most / BB_STRIDE(size, align) ? 0 : BB_BYTES_FOR(size, align, buckets);
 }
 
@@ -681,9 +719,9 @@ uint32_t bb_pool_info(bb_pool *pool, bb_pool_figures *figures);
 
 // Returns where the bucket of this number begins, held or not. Buckets count from 0.
 //
-// A process that maps the region at another address reads bucket n at its own bucket 0 plus n *
-// BB_STRIDE(bucket_size, bucket_align); it has no pool of its own over the region. If the alignment
-// is greater than a page, its bucket 0 is as far after the mapping's start as in the first process.
+// A process that maps the region at another address may read bucket n there: it begins n *
+// BB_STRIDE(bucket_size, bucket_align) bytes after bucket 0. If the alignment is greater than a
+// page, bucket 0 is as far after the mapping's start as it is in the process that has the pool.
 //
 // BB_NOT_A_BUCKET if the pool has no bucket of this number.
 //
@@ -717,13 +755,16 @@ BB_MUST_USE static inline uint32_t bb_pool_init_at_least(bb_pool *pool, size_t b
     uint32_t code = bb_pool_init(pool, bucket_size, bucket_align, start, size);
     if (code != BB_OK)
         return code;
+
     if (bb_pool_info(pool, &figures) == BB_OK && figures.number_of_buckets >= buckets)
         return BB_OK;
+
     bb_pool_destroy(pool);
     return BB_NO_BUCKET;
 }
 
 #ifndef BB_PLACES_ARE_NUMBERS
+
 // Allocates a whole bucket, for hosts that want only a pointer. Any free bucket may be taken.
 //
 // Returns the place of the bucket, or NULL if every bucket is held or if the handle is empty.
@@ -732,18 +773,19 @@ BB_MUST_USE static inline uint32_t bb_pool_init_at_least(bb_pool *pool, size_t b
 BB_MUST_USE __attribute__((malloc)) static inline void *bb_pool_get(bb_pool *pool) {
     return bb_pool_take(pool).place;
 }
+
 #endif
 
 //
 // PARTIES: what threads share.
 //
+
 // A shared bump or pool is made for some number of parties. `join` makes a party in a handle of its
 // own, for one thread at a time. `leave` ends it, and it can join again. No call of a party waits
 // for another thread.
-//
+
 // Only one thread at a time calls `join`, `join_number`, `leave`, `forget`, `reset`, `destroy` or
 // `abandon` of what is shared. Parties may be used meanwhile.
-//
 
 //
 // SHARED BUMP: a bump for threads.
@@ -821,14 +863,14 @@ uint32_t bb_bump_party_info(bb_bump_party *party, bb_bump_figures *figures);
 //
 // SHARED POOL: a pool for threads.
 //
+
 // A bucket is returned through the party that holds it, which took it or attached it. A return
 // comes before the bucket's next taking (the steps are sequentially consistent), so the bytes of a
 // bucket need no further lock.
-//
+
 // Each bucket has a flag, which says that it is free, or which party holds it or has detached it. A
 // bucket that a party caches counts as held. Calls that look at each bucket say that their time is
 // proportional to the number of buckets.
-//
 
 // Makes a shared pool in an empty handle, over the region of `size` bytes at `start`, for this
 // number of parties. None of them has joined. The pool has as many buckets as the region has room
@@ -918,8 +960,8 @@ typedef struct bb_holder {
     uint32_t party;
 } bb_holder;
 
-// Stores in `holder` what the flag of the bucket of this number says. It is found by one load. If
-// the call is refused, `holder` stays as it was. Any thread may call this while parties are used.
+// Stores in `holder` what the flag of the bucket of this number says, as one load finds it. If the
+// call is refused, `holder` stays as it was. Any thread may call this while parties are used.
 //
 // BB_NOT_A_BUCKET if the pool has no bucket of this number.
 //
@@ -1040,9 +1082,9 @@ uint32_t bb_pool_party_info(bb_pool_party *party, bb_shared_pool_figures *figure
 
 // Returns where the bucket of this number begins, held or not. Buckets count from 0.
 //
-// A process that maps the region at another address reads bucket n at its own bucket 0 plus n *
-// BB_STRIDE(bucket_size, bucket_align). If the alignment is greater than a page, its bucket 0 is as
-// far after the mapping's start as in the first process.
+// A process that maps the region at another address may read bucket n there: it begins n *
+// BB_STRIDE(bucket_size, bucket_align) bytes after bucket 0. If the alignment is greater than a
+// page, bucket 0 is as far after the mapping's start as it is in the process that has the pool.
 //
 // BB_NOT_A_BUCKET if the pool has no bucket of this number.
 //
@@ -1093,13 +1135,16 @@ BB_MUST_USE static inline uint32_t bb_shared_pool_init_at_least(bb_shared_pool *
     uint32_t code = bb_shared_pool_init(pool, bucket_size, bucket_align, start, size, parties);
     if (code != BB_OK)
         return code;
+
     if (bb_shared_pool_info(pool, &figures) == BB_OK && figures.number_of_buckets >= buckets)
         return BB_OK;
+
     bb_shared_pool_destroy(pool);
     return BB_NO_BUCKET;
 }
 
 #ifndef BB_PLACES_ARE_NUMBERS
+
 // Allocates a whole bucket, for hosts that want only a pointer: the bucket that the party cached
 // last, otherwise one that a search over all buckets finds, by next fit.
 //
@@ -1110,19 +1155,20 @@ BB_MUST_USE static inline uint32_t bb_shared_pool_init_at_least(bb_shared_pool *
 BB_MUST_USE __attribute__((malloc)) static inline void *bb_pool_party_get(bb_pool_party *party) {
     return bb_pool_party_take(party).place;
 }
+
 #endif
 
 //
 // DETACHED BUCKETS: a bucket that goes from one party to another.
 //
+
 // In a pool of two parties or more, a party detaches a bucket that it holds. No party holds the
 // bucket then. Any party of the same pool attaches it, in any thread, and holds it then. So the
 // receiver of a message returns its bucket (examples/c/returns.c).
-//
+
 // A bucket goes either in a `bb_detached`, which is itself a handle, or by its number, which the
 // host may pass in any way. Several threads may read a detached bucket; the host counts them, and
 // the last one attaches or returns it (examples/c/pubsub.c). Only `bb_detached_init` takes memory.
-//
 
 // Makes a `bb_detached` in an empty handle, with no bucket in it. It serves one bucket after
 // another, of any pool.
@@ -1131,8 +1177,10 @@ BB_MUST_USE __attribute__((malloc)) static inline void *bb_pool_party_get(bb_poo
 BB_MUST_USE uint32_t bb_detached_init(bb_detached *detached);
 
 // Frees the memory of the `bb_detached` and empties the handle. A bucket that is in it stays
-// detached, and then its pool can't be destroyed. A `bb_detached` doesn't keep a pool: if the pool
-// was abandoned and its parties are gone, this is the only call that is left.
+// detached for good, and its pool can only be abandoned. So attach or return the bucket first.
+//
+// A `bb_detached` doesn't keep a pool. If the pool was abandoned and its parties are gone, this is
+// the only call that is left.
 //
 // Codes, in order: BB_UNINITIALIZED.
 uint32_t bb_detached_destroy(bb_detached *detached);
@@ -1163,8 +1211,8 @@ BB_MUST_USE uint32_t bb_pool_party_detach(bb_pool_party *party, bb_address place
 // Codes, in order: BB_UNINITIALIZED, BB_DETACHED_EMPTY, BB_OTHER_POOL.
 BB_MUST_USE bb_chunk bb_pool_party_attach(bb_pool_party *party, bb_detached *detached);
 
-// Gives back the bucket that is in `detached`, which has none then. It is one store, and no party
-// holds the bucket in between.
+// Gives back the bucket that is in `detached`, which has none then. The call makes one store, and no
+// party holds the bucket in between.
 //
 // BB_UNINITIALIZED if either handle is empty. BB_OTHER_POOL if the bucket belongs to another pool.
 //
@@ -1181,8 +1229,8 @@ uint32_t bb_pool_party_return_detached(bb_pool_party *party, bb_detached *detach
 BB_MUST_USE bb_number bb_pool_party_detach_number(bb_pool_party *party, bb_address place);
 
 // Attaches the bucket of this number if the party of number `from` has detached it by its number:
-// this party holds it then. It is one exchange of the bucket's flag, so of any number of callers at
-// most one gets the bucket. Any two numbers may be passed.
+// this party holds it then. The call makes one exchange of the bucket's flag, so if several parties
+// call it, at most one gets the bucket. Any two numbers may be passed.
 //
 // Returns the place of the bucket. BB_NOT_A_BUCKET if the pool has no bucket of this number.
 // BB_NOT_HELD if the flag says anything else, also if the bucket is in a `bb_detached`.
@@ -1197,6 +1245,7 @@ BB_MUST_USE bb_chunk bb_pool_party_attach_number(bb_pool_party *party, uint32_t 
 
 // A checker that is on learns what is in use.
 #if !defined(BB_NO_SANITIZE) && !defined(BB_PLACES_ARE_NUMBERS)
+
 #if defined(__SANITIZE_ADDRESS__) || defined(__SANITIZE_THREAD__) || defined(BB_VALGRIND)
 #include "bb_memory_sanitize.h"
 #elif defined(__has_feature)
@@ -1204,6 +1253,7 @@ BB_MUST_USE bb_chunk bb_pool_party_attach_number(bb_pool_party *party, uint32_t 
 #include "bb_memory_sanitize.h"
 #endif
 #endif
+
 #endif
 
 #endif

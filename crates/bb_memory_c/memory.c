@@ -7,7 +7,9 @@
 #include "memory.h"
 
 // The alignment of each block, which `malloc` has on x86-64.
-enum { BLOCK_ALIGN = 16 };
+enum {
+    BLOCK_ALIGN = 16
+};
 
 static void *allocate_by_malloc(void *context, size_t size, size_t align) {
     (void)context;
@@ -32,6 +34,15 @@ void bb_use_memory(void *(*allocate)(void *context, size_t size, size_t align),
     memory.allocate = allocate;
     memory.release = release;
     memory.context = context;
+}
+
+static void *allocate_by(size_t size) {
+    return memory.allocate(memory.context, size, BLOCK_ALIGN);
+}
+
+static void release_by(void *block) {
+    if (block != NULL)
+        memory.release(memory.context, block);
 }
 
 // Hidden: the archive and the shared library export only `bb_*`.
@@ -60,16 +71,12 @@ bool memory_end_loan(void) {
     return loan.is_kept;
 }
 
-static void *allocate_by_host(size_t size) {
-    return memory.allocate(memory.context, size, BLOCK_ALIGN);
-}
-
 void *memory_allocate(size_t size) {
     if (loan.requests_left == 0)
-        return allocate_by_host(size);
+        return allocate_by(size);
     loan.requests_left--;
     if (loan.requests_left > 0)
-        return allocate_by_host(size);
+        return allocate_by(size);
     if (size != loan.size)
         return NULL;
     loan.is_kept = true;
@@ -84,11 +91,9 @@ void *memory_resize(void *block, size_t size) {
 }
 
 void memory_release(void *block) {
-    if (block == NULL)
-        return;
-    if (block == loan.block) {
+    if (block != NULL && block == loan.block) {
         loan.is_kept = false;
         return;
     }
-    memory.release(memory.context, block);
+    release_by(block);
 }

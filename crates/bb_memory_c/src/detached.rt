@@ -1,4 +1,4 @@
-//! Detached buckets behind handles, which go from party to party of a shared pool, and those that go by their numbers alone.
+//! Detached buckets, which go from one party of a shared pool to another: in handles, or only by their numbers.
 ghost use Rattle.bb_memory_c.specs.SharedPools.{Detached, KnowsInside, TakesInside, TellsAttach, TellsAttachNumber, TellsDetach, TellsDetachNumber, TellsLen, TellsReturnDetached, start_of};
 ghost use Rattle.bb_memory_c_calls.specs.Answers.{no_figure, refused};
 ghost use Rattle.bb_memory_c_calls.specs.Calls.{Answers, AnswersFree, AnswersMake, AnswersOfBoth, IfBoth};
@@ -32,7 +32,7 @@ impl Model for Detached {
 }
 
 impl JoinedPool {
-    /// Detaches the bucket at this place, with a chunk of `len` bytes. It is then in `detached`, which has to have none.
+    /// Detaches the bucket at this place, with a chunk of `len` bytes, into `detached`, which must not have a bucket yet.
     #[tactic(auto, unfolding(bb_memory_shared_pools::specs::SharedPoolCaching::IsOut))]
     pub(crate) fn detach(&mut self, place: usize, len: usize, detached: &mut Detached) -> u32
         ensures { TellsDetach self.old detached.old place len result self.new detached.new }
@@ -57,7 +57,7 @@ impl JoinedPool {
         code::OK
     }
 
-    /// Takes the bucket out of `detached` if it is of the party's pool, or returns why it stays.
+    /// Takes the bucket out of `detached` if it is of the party's pool. Otherwise returns the code of the error.
     fn take_inside(&self, detached: &mut Detached) -> Result<DetachedBucket, u32>
         requires { KnowsInside self.now detached.old }
         ensures takes { TakesInside self.now detached.old result detached.new }
@@ -137,7 +137,7 @@ impl JoinedPool {
     }
 }
 
-/// Makes a `bb_detached` with no bucket in it, behind a handle that has to be empty.
+/// Makes a `bb_detached` with no bucket in it, in a handle that has to be empty.
 #[unsafe(no_mangle)]
 pub extern "C" fn bb_detached_init(alloc: Global, detached: &mut DetachedHandle) -> u32
     ensures { AnswersMake detached.old.value detached.new.value result (Unit {0}) (λ new. new ≡ Some None) }
@@ -153,7 +153,7 @@ pub extern "C" fn bb_detached_init(alloc: Global, detached: &mut DetachedHandle)
     call::keep(detached, alloc, none)
 }
 
-/// Frees a `bb_detached`, whose handle is empty then. A bucket that is in it stays detached for good.
+/// Frees a `bb_detached` and empties its handle. A bucket that is in it stays detached for good.
 #[unsafe(no_mangle)]
 pub extern "C" fn bb_detached_destroy(alloc: Global, detached: &mut DetachedHandle) -> u32
     ensures { AnswersFree detached.old.value detached.new.value result }
@@ -161,7 +161,8 @@ pub extern "C" fn bb_detached_destroy(alloc: Global, detached: &mut DetachedHand
     call::free(detached, alloc)
 }
 
-/// Returns the length in bytes of the chunk with which the bucket in it was detached, or `BB_DETACHED_EMPTY` where none is in it.
+/// Returns the length in bytes of the chunk with which the bucket in it was detached, or `BB_DETACHED_EMPTY` if no bucket is in
+/// it.
 #[unsafe(no_mangle)]
 pub extern "C" fn bb_detached_len(detached: &mut DetachedHandle) -> Figure
     ensures { Answers detached.old.value detached.new.value (result ≡ no_figure uninitialized)
@@ -177,7 +178,7 @@ pub extern "C" fn bb_detached_len(detached: &mut DetachedHandle) -> Figure
 }
 
 /// Detaches the bucket at this place, which this party holds, with a chunk of `len` bytes. The bucket goes into a `bb_detached`
-/// that has none, and the party doesn't hold it then. It takes no memory, and waits for nothing.
+/// that has none, and the party doesn't hold it then. The call takes no memory, and waits for nothing.
 #[unsafe(no_mangle)]
 pub extern "C" fn bb_pool_party_detach(
     handle: &mut PoolPartyHandle,
@@ -197,8 +198,8 @@ pub extern "C" fn bb_pool_party_detach(
     joined.detach(place, len, inside)
 }
 
-/// Detaches the bucket at this place, which this party holds, and returns the bucket's number. The party doesn't hold it then, and
-/// another party attaches it by that number and this party's. It takes no memory, and waits for nothing.
+/// Detaches the bucket at this place, which this party holds, and returns the bucket's number. The party doesn't hold it then.
+/// Another party attaches it by that number and this party's number. The call takes no memory, and waits for nothing.
 #[unsafe(no_mangle)]
 pub extern "C" fn bb_pool_party_detach_number(handle: &mut PoolPartyHandle, place: usize) -> Figure
     ensures { Answers handle.old.value handle.new.value (result ≡ no_figure uninitialized)
@@ -210,9 +211,10 @@ pub extern "C" fn bb_pool_party_detach_number(handle: &mut PoolPartyHandle, plac
     }
 }
 
-/// Attaches the bucket of this number, if the party of number `from` has detached it by its number: this party holds it then, and
-/// its place is returned. It makes one exchange of the bucket's flag, so of any number of callers at most one wins. The others get
-/// `BB_NOT_HELD`, and that changes nothing. A number past the last is refused. It takes no memory, and waits for nothing.
+/// Attaches the bucket of this number, if the party of number `from` has detached it by its number: this party holds it then.
+/// Returns its place. The call makes one exchange of the bucket's flag, so if several parties call it, at most one gets the bucket.
+/// The others get `BB_NOT_HELD`, and nothing changes. If no bucket has the number, it returns `BB_NOT_A_BUCKET`. The call takes no
+/// memory, and waits for nothing.
 #[unsafe(no_mangle)]
 pub extern "C" fn bb_pool_party_attach_number(
     handle: &mut PoolPartyHandle,
@@ -228,8 +230,8 @@ pub extern "C" fn bb_pool_party_attach_number(
     }
 }
 
-/// Attaches the bucket that is in the `bb_detached`, which has none then: this party holds it, with the chunk that is returned.
-/// One of a pool that begins at another place is refused with `BB_OTHER_POOL`. It takes no memory, and waits for nothing.
+/// Attaches the bucket that is in the `bb_detached`, which has none then: this party holds it. Returns the place of the chunk. If
+/// the bucket's pool begins at another place, it returns `BB_OTHER_POOL`. The call takes no memory, and waits for nothing.
 #[unsafe(no_mangle)]
 pub extern "C" fn bb_pool_party_attach(
     handle: &mut PoolPartyHandle,
@@ -248,8 +250,8 @@ pub extern "C" fn bb_pool_party_attach(
     joined.attach(inside)
 }
 
-/// Gives back the bucket that is in the `bb_detached`, which has none then, by one store and without attaching it. It is refused
-/// as attaching is. It takes no memory, and waits for nothing.
+/// Gives back the bucket that is in the `bb_detached`, which has none then, by one store and without attaching it. If the bucket's
+/// pool begins at another place, it returns `BB_OTHER_POOL`. The call takes no memory, and waits for nothing.
 #[unsafe(no_mangle)]
 pub extern "C" fn bb_pool_party_return_detached(
     handle: &mut PoolPartyHandle,

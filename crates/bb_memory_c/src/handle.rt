@@ -1,6 +1,6 @@
-//! Handles: a pointer that owns an allocator, which the host holds. There is a type for each kind, since no type with parameters
-//! is passed to C; all have the same two fields. The host holds a handle in a variable of its own, and passes that by its
-//! address. An empty one has both fields zero. It may be moved, and then the old one isn't used.
+//! Handles: pointers that own an allocator. There is a type for each kind, since no type with parameters is passed to C. All of
+//! them have the same two fields. The host holds a handle in a variable of its own, and passes its address. An empty handle has
+//! both fields zero. A handle may be moved, and then the old copy isn't used.
 ghost use Rattle.bb_memory_bump.specs.contracts.bump_allocator.BumpAllocator.{the_row as bump_row};
 ghost use Rattle.bb_memory_c.specs.contracts.detached.Detached.{the_row as detached_row};
 ghost use Rattle.bb_memory_c.specs.contracts.shared_bump.BumpParties.{the_row as shared_bump_row};
