@@ -92,7 +92,7 @@ PLACES = (
         re.compile(r"\b(Atomic\w*|Ordering|Table\w*|Play|Split|Join|Arc(?:::\w+)?)\b"),
         {
             POOL + "rule": {"TableRule": 1},
-            POOL + "flags": {"Table": 2, "Play": 14, "Split": 2, "Join": 2},
+            POOL + "flags": {"Table": 2, "Play": 13, "Split": 2, "Join": 2},
             BUMP + "/rule": {"TableRule": 1},
             BUMP + "/position": {"Table": 2, "Play": 4, "Split": 1, "Join": 1},
             C + "shared_bump": {"Arc": 2, "Arc::new": 1, "Arc::try_clone": 1},

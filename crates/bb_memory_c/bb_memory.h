@@ -59,8 +59,8 @@
 //     on it takes the chunk from its new holder.
 
 //  4. A region serves one allocator at a time. The host keeps the region while a chunk in it is in
-//     use. A region may be a chunk of another allocator. That chunk then serves nothing else, and is
-//     returned after the inner allocator is destroyed.
+//     use. A region may be a chunk of another allocator. That chunk then serves nothing else, and
+//     is returned after the inner allocator is destroyed.
 
 //  5. While a shared pool or bump exists, no other one has the same start, not even one that lies
 //     in a chunk of the first. Parties and detached buckets are known by that start. It is
@@ -78,9 +78,9 @@
 //  9. No function is called in a signal handler. The handler may have interrupted a call with the
 //     handle, or `malloc`.
 
-// 10. After `fork`, only one of the two processes goes on using a handle. If the process had several
-//     threads, that is the parent: in the child `malloc` may be locked for good. Processes share a
-//     pool through bb_pool_file.h.
+// 10. After `fork`, only one of the two processes goes on using a handle. If the process had
+//     several threads, that is the parent: in the child `malloc` may be locked for good. Processes
+//     share a pool through bb_pool_file.h.
 
 // 11. `malloc` and `free` are those of C, or two functions of the host with the same meaning. The
 //     comment of `bb_use_memory` says what the functions that it names have to do.
@@ -629,8 +629,8 @@ uint32_t bb_one_chunk_info(bb_one_chunk *one, bb_one_chunk_figures *figures);
 // for `static unsigned char region[BB_BYTES_FOR(48, 8, 16)]`.
 #define BB_BYTES_FOR(size, align, buckets) (BB_STRIDE(size, align) * BB_SIZE(buckets))
 
-// Returns BB_BYTES_FOR(size, align, buckets), for numbers that are known only at run time. Returns 0
-// if `size` is 0, if `align` isn't a power of two, or if the result exceeds PTRDIFF_MAX.
+// Returns BB_BYTES_FOR(size, align, buckets), for numbers that are known only at run time. Returns
+// 0 if `size` is 0, if `align` isn't a power of two, or if the result exceeds PTRDIFF_MAX.
 static inline size_t bb_bytes_for(size_t size, size_t align, uint32_t buckets) {
     const size_t most = BB_SIZE(PTRDIFF_MAX);
 
@@ -1211,8 +1211,8 @@ BB_MUST_USE uint32_t bb_pool_party_detach(bb_pool_party *party, bb_address place
 // Codes, in order: BB_UNINITIALIZED, BB_DETACHED_EMPTY, BB_OTHER_POOL.
 BB_MUST_USE bb_chunk bb_pool_party_attach(bb_pool_party *party, bb_detached *detached);
 
-// Gives back the bucket that is in `detached`, which has none then. The call makes one store, and no
-// party holds the bucket in between.
+// Gives back the bucket that is in `detached`, which has none then. The call makes one store, and
+// no party holds the bucket in between.
 //
 // BB_UNINITIALIZED if either handle is empty. BB_OTHER_POOL if the bucket belongs to another pool.
 //

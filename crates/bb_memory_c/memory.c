@@ -1,6 +1,6 @@
 // The source of the library's own memory. This file is outside the proofs: all that a contract says
-// of a request for memory is that it may fail. The Makefile has the library call `memory_*` in place
-// of `malloc`, `realloc` and `free`.
+// of a request for memory is that it may fail. The Makefile has the library call `memory_*` in
+// place of `malloc`, `realloc` and `free`.
 #include <stdlib.h>
 
 #include "bb_memory.h"

@@ -1,8 +1,8 @@
 //! What threads share: each thread is a party, which it takes along.
 use bb_memory::{
     AllocationError, AttachError, BaseAllocator, BumpParty, DeallocationError, DetachError,
-    DetachedBucket, Holder, InitError, JoinError, Pool, PoolParty, ResetError,
-    SharedBumpAllocator, SharedPoolAllocator,
+    DetachedBucket, Holder, InitError, JoinError, Pool, PoolParty, ResetError, SharedBumpAllocator,
+    SharedPoolAllocator,
 };
 use std::alloc::Layout;
 use std::mem::MaybeUninit;

@@ -615,8 +615,8 @@ pub extern "C" fn bb_pool_party_abandon(alloc: Global, handle: &mut PoolPartyHan
 }
 
 /// Has the party cache at most `most` of the buckets that it gives back, and never more than the pool has, for its next requests.
-/// What it caches already is given back first. A cached bucket stays held, so other parties are refused if each bucket is cached or
-/// in use.
+/// The buckets that it caches already are given back first. A cached bucket stays held, so other parties are refused if each bucket
+/// is cached or in use.
 #[unsafe(no_mangle)]
 pub extern "C" fn bb_pool_party_cache(alloc: Global, handle: &mut PoolPartyHandle, most: u32) -> u32
     ensures { Answers handle.old.value handle.new.value (result ≡ uninitialized)
