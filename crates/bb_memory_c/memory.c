@@ -41,8 +41,7 @@ static void *allocate_by(size_t size) {
 }
 
 static void release_by(void *block) {
-    if (block != NULL)
-        memory.release(memory.context, block);
+    memory.release(memory.context, block);
 }
 
 // Hidden: the archive and the shared library export only `bb_*`.
