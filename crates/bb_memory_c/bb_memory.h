@@ -419,7 +419,7 @@ typedef struct bb_detached {
 // The result of a request: a code, and with BB_OK the place where the chunk begins. It is returned
 // in registers.
 typedef struct bb_chunk {
-    // BB_OK, or why nothing was allocated.
+    // BB_OK, or why there is no place.
     uint32_t code;
 
     // Where the chunk begins, or 0.
@@ -455,7 +455,8 @@ typedef struct bb_number {
 
 // Has the library call `allocate` in place of `malloc`, and `release` in place of `free`. Each of
 // them gets `context` as its first parameter. So a host without `malloc` can give the library an
-// arena. A process calls this once, before its other calls; no lock guards it.
+// arena. Call this before any other function, or while every handle is empty and no pool's file is
+// open. No lock guards it.
 //
 // `allocate` returns a block of at least `size` bytes at a multiple of `align`, or NULL if it has
 // none. The block overlaps no other one, and nobody else writes it until it is released. `size` is
