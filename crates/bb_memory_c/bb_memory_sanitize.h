@@ -9,13 +9,11 @@
 //   So it stops if that is a copy of a destroyed handle.
 // - ThreadSanitizer and valgrind's helgrind learn that a bucket's return comes before its next
 //   taking. So they find a race only if there is one.
-//
+
 // Regions are memory of the process. A host whose places are other numbers defines
 // BB_PLACES_ARE_NUMBERS or BB_NO_SANITIZE, and then bb_memory.h doesn't include this file. A host
 // destroys a pool before it uses the region for something else, for example a region on a stack.
-//
-// Each process has reports of its own. One that reads a bucket that another process took, and
-// doesn't attach it, first calls `bb_sanitize_open`.
+
 #ifndef BB_MEMORY_SANITIZE_H
 #define BB_MEMORY_SANITIZE_H
 
