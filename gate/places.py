@@ -94,7 +94,7 @@ PLACES = (
         re.compile(r"\b(Atomic\w*|Ordering|Table\w*|Play|Split|Join|Arc(?:::\w+)?)\b"),
         {
             POOL + "rule": {"TableRule": 1},
-            POOL + "flags": {"Table": 2, "Play": 14, "Split": 2, "Join": 2},
+            POOL + "flags": {"Table": 2, "Play": 13, "Split": 2, "Join": 2},
             BUMP + "/rule": {"TableRule": 1},
             BUMP + "/position": {"Table": 2, "Play": 4, "Split": 1, "Join": 1},
             C + "shared_bump": {"Arc": 2, "Arc::new": 1, "Arc::try_clone": 1},
@@ -115,7 +115,7 @@ PLACES = (
                 "split_seat": 2,
                 "join_seat": 2,
                 "compare_exchange": 3,
-                "load": 5,
+                "load": 4,
                 "load_new_seat": 1,
                 "store": 5,
                 "peek": 1,
@@ -139,7 +139,7 @@ PLACES = (
         SHARED,
         re.compile(
             r"(?:\.|::)(try_flag|try_at|probe|attach_number|meet|meet_rest"
-            r"|load_for_meeting|found|holder|is_held|is_held_by|held_at|is_detached|is_out"
+            r"|load_for_meeting|found|holder|is_held|is_held_by|held_at|is_out"
             r"|is_detached_when_met|have_detached|meet_detached|has_detached"
             r"|count_out|count_taken|held_buckets)\b"
         ),
@@ -149,7 +149,7 @@ PLACES = (
             POOL + "next_fit": {"try_at": 1, "probe": 1},
             POOL + "by_number": {"found": 1, "is_held": 1, "is_held_by": 1, "count_taken": 1},
             POOL + "caching": {"attach_number": 1, "is_held_by": 1, "meet": 1},
-            POOL + "detached": {"attach_number": 1, "is_detached": 1},
+            POOL + "detached": {"attach_number": 1},
             POOL
             + "meeting": {
                 "load_for_meeting": 1,

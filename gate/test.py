@@ -114,10 +114,8 @@ class Test:
             # `make` splits a path at a blank, and the path of a checkout may have some.
             library = work / "libbb_memory_c.a"
             shutil.copy2(self.workspace.out("bb_memory_c") / library.name, library)
-            # Each of four builds of `workers` kills 250 processes in each of its two ways; in
-            # .ci/run-c each kills 1,000.
-            given = [f"LIBRARY={library}", "KILLS_archive=250", "KILLS_shared=250"]
-            make = ["make", f"-sj{CORES}", "-C", "examples/c", "plain", *given, f"WORK={work}"]
+            given = [f"LIBRARY={library}", f"WORK={work}"]
+            make = ["make", f"-sj{CORES}", "-C", "examples/c", "plain", *given]
             return self.part("runs the examples in C", make)
 
     def run(self, names: Sequence[str]) -> list[bool]:

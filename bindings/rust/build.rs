@@ -19,7 +19,7 @@ const STANDARD_FOLDERS: [&str; 5] = [
 ];
 
 /// The ABI of this crate's declarations: `BB_ABI` of the header.
-const ABI: &str = "3";
+const ABI: &str = "4";
 
 fn main() {
     for name in ["BB_MEMORY_LIB_DIR", "BB_MEMORY_LINK", "PKG_CONFIG_PATH", "DOCS_RS"] {

@@ -1,20 +1,47 @@
-// Where the library's own memory comes from. This file is outside the proofs: no contract says more
-// of a request for memory than that it may fail. The Makefile has the library call `memory_*` in
+// The source of the library's own memory. This file is outside the proofs: all that a contract says
+// of a request for memory is that it may fail. The Makefile has the library call `memory_*` in
 // place of `malloc`, `realloc` and `free`.
 #include <stdlib.h>
 
 #include "bb_memory.h"
 #include "memory.h"
 
-static void *(*allocate_by)(size_t) = malloc;
-static void *(*resize_by)(void *, size_t) = realloc;
-static void (*release_by)(void *) = free;
+// The alignment of each block, which `malloc` has on x86-64.
+enum {
+    BLOCK_ALIGN = 16
+};
 
-void bb_use_memory(void *(*allocate)(size_t), void *(*resize)(void *, size_t),
-                   void (*release)(void *)) {
-    allocate_by = allocate;
-    resize_by = resize;
-    release_by = release;
+static void *allocate_by_malloc(void *context, size_t size, size_t align) {
+    (void)context;
+    (void)align;
+    return malloc(size);
+}
+
+static void release_by_free(void *context, void *block) {
+    (void)context;
+    free(block);
+}
+
+// The functions that the library calls, and what each of them gets as its first parameter.
+static struct {
+    void *(*allocate)(void *context, size_t size, size_t align);
+    void (*release)(void *context, void *block);
+    void *context;
+} memory = {allocate_by_malloc, release_by_free, NULL};
+
+void bb_use_memory(void *(*allocate)(void *context, size_t size, size_t align),
+                   void (*release)(void *context, void *block), void *context) {
+    memory.allocate = allocate;
+    memory.release = release;
+    memory.context = context;
+}
+
+static void *allocate_by(size_t size) {
+    return memory.allocate(memory.context, size, BLOCK_ALIGN);
+}
+
+static void release_by(void *block) {
+    memory.release(memory.context, block);
 }
 
 // Hidden: the archive and the shared library export only `bb_*`.
@@ -55,8 +82,11 @@ void *memory_allocate(size_t size) {
     return loan.block;
 }
 
+// Fails. The library never calls this, as `check` finds: no block of it is resized.
 void *memory_resize(void *block, size_t size) {
-    return resize_by(block, size);
+    (void)block;
+    (void)size;
+    return NULL;
 }
 
 void memory_release(void *block) {

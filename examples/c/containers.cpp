@@ -281,7 +281,7 @@ void detached_buckets_come_back() {
     bb::pool_party writer;
     bb::pool_party reader;
     expect_ok(pool.join(writer));
-    expect(!reader.number() && reader.recover(0) == bb::error::uninitialized, "it hasn't joined");
+    expect(!reader.number(), "it hasn't joined");
     expect_ok(pool.join(reader));
     bb::detached detached;
     expect_ok(detached.init());
@@ -321,12 +321,9 @@ void detached_buckets_come_back() {
     reader.leave();
     expect(pool.destroy() == bb::error::bucket_detached, "a pool stays while a bucket is detached");
     expect_ok(pool.join(reader));
-    moved = bb::detached();
-    expect(pool.holder(0)->state == BB_DETACHED && reader.recover(1) == bb::error::not_a_bucket,
-           "it is lost with its token");
-    expect_ok(reader.recover(0));
-    expect(pool.holder(0)->state == BB_FREE && reader.recover(0) == bb::error::not_held,
-           "it is free");
+    expect(pool.holder(0)->state == BB_DETACHED, "it is detached without its parties, too");
+    expect_ok(reader.return_detached(moved));
+    expect(pool.holder(0)->state == BB_FREE, "it is free");
 }
 
 // A writer sends buckets by their numbers. Of two readers that try, exactly one gets each bucket.

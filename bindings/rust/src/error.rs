@@ -148,16 +148,6 @@ error! {
 }
 
 error! {
-    /// Why a bucket wasn't recovered.
-    RecoverError {
-        /// The bucket isn't detached, or was detached by its number.
-        NotHeld = NOT_HELD: "the bucket is not detached with a token",
-        /// No bucket has the number.
-        NotABucket = NOT_A_BUCKET: "no bucket has the number",
-    }
-}
-
-error! {
     /// Why a bump that threads share wasn't reset. It is unchanged.
     ResetError {
         /// A party is joined.

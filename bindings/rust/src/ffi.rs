@@ -12,8 +12,6 @@ pub struct Handle {
 
 impl Handle {
     pub const EMPTY: Handle = Handle { at: ptr::null_mut(), made: false };
-    /// Stands for a lost `bb_detached`: `BB_LOST` of the header.
-    pub const LOST: Handle = Handle { at: ptr::null_mut(), made: true };
 }
 
 /// A code, and with [`OK`] a place: `bb_chunk` of the header.
@@ -133,15 +131,13 @@ pub type Resize =
 /// Makes the party of the second handle join, or leave.
 pub type Parties = unsafe extern "C" fn(*mut Handle, *mut Handle) -> u32;
 
-/// Replaces `malloc`.
-pub type TakeMemory = unsafe extern "C" fn(usize) -> *mut c_void;
-/// Replaces `realloc`.
-pub type ResizeMemory = unsafe extern "C" fn(*mut c_void, usize) -> *mut c_void;
-/// Replaces `free`.
-pub type ReleaseMemory = unsafe extern "C" fn(*mut c_void);
+/// Replaces `malloc`: gets the context, a size and an alignment.
+pub type AllocateMemory = unsafe extern "C" fn(*mut c_void, usize, usize) -> *mut c_void;
+/// Replaces `free`: gets the context and a block.
+pub type ReleaseMemory = unsafe extern "C" fn(*mut c_void, *mut c_void);
 
 unsafe extern "C" {
-    pub fn bb_use_memory(take: TakeMemory, resize: ResizeMemory, release: ReleaseMemory);
+    pub fn bb_use_memory(allocate: AllocateMemory, release: ReleaseMemory, context: *mut c_void);
 }
 
 /// Declares the functions, whose parameters need no names.
@@ -211,7 +207,6 @@ functions! {
     bb_pool_party_detach(*const c_void, usize, *mut Handle) -> u32;
     bb_pool_party_attach(*mut Handle) -> Chunk;
     bb_pool_party_return_detached(*mut Handle) -> u32;
-    bb_pool_party_recover(u32, *mut Handle) -> u32;
     bb_pool_party_detach_number(*const c_void) -> Number;
     bb_pool_party_attach_number(u32, u32) -> Chunk;
 }

@@ -12,19 +12,25 @@ use core::ptr::NonNull;
 use std::alloc;
 use std::sync::{Arc, Mutex, MutexGuard, PoisonError};
 
-/// Makes the library call these functions instead of `malloc`, `realloc` and `free`.
+/// Makes the library call `allocate` instead of `malloc`, and `release` instead of `free`. Each of
+/// them gets `context` as its first parameter.
+///
+/// `allocate` also gets a size and an alignment, and returns a null pointer if it has no such block.
+/// `release` also gets a block that `allocate` returned.
 ///
 /// # Safety
 ///
-/// Nothing of this crate was made before in this process. The functions do what `malloc`, `realloc`
-/// and `free` do, in any thread.
+/// Nothing of this crate was made before in this process. Any thread that uses this crate may call
+/// the functions with `context`, several at once, until the process ends. A block has at least the
+/// requested size, begins at a multiple of the alignment, overlaps no other one, and is nobody
+/// else's until it is released. The functions don't use this crate, and don't unwind.
 pub unsafe fn use_memory(
-    take: ffi::TakeMemory,
-    resize: ffi::ResizeMemory,
+    allocate: ffi::AllocateMemory,
     release: ffi::ReleaseMemory,
+    context: *mut c_void,
 ) {
     // SAFETY: as the caller says.
-    unsafe { ffi::bb_use_memory(take, resize, release) };
+    unsafe { ffi::bb_use_memory(allocate, release, context) };
 }
 
 /// A handle that isn't empty, where its region starts, and how it is emptied. A call writes what the

@@ -3,7 +3,7 @@
 use crate::allocator::{Allocator, Pool, base, buckets, figures, over_region, shown};
 use crate::error::{
     AllocationError, AllocationGrowError, AllocationShrinkError, AttachError, DeallocationError,
-    DetachError, InitError, JoinError, RecoverError, ResetError, no_such_answer,
+    DetachError, InitError, JoinError, ResetError, no_such_answer,
 };
 use crate::owned::{
     Common, Joining, Member, Memory, Owned, Shared, bucket_number, expect_ok, lock, number_if,
@@ -517,25 +517,6 @@ impl<'region> PoolParty<'region> {
             ffi::bb_pool_party_return_detached(self.owned.handle(), detached.owned.handle())
         });
         true
-    }
-
-    /// Returns the bucket of this number, which was detached into a [`DetachedBucket`], to the pool.
-    ///
-    /// # Errors
-    ///
-    /// Each variant of [`RecoverError`] says when it is returned. Nothing changes.
-    ///
-    /// # Safety
-    ///
-    /// The bucket's [`DetachedBucket`] was forgotten, or was a dead process's: nobody uses it from
-    /// now on, nor the chunk.
-    pub unsafe fn recover(&self, number: u32) -> Result<(), RecoverError> {
-        let mut lost = ffi::Handle::LOST;
-        // SAFETY: the function is of this kind, no other call has the handle, and nobody has the
-        // bucket's token.
-        RecoverError::unless_ok(unsafe {
-            ffi::bb_pool_party_recover(self.owned.handle(), number, &raw mut lost)
-        })
     }
 
     /// Detaches the bucket at `ptr`, which this party holds, and returns the bucket's number. Send it

@@ -1,8 +1,8 @@
 //! Shared allocators: each thread has a party of its own.
 use bb_memory::{
     AllocationError, AttachError, BaseAllocator, BumpParty, DeallocationError, DetachError,
-    DetachedBucket, Holder, InitError, JoinError, Pool, PoolParty, RecoverError, ResetError,
-    SharedBumpAllocator, SharedPoolAllocator,
+    DetachedBucket, Holder, InitError, JoinError, Pool, PoolParty, ResetError, SharedBumpAllocator,
+    SharedPoolAllocator,
 };
 use std::alloc::Layout;
 use std::mem::MaybeUninit;
@@ -265,15 +265,13 @@ fn a_flag_says_who_holds_a_bucket() {
         |number| thread::scope(|scope| scope.spawn(|| pool.holder(number)).join().unwrap());
     let says = [holder_of(number), holder_of(1 - number), holder_of(2)];
     assert_eq!(says, [Some(Holder::HeldBy(mine.number())), Some(Holder::Free), None]);
-    // SAFETY: no chunk is used, and what is recovered was forgotten.
+    // SAFETY: no chunk is used.
     unsafe {
         assert!(!other.return_detached(&mut detached));
         mine.detach(chunk, 64, &mut detached).unwrap();
         assert_eq!(holder_of(number), Some(Holder::DetachedBy(mine.number())));
         assert!(other.return_detached(&mut detached) && !detached.is_full());
         assert_eq!(holder_of(number), Some(Holder::Free));
-        refuses(other.recover(number), RecoverError::NotHeld);
-        refuses(other.recover(2), RecoverError::NotABucket);
         let chunk = mine.allocate(bucket()).unwrap().cast();
         let number = mine.number_at(chunk).unwrap();
         mine.detach(chunk, 64, &mut detached).unwrap();
@@ -282,9 +280,9 @@ fn a_flag_says_who_holds_a_bucket() {
         assert_eq!(holder_of(number), Some(Holder::HeldBy(other.number())));
         other.detach(taken, 64, &mut attached).unwrap();
         std::mem::forget(attached);
+        let sender = other.number();
         drop(other);
-        assert_eq!(mine.recover(number), Ok(()));
-        assert_eq!(holder_of(number), Some(Holder::Free));
+        assert_eq!(holder_of(number), Some(Holder::DetachedBy(sender)));
     }
 }
 
@@ -380,7 +378,6 @@ fn a_bucket_goes_by_its_number_to_one_party() {
         }
         refuses(receiver.attach_number(1 - number, 2), AttachError::NotHeld);
         refuses(receiver.attach_number(2, 2), AttachError::NotABucket);
-        refuses(receiver.recover(number), RecoverError::NotHeld);
         let received = receiver.attach_number(number, 2).unwrap();
         assert_eq!((received.cast(), received.len()), (chunk, 64));
         refuses(sender.attach_number(number, 2), AttachError::NotHeld);

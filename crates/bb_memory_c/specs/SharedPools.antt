@@ -339,13 +339,3 @@ TellsAttach joined before told after left = OfInside joined before told after le
 abbrev pub TellsReturnDetached : CachingParty → Detached → ℕ → CachingParty → Detached → Type 0
 TellsReturnDetached joined before code after left = OfInside joined before code after left (λ cause. cause)
     (λ token. (code ≡ ok) × HasReturned joined token.number after)
-
--- A party is to give back a detached bucket by its number. If there is no such bucket, nothing
--- changes.
-pub record TellsRecover (joined : CachingParty) (number code : ℕ) (after : CachingParty) : Type 0 where
-  pub recovered : number < (geometry_of joined).buckets → (code ≡ ok) × HasReturned joined number after
-  pub past : (geometry_of joined).buckets ≤ number → (code ≡ not_a_bucket) × (after ≡ joined)
-
--- if the party's pool has a bucket of this number, the token is that of the bucket
-abbrev pub IsLostAt : CachingParty → ℕ → TakenBucket → Type 0
-IsLostAt joined number lost = number < (geometry_of joined).buckets → lost ≡ taken_bucket joined.party.allocator number 0

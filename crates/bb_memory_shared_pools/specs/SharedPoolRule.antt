@@ -9,14 +9,14 @@ use Rattle.bb_memory_pool_machine.specs.declared.steps.pool.Flag.TheVariants.{De
 use Rattle.bb_memory_pool_machine.specs.declared.steps.pool.PoolOutcome.TheVariants.{Takes}
 use Rattle.bb_memory_pool_machine.specs.declared.steps.pool.PoolStep.TheVariants.{Try}
 use Rattle.bb_memory_seats.specs.Seats.{AreSeated, HaveLogs, IsAt, Numbered, View, alone, alone_with, carrying, fresh_from, number_of, numbered, standing_for, times_detached, times_in, view_log}
-use Rattle.bb_memory_shared_pools.specs.FlagWords.{HasToken, as_word, bucket_of, flag_in, flags_in, sender_in, with_token, words_for, words_of}
+use Rattle.bb_memory_shared_pools.specs.FlagWords.{HasToken, as_word, bucket_of, flag_in, flags_in, sender_in, words_for, words_of}
 use Rattle.bb_memory_shared_pools.specs.SharedPool.{AreAllHeldAfter, IsSharedScene, PoolParty, SharedPool, attach_entry, attach_from_entry, detach_entry, return_detached_entry, return_entry, scene_at, taking_pass}
 use Rattle.bb_memory_shared_pools.specs.SharedPoolNextFit.{hint_in, miss_at, misses, probed, taking_at, taking_search}
 use Rattle.bb_memory_shared_pools.specs.declared.shared_pool.party.Hint.{Hint}
 use Rattle.bb_memory_traits.specs.Chunk.{IsRegion, region_at}
 use Rattle.bb_memory_traits.specs.PoolObject.{pool_geometry}
 use Rattle.bb_memory_traits.specs.declared.layout.Layout.{Layout}
-use Rattle.std.specs.Prelude.{Bool, IsFalse, IsTrue, List, MatchBool, None, Some, [], get_or, length, slice_get, ℕ, ◌++◌, ◌<◌, ◌↔◌, ◌∷◌, ◌≡◌, ◌≢◌, ◌≤◌}
+use Rattle.std.specs.Prelude.{Bool, IsFalse, IsTrue, List, MatchBool, None, Some, [], length, slice_get, ℕ, ◌++◌, ◌<◌, ◌↔◌, ◌∷◌, ◌≡◌, ◌≢◌, ◌≤◌}
 use mathlib.Core.Path.{refl}
 use native.Mathlib.Nat.{zero-lt-suc}
 
@@ -63,10 +63,6 @@ pub record IsPartySeat (number : ℕ) (hint : Hint) (me : Me ℕ SeatView) : Typ
   pub below : number < me.0.scene.parties
   pub shared : IsSharedScene me.0.scene
   pub next_fit : hint ≡ hint_in me.0.scene number (view_log me.0)
-
--- the first bucket that is detached at a seat
-abbrev pub carried : Me ℕ SeatView → ℕ
-carried me = get_or me.0.detached 0 0
 
 -- the seat stands for no party, and this bucket is detached there, with a chunk of `len` bytes
 pub record IsDetachedSeat (bucket len : ℕ) (me : Me ℕ SeatView) : Type 0 where
@@ -287,10 +283,6 @@ looks_met step old found new = (new ≡ old) × AfterMeetingLook old.0.scene old
 abbrev pub finds : Step ℕ → Me ℕ SeatView → ℕ → Me ℕ SeatView → Type 0
 finds step old found new =
     (mark : Flag) × (found ≡ as_word mark) × MayBeFound old.0.scene (bucket_of step.word) (flag_in mark)
-
--- a load, which changes nothing, of the flag of a bucket detached at the seat: some party has detached the bucket with a token
-abbrev pub sees_detached : Step ℕ → Me ℕ SeatView → ℕ → Me ℕ SeatView → Type 0
-sees_detached step old found new = (new ≡ old) × ((sender : ℕ) × (found ≡ as_word (with_token sender)))
 
 -- a store by the party that detaches a bucket with a token
 abbrev pub detaches : Step ℕ → Me ℕ SeatView → ℕ → Me ℕ SeatView → Type 0

@@ -31,7 +31,7 @@ use bb_memory_traits::layout::Layout;
 pub use bucket::Bucket;
 use buckets::SharedBucketPool;
 pub use caching::CachingParty;
-pub use detached::{DetachedBucket, LostBucket};
+pub use detached::DetachedBucket;
 pub use fixed_size::SharedFixedSizePoolAllocator;
 pub use party::PoolParty;
 use std::alloc::Global;

@@ -467,7 +467,8 @@ static size_t memory_requests;
 static size_t to_refuse;
 static size_t blocks;
 
-static void *allocate(size_t size) {
+static void *allocate(void *context, size_t size, size_t align) {
+    EXPECT(context == &blocks && align == 16);
     memory_requests++;
     if (memory_requests == to_refuse)
         return NULL;
@@ -475,8 +476,20 @@ static void *allocate(size_t size) {
     return malloc(size);
 }
 
-static void release(void *block) {
-    blocks -= block != NULL;
+static void release(void *context, void *block) {
+    EXPECT(context == &blocks && block != NULL);
+    blocks--;
+    free(block);
+}
+
+static void *allocate_plainly(void *context, size_t size, size_t align) {
+    (void)context;
+    (void)align;
+    return malloc(size);
+}
+
+static void release_plainly(void *context, void *block) {
+    (void)context;
     free(block);
 }
 
@@ -486,7 +499,7 @@ static void refused_memory(void) {
     bb_pool_file *file = NULL;
     bb_pool_party *party = NULL;
     uint32_t code = BB_MALLOC_REFUSED;
-    bb_use_memory(allocate, realloc, release);
+    bb_use_memory(allocate, release, &blocks);
     for (to_refuse = 1; code != BB_OK; to_refuse++) {
         memory_requests = 0;
         code = bb_pool_file_open(&file, path, &OPTIONS);
@@ -511,7 +524,7 @@ static void refused_memory(void) {
     EXPECT(reap(file, false) == 2);
     close_it(file);
     EXPECT(blocks == 0);
-    bb_use_memory(malloc, realloc, free);
+    bb_use_memory(allocate_plainly, release_plainly, NULL);
     remove_it();
 }
 

@@ -1,6 +1,6 @@
 //! Parties that cache the buckets that they gave back last: a layer over the shared pools.
 ghost use Rattle.bb_memory_pool_machine.specs.PoolLogs.{IsHeldAfter};
-ghost use Rattle.bb_memory_shared_pools.specs.SharedPool.{HasAttached, HasDetached, HasReturned, IsSameParty, attach_entry, detach_entry, return_detached_entry, taken_bucket, with_entries};
+ghost use Rattle.bb_memory_shared_pools.specs.SharedPool.{HasAttached, HasDetached, HasReturned, IsSameParty, attach_entry, detach_entry, return_detached_entry, with_entries};
 ghost use Rattle.bb_memory_shared_pools.specs.SharedPoolCaching.{AreCached, AttachesCaching, IsOut, ReturnsCaching, ServesCaching, returns_of};
 ghost use Rattle.bb_memory_shared_pools.specs.SharedPoolLeaving.{GivesAllBack};
 ghost use Rattle.bb_memory_shared_pools.specs.SharedPoolMeetings.{AreBothOf, AreInterleaved};
@@ -9,7 +9,7 @@ ghost use Rattle.std.specs.Prelude.{Contains, IfErr, IfOk, IsFalse, IsTrue, Ok, 
 use super::bucket::Bucket;
 use super::buckets::SharedBucketPool;
 use super::by_number;
-use super::detached::{DetachedBucket, LostBucket};
+use super::detached::DetachedBucket;
 use super::party::PoolParty;
 use bb_memory_traits::allocator::AllocationError;
 use bb_memory_traits::layout::Layout;
@@ -322,31 +322,6 @@ impl CachingParty {
         ensures others { (other : ℕ) → IsOut self.new other → IsOut self.old other }
     {
         pool.return_detached(&mut self.party, detached)
-    }
-
-    /// Gives back the detached bucket of this number, whose token was lost, as
-    /// [`SharedPoolAllocator::recover`](super::SharedPoolAllocator::recover) does. It isn't cached. The party and the token have
-    /// to be this pool's.
-    #[tactic(auto, unfolding(crate::specs::SharedPoolCaching::IsOut))]
-    pub fn recover<const CAPPED: usize, const MOST: usize>(
-        &mut self,
-        pool: &SharedBucketPool<CAPPED, MOST>,
-        number: u32,
-        lost: LostBucket,
-    ) -> bool
-        requires party { self.old.party.allocator ≡ pool.now }
-        requires bucket { lost ≡ taken_bucket pool.now number 0 }
-        ensures recovered { result ≡ true }
-        ensures logged { self.new ≡ record self.old {
-          party = with_entries self.old.party
-              (return_detached_entry self.old.party.number number);
-        } }
-        ensures party { HasReturned pool.now self.old.party lost self.new.party }
-        ensures not_out { ¬ IsOut self.old number }
-        ensures others_kept { (other : ℕ) → IsOut self.old other → IsOut self.new other }
-        ensures others { (other : ℕ) → IsOut self.new other → IsOut self.old other }
-    {
-        pool.recover(&mut self.party, number, lost)
     }
 
     /// Gives all cached buckets back to the pool, as `flush` does, and caches at most `most` from then on. It takes memory for

@@ -1,6 +1,6 @@
 //! Buckets in transit from one party of a shared pool to another.
 ghost use Rattle.bb_memory_shared_pools.specs.SharedPool.{AreOf, HasAttached, HasAttachedFrom, HasDetached, HasReturned, MayDetach};
-ghost use Rattle.std.specs.Prelude.{IsFalse, IsTrue, true, ◌<◌, ◌≡◌, ◌≤◌};
+ghost use Rattle.std.specs.Prelude.{IsFalse, IsTrue, ◌<◌, ◌≡◌, ◌≤◌};
 
 use super::bucket::Bucket;
 use super::buckets::SharedBucketPool;
@@ -30,25 +30,6 @@ impl Model for DetachedBucket {
     ghost view = { λ b. taken_bucket (pool_in b.seat.table_id b.seat.me.0) b.number b.len };
 
     ghost invariant = { λ b. IsDetachedSeat b.number b.len b.seat.me };
-}
-
-/// The token of a detached bucket without the number and the length, and so of no bytes. Nothing here makes one. A host whose
-/// process died with a [`DetachedBucket`] has the bucket's number from its flag, and knows that nobody else has the token: so it
-/// may hand this one over, at an interface for C.
-#[derive(Drop)]
-pub struct LostBucket {
-    seat: Seat<u8, View>,
-}
-
-impl Model for LostBucket {
-    ghost use Rattle.bb_memory_shared_pools.specs.SharedPool.{TakenBucket, taken_bucket};
-    ghost use Rattle.bb_memory_shared_pools.specs.SharedPoolRule.{IsDetachedSeat, carried, pool_in};
-
-    ghost Value = { TakenBucket };
-
-    ghost view = { λ b. taken_bucket (pool_in b.seat.table_id b.seat.me.0) (carried b.seat.me) 0 };
-
-    ghost invariant = { λ b. IsDetachedSeat (carried b.seat.me) 0 b.seat.me };
 }
 
 impl DetachedBucket {
@@ -155,26 +136,5 @@ impl<const CAPPED: usize, const MOST: usize> SharedBucketPool<CAPPED, MOST> {
     {
         self.flags
             .attach_number(party.number, &mut party.seat, number, from)
-    }
-
-    /// Gives back the detached bucket of this number, whose token was lost, by one store. It is refused where the bucket's flag
-    /// doesn't say that it is detached with a token, which the token rules out. The party and the token have to be this pool's.
-    pub fn recover(&self, party: &mut PoolParty, number: u32, lost: LostBucket) -> bool
-        requires same_pool { AreOf self.now party.old lost }
-        requires number { lost.number ≡ number }
-        ensures recovered { result ≡ true }
-        ensures party { HasReturned self.now party.old lost party.new }
-    {
-        let LostBucket { mut seat } = lost;
-        if !self.flags.is_detached(&mut seat, number) {
-            return false;
-        }
-        let detached = DetachedBucket {
-            number,
-            len: 0,
-            seat,
-        };
-        self.return_detached(party, detached);
-        true
     }
 }

@@ -4,7 +4,7 @@
 //!   step it is. That party's log then ends with the step and what it found.
 //! - So does `attach_number` if it succeeds, and so do `detach`, `attach` and `return_detached`. Each of these three also loads
 //!   one more word, for the seat of the detached bucket.
-//! - `split_first`, `merge`, `load_for_meeting`, `meet`, `is_held`, `is_detached`, `is_detached_when_met` and `found` only load
+//! - `split_first`, `merge`, `load_for_meeting`, `meet`, `is_held`, `is_detached_when_met` and `found` only load
 //!   words, and are in no log. Nor is the load with which `probe` begins, if it finds the flag free.
 //! - `open` runs before anything is shared, and `geometry` touches no word.
 ghost use Rattle.bb_memory_pool_machine.specs.PoolLogs.{IsHeldAfter, MayBeFound, next_bucket};
@@ -151,15 +151,6 @@ impl Play<u8, View> for Finds {
     ghost use Rattle.bb_memory_shared_pools.specs.SharedPoolRule.{finds};
 
     ghost then = { finds };
-}
-
-/// A load of a flag by a seat at which the bucket is detached.
-struct SeesDetached;
-
-impl Play<u8, View> for SeesDetached {
-    ghost use Rattle.bb_memory_shared_pools.specs.SharedPoolRule.{sees_detached};
-
-    ghost then = { sees_detached };
 }
 
 /// A store by a party after whose log the bucket is held, which detaches it.
@@ -384,18 +375,6 @@ impl Flags {
         let _ = self.parties();
         let (word, _) = self.table.shared.load_new_seat::<Finds>(word_of(bucket));
         flag_of(word)
-    }
-
-    /// Loads the flag of `bucket` by a seat at which the bucket is detached. Returns whether the flag says so: a bucket that was
-    /// detached without a token isn't taken for one that has it.
-    pub(super) fn is_detached(&self, seat: &mut Seat<u8, View>, bucket: u32) -> bool
-        requires { IsDetachedAt self.now seat.old.table_id seat.old.me bucket }
-        ensures seat { Stays seat.old.table_id seat.new.table_id (seat.new.me ≡ seat.old.me) }
-        ensures value { result ≡ true }
-    {
-        let shared = &self.table.shared;
-        let found = shared.load::<SeesDetached>(seat, word_of(bucket));
-        found > 2 * WITH_TOKEN && found % 2 == 0
     }
 
     /// A store by the party after whose log this bucket is held, and which isn't the only one. What is returned has the bucket
