@@ -2,7 +2,7 @@
 use Rattle.bb_memory_file_machine.proofs.FileTests.{in_none}
 use Rattle.bb_memory_file_machine.specs.FileLaws.{IsInSome, IsKnown}
 use Rattle.bb_memory_file_machine.specs.FileMachine.{Allocate, AttachNumber, DetachNumber, Done, Exchange, FileScene, FileStep, FileWords, Kill, Leave, Lock, Next, Post, Recover, Release, Slots, Take}
-use Rattle.bb_memory_file_machine.specs.FileVariants.{FreesMessage, LosesBucket, ReceivesNothing, SharesNumber, TakesAway, attach_from_any, detach_then_post, no_second_look, reaps_the_living, settle_forgets_slots, unlock_before, wrong_left_by}
+use Rattle.bb_memory_file_machine.specs.FileVariants.{FreesMessage, LosesBucket, ReceivesNothing, SharesNumber, TakesAway, attach_from_any, detach_then_post, no_second_look, reaps_the_living, settle_addresses_not, settle_forgets_slots, unlock_before, wrong_left_by}
 use Rattle.std.proofs.Common.{List, Some, [], arith, false, inl, inr, refl, ℕ, ◌++◌, ◌∷◌, ◌≡◌}
 use Rattle.std.specs.Prelude.{slice_get}
 
@@ -41,6 +41,21 @@ pub forgetting_frees : FreesMessage settle_forgets_slots
 forgetting_frees = record {
   scene = small;
   steps = killed_in_post;
+  bucket = 0;
+  has = (0, (7, refl));
+  free = refl;
+}
+
+-- a process is killed in a post, after it has detached the bucket, and its number is settled by one that takes back such buckets
+abbrev killed_when_sent : List FileStep
+killed_when_sent = joining 0 0
+    ++ Allocate 0 0 0 ∷ Post 0 0 0 0 7 ∷ Next 0 ∷ Kill 0 ∷ Release 0 0
+    ∷ Lock 1 0 ∷ Next 1 ∷ Next 1 ∷ Next 1 ∷ Next 1 ∷ Recover 1 0 ∷ Next 1 ∷ []
+
+pub unaddressed_frees : FreesMessage settle_addresses_not
+unaddressed_frees = record {
+  scene = small;
+  steps = killed_when_sent;
   bucket = 0;
   has = (0, (7, refl));
   free = refl;

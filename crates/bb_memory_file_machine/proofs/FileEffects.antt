@@ -295,6 +295,7 @@ place_rests words later process (Addressing party slot bucket) (lock, cleared, u
 place_rests words later process (Flags party bucket) (lock, no_message, given) others =
     let r = others party lock in
     (r.lock, no_message_rests words later party process r no_message, (λ before less now. given before less (r.held before now)))
-place_rests words later process (Settled party) (lock, given) others =
-    let r = others party lock in (r.lock, (λ bucket now. given bucket (r.held bucket now)))
+place_rests words later process (Settled party) (lock, given, no_message) others =
+    let r = others party lock in
+    (r.lock, (λ bucket now. given bucket (r.held bucket now)), no_message_rests words later party process r no_message)
 place_rests words later process _ has others = tt

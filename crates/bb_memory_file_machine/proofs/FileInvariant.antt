@@ -59,7 +59,7 @@ PlaceHas words process (Addressing party slot bucket) =
 PlaceHas words process (Flags party bucket) =
     IsLock words party process × HoldsNoMessage words party × IsGiven words party bucket
 PlaceHas words process (Settled party) =
-    IsLock words party process × ((bucket : ℕ) → ¬ IsHolder words bucket party)
+    IsLock words party process × ((bucket : ℕ) → ¬ IsHolder words bucket party) × HoldsNoMessage words party
 PlaceHas words process _ = Unit {0}
 
 -- what holds of a state

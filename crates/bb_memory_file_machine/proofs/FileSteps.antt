@@ -42,7 +42,7 @@ effect_of words place step move (settles process party bucket held) (own, no_mes
 effect_of words place step move (recovers process party at bucket is) (own, no_message, given) =
     laws.attaches_number party bucket party own is
 effect_of words place step move (unlocks_first process party) (own, cleared) = laws.frees_lock party own
-effect_of words place step move (unlocks process party) (own, given) = laws.frees_lock party own
+effect_of words place step move (unlocks process party) (own, given, no_message) = laws.frees_lock party own
 effect_of words place step move (releases process party own) has = laws.frees_lock party own
 effect_of words place step move (receives process party slot bucket size is) has = laws.none (Receives slot) tt
 effect_of words place step move (dies process at) has = laws.none Dies tt
@@ -220,6 +220,7 @@ place_after words place step move (all_flags process party bucket end) sound (ow
   own,
   (λ other held.
       let below = below_end words.flags other (HeldBy party) held in given other (omega (arith, below, end)) held),
+  no_message,
 )
 place_after words place step move (recovers process party at bucket is) sound (own, no_message, given) =
     let later : FileWords = with_flag (with_outside words bucket false) bucket (HeldBy party) in

@@ -136,6 +136,12 @@ pub settled_always : (scene : FileScene) (steps : List FileStep) (process party 
 settled_always scene steps process party bucket there =
     ((holds_always scene steps).each process (Settled party) there).1 bucket
 
+pub addressed_always : (scene : FileScene) (steps : List FileStep) (process party bucket slot : ℕ) →
+    IsPlace (left_by scene steps) process (Settled party) → IsIn (left_by scene steps).words bucket slot →
+    ¬ IsFlag (left_by scene steps).words bucket (DetachedBy party)
+addressed_always scene steps process party bucket slot there has detached =
+    ((holds_always scene steps).each process (Settled party) there).2 slot bucket has (inr detached)
+
 -- NOTHING IS LOST
 
 buckets_effect : (words later : FileWords) (process : ℕ) (outcome : FileOutcome) → Effect words process outcome later →
