@@ -2,7 +2,7 @@
 ghost use Rattle.bb_memory_file_machine.specs.FileLaws.{AreSettled, CanSettle, Effect, HasAttached, HasReceived, IsAccountedFor, IsFlag, IsHolder, IsIn, IsInCallBy, IsInSome, IsKnown, IsLock, IsPlace, IsSettling, IsSlot, SaysDone, StaysIn, after_post};
 ghost use Rattle.bb_memory_file_machine.specs.FileMachine.{DetachedBy, Ending, FileScene, FileStep, Free, Message, OnSlot, Place, Post, Receives, Settled, file_after, file_step, left_by, outcomes_of, process_of};
 ghost use Rattle.bb_memory_file_machine.specs.FilePool.{IsPool, IsTaken, flag_steps, pool_of};
-ghost use Rattle.bb_memory_file_machine.specs.FileVariants.{FreesMessage, LosesBucket, ReceivesNothing, SharesNumber, TakesAway, attach_from_any, detach_then_post, no_second_look, reaps_the_living, settle_forgets_slots, unlock_before};
+ghost use Rattle.bb_memory_file_machine.specs.FileVariants.{FreesMessage, LosesBucket, ReceivesNothing, SharesNumber, TakesAway, attach_from_any, detach_then_post, no_second_look, reaps_the_living, settle_addresses_not, settle_forgets_slots, unlock_before};
 ghost use Rattle.bb_memory_pool_machine.specs.PoolLogs.{AreAsked, IsPoolRun, Layout};
 ghost use Rattle.bb_memory_traits.specs.Chunk.{Chunk, IsSound};
 ghost use Rattle.bb_memory_traits.specs.PoolObject.{IsHeld, IsPoolGeometry, PoolGeometry};
@@ -29,6 +29,11 @@ pub enum Place {
     Dead,
     /// A post has filled its slot. Next it detaches the bucket.
     Posting {
+        party: u32,
+        bucket: u32,
+    },
+    /// A post has detached its bucket. Next it addresses the bucket to the number that nobody joins.
+    Sent {
         party: u32,
         bucket: u32,
     },
@@ -68,7 +73,7 @@ pub enum Place {
         party: u32,
         slot: u32,
     },
-    /// A settler has found this bucket in the slot. Next it looks whether the bucket is held by the settled number.
+    /// A settler has found this bucket in the slot. Next it looks at the bucket's flag.
     Checking {
         party: u32,
         slot: u32,
@@ -80,19 +85,15 @@ pub enum Place {
         slot: u32,
         bucket: u32,
     },
+    /// The bucket that a settler has found in the slot is detached by the settled number. Next the settler addresses it to the
+    /// number that nobody joins.
+    Addressing {
+        party: u32,
+        slot: u32,
+        bucket: u32,
+    },
     /// A settler has been over all slots, and goes over the flags. Next it gives back this bucket if the settled number holds it.
     Flags {
-        party: u32,
-        bucket: u32,
-    },
-    /// A settler looks for a bucket in the slots, which the settled number had detached. Next it looks at this slot.
-    Looking {
-        party: u32,
-        bucket: u32,
-        slot: u32,
-    },
-    /// A settler has found the bucket in no slot. Next it attaches the bucket if the settled number is the one that detached it.
-    Lost {
         party: u32,
         bucket: u32,
     },
@@ -167,8 +168,8 @@ pub enum FileStep {
         party: u32,
         slot: u32,
     },
-    /// A settler that goes over the flags begins to look for a bucket in the slots.
-    Look {
+    /// A settler that has been over all slots attaches a bucket that the settled number had detached.
+    Recover {
         process: u32,
         bucket: u32,
     },
@@ -176,7 +177,7 @@ pub enum FileStep {
     Next {
         process: u32,
     },
-    /// A settler that is done frees the lock of the settled number.
+    /// A settler that is done, or that has not looked at a slot yet, frees the lock of the settled number.
     Unlock {
         process: u32,
     },
@@ -202,6 +203,9 @@ pub enum FileOutcome {
     Receives(u32),
     /// A flag changed, as by this step of the machine of a shared pool.
     OnFlag(PoolStep),
+    /// The flag of a bucket, which the party `from` had detached, changed. Now the bucket is detached by the number `to`, which
+    /// nobody joins.
+    Addresses { bucket: u32, from: u32, to: u32 },
     /// The word of this slot changed.
     OnSlot(u32),
     /// The lock of this number was taken or became free.
@@ -274,6 +278,13 @@ pub fn file_theorem()
         → IsPlace (left_by scene steps) process (Settled party)
         → ¬ IsHolder (left_by scene steps).words bucket party }
 
+    // When a settler is done, no slot has a bucket that the settled number has detached: its messages are addressed to the
+    // number that nobody joins.
+    ensures addressed { (scene : FileScene) (steps : List FileStep) (process party bucket slot : ℕ)
+        → IsPlace (left_by scene steps) process (Settled party)
+        → IsIn (left_by scene steps).words bucket slot
+        → ¬ IsFlag (left_by scene steps).words bucket (DetachedBy party) }
+
     // A settler is never stuck: however far it has come, some further steps of its own complete it.
     ensures settles { (scene : FileScene) (steps : List FileStep) (process party : ℕ)
         → IsSettling (left_by scene steps) process party
@@ -323,7 +334,7 @@ pub fn file_theorem()
 /// The law of the protocols that differ from the machine's at one step: with each of them something goes wrong. It does nothing:
 /// its contract is the law.
 pub fn file_variants_theorem()
-    // A settler that attaches a lost bucket, whoever has detached it, gives back one that is in a slot.
+    // A settler that attaches a detached bucket, whoever has detached it, gives back one that is in a slot.
     ensures attach_from_any { FreesMessage attach_from_any }
 
     // A take that doesn't look at its slot again receives a message from an empty slot.
@@ -331,6 +342,9 @@ pub fn file_variants_theorem()
 
     // A settler that doesn't go over the slots gives back a bucket that is in one.
     ensures settle_forgets_slots { FreesMessage settle_forgets_slots }
+
+    // A settler that doesn't address the messages of the settled number gives back a bucket that is in a slot.
+    ensures settle_addresses_not { FreesMessage settle_addresses_not }
 
     // A post that detaches before it fills the slot loses the bucket if its process is killed.
     ensures detach_then_post { LosesBucket detach_then_post }

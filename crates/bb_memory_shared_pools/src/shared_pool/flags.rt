@@ -4,8 +4,8 @@
 //!   step it is. That party's log then ends with the step and what it found.
 //! - So does `attach_number` if it succeeds, and so do `detach`, `attach` and `return_detached`. Each of these three also loads
 //!   one more word, for the seat of the detached bucket.
-//! - `split_first`, `merge`, `load_for_meeting`, `meet`, `is_held`, `is_detached_when_met` and `found` only load
-//!   words, and are in no log. Nor is the load with which `probe` begins, if it finds the flag free.
+//! - `split_first`, `merge`, `load_for_meeting`, `meet`, `is_held`, `is_detached_when_met` and `found` only load words, and are
+//!   in no log. Nor is the load with which `probe` begins, if it finds the flag free.
 //! - `open` runs before anything is shared, and `geometry` touches no word.
 ghost use Rattle.bb_memory_pool_machine.specs.PoolLogs.{IsHeldAfter, MayBeFound, next_bucket};
 ghost use Rattle.bb_memory_pool_machine.specs.PoolMachine.{NamesMade};
