@@ -369,13 +369,10 @@ static uint32_t enter(bb_pool_file *file, const bb_pool_file_options *options) {
     return BB_OK;
 }
 
-// Maps memory for the words while the library makes its pool, which fills them with zeros. Of many
-// words, the same few pages are mapped again and again: they stay in the cache, and no others have
-// to be cleared.
-static bool map_stand_ins(const bb_pool_file *file) {
+// Maps the same few pages over the words again and again: they stay in the cache, and no others have
+// to be cleared. Returns false if the system refuses, as valgrind does.
+static bool map_again_and_again(const bb_pool_file *file) {
     char *words = (char *)file->words;
-    if (file->words_size <= STAND_IN)
-        return mprotect(words, file->words_size, PROT_READ | PROT_WRITE) == 0;
     size_t part = round_up(file->words_size / MOST_STAND_INS + 1, PAGE);
     if (part < STAND_IN)
         part = STAND_IN;
@@ -388,12 +385,19 @@ static bool map_stand_ins(const bb_pool_file *file) {
         // The old size of 0 says to keep what is mapped.
         mapped = mremap(pages, 0, length, MREMAP_MAYMOVE | MREMAP_FIXED, words + at);
     }
-    const int error = errno;
     munmap(pages, part);
     // This saves a page fault for each page. Linux before 5.14 refuses it.
     madvise(words, file->words_size, MADV_POPULATE_READ);
-    errno = error;
     return mapped != MAP_FAILED;
+}
+
+// Maps memory for the words while the library makes its pool, which fills them with zeros.
+static bool map_stand_ins(const bb_pool_file *file) {
+    const int private = MAP_PRIVATE | MAP_ANONYMOUS | MAP_FIXED;
+    if (file->words_size > STAND_IN && map_again_and_again(file))
+        return true;
+    return mmap(file->words, file->words_size, PROT_READ | PROT_WRITE, private, -1, 0) ==
+           file->words;
 }
 
 // Makes this process's pool over the words, which are the stand-ins so far. The library has them
