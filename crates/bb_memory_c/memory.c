@@ -53,32 +53,38 @@ void memory_release(void *block);
 static __thread struct {
     void *block;
     size_t size;
-    unsigned requests_left;
-    bool is_kept;
+    // How many requests come before those that get the block, and how many of these are left.
+    unsigned before;
+    unsigned left;
+    // How many times the library has the block.
+    int given;
 } loan;
 
-void memory_lend(void *block, size_t size, unsigned number) {
+void memory_lend(void *block, size_t size, unsigned first, unsigned count) {
     loan.block = block;
     loan.size = size;
-    loan.requests_left = number;
-    loan.is_kept = false;
+    loan.before = first - 1;
+    loan.left = count;
+    loan.given = 0;
 }
 
 bool memory_end_loan(void) {
     loan.block = NULL;
-    loan.requests_left = 0;
-    return loan.is_kept;
+    loan.left = 0;
+    return loan.given == 1;
 }
 
 void *memory_allocate(size_t size) {
-    if (loan.requests_left == 0)
+    if (loan.left == 0)
         return allocate_by(size);
-    loan.requests_left--;
-    if (loan.requests_left > 0)
+    if (loan.before > 0) {
+        loan.before--;
         return allocate_by(size);
+    }
+    loan.left--;
     if (size != loan.size)
         return NULL;
-    loan.is_kept = true;
+    loan.given++;
     return loan.block;
 }
 
@@ -91,7 +97,7 @@ void *memory_resize(void *block, size_t size) {
 
 void memory_release(void *block) {
     if (block != NULL && block == loan.block) {
-        loan.is_kept = false;
+        loan.given--;
         return;
     }
     release_by(block);
