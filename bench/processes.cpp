@@ -223,6 +223,7 @@ void send_groups(const opened &own, std::size_t size) {
     for (std::size_t at = 0; at < calls;) {
         const std::size_t wanted = calls - at < group ? calls - at : group;
         const bb_number taken = bb_pool_party_take_many(own.party, places, wanted);
+        must(taken.code == BB_OK, "take_many");
         if (taken.number == 0)
             must_wait(bb_pool_file_wait_bucket(own.file, longest_wait));
         for (std::size_t each = 0; each < taken.number; each++)
