@@ -1,5 +1,5 @@
 -- What is said of the words of a pool in a file, and of its processes.
-use Rattle.bb_memory_file_machine.specs.FileMachine.{AttachFrom, Attached, Checking, Dead, Detach, DetachedBy, Empty, Ending, FileOutcome, FileScene, FileState, FileStep, FileWords, Finding, Flag, Flags, Free, GiveBack, HeldBy, Keeping, Late, Looking, Lost, Message, Next, OnFlag, OnLock, OnSlot, Place, Posting, Seen, Settled, Slot, Slots, TryAt, file_after, file_step, left_by, process_of, with_flag, with_lock, with_outside, with_slot}
+use Rattle.bb_memory_file_machine.specs.FileMachine.{Addresses, Addressing, AttachFrom, Attached, Checking, Dead, Detach, DetachedBy, Empty, Ending, FileOutcome, FileScene, FileState, FileStep, FileWords, Finding, Flag, Flags, Free, GiveBack, HeldBy, Keeping, Late, Message, Next, OnFlag, OnLock, OnSlot, Place, Posting, Seen, Sent, Settled, Slot, Slots, TryAt, file_after, file_step, left_by, nobody, process_of, with_flag, with_lock, with_outside, with_slot}
 use Rattle.std.specs.Prelude.{Contains, List, None, Option, Some, [], false, replicate, slice_get, true, ℕ, ◌∷◌, ◌≡◌, ◌⊎◌}
 
 -- there is such a bucket, and its flag is this one
@@ -41,6 +41,7 @@ IsPlace state process place = slice_get state.places process ≡ Some place
 -- the number by which a process is in a call, or None if it is in no call
 abbrev pub number_of : Place → Option ℕ
 number_of (Posting party bucket) = Some party
+number_of (Sent party bucket) = Some party
 number_of (Seen party slot bucket length) = Some party
 number_of (Attached party slot bucket length) = Some party
 number_of (Late party bucket) = Some party
@@ -49,9 +50,8 @@ number_of (Ending party slot bucket) = Some party
 number_of (Slots party slot) = Some party
 number_of (Checking party slot bucket) = Some party
 number_of (Keeping party slot bucket) = Some party
+number_of (Addressing party slot bucket) = Some party
 number_of (Flags party bucket) = Some party
-number_of (Looking party bucket slot) = Some party
-number_of (Lost party bucket) = Some party
 number_of (Settled party) = Some party
 number_of _ = None
 
@@ -60,6 +60,7 @@ number_of _ = None
 -- the outcome says that no word and no lock changed
 abbrev pub ChangesNone : FileOutcome → Type 0
 ChangesNone (OnFlag step) = ⊥
+ChangesNone (Addresses bucket from to) = ⊥
 ChangesNone (OnSlot slot) = ⊥
 ChangesNone (OnLock party) = ⊥
 ChangesNone _ = Unit {0}
@@ -86,6 +87,9 @@ pub data Effect (words : FileWords) (process : ℕ) : FileOutcome → FileWords 
   -- the party's bucket is detached, and a channel outside knows its number from now on
   detaches_number : (party bucket : ℕ) → IsLock words party process → IsHolder words bucket party → ¬ IsInSome words bucket →
       Effect words process (OnFlag (Detach party bucket)) (with_flag (with_outside words bucket true) bucket (DetachedBy party))
+  -- the party addresses a bucket that it has detached, and that some slot has, to the number that nobody joins
+  addresses : (party bucket : ℕ) → IsLock words party process → IsFlag words bucket (DetachedBy party) → IsInSome words bucket →
+      Effect words process (Addresses bucket party (nobody words)) (with_flag words bucket (DetachedBy (nobody words)))
   -- the party attaches a bucket whose number it has from a slot
   attaches : (party bucket from : ℕ) → IsLock words party process → IsFlag words bucket (DetachedBy from) →
       Effect words process (OnFlag (AttachFrom party bucket from)) (with_flag words bucket (HeldBy party))
@@ -149,9 +153,8 @@ abbrev pub settled_by : Place → Option ℕ
 settled_by (Slots party slot) = Some party
 settled_by (Checking party slot bucket) = Some party
 settled_by (Keeping party slot bucket) = Some party
+settled_by (Addressing party slot bucket) = Some party
 settled_by (Flags party bucket) = Some party
-settled_by (Looking party bucket slot) = Some party
-settled_by (Lost party bucket) = Some party
 settled_by (Settled party) = Some party
 settled_by _ = None
 

@@ -1,18 +1,18 @@
 -- The machine of a pool in a file: what any number of processes do to the words and locks of the file, one atomic step at a
 -- time. Processes, party numbers, buckets and slots are numbered from 0.
 pub use Rattle.bb_memory_file_machine.specs.declared.steps.file.FileOutcome.{FileOutcome}
-pub use Rattle.bb_memory_file_machine.specs.declared.steps.file.FileOutcome.TheVariants.{Dies, Moves, OnFlag, OnLock, OnSlot, Receives, Refused}
+pub use Rattle.bb_memory_file_machine.specs.declared.steps.file.FileOutcome.TheVariants.{Addresses, Dies, Moves, OnFlag, OnLock, OnSlot, Receives, Refused}
 pub use Rattle.bb_memory_file_machine.specs.declared.steps.file.FileStep.{FileStep}
-pub use Rattle.bb_memory_file_machine.specs.declared.steps.file.FileStep.TheVariants.{Allocate, AttachNumber, Deallocate, DetachNumber, Done, Exchange, Kill, Leave, Lock, Look, Next, Post, Release, Take, Unlock}
+pub use Rattle.bb_memory_file_machine.specs.declared.steps.file.FileStep.TheVariants.{Allocate, AttachNumber, Deallocate, DetachNumber, Done, Exchange, Kill, Leave, Lock, Next, Post, Recover, Release, Take, Unlock}
 pub use Rattle.bb_memory_file_machine.specs.declared.steps.file.Place.{Place}
-pub use Rattle.bb_memory_file_machine.specs.declared.steps.file.Place.TheVariants.{Attached, Checking, Dead, Ending, Finding, Flags, Keeping, Late, Looking, Lost, Outside, Posting, Seen, Settled, Slots}
+pub use Rattle.bb_memory_file_machine.specs.declared.steps.file.Place.TheVariants.{Addressing, Attached, Checking, Dead, Ending, Finding, Flags, Keeping, Late, Outside, Posting, Seen, Sent, Settled, Slots}
 pub use Rattle.bb_memory_file_machine.specs.declared.steps.file.Slot.{Slot}
 pub use Rattle.bb_memory_file_machine.specs.declared.steps.file.Slot.TheVariants.{Empty, Message}
 pub use Rattle.bb_memory_pool_machine.specs.declared.steps.pool.Flag.{Flag}
 pub use Rattle.bb_memory_pool_machine.specs.declared.steps.pool.Flag.TheVariants.{DetachedBy, Free, HeldBy}
 pub use Rattle.bb_memory_pool_machine.specs.declared.steps.pool.PoolStep.{PoolStep}
 pub use Rattle.bb_memory_pool_machine.specs.declared.steps.pool.PoolStep.TheVariants.{AttachFrom, Detach, GiveBack, TryAt}
-use Rattle.std.specs.Prelude.{Bool, List, None, Option, Some, [], false, if◌then◌else◌, length, nat_lt, replicate, slice_get, slice_set, true, ℕ, ◌+◌, ◌==◌, ◌∷◌}
+use Rattle.std.specs.Prelude.{Bool, List, None, Option, Some, [], false, if◌then◌else◌, length, nat_lt, replicate, slice_get, slice_set, true, zero, ℕ, ◌+◌, ◌==◌, ◌∷◌}
 
 -- WORDS
 
@@ -63,6 +63,10 @@ with_lock words party lock = record words { locks = slice_set words.locks party 
 -- the words in which it is replaced whether a channel outside knows this bucket's number
 abbrev pub with_outside : FileWords → ℕ → Bool → FileWords
 with_outside words bucket known = record words { outside = slice_set words.outside bucket known }
+
+-- the number after the parties' numbers, which nobody joins
+abbrev pub nobody : FileWords → ℕ
+nobody words = length words.locks
 
 -- TESTS
 
@@ -145,6 +149,13 @@ refused words place = move_of Refused words place
 -- the party detaches a bucket
 abbrev pub detaching : FileWords → ℕ → ℕ → Place → FileMove
 detaching words party bucket next = move_of (OnFlag (Detach party bucket)) (with_flag words bucket (DetachedBy party)) next
+
+-- the party addresses a bucket that it has detached to the number that nobody joins, unless another party has attached it
+abbrev pub addressing : FileWords → ℕ → ℕ → Place → FileMove
+addressing words party bucket next =
+    if is_flag words bucket (DetachedBy party)
+    then move_of (Addresses bucket party (nobody words)) (with_flag words bucket (DetachedBy (nobody words))) next
+    else move_of Moves words next
 
 -- the party attaches a bucket that the party `from` has detached
 abbrev pub attaching : FileWords → ℕ → ℕ → ℕ → Place → FileMove
@@ -233,10 +244,13 @@ abbrev pub begin_done : FileWords → ℕ → Place → ℕ → ℕ → FileMove
 begin_done words process place party slot =
     if may_call words process place party then done_found words party slot (slice_get words.slots slot) else refused words place
 
--- a settler begins to look for a bucket in the slots
-abbrev pub look : FileWords → Place → ℕ → FileMove
-look words (Flags party next) bucket = move_of Moves words (Looking party bucket 0)
-look words place bucket = refused words place
+-- a settler that has been over all slots attaches a bucket that the settled number had detached
+abbrev pub recover : FileWords → Place → ℕ → FileMove
+recover words (Flags party next) bucket =
+    if is_flag words bucket (DetachedBy party)
+    then attaching (with_outside words bucket false) party bucket party (Flags party 0)
+    else refused words (Flags party next)
+recover words place bucket = refused words place
 
 -- the slot after this one, at which a settler looks next
 abbrev pub after_slot : FileWords → ℕ → ℕ
@@ -254,17 +268,19 @@ settle_flag words party bucket =
     if is_flag words bucket (HeldBy party) then giving_back words party bucket (Flags party (bucket + 1))
     else move_of Moves words (Flags party (bucket + 1))
 
--- a settler that looks for a bucket has found this word in a slot, or that it has been over all slots
-abbrev pub look_slot : FileWords → ℕ → ℕ → ℕ → Option Slot → FileMove
-look_slot words party bucket slot None = move_of Moves words (Lost party bucket)
-look_slot words party bucket slot (Some word) =
-    if has_bucket bucket word then move_of Moves words (Flags party 0) else move_of Moves words (Looking party bucket (after_slot words slot))
+-- a settler has found this bucket in the slot, and looks at its flag
+abbrev pub settle_message : FileWords → ℕ → ℕ → ℕ → FileMove
+settle_message words party slot bucket =
+    if is_flag words bucket (HeldBy party) then move_of Moves words (Keeping party slot bucket)
+    else (if is_flag words bucket (DetachedBy party) then move_of Moves words (Addressing party slot bucket)
+    else move_of Moves words (Slots party (after_slot words slot)))
 
 -- the next step of the call that the process is in
 abbrev pub next : FileWords → Place → FileMove
 next words Outside = refused words Outside
 next words Dead = refused words Dead
-next words (Posting party bucket) = detaching words party bucket Outside
+next words (Posting party bucket) = detaching words party bucket (Sent party bucket)
+next words (Sent party bucket) = addressing words party bucket Outside
 next words (Seen party slot bucket length) = move_of Moves words Outside
 next words (Attached party slot bucket length) =
     if is_slot words slot (Message bucket length) then move_of (Receives slot) words Outside
@@ -274,21 +290,16 @@ next words (Finding party slot bucket) =
     if is_flag words bucket (HeldBy party) then move_of Moves words (Ending party slot bucket) else move_of Moves words Outside
 next words (Ending party slot bucket) = move_of (OnSlot slot) (with_slot words slot Empty) Outside
 next words (Slots party slot) = settle_slot words party slot (slice_get words.slots slot)
-next words (Checking party slot bucket) =
-    if is_flag words bucket (HeldBy party) then move_of Moves words (Keeping party slot bucket)
-    else move_of Moves words (Slots party (after_slot words slot))
-next words (Keeping party slot bucket) = detaching words party bucket (Slots party (after_slot words slot))
+next words (Checking party slot bucket) = settle_message words party slot bucket
+next words (Keeping party slot bucket) = detaching words party bucket (Addressing party slot bucket)
+next words (Addressing party slot bucket) = addressing words party bucket (Slots party (after_slot words slot))
 next words (Flags party bucket) =
     if nat_lt bucket (length words.flags) then settle_flag words party bucket else move_of Moves words (Settled party)
-next words (Looking party bucket slot) = look_slot words party bucket slot (slice_get words.slots slot)
-next words (Lost party bucket) =
-    if is_flag words bucket (DetachedBy party)
-    then attaching (with_outside words bucket false) party bucket party (Flags party 0)
-    else move_of Moves words (Flags party 0)
 next words (Settled party) = move_of Moves words Outside
 
--- a settler that is done frees the lock of the settled number
+-- a settler that is done, or that looks at no slot, frees the lock of the settled number
 abbrev pub unlock : FileWords → Place → FileMove
+unlock words (Slots party zero) = move_of (OnLock party) (with_lock words party None) Outside
 unlock words (Settled party) = move_of (OnLock party) (with_lock words party None) Outside
 unlock words place = refused words place
 
@@ -314,7 +325,7 @@ process_of (Post process party slot bucket length) = process
 process_of (Take process party slot) = process
 process_of (Exchange process from) = process
 process_of (Done process party slot) = process
-process_of (Look process bucket) = process
+process_of (Recover process bucket) = process
 process_of (Next process) = process
 process_of (Unlock process) = process
 process_of (Kill process) = process
@@ -332,7 +343,7 @@ move_at words place (Post process party slot bucket length) = post words process
 move_at words place (Take process party slot) = begin_take words process place party slot
 move_at words place (Exchange process from) = exchange words place from
 move_at words place (Done process party slot) = begin_done words process place party slot
-move_at words place (Look process bucket) = look words place bucket
+move_at words place (Recover process bucket) = recover words place bucket
 move_at words place (Next process) = next words place
 move_at words place (Unlock process) = unlock words place
 move_at words place (Kill process) = kill words

@@ -1,24 +1,26 @@
 -- The flags of a pool in a file are those of a shared pool, whose parties are the file's numbers.
 use Rattle.bb_memory_file_machine.specs.FileLaws.{IsFlag, IsHolder}
-use Rattle.bb_memory_file_machine.specs.FileMachine.{DetachedBy, FileOutcome, FileScene, FileStep, FileWords, OnFlag, PoolStep, left_by, opening_state, outcomes_of}
+use Rattle.bb_memory_file_machine.specs.FileMachine.{Addresses, AttachFrom, Detach, DetachedBy, FileOutcome, FileScene, FileStep, FileWords, OnFlag, PoolStep, left_by, opening_state, outcomes_of}
 use Rattle.bb_memory_pool_machine.specs.PoolLogs.{AllAllowed, history_of}
 use Rattle.bb_memory_pool_machine.specs.PoolMachine.{PoolScene}
 use Rattle.bb_memory_pool_machine.specs.PoolMachine as pools
 use Rattle.bb_memory_traits.specs.PoolObject.{PoolGeometry}
 use Rattle.std.specs.Prelude.{List, [], ℕ, ◌+◌, ◌∷◌, ◌≡◌, ◌⊎◌}
 
--- the steps on flags among these outcomes, in order. What a settler gives back is a return by the settled number
+-- The steps on flags among these outcomes, in order. What a settler gives back is a return by the settled number. A bucket that
+-- is addressed to a number is attached and detached by that number.
 abbrev pub flag_steps_in : List FileOutcome → List PoolStep
 flag_steps_in [] = []
 flag_steps_in (OnFlag step ∷ outcomes) = step ∷ flag_steps_in outcomes
+flag_steps_in (Addresses bucket from to ∷ outcomes) = AttachFrom to bucket from ∷ Detach to bucket ∷ flag_steps_in outcomes
 flag_steps_in (_ ∷ outcomes) = flag_steps_in outcomes
 
 -- the steps on flags that these steps from the opening take
 abbrev pub flag_steps : FileScene → List FileStep → List PoolStep
 flag_steps scene steps = flag_steps_in (outcomes_of (opening_state scene) steps)
 
--- The shared pool over the file's flags. Its parties are the file's numbers and one more, by which nobody steps: a pool with one
--- party detaches nothing.
+-- The shared pool over the file's flags. Its parties are the file's numbers and one more, which nobody joins: messages in slots
+-- are addressed to it.
 abbrev pub pool_of : FileScene → PoolGeometry → PoolScene
 pool_of scene geometry = record { geometry = geometry; parties = scene.parties + 1 }
 

@@ -1,20 +1,20 @@
 -- Protocols that differ from the machine's at one step, and what goes wrong with each.
 use Rattle.bb_memory_file_machine.specs.FileLaws.{IsFlag, IsHolder, IsInCallBy, IsInSome, IsKnown, IsLock, IsSlot}
-use Rattle.bb_memory_file_machine.specs.FileMachine.{Attached, DetachedBy, Empty, FileChange, FileMove, FileScene, FileState, FileStep, FileWords, Flag, Flags, Free, Leave, Lock, Lost, Moves, Next, OnLock, Outside, Place, Post, Receives, Refused, Slots, attaching, change_by, detaching, finds_free, move_at, move_of, opening_state, process_of, with_lock, with_outside}
+use Rattle.bb_memory_file_machine.specs.FileMachine.{Attached, DetachedBy, Empty, FileChange, FileMove, FileScene, FileState, FileStep, FileWords, Flag, Flags, Free, Leave, Lock, Moves, Next, OnLock, Outside, Place, Post, Receives, Recover, Refused, Slots, attaching, change_by, detaching, finds_free, move_at, move_of, opening_state, process_of, with_lock, with_outside}
 use Rattle.std.specs.Prelude.{List, None, Option, Some, [], false, if◌then◌else◌, slice_get, ℕ, ◌∷◌, ◌≡◌, ◌≢◌}
 
 -- the moves in which a protocol differs from the machine, and None at all other steps
 abbrev pub Variant : Type 0
 Variant = FileWords → Place → FileStep → Option FileMove
 
--- a settler attaches a bucket that it has found in no slot, whoever has detached it
+-- a settler that has been over all slots attaches a detached bucket, whoever has detached it
 abbrev pub attach_any : FileWords → ℕ → ℕ → Option Flag → Option FileMove
 attach_any words party bucket (Some (DetachedBy from)) =
     Some (attaching (with_outside words bucket false) party bucket from (Flags party 0))
 attach_any words party bucket _ = None
 
 abbrev pub attach_from_any : Variant
-attach_from_any words (Lost party bucket) (Next process) = attach_any words party bucket (slice_get words.flags bucket)
+attach_from_any words (Flags party next) (Recover process bucket) = attach_any words party bucket (slice_get words.flags bucket)
 attach_from_any words place step = None
 
 -- a take doesn't look at its slot again

@@ -12,10 +12,11 @@ abbrev pub world_of : List Flag → List Slot → List (Option ℕ) → List Boo
 world_of flags slots locks outside places =
     record { words = record { flags = flags; slots = slots; locks = locks; outside = outside }; places = places }
 
--- the invariant of a world: each bucket and each slot has a number that a step can name
+-- the invariant of a world: each bucket and each slot has a number that a step can name, and so has the party that nobody joins
 pub record IsFileWorld (world : FileWorld) : Type 0 where
   pub buckets : length world.words.flags < 2 ^ 32
   pub slots : length world.words.slots < 2 ^ 32
+  pub parties : length world.words.locks < 2 ^ 32
 
 -- `answer` is the outcome of this step in the world `old`, which becomes `new`
 pub record Steps (old : FileWorld) (step : FileStep) (answer : FileOutcome) (new : FileWorld) : Type 0 where

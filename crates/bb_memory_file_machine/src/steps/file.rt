@@ -32,6 +32,11 @@ pub enum Place {
         party: u32,
         bucket: u32,
     },
+    /// A post has detached its bucket. Next it addresses the bucket to the number that nobody joins.
+    Sent {
+        party: u32,
+        bucket: u32,
+    },
     /// A take has found this message in its slot. Next it tries to attach the bucket.
     Seen {
         party: u32,
@@ -68,7 +73,7 @@ pub enum Place {
         party: u32,
         slot: u32,
     },
-    /// A settler has found this bucket in the slot. Next it looks whether the bucket is held by the settled number.
+    /// A settler has found this bucket in the slot. Next it looks at the bucket's flag.
     Checking {
         party: u32,
         slot: u32,
@@ -80,19 +85,15 @@ pub enum Place {
         slot: u32,
         bucket: u32,
     },
+    /// The bucket that a settler has found in the slot is detached by the settled number. Next the settler addresses it to the
+    /// number that nobody joins.
+    Addressing {
+        party: u32,
+        slot: u32,
+        bucket: u32,
+    },
     /// A settler has been over all slots, and goes over the flags. Next it gives back this bucket if the settled number holds it.
     Flags {
-        party: u32,
-        bucket: u32,
-    },
-    /// A settler looks for a bucket in the slots, which the settled number had detached. Next it looks at this slot.
-    Looking {
-        party: u32,
-        bucket: u32,
-        slot: u32,
-    },
-    /// A settler has found the bucket in no slot. Next it attaches the bucket if the settled number is the one that detached it.
-    Lost {
         party: u32,
         bucket: u32,
     },
@@ -167,8 +168,8 @@ pub enum FileStep {
         party: u32,
         slot: u32,
     },
-    /// A settler that goes over the flags begins to look for a bucket in the slots.
-    Look {
+    /// A settler that has been over all slots attaches a bucket that the settled number had detached.
+    Recover {
         process: u32,
         bucket: u32,
     },
@@ -176,7 +177,7 @@ pub enum FileStep {
     Next {
         process: u32,
     },
-    /// A settler that is done frees the lock of the settled number.
+    /// A settler that is done, or that looks at no slot, frees the lock of the settled number.
     Unlock {
         process: u32,
     },
@@ -202,6 +203,9 @@ pub enum FileOutcome {
     Receives(u32),
     /// A flag changed, as by this step of the machine of a shared pool.
     OnFlag(PoolStep),
+    /// The flag of a bucket, which the party `from` had detached, changed. Now the bucket is detached by the number `to`, which
+    /// nobody joins.
+    Addresses { bucket: u32, from: u32, to: u32 },
     /// The word of this slot changed.
     OnSlot(u32),
     /// The lock of this number was taken or became free.

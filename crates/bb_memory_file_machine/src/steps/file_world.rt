@@ -1,5 +1,5 @@
 //! The machine of a pool in a file that can be run: the words and locks, and how far each process has come.
-ghost use Rattle.bb_memory_file_machine.specs.FileMachine.{Checking, Flags, Looking, Lost, Slots, after_slot, allocate, attach_number, attaching, begin_done, begin_take, deallocate, detach_number, detaching, exchange, giving_back, has_bucket, is_flag, is_own, is_slot, kill, leave, lock, look, may_call, move_at, move_of, next, opening_state, post, process_of, release, same_flag, same_slot, some_has, unlock, with_flag, with_lock, with_slot};
+ghost use Rattle.bb_memory_file_machine.specs.FileMachine.{Checking, Flags, Slots, addressing, after_slot, allocate, attach_number, attaching, begin_done, begin_take, deallocate, detach_number, detaching, exchange, giving_back, has_bucket, is_flag, is_own, is_slot, kill, leave, lock, may_call, move_at, move_of, next, opening_state, post, process_of, recover, release, same_flag, same_slot, some_has, unlock, with_flag, with_lock, with_slot};
 ghost use Rattle.bb_memory_file_machine.specs.FileWorld.{FileWorld, IsFileWorld, IsMove, Replays, Steps, world_of};
 ghost use Rattle.std.specs.Prelude.{IfOk, IsSome, length, slice_get, slice_set, ◌<◌, ◌≡◌};
 
@@ -159,7 +159,7 @@ impl FileWorld {
                 party,
                 slot,
             } => self.begin_done(process, place, party, slot),
-            FileStep::Look { process: _, bucket } => self.look(place, bucket),
+            FileStep::Recover { process: _, bucket } => self.recover(place, bucket),
             FileStep::Next { process: _ } => self.next(place),
             FileStep::Unlock { process: _ } => self.unlock(place),
             FileStep::Kill { process: _ } => (FileOutcome::Dies, Place::Dead),
@@ -410,21 +410,26 @@ impl FileWorld {
         }
     }
 
-    /// A settler begins to look for a bucket in the slots.
-    fn look(&mut self, place: Place, bucket: u32) -> (FileOutcome, Place)
-        ensures { IsMove self.old (look self.old.words place bucket) result.0 result.1 self.new }
+    /// A settler that has been over all slots attaches a bucket that the settled number had detached.
+    fn recover(&mut self, place: Place, bucket: u32) -> (FileOutcome, Place)
+        ensures { IsMove self.old (recover self.old.words place bucket) result.0 result.1 self.new }
     {
-        match place {
-            Place::Flags { party, bucket: _ } => (
-                FileOutcome::Moves,
-                Place::Looking {
-                    party,
-                    bucket,
-                    slot: 0,
-                },
-            ),
-            _ => (FileOutcome::Refused, place),
+        let Place::Flags { party, bucket: _ } = place else {
+            return (FileOutcome::Refused, place);
+        };
+        if !self.is_flag(bucket, Flag::DetachedBy(party)) {
+            return (FileOutcome::Refused, place);
         }
+        set_at(&mut self.outside, bucket as usize, false);
+        self.set_flag(bucket, Flag::HeldBy(party));
+        (
+            FileOutcome::OnFlag(PoolStep::AttachFrom {
+                party,
+                bucket,
+                from: party,
+            }),
+            Place::Flags { party, bucket: 0 },
+        )
     }
 
     /// A process takes the next step of the call that it is in.
@@ -435,7 +440,10 @@ impl FileWorld {
             Place::Outside | Place::Dead => (FileOutcome::Refused, place),
             Place::Seen { .. } => (FileOutcome::Moves, Place::Outside),
             Place::Settled { .. } => (FileOutcome::Moves, Place::Outside),
-            Place::Posting { party, bucket } => self.detach(party, bucket, Place::Outside),
+            Place::Posting { party, bucket } => {
+                self.detach(party, bucket, Place::Sent { party, bucket })
+            }
+            Place::Sent { party, bucket } => self.address(party, bucket, Place::Outside),
             Place::Late { party, bucket } => self.detach(party, bucket, Place::Outside),
             Place::Attached {
                 party,
@@ -486,25 +494,31 @@ impl FileWorld {
                 slot,
                 bucket,
             } => {
+                let next = Place::Addressing {
+                    party,
+                    slot,
+                    bucket,
+                };
+                self.detach(party, bucket, next)
+            }
+            Place::Addressing {
+                party,
+                slot,
+                bucket,
+            } => {
                 let slot = self.after_slot(slot);
-                self.detach(party, bucket, Place::Slots { party, slot })
+                self.address(party, bucket, Place::Slots { party, slot })
             }
             Place::Flags { party, bucket } => self.settle_flag(party, bucket),
-            Place::Looking {
-                party,
-                bucket,
-                slot,
-            } => self.look_slot(party, bucket, slot),
-            Place::Lost { party, bucket } => self.recover(party, bucket),
         }
     }
 
-    /// A settler that is done frees the lock of the settled number.
+    /// A settler that is done, or that looks at no slot, frees the lock of the settled number.
     fn unlock(&mut self, place: Place) -> (FileOutcome, Place)
         ensures { IsMove self.old (unlock self.old.words place) result.0 result.1 self.new }
     {
         match place {
-            Place::Settled { party } => {
+            Place::Slots { party, slot: 0 } | Place::Settled { party } => {
                 set_at(&mut self.locks, party as usize, None);
                 (FileOutcome::OnLock(party), Place::Outside)
             }
@@ -540,6 +554,25 @@ impl FileWorld {
         )
     }
 
+    /// A party addresses a bucket that it has detached to the number that nobody joins, unless another party has attached it.
+    fn address(&mut self, party: u32, bucket: u32, next: Place) -> (FileOutcome, Place)
+        ensures { IsMove self.old (addressing self.old.words party bucket next) result.0 result.1 self.new }
+    {
+        if !self.is_flag(bucket, Flag::DetachedBy(party)) {
+            return (FileOutcome::Moves, next);
+        }
+        let to = self.nobody();
+        self.set_flag(bucket, Flag::DetachedBy(to));
+        (
+            FileOutcome::Addresses {
+                bucket,
+                from: party,
+                to,
+            },
+            next,
+        )
+    }
+
     /// A settler looks at a slot.
     fn settle_slot(&mut self, party: u32, slot: u32) -> (FileOutcome, Place)
         ensures { IsMove self.old (next self.old.words (Slots party slot)) result.0 result.1 self.new }
@@ -559,7 +592,7 @@ impl FileWorld {
         (FileOutcome::Moves, place)
     }
 
-    /// A settler looks whether the settled number holds the bucket that was in the slot.
+    /// A settler looks whether the settled number holds the bucket that was in the slot, or has detached it.
     fn check_slot(&mut self, party: u32, slot: u32, bucket: u32) -> (FileOutcome, Place)
         ensures { IsMove self.old (next self.old.words (Checking party slot bucket)) result.0 result.1 self.new }
     {
@@ -567,6 +600,15 @@ impl FileWorld {
             (
                 FileOutcome::Moves,
                 Place::Keeping {
+                    party,
+                    slot,
+                    bucket,
+                },
+            )
+        } else if self.is_flag(bucket, Flag::DetachedBy(party)) {
+            (
+                FileOutcome::Moves,
+                Place::Addressing {
                     party,
                     slot,
                     bucket,
@@ -600,49 +642,6 @@ impl FileWorld {
         }
     }
 
-    /// A settler looks for a bucket in a slot.
-    fn look_slot(&mut self, party: u32, bucket: u32, slot: u32) -> (FileOutcome, Place)
-        ensures { IsMove self.old (next self.old.words (Looking party bucket slot)) result.0 result.1 self.new }
-    {
-        let Some(word) = found_at(&self.slots, slot as usize) else {
-            return (FileOutcome::Moves, Place::Lost { party, bucket });
-        };
-        if has_bucket(bucket, word) {
-            (FileOutcome::Moves, Place::Flags { party, bucket: 0 })
-        } else {
-            let slot = self.after_slot(slot);
-            (
-                FileOutcome::Moves,
-                Place::Looking {
-                    party,
-                    bucket,
-                    slot,
-                },
-            )
-        }
-    }
-
-    /// A settler attaches a bucket that is in no slot, if the settled number is the one that detached it.
-    fn recover(&mut self, party: u32, bucket: u32) -> (FileOutcome, Place)
-        ensures { IsMove self.old (next self.old.words (Lost party bucket)) result.0 result.1 self.new }
-    {
-        let next = Place::Flags { party, bucket: 0 };
-        if self.is_flag(bucket, Flag::DetachedBy(party)) {
-            set_at(&mut self.outside, bucket as usize, false);
-            self.set_flag(bucket, Flag::HeldBy(party));
-            (
-                FileOutcome::OnFlag(PoolStep::AttachFrom {
-                    party,
-                    bucket,
-                    from: party,
-                }),
-                next,
-            )
-        } else {
-            (FileOutcome::Moves, next)
-        }
-    }
-
     /// Returns the slot after this one, at which a settler looks next.
     fn after_slot(&self, slot: u32) -> u32
         ensures { result ≡ after_slot self.now.words slot }
@@ -652,6 +651,13 @@ impl FileWorld {
         } else {
             slot
         }
+    }
+
+    /// Returns the number after the parties' numbers, which nobody joins.
+    fn nobody(&self) -> u32
+        ensures { result ≡ nobody self.now.words }
+    {
+        self.locks.len() as u32
     }
 
     /// Writes a bucket's flag.
@@ -772,7 +778,7 @@ fn process_of(step: FileStep) -> u32
         FileStep::Take { process, .. } => process,
         FileStep::Exchange { process, .. } => process,
         FileStep::Done { process, .. } => process,
-        FileStep::Look { process, .. } => process,
+        FileStep::Recover { process, .. } => process,
         FileStep::Next { process } => process,
         FileStep::Unlock { process } => process,
         FileStep::Kill { process } => process,

@@ -3,7 +3,7 @@ use super::worlds::made;
 use crate::tests::checks::{check, refused, same};
 use bb_memory_base::steps::{Flag, PoolStep};
 use bb_memory_file_machine::steps::FileOutcome::{
-    Dies, Moves, OnFlag, OnLock, OnSlot, Receives, Refused,
+    Addresses, Dies, Moves, OnFlag, OnLock, OnSlot, Receives, Refused,
 };
 use bb_memory_file_machine::steps::FileStep::{
     Allocate, Deallocate, Done, Exchange, Kill, Lock, Next, Post, Release, Take,
@@ -19,7 +19,7 @@ const GIVE: FileStep = Deallocate {
 
 /// Process 0 joins with number 0 and is killed in a post. Process 1 joins with the same number, which settles it, and takes the
 /// message.
-const STEPS: [FileStep; 27] = [
+const STEPS: [FileStep; 28] = [
     Lock {
         process: 0,
         party: 0,
@@ -61,6 +61,7 @@ const STEPS: [FileStep; 27] = [
     Next { process: 1 },
     Next { process: 1 },
     Next { process: 1 },
+    Next { process: 1 },
     Take {
         process: 1,
         party: 0,
@@ -68,7 +69,7 @@ const STEPS: [FileStep; 27] = [
     },
     Exchange {
         process: 1,
-        from: 0,
+        from: 1,
     },
     Next { process: 1 },
     GIVE,
@@ -82,7 +83,7 @@ const STEPS: [FileStep; 27] = [
     GIVE,
 ];
 
-const OUTCOMES: [FileOutcome; 27] = [
+const OUTCOMES: [FileOutcome; 28] = [
     OnLock(0),
     Moves,
     Moves,
@@ -104,6 +105,11 @@ const OUTCOMES: [FileOutcome; 27] = [
         party: 0,
         bucket: 0,
     }),
+    Addresses {
+        bucket: 0,
+        from: 0,
+        to: 1,
+    },
     Moves,
     Moves,
     Moves,
@@ -112,7 +118,7 @@ const OUTCOMES: [FileOutcome; 27] = [
     OnFlag(PoolStep::AttachFrom {
         party: 0,
         bucket: 0,
-        from: 0,
+        from: 1,
     }),
     Receives(0),
     Refused,
