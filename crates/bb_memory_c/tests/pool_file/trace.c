@@ -1,10 +1,15 @@
-// Writes a trace of processes that share a pool in a file. The processes make calls that are chosen
-// at random. This program has one of them at a time go on by single instructions, in turns of random
-// lengths, so that calls interrupt each other anywhere, and kills some of them anywhere. After each
-// instruction it looks at each flag, slot and lock in the file, and writes a line for each change.
-// The program `file_replay` reads the trace, and has the proved machine take the same steps.
+// Writes a trace of processes that share a pool in a file. It has one process at a time go on by
+// single instructions. After each instruction it looks at each flag, slot and lock in the file, and
+// writes a line for each change. The program `file_replay` reads the trace, and has the proved
+// machine take the same steps.
 //
-//     trace FOLDER SEED CALLS CACHED    each party caches up to CACHED buckets
+//     trace random FOLDER SEED CALLS CACHED
+//         Processes make calls that are chosen at random, each party caches up to CACHED buckets, and
+//         turns have random lengths. So calls interrupt each other anywhere, and some processes are
+//         killed anywhere.
+//     trace duels FOLDER STRIDE
+//         A take of a message, and a reap with detached buckets, are stopped after each STRIDE-th
+//         instruction, and another process takes the bucket and sends it elsewhere.
 //
 // The lines, in which P is a process, K a party's number, B a bucket, S a slot and L a length:
 //
@@ -26,6 +31,7 @@
 // instructions of them were stepped.
 #define _GNU_SOURCE
 #include <fcntl.h>
+#include <sched.h>
 #include <signal.h>
 #include <spawn.h>
 #include <stdio.h>
@@ -56,11 +62,14 @@ enum {
 };
 
 enum {
-    // Processes that live at one time, and over all.
+    // Processes that live at one time, over all, and over all in a random trace.
     LIVING = 3,
-    PROCESSES = 64,
+    PROCESSES = 1024,
+    LIVES = 64,
     // The most numbers that one process has joined with.
-    JOINED = 2
+    JOINED = 2,
+    // The most instructions of a turn.
+    LONGEST_TURN = 4096
 };
 
 static const bb_pool_file_options OPTIONS = {.bucket_size = SIZE,
@@ -107,7 +116,6 @@ struct shared {
     size_t got_len;
     // Children of the process that do nothing, which have to keep no lock.
     pid_t idle[2];
-    bool is_idle;
 };
 
 static struct shared *shared;
@@ -167,6 +175,15 @@ static uint32_t find(uint32_t party, enum hand hand) {
     return BUCKETS;
 }
 
+// Returns a bucket that is detached, from this one on, or this one if there is none.
+static uint32_t find_detached(uint32_t bucket) {
+    bb_holder holder;
+    for (uint32_t at = bucket; at < bucket + BUCKETS; at++)
+        if (bb_pool_file_holder(file, at % BUCKETS, &holder) == BB_OK && holder.state == BB_DETACHED)
+            return at % BUCKETS;
+    return bucket;
+}
+
 // Chooses the next call of a process that has joined, as its party `mine->party`.
 static void choose_call(void) {
     const uint32_t what = next(&seed) % 128;
@@ -176,31 +193,31 @@ static void choose_call(void) {
     mine->bucket = next(&seed) % BUCKETS;
     mine->len = 1 + next(&seed) % SIZE;
     mine->call = ALLOCATE;
-    if (what < 22) {
+    if (what < 20) {
         mine->call = POST;
-    } else if (what < 32) {
+    } else if (what < 28) {
         mine->call = DEALLOCATE;
     } else if (what < 38) {
         mine->call = DETACH;
-    } else if (what < 44) {
+    } else if (what < 48) {
         mine->call = ATTACH;
-    } else if (what < 66) {
+    } else if (what < 68) {
         mine->call = TAKE;
     } else if (what < 84) {
         mine->call = DONE;
-    } else if (what < 90) {
+    } else if (what < 88) {
         mine->call = REAP;
-    } else if (what < 95) {
+    } else if (what < 96) {
         mine->call = RECOVER;
     } else if (what < 99) {
         mine->call = LEAVE;
-    } else if (what < 101) {
+    } else if (what < 100) {
         mine->call = CLOSE;
-    } else if (what < 103) {
+    } else if (what < 104) {
         mine->call = SHOW;
-    } else if (what < 106 && count_joined() < JOINED) {
+    } else if (what < 107 && count_joined() < JOINED) {
         mine->call = JOIN;
-    } else if (what < 108 && cached > 0) {
+    } else if (what < 110 && cached > 0) {
         mine->call = FLUSH;
     }
     // Some calls are refused: those with a bucket that the party doesn't have. A bucket that is in a
@@ -212,6 +229,8 @@ static void choose_call(void) {
         else if (hands[mine->party][mine->bucket] != NOTHING)
             mine->call = ALLOCATE;
     }
+    if (mine->call == ATTACH && !is_bad)
+        mine->bucket = find_detached(mine->bucket);
     if (mine->call == DETACH && !is_bad)
         mine->bucket = message < BUCKETS && next(&seed) % 2 == 0 ? message : out % BUCKETS;
     if (mine->call == DONE && message < BUCKETS && !is_bad)
@@ -350,22 +369,32 @@ static void note_hands(void) {
     }
 }
 
+// Says through a pipe that this process has begun, and does nothing.
+static void idle(int ready) {
+    alarm(120);
+    EXPECT(write(ready, "", 1) == 1);
+    for (;;)
+        pause();
+}
+
 // Starts two children that do nothing, one by `fork` and one by `posix_spawn`. They live on when
 // this process is killed, and have to keep none of its locks.
 static void start_idle(void) {
     extern char **environ;
-    char *argv[] = {"trace", "idle", NULL};
-    mine->is_idle = false;
+    char ready[16];
+    char *argv[] = {"trace", "idle", ready, NULL};
+    char byte;
+    int pipes[2];
+    EXPECT(pipe(pipes) == 0);
+    snprintf(ready, sizeof ready, "%d", pipes[1]);
     mine->idle[0] = fork();
-    if (mine->idle[0] == 0) {
-        alarm(120);
-        __atomic_store_n(&mine->is_idle, true, __ATOMIC_SEQ_CST);
-        for (;;)
-            pause();
-    }
+    if (mine->idle[0] == 0)
+        idle(pipes[1]);
     EXPECT(posix_spawn(&mine->idle[1], "/proc/self/exe", NULL, NULL, argv, environ) == 0);
-    while (!__atomic_load_n(&mine->is_idle, __ATOMIC_SEQ_CST))
-        usleep(100);
+    for (int child = 0; child < 2; child++)
+        EXPECT(read(pipes[0], &byte, 1) == 1);
+    close(pipes[0]);
+    close(pipes[1]);
 }
 
 // Makes calls forever. It stops before each call with SIGUSR2, and after each with SIGUSR1.
@@ -403,7 +432,7 @@ enum kind {
     GONE
 };
 
-// A line of the trace, and before it the hints for these processes.
+// A line of the trace.
 struct event {
     enum kind kind;
     uint32_t process;
@@ -411,12 +440,19 @@ struct event {
     uint64_t from;
     uint64_t to;
     struct shared call;
-    uint64_t looks;
+};
+
+// The hint that is right before an event: of this process.
+struct look {
+    size_t before;
+    uint32_t process;
 };
 
 static struct event *events;
 static size_t count;
 static size_t room;
+static struct look looks[4096];
+static size_t look_count;
 
 static struct event *add(enum kind kind, uint32_t process) {
     if (count == room) {
@@ -466,10 +502,11 @@ static void write_change(const char *name, const struct event *event) {
            (unsigned long long)event->to);
 }
 
-static void write_event(const struct event *event) {
-    for (uint32_t process = 0; process < PROCESSES; process++)
-        if ((event->looks >> process & 1) != 0)
-            printf("look %u\n", process);
+static void write_event(size_t at) {
+    const struct event *event = &events[at];
+    for (size_t look = 0; look < look_count; look++)
+        if (looks[look].before == at)
+            printf("look %u\n", looks[look].process);
     switch (event->kind) {
     case BEGINS: write_call(event->process, &event->call); break;
     case FLAG: write_change("flag", event); break;
@@ -495,7 +532,11 @@ static bool locks[PARTIES];
 struct process {
     pid_t pid;
     uint32_t number;
+    // In a duel, the number of its party.
+    uint32_t party;
     bool is_in_call;
+    // The number of turns before which it doesn't go on.
+    uint32_t rests_until;
     // The event of its call's beginning, and of the first change of a flag in it, if there is one.
     size_t begun;
     size_t attached;
@@ -556,7 +597,7 @@ static void hint(const struct process *of, bool has_returned) {
     uint64_t word = slots[call->slot];
     uint64_t after = 0;
     for (size_t at = count; at > of->begun; at--) {
-        struct event *event = &events[at - 1];
+        const struct event *event = &events[at - 1];
         if (event->kind == SLOT && event->at == call->slot)
             word = event->from;
         if (at - 1 == of->attached)
@@ -567,7 +608,9 @@ static void hint(const struct process *of, bool has_returned) {
         const bool is_lost = call->code != BB_OK && word != after;
         if (has_returned && !is_got && !is_lost)
             continue;
-        event->looks |= (uint64_t)1 << of->number;
+        EXPECT(look_count < sizeof looks / sizeof *looks);
+        looks[look_count] = (struct look){at - 1, of->number};
+        look_count++;
         return;
     }
 }
@@ -600,6 +643,7 @@ static void start(struct process *of, uint32_t first_seed) {
         work(of->number, first_seed);
     EXPECT(wait_for(of->pid) == SIGUSR2);
     of->is_in_call = false;
+    of->rests_until = 0;
 }
 
 static void end(struct process *of) {
@@ -610,8 +654,14 @@ static void end(struct process *of) {
     go_to_call(of);
 }
 
-// Has a process go that many instructions far, at most to the end of its call.
-static void go(struct process *of, uint32_t most) {
+// A turn of a process: the most instructions that it takes, and the most after a change.
+struct turn {
+    uint32_t most;
+    uint32_t after_change;
+};
+
+// Has a process go on, at most to the end of its call.
+static void go(struct process *of, struct turn turn) {
     const struct shared *call = &shared[of->number];
     if (!of->is_in_call) {
         of->is_in_call = true;
@@ -619,7 +669,8 @@ static void go(struct process *of, uint32_t most) {
         of->attached = 0;
         add(BEGINS, of->number)->call = *call;
     }
-    for (uint32_t step = 0; step < most; step++) {
+    uint32_t left = turn.most;
+    while (left > 0) {
         const size_t before = count;
         ptrace(PTRACE_SINGLESTEP, of->pid, NULL, NULL);
         const int signal = wait_for(of->pid);
@@ -630,13 +681,16 @@ static void go(struct process *of, uint32_t most) {
         EXPECT(signal == SIGTRAP);
         stepped[call->call]++;
         compare(of->number);
+        left--;
+        if (count > before && left > turn.after_change)
+            left = turn.after_change;
         if (count > before && of->attached == 0 && events[before].kind == FLAG)
             of->attached = before;
     }
 }
 
-// Kills a process where it is, and starts another one.
-static void end_killed(struct process *of, uint32_t first_seed) {
+// Kills a process where it is.
+static void end_killed(struct process *of) {
     struct shared *call = &shared[of->number];
     int status;
     if (of->is_in_call) {
@@ -652,41 +706,168 @@ static void end_killed(struct process *of, uint32_t first_seed) {
         if (call->idle[at] != 0)
             kill(call->idle[at], SIGKILL);
     of->pid = 0;
-    if (started < PROCESSES)
-        start(of, first_seed);
 }
 
-// Returns the length of a turn: a few instructions, part of a call, or most of one.
-static uint32_t turn(uint32_t *random) {
-    const uint32_t what = next(random) % 4;
-    if (what == 0)
-        return 1 + next(random) % 24;
-    if (what == 1)
-        return 1 + next(random) % 256;
-    return 4096;
+// Returns a turn: a few instructions, part of a call, up to a change and a little more, or most of a
+// call.
+static struct turn choose_turn(uint32_t *random) {
+    struct turn turn = {LONGEST_TURN, LONGEST_TURN};
+    switch (next(random) % 6) {
+    case 0: turn.most = 1 + next(random) % 24; break;
+    case 1: turn.most = 1 + next(random) % 256; break;
+    case 2: turn.most = 1 + next(random) % 1536; break;
+    case 3: turn.after_change = next(random) % 32; break;
+    default: break;
+    }
+    return turn;
 }
 
-static void run(uint32_t random, uint32_t calls) {
+static void run_random(uint32_t random, uint32_t calls) {
     const uint32_t first_seed = random;
     uint64_t ended = 0;
     for (uint32_t at = 0; at < LIVING; at++)
         start(&living[at], first_seed);
     while (ended < calls) {
         struct process *of = &living[next(&random) % LIVING];
-        if (of->pid == 0)
-            continue;
-        go(of, turn(&random));
         turns++;
-        if (started < PROCESSES && next(&random) % 48 == 0)
-            end_killed(of, first_seed);
+        if (of->pid == 0 || of->rests_until > turns)
+            continue;
+        go(of, choose_turn(&random));
+        if (of->is_in_call && next(&random) % 4 == 0)
+            of->rests_until = turns + next(&random) % 64;
+        if (started < LIVES && next(&random) % 48 == 0) {
+            end_killed(of);
+            start(of, first_seed);
+        }
         ended = 0;
         for (int call = 0; call < CALLS; call++)
             ended += made[call];
     }
-    started = PROCESSES;
     for (uint32_t at = 0; at < LIVING; at++)
-        if (living[at].pid != 0)
-            end_killed(&living[at], first_seed);
+        end_killed(&living[at]);
+}
+
+// DUELS
+
+// Sets the next call of a process.
+static void order(const struct process *of, enum call call, uint32_t slot, uint32_t bucket) {
+    struct shared *next_call = &shared[of->number];
+    next_call->call = call;
+    next_call->party = of->party;
+    next_call->slot = slot;
+    next_call->bucket = bucket;
+    next_call->len = 1 + bucket;
+}
+
+// Has a process make a call to its end. Returns whether it succeeded.
+static bool make(struct process *of, enum call call, uint32_t slot, uint32_t bucket) {
+    const struct turn whole = {UINT32_MAX, UINT32_MAX};
+    order(of, call, slot, bucket);
+    go(of, whole);
+    return shared[of->number].code == BB_OK;
+}
+
+// Has a process make a call that changes one word at most, without stepping it.
+static void make_unstepped(struct process *of, enum call call, uint32_t bucket) {
+    order(of, call, 0, bucket);
+    add(BEGINS, of->number)->call = shared[of->number];
+    ptrace(PTRACE_CONT, of->pid, NULL, NULL);
+    EXPECT(wait_for(of->pid) == SIGUSR1);
+    compare(of->number);
+    of->attached = 0;
+    end(of);
+}
+
+// Starts a process that has joined.
+static void start_joined(struct process *of) {
+    start(of, 1);
+    make_unstepped(of, OPEN, 0);
+    make_unstepped(of, JOIN, 0);
+    of->party = shared[of->number].got;
+}
+
+static uint32_t allocate(struct process *of) {
+    make_unstepped(of, ALLOCATE, 0);
+    return shared[of->number].got;
+}
+
+// Has a process send a bucket that it holds, by slot 1 or by number.
+static void send(struct process *of, uint32_t bucket, bool by_slot) {
+    if (by_slot)
+        make(of, POST, 1, bucket);
+    else
+        make(of, DETACH, 0, bucket);
+}
+
+// Has a process receive that bucket, if it is still there, and give it back.
+static void receive(struct process *of, uint32_t bucket, bool by_slot) {
+    if (by_slot && !(make(of, TAKE, 1, 0) && make(of, DONE, 1, 0)))
+        return;
+    if (!by_slot && !make(of, ATTACH, 0, bucket))
+        return;
+    make(of, DEALLOCATE, 0, bucket);
+}
+
+// Has the first process take a message. After that many instructions the second one takes it, too,
+// and sends its bucket elsewhere. Returns whether the first one's call had ended before.
+static bool duel_take(uint32_t most, bool by_slot) {
+    struct process *one = &living[0];
+    struct process *other = &living[1];
+    const struct turn part = {most, most};
+    const struct turn whole = {UINT32_MAX, UINT32_MAX};
+    const uint32_t bucket = allocate(other);
+    make(other, POST, 0, bucket);
+    order(one, TAKE, 0, 0);
+    go(one, part);
+    const bool ended = !one->is_in_call;
+    if (make(other, TAKE, 0, 0) && make(other, DONE, 0, 0))
+        send(other, bucket, by_slot);
+    if (one->is_in_call)
+        go(one, whole);
+    if (shared[one->number].code == BB_OK && make(one, DONE, 0, 0))
+        make(one, DEALLOCATE, 0, bucket);
+    else
+        receive(other, bucket, by_slot);
+    return ended;
+}
+
+// Has the first process reap a dead party, with a bucket that it had detached. That many
+// instructions after the party is locked, the second one attaches the bucket, and sends it. Returns
+// whether the bucket was reaped before.
+static bool duel_reap(uint32_t most, bool by_slot) {
+    struct process *one = &living[0];
+    struct process *other = &living[1];
+    const struct turn part = {LONGEST_TURN, most};
+    const struct turn whole = {UINT32_MAX, UINT32_MAX};
+    start_joined(&living[2]);
+    const uint32_t bucket = allocate(&living[2]);
+    make_unstepped(&living[2], DETACH, bucket);
+    end_killed(&living[2]);
+    order(one, RECOVER, 0, 0);
+    go(one, part);
+    const bool attached = make(other, ATTACH, 0, bucket);
+    if (attached)
+        send(other, bucket, by_slot);
+    if (one->is_in_call)
+        go(one, whole);
+    if (attached)
+        receive(other, bucket, by_slot);
+    return !attached;
+}
+
+static void run_duels(uint32_t stride) {
+    start_joined(&living[0]);
+    start_joined(&living[1]);
+    for (int by_slot = 0; by_slot < 2; by_slot++) {
+        bool has_ended = false;
+        for (uint32_t most = 1; !has_ended && most < LONGEST_TURN; most += stride)
+            has_ended = duel_take(most, by_slot == 1);
+        has_ended = false;
+        for (uint32_t most = 1; !has_ended && most < LONGEST_TURN; most += stride)
+            has_ended = duel_reap(most, by_slot == 1);
+    }
+    end_killed(&living[0]);
+    end_killed(&living[1]);
 }
 
 static void *map(size_t size, int fd, off_t at) {
@@ -705,20 +886,40 @@ static void keep_addresses(char **argv) {
         execv("/proc/self/exe", argv);
 }
 
+// Runs this program and its processes on one processor, of which the seed chooses one. To step a
+// process that runs on another one takes much longer.
+static void keep_processor(uint32_t number) {
+    cpu_set_t allowed;
+    EXPECT(sched_getaffinity(0, sizeof allowed, &allowed) == 0);
+    uint32_t left = number % (uint32_t)CPU_COUNT(&allowed);
+    for (size_t at = 0; at < CPU_SETSIZE; at++) {
+        if (!CPU_ISSET(at, &allowed))
+            continue;
+        if (left == 0) {
+            cpu_set_t one;
+            CPU_ZERO(&one);
+            CPU_SET(at, &one);
+            EXPECT(sched_setaffinity(0, sizeof one, &one) == 0);
+            return;
+        }
+        left--;
+    }
+}
+
 int main(int argc, char **argv) {
     bb_pool_file *made_file;
-    if (argc == 2 && strcmp(argv[1], "idle") == 0) {
-        alarm(120);
-        for (;;)
-            pause();
-    }
-    if (argc != 5) {
-        fprintf(stderr, "usage: trace FOLDER SEED CALLS CACHED\n");
+    if (argc == 3 && strcmp(argv[1], "idle") == 0)
+        idle(atoi(argv[2]));
+    const bool is_random = argc == 6 && strcmp(argv[1], "random") == 0;
+    const bool has_duels = argc == 4 && strcmp(argv[1], "duels") == 0;
+    if (!is_random && !has_duels) {
+        fprintf(stderr, "usage: trace random FOLDER SEED CALLS CACHED\n"
+                        "       trace duels FOLDER STRIDE\n");
         return 2;
     }
     keep_addresses(argv);
-    snprintf(path, sizeof path, "%s/bb-trace-%d", argv[1], (int)getpid());
-    cached = (uint32_t)atoi(argv[4]);
+    keep_processor((uint32_t)atoi(argv[3]));
+    snprintf(path, sizeof path, "%s/bb-trace-%d", argv[2], (int)getpid());
     EXPECT(bb_pool_file_open(&made_file, path, &OPTIONS) == BB_OK);
     EXPECT(bb_pool_file_close(made_file) == BB_OK);
     watching = open(path, O_RDWR | O_CLOEXEC);
@@ -727,11 +928,16 @@ int main(int argc, char **argv) {
     words = map(2 * PAGE, watching, PAGE);
     shared = map(PROCESSES * sizeof *shared, -1, 0);
     add(GONE, PROCESSES);  // so that no event of a call has the index 0
-    run((uint32_t)atoi(argv[2]), (uint32_t)atoi(argv[3]));
+    if (is_random) {
+        cached = (uint32_t)atoi(argv[5]);
+        run_random((uint32_t)atoi(argv[3]), (uint32_t)atoi(argv[4]));
+    } else {
+        run_duels((uint32_t)atoi(argv[3]));
+    }
     unlink(path);
     printf("file %d %d %d %d\n", PROCESSES, PARTIES, BUCKETS, SLOTS);
     for (size_t at = 1; at < count; at++)
-        write_event(&events[at]);
+        write_event(at);
     for (int call = 0; call < CALLS; call++)
         fprintf(stderr, "%s %llu %llu\n", NAMES[call], (unsigned long long)made[call],
                 (unsigned long long)stepped[call]);
