@@ -55,24 +55,12 @@ pub enum Call {
 /// A change of a word or of a lock.
 #[derive(Debug, Clone, Copy, PartialEq, Eq)]
 pub enum Change {
-    Flag {
-        bucket: u32,
-        from: Flag,
-        to: Flag,
-    },
-    Slot {
-        slot: u32,
-        from: Slot,
-        to: Slot,
-    },
+    Flag { bucket: u32, from: Flag, to: Flag },
+    Slot { slot: u32, from: Slot, to: Slot },
     /// The lock of this number is the process's now.
-    Lock {
-        party: u32,
-    },
+    Lock { party: u32 },
     /// The lock of this number was the process's, and is free now.
-    Unlock {
-        party: u32,
-    },
+    Unlock { party: u32 },
 }
 
 /// What a call returned.
@@ -145,7 +133,10 @@ pub fn read_line(text: &[u8]) -> Option<Line> {
         Numbers::One(process) => (process, event_of_one(name)?),
         Numbers::Two(process, a) => (process, event_of_two(name, to_u32(a)?)?),
         Numbers::Three(process, a, b) => (process, event_of_three(name, to_u32(a)?, to_u32(b)?)?),
-        Numbers::Four(process, a, from, to) => (process, event_of_four(name, to_u32(a)?, from, to)?),
+        Numbers::Four(process, a, from, to) => (
+            process,
+            event_of_four(name, to_u32(a)?, from, to)?,
+        ),
         Numbers::Five(process, party, slot, bucket, length) if is_word(name, b"post") => {
             let call = Call::Post {
                 party: to_u32(party)?,
@@ -221,23 +212,15 @@ fn event_of_three(name: &[u8], party: u32, number: u32) -> Option<Event> {
         let bucket = number;
         Some(Event::Begins(Call::Attach { party, bucket }))
     } else if is_word(name, b"take") {
-        Some(
-            Event::Begins(
-                Call::Take {
-                    party,
-                    slot: number,
-                },
-            ),
-        )
+        Some(Event::Begins(Call::Take {
+            party,
+            slot: number,
+        }))
     } else if is_word(name, b"done") {
-        Some(
-            Event::Begins(
-                Call::Done {
-                    party,
-                    slot: number,
-                },
-            ),
-        )
+        Some(Event::Begins(Call::Done {
+            party,
+            slot: number,
+        }))
     } else if is_word(name, b"ok") {
         let message = Returned::Message {
             bucket: party,

@@ -18,8 +18,11 @@ use std::io::{ErrorKind, Read};
 use std::process::ExitCode;
 
 const DIFFERENCE: u8 = 1;
+
 const UNREADABLE: u8 = 2;
+
 const INPUT_FAILED: u8 = 3;
+
 const OUT_OF_MEMORY: u8 = 4;
 
 fn main(rt: HostRuntime) -> ExitCode {

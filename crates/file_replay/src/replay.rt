@@ -126,13 +126,11 @@ impl Replay {
                 return Ok(());
             }
             if outcome != FileOutcome::Moves {
-                return Err(
-                    Difference::OtherStep {
-                        place,
-                        step,
-                        outcome,
-                    },
-                );
+                return Err(Difference::OtherStep {
+                    place,
+                    step,
+                    outcome,
+                });
             }
         }
         Err(Difference::NoChange)
@@ -156,9 +154,7 @@ impl Replay {
             Call::Reap | Call::Recover | Call::Flush { .. } => {
                 self.expect_outside(process, !is_refused)
             }
-            Call::Deallocate { .. } => {
-                self.expect_outside(process, !is_refused || !has_changed)
-            }
+            Call::Deallocate { .. } => { self.expect_outside(process, !is_refused || !has_changed) }
             Call::Leave { .. } | Call::Detach { .. } | Call::Attach { .. } => {
                 self.expect_outside(process, has_changed != is_refused)
             }
@@ -181,13 +177,11 @@ impl Replay {
             },
             Call::Done { party, slot } => {
                 if is_refused && !has_changed {
-                    let _ = self.world.step(
-                        FileStep::Done {
-                            process,
-                            party,
-                            slot,
-                        },
-                    );
+                    let _ = self.world.step(FileStep::Done {
+                        process,
+                        party,
+                        slot,
+                    });
                     self.move_on(process)?;
                 }
                 self.expect_outside(process, has_changed != is_refused)
@@ -213,13 +207,11 @@ impl Replay {
         if outcome == FileOutcome::Receives(slot) {
             return Ok(());
         }
-        Err(
-            Difference::OtherStep {
-                place,
-                step,
-                outcome,
-            },
-        )
+        Err(Difference::OtherStep {
+            place,
+            step,
+            outcome,
+        })
     }
 
     /// Has a process take steps that change nothing, until it is in no call.
@@ -240,13 +232,11 @@ impl Replay {
         if outcome == FileOutcome::Moves {
             return Ok(());
         }
-        Err(
-            Difference::OtherStep {
-                place,
-                step,
-                outcome,
-            },
-        )
+        Err(Difference::OtherStep {
+            place,
+            step,
+            outcome,
+        })
     }
 
     /// Tests that a process is in no call, and that something holds.
@@ -324,14 +314,12 @@ fn first_step(process: u32, found: Process, change: Change) -> FileStep {
             party,
             bucket,
         },
-        (
-            Call::Deallocate { party, .. } | Call::Flush { party },
-            Change::Flag { bucket, .. },
-        ) => FileStep::Deallocate {
-            process,
-            party,
-            bucket,
-        },
+        (Call::Deallocate { party, .. } | Call::Flush { party }, Change::Flag { bucket, .. }) =>
+            FileStep::Deallocate {
+                process,
+                party,
+                bucket,
+            },
         (Call::Detach { party, bucket }, _) if !found.has_changed => FileStep::DetachNumber {
             process,
             party,
