@@ -1,8 +1,8 @@
 -- For each wrong protocol, steps with which it goes wrong.
 use Rattle.bb_memory_file_machine.proofs.FileTests.{in_none}
 use Rattle.bb_memory_file_machine.specs.FileLaws.{IsInSome, IsKnown}
-use Rattle.bb_memory_file_machine.specs.FileMachine.{Allocate, AttachNumber, DetachNumber, Done, Exchange, FileScene, FileStep, FileWords, Kill, Leave, Lock, Look, Next, Post, Release, Slots, Take}
-use Rattle.bb_memory_file_machine.specs.FileVariants.{FreesMessage, LosesBucket, ReceivesNothing, SharesNumber, TakesAway, attach_from_any, detach_then_post, no_second_look, reaps_the_living, settle_forgets_slots, unlock_before, wrong_left_by}
+use Rattle.bb_memory_file_machine.specs.FileMachine.{Allocate, AttachNumber, DetachNumber, Done, Exchange, FileScene, FileStep, FileWords, Kill, Leave, Lock, Next, Post, Recover, Release, Slots, Take}
+use Rattle.bb_memory_file_machine.specs.FileVariants.{FreesMessage, LosesBucket, ReceivesNothing, SharesNumber, TakesAway, attach_from_any, detach_then_post, no_second_look, reaps_the_living, settle_addresses_not, settle_forgets_slots, unlock_before, wrong_left_by}
 use Rattle.std.proofs.Common.{List, Some, [], arith, false, inl, inr, refl, ℕ, ◌++◌, ◌∷◌, ◌≡◌}
 use Rattle.std.specs.Prelude.{slice_get}
 
@@ -15,13 +15,13 @@ abbrev joining : ℕ → ℕ → List FileStep
 joining process party =
     Lock process party ∷ Next process ∷ Next process ∷ Next process ∷ Next process ∷ Next process ∷ []
 
--- a settler looks for a detached bucket, which is posted again meanwhile
+-- a settler takes back a detached bucket, which another process has posted meanwhile
 abbrev lost_and_posted : List FileStep
 lost_and_posted = joining 0 0 ++ joining 1 1
     ++ Allocate 0 0 0 ∷ DetachNumber 0 0 0 ∷ Kill 0 ∷ Release 0 0
-    ∷ Lock 2 0 ∷ Next 2 ∷ Next 2 ∷ Look 2 0 ∷ Next 2 ∷ Next 2
-    ∷ AttachNumber 1 1 0 0 ∷ Post 1 1 0 0 7 ∷ Next 1
-    ∷ Next 2 ∷ Next 2 ∷ []
+    ∷ Lock 2 0 ∷ Next 2 ∷ Next 2
+    ∷ AttachNumber 1 1 0 0 ∷ Post 1 1 0 0 7 ∷ Next 1 ∷ Next 1
+    ∷ Recover 2 0 ∷ Next 2 ∷ []
 
 pub any_frees : FreesMessage attach_from_any
 any_frees = record {
@@ -46,11 +46,26 @@ forgetting_frees = record {
   free = refl;
 }
 
+-- a process is killed in a post, after it has detached the bucket, and its number is settled by one that takes back such buckets
+abbrev killed_when_sent : List FileStep
+killed_when_sent = joining 0 0
+    ++ Allocate 0 0 0 ∷ Post 0 0 0 0 7 ∷ Next 0 ∷ Kill 0 ∷ Release 0 0
+    ∷ Lock 1 0 ∷ Next 1 ∷ Next 1 ∷ Next 1 ∷ Next 1 ∷ Recover 1 0 ∷ Next 1 ∷ []
+
+pub unaddressed_frees : FreesMessage settle_addresses_not
+unaddressed_frees = record {
+  scene = small;
+  steps = killed_when_sent;
+  bucket = 0;
+  has = (0, (7, refl));
+  free = refl;
+}
+
 -- another process takes the message and detaches the bucket by its number, between a take's look and its exchange
 abbrev taken_meanwhile : List FileStep
 taken_meanwhile = joining 0 0 ++ joining 1 1
-    ++ Allocate 0 0 0 ∷ Post 0 0 0 0 7 ∷ Next 0 ∷ Take 1 1 0
-    ∷ Take 0 0 0 ∷ Exchange 0 0 ∷ Next 0 ∷ Done 0 0 0 ∷ Next 0 ∷ Next 0 ∷ DetachNumber 0 0 0
+    ++ Allocate 0 0 0 ∷ Post 0 0 0 0 7 ∷ Next 0 ∷ Next 0 ∷ Take 1 1 0
+    ∷ Take 0 0 0 ∷ Exchange 0 2 ∷ Next 0 ∷ Done 0 0 0 ∷ Next 0 ∷ Next 0 ∷ DetachNumber 0 0 0
     ∷ Exchange 1 0 ∷ []
 
 pub unlooked_receives : ReceivesNothing no_second_look

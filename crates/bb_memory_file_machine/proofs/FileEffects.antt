@@ -1,7 +1,7 @@
 -- Each effect keeps the words sound, and from what another process rests on.
-use Rattle.bb_memory_file_machine.proofs.FileInvariant.{HoldsNoMessage, IsCleared, PlaceHas}
-use Rattle.bb_memory_file_machine.specs.FileLaws.{Effect, IsFlag, IsHolder, IsIn, IsKnown, IsLock, IsOutside, IsSlot, attaches, attaches_number, detaches, detaches_number, empties, fills, frees_lock, gives_back, none, takes, takes_lock}
-use Rattle.bb_memory_file_machine.specs.FileMachine.{Attached, Checking, DetachedBy, Empty, Ending, FileOutcome, FileWords, Finding, Flag, Flags, Free, HeldBy, Keeping, Late, Looking, Lost, Message, Place, Posting, Seen, Settled, Slot, Slots, with_lock, with_slot}
+use Rattle.bb_memory_file_machine.proofs.FileInvariant.{HoldsNoMessage, IsCleared, IsOnly, Names, PlaceHas}
+use Rattle.bb_memory_file_machine.specs.FileLaws.{Effect, IsFlag, IsHolder, IsIn, IsKnown, IsLock, IsOutside, IsSlot, addresses, attaches, attaches_number, detaches, detaches_number, empties, fills, frees_lock, gives_back, none, takes, takes_lock}
+use Rattle.bb_memory_file_machine.specs.FileMachine.{Addressing, Attached, Checking, DetachedBy, Empty, Ending, FileOutcome, FileWords, Finding, Flag, Flags, Free, HeldBy, Keeping, Late, Message, Place, Posting, Seen, Sent, Settled, Slot, Slots, nobody, with_lock, with_slot}
 use Rattle.bb_memory_lists.proofs.SliceGets.{slice_get-set_apart, slice_get-set_at}
 use Rattle.std.proofs.Common.{Bool, List, None, Option, Some, [], ap, arith, false, inl, inr, length, suc, sym, true, zero, ℕ, ◌<◌, ◌∙◌, ◌∷◌, ◌≡◌, ◌≢◌}
 use Rattle.std.proofs.lemmas.Bool.{cases_eq}
@@ -50,16 +50,15 @@ same_message words slot bucket other (size, one) (length, two) =
 -- WHAT OTHER PROCESSES DO
 
 -- What a party, whose lock a process has, rests on while other processes take steps: its lock and its buckets stay its own, with
--- the slots that have them. No other process detaches a bucket by its number, or puts its buckets or those it has detached into
--- slots.
+-- the slots that have them. No other process detaches a bucket by its number. No other process puts a bucket whose flag names it
+-- into a slot, or empties the slot of such a bucket.
 pub record Rests (words later : FileWords) (party process : ℕ) : Type 0 where
   pub lock : IsLock later party process
   pub kept : (bucket : ℕ) → IsHolder words bucket party → IsHolder later bucket party
   pub held : (bucket : ℕ) → IsHolder later bucket party → IsHolder words bucket party
   pub detached : (bucket : ℕ) → IsFlag later bucket (DetachedBy party) → IsFlag words bucket (DetachedBy party)
-  pub stays : (bucket slot : ℕ) → IsHolder words bucket party → IsIn words bucket slot → IsIn later bucket slot
-  pub filled : (bucket slot : ℕ) → IsIn later bucket slot →
-      IsIn words bucket slot ⊎ ((¬ IsHolder words bucket party) × (¬ IsFlag words bucket (DetachedBy party)))
+  pub stays : (bucket slot : ℕ) → Names words bucket party → IsIn words bucket slot → IsIn later bucket slot
+  pub filled : (bucket slot : ℕ) → IsIn later bucket slot → IsIn words bucket slot ⊎ (¬ Names words bucket party)
   pub outside : (bucket : ℕ) → IsHolder words bucket party → IsOutside words bucket → IsOutside later bucket
 
 -- the words with this flag, and what channels outside know
@@ -87,7 +86,7 @@ rests_flag words bucket party process old flag outside lock is others unheld not
         | inl before ↦ before.1
         | inr this ↦ absurd (not_detached this.1)
       ];
-      stays = λ other slot held has. has;
+      stays = λ other slot named has. has;
       filled = λ other slot has. inl has;
       outside = λ other held known. others other (apart other held) known;
     }
@@ -105,7 +104,7 @@ rests_same words party process lock = record {
   kept = λ bucket held. held;
   held = λ bucket held. held;
   detached = λ bucket is. is;
-  stays = λ bucket slot held has. has;
+  stays = λ bucket slot named has. has;
   filled = λ bucket slot has. inl has;
   outside = λ bucket held known. known;
 }
@@ -117,24 +116,23 @@ rests_lock words at party process lock own apart = record {
   kept = λ bucket held. held;
   held = λ bucket held. held;
   detached = λ bucket is. is;
-  stays = λ bucket slot held has. has;
+  stays = λ bucket slot named has. has;
   filled = λ bucket slot has. inl has;
   outside = λ bucket held known. known;
 }
 
--- a slot gets another word, neither of which has a bucket of the party
+-- a slot gets another word, and the flag of neither's bucket names the party
 rests_slot : (words : FileWords) (slot party process : ℕ) (old word : Slot) → IsLock words party process →
-    IsSlot words slot old → ((bucket size : ℕ) → IsHolder words bucket party → ¬ (old ≡ Message bucket size)) →
-    ((bucket size : ℕ) → word ≡ Message bucket size →
-    (¬ IsHolder words bucket party) × (¬ IsFlag words bucket (DetachedBy party))) →
+    IsSlot words slot old → ((bucket size : ℕ) → Names words bucket party → ¬ (old ≡ Message bucket size)) →
+    ((bucket size : ℕ) → word ≡ Message bucket size → ¬ Names words bucket party) →
     Rests words (with_slot words slot word) party process
 rests_slot words slot party process old word lock is apart not_own = record {
   lock = lock;
   kept = λ bucket held. held;
   held = λ bucket held. held;
   detached = λ bucket is. is;
-  stays = λ bucket other held has.
-      let place = apart_by_value words.slots slot other old (Message bucket has.0) is has.1 (apart bucket has.0 held) in
+  stays = λ bucket other named has.
+      let place = apart_by_value words.slots slot other old (Message bucket has.0) is has.1 (apart bucket has.0 named) in
       (has.0, slice_get-set_apart words.slots slot other word place ∙ has.1);
   filled = λ bucket other has. elim (set_cases words.slots slot other word old (Message bucket has.0) is has.1) [
     | inl before ↦ inl (has.0, before.1)
@@ -147,7 +145,7 @@ rests_slot words slot party process old word lock is apart not_own = record {
 held_apart : (party other : ℕ) → party ≢ other → ¬ (HeldBy party ≡ HeldBy other)
 held_apart party other apart same = apart (cc)
 
-detached_apart : (party other : ℕ) → party ≢ other → ¬ (DetachedBy party ≡ DetachedBy other)
+pub detached_apart : (party other : ℕ) → party ≢ other → ¬ (DetachedBy party ≡ DetachedBy other)
 detached_apart party other apart same = apart (cc)
 
 -- a number whose lock another process has is another
@@ -155,6 +153,18 @@ other_number : (words : FileWords) (number party process other : ℕ) → IsLock
     process ≢ other → number ≢ party
 other_number words number party process other own lock apart =
     apart_by_value words.locks number party (Some process) (Some other) own lock (λ same. apart (cc))
+
+-- nobody joins the number after the parties' numbers
+pub nobody_apart : (words : FileWords) (party process : ℕ) → IsLock words party process → nobody words ≢ party
+nobody_apart words party process lock same =
+    let below = below_end words.locks party (Some process) lock in absurd (omega (arith, below, same))
+
+-- the flag of a bucket that another number holds doesn't name the party
+unnamed : (words : FileWords) (bucket number party : ℕ) → IsHolder words bucket number → number ≢ party →
+    ¬ Names words bucket party
+unnamed words bucket number party held apart (inl mine) = apart (same_holder words bucket number party held mine)
+unnamed words bucket number party held apart (inr mine) =
+    let flags = one_value words.flags bucket (HeldBy number) (DetachedBy party) held mine in absurd (cc)
 
 -- each effect of another process leaves what a party rests on
 pub rests : (words later : FileWords) (process : ℕ) (outcome : FileOutcome) (party other : ℕ) →
@@ -182,6 +192,10 @@ rests words later process outcome party other (detaches_number number bucket own
     rests_flag words bucket party other (HeldBy number) (DetachedBy number) (slice_set words.outside bucket true) lock held
     (keeps_others words bucket true)
     (held_apart number party numbers) (λ same. absurd (cc)) (detached_apart number party numbers)
+rests words later process outcome party other (addresses number bucket own is has) lock apart =
+    rests_flag words bucket party other (DetachedBy number) (DetachedBy (nobody words)) words.outside lock is
+    (keeps_all words bucket) (λ same. absurd (cc)) (λ same. absurd (cc))
+    (detached_apart (nobody words) party (nobody_apart words party other lock))
 rests words later process outcome party other (attaches number bucket from own is) lock apart =
     let numbers = other_number words number party process other own lock apart in
     rests_flag words bucket party other (DetachedBy from) (HeldBy number) words.outside lock is (keeps_all words bucket)
@@ -196,41 +210,58 @@ rests words later process outcome party other (fills number slot bucket size own
     rests_slot words slot party other Empty (Message bucket size) lock empty (λ at length own same. absurd (cc))
     (λ at length same.
     let one : bucket ≡ at = cc in
-    let held_at = ap (slice_get words.flags) (sym one) ∙ held in (
-      (λ mine. numbers (same_holder words at number party held_at mine)),
-      (λ mine. let flags = one_value words.flags at (HeldBy number) (DetachedBy party) held_at mine in absurd (cc)),
-    ))
+    unnamed words at number party (ap (slice_get words.flags) (sym one) ∙ held) numbers)
 rests words later process outcome party other (empties number slot bucket size own held is) lock apart =
     let numbers = other_number words number party process other own lock apart in
     rests_slot words slot party other (Message bucket size) Empty lock is
-    (λ at length mine same.
+    (λ at length named same.
     let one : bucket ≡ at = cc in
-    numbers (same_holder words at number party (ap (slice_get words.flags) (sym one) ∙ held) mine))
+    unnamed words at number party (ap (slice_get words.flags) (sym one) ∙ held) numbers named)
     (λ at length same. absurd (cc))
 
 module _ (words later : FileWords) (party process : ℕ) where
+  -- a flag that names the party named it before
+  named_rests : (bucket : ℕ) → Rests words later party process → Names later bucket party → Names words bucket party
+  named_rests bucket r (inl held) = inl (r.held bucket held)
+  named_rests bucket r (inr detached) = inr (r.detached bucket detached)
+
   known_rests : (bucket : ℕ) → IsHolder words bucket party → Rests words later party process → IsKnown words bucket →
       IsKnown later bucket
-  known_rests bucket held r (inl (slot, has)) = inl (slot, r.stays bucket slot held has)
+  known_rests bucket held r (inl (slot, has)) = inl (slot, r.stays bucket slot (inl held) has)
   known_rests bucket held r (inr outside) = inr (r.outside bucket held outside)
 
   cleared_rests : (slot : ℕ) → Rests words later party process → IsCleared words party slot → IsCleared later party slot
   cleared_rests slot r cleared before bucket less has now = elim (r.filled bucket before has) [
-    | inl had ↦ cleared before bucket less had (r.held bucket now)
-    | inr not_own ↦ not_own.0 (r.held bucket now)
+    | inl had ↦ cleared before bucket less had (named_rests bucket r now)
+    | inr unnamed ↦ unnamed (named_rests bucket r now)
   ]
 
   no_message_rests : Rests words later party process → HoldsNoMessage words party → HoldsNoMessage later party
   no_message_rests r no_message slot bucket has now = elim (r.filled bucket slot has) [
-    | inl had ↦ no_message slot bucket had (r.held bucket now)
-    | inr not_own ↦ not_own.0 (r.held bucket now)
+    | inl had ↦ no_message slot bucket had (named_rests bucket r now)
+    | inr unnamed ↦ unnamed (named_rests bucket r now)
+  ]
+
+  only_rests : (slot bucket : ℕ) → Rests words later party process → IsOnly words party slot bucket →
+      IsOnly later party slot bucket
+  only_rests slot bucket r one other has now = elim (r.filled other slot has) [
+    | inl had ↦ one other had (named_rests other r now)
+    | inr unnamed ↦ absurd (unnamed (named_rests other r now))
   ]
 
 -- what holds of a process that has come so far, holds after steps of others
 pub place_rests : (words later : FileWords) (process : ℕ) (place : Place) → PlaceHas words process place →
     ((party : ℕ) → IsLock words party process → Rests words later party process) → PlaceHas later process place
 place_rests words later process (Posting party bucket) (lock, held, (slot, has)) others =
-    let r = others party lock in (r.lock, r.kept bucket held, (slot, r.stays bucket slot held has))
+    let r = others party lock in (r.lock, r.kept bucket held, (slot, r.stays bucket slot (inl held) has))
+place_rests words later process (Sent party bucket) (lock, known) others =
+    let r = others party lock in (
+      r.lock,
+      (λ now.
+          let is = r.detached bucket now in
+          let has = known is in
+          (has.0, r.stays bucket has.0 (inr is) has.1)),
+    )
 place_rests words later process (Seen party slot bucket size) lock others = (others party lock).lock
 place_rests words later process (Attached party slot bucket size) (lock, held, known) others =
     let r = others party lock in (r.lock, r.kept bucket held, known_rests words later party process bucket held r known)
@@ -238,45 +269,33 @@ place_rests words later process (Late party bucket) (lock, held, known) others =
     let r = others party lock in (r.lock, r.kept bucket held, known_rests words later party process bucket held r known)
 place_rests words later process (Finding party slot bucket) (lock, found) others =
     let r = others party lock in
-    (r.lock, (λ now. let held = r.held bucket now in r.stays bucket slot held (found held)))
+    (r.lock, (λ now. let held = r.held bucket now in r.stays bucket slot (inl held) (found held)))
 place_rests words later process (Ending party slot bucket) (lock, held, has) others =
-    let r = others party lock in (r.lock, r.kept bucket held, r.stays bucket slot held has)
+    let r = others party lock in (r.lock, r.kept bucket held, r.stays bucket slot (inl held) has)
 place_rests words later process (Slots party slot) (lock, cleared) others =
     let r = others party lock in (r.lock, cleared_rests words later party process slot r cleared)
 place_rests words later process (Checking party slot bucket) (lock, cleared, found, one) others =
     let r = others party lock in (
       r.lock,
       cleared_rests words later party process slot r cleared,
-      (λ now. let held = r.held bucket now in r.stays bucket slot held (found held)),
-      (λ other has now. let held = r.held other now in elim (r.filled other slot has) [
-        | inl before ↦ one other before held
-        | inr not_own ↦ absurd (not_own.0 held)
-      ]),
+      (λ now. let named = named_rests words later party process bucket r now in r.stays bucket slot named (found named)),
+      only_rests words later party process slot bucket r one,
     )
 place_rests words later process (Keeping party slot bucket) (lock, cleared, held, has) others =
     let r = others party lock in
-    (r.lock, cleared_rests words later party process slot r cleared, r.kept bucket held, r.stays bucket slot held has)
+    (r.lock, cleared_rests words later party process slot r cleared, r.kept bucket held, r.stays bucket slot (inl held) has)
+place_rests words later process (Addressing party slot bucket) (lock, cleared, unheld, found, one) others =
+    let r = others party lock in (
+      r.lock,
+      cleared_rests words later party process slot r cleared,
+      (λ now. unheld (r.held bucket now)),
+      (λ now. let is = r.detached bucket now in r.stays bucket slot (inr is) (found is)),
+      only_rests words later party process slot bucket r one,
+    )
 place_rests words later process (Flags party bucket) (lock, no_message, given) others =
     let r = others party lock in
     (r.lock, no_message_rests words later party process r no_message, (λ before less now. given before less (r.held before now)))
-place_rests words later process (Looking party bucket slot) (lock, no_message, sought) others =
-    let r = others party lock in (
-      r.lock,
-      no_message_rests words later party process r no_message,
-      (λ now before less has. let is = r.detached bucket now in elim (r.filled bucket before has) [
-        | inl had ↦ sought is before less had
-        | inr not_own ↦ not_own.1 is
-      ]),
-    )
-place_rests words later process (Lost party bucket) (lock, no_message, sought) others =
-    let r = others party lock in (
-      r.lock,
-      no_message_rests words later party process r no_message,
-      (λ now has. let is = r.detached bucket now in elim (r.filled bucket has.0 has.1) [
-        | inl had ↦ sought is (has.0, had)
-        | inr not_own ↦ not_own.1 is
-      ]),
-    )
-place_rests words later process (Settled party) (lock, given) others =
-    let r = others party lock in (r.lock, (λ bucket now. given bucket (r.held bucket now)))
+place_rests words later process (Settled party) (lock, given, no_message) others =
+    let r = others party lock in
+    (r.lock, (λ bucket now. given bucket (r.held bucket now)), no_message_rests words later party process r no_message)
 place_rests words later process _ has others = tt

@@ -1,8 +1,8 @@
 -- What holds of the words and of each process after every list of steps.
 use Rattle.bb_memory_file_machine.specs.FileLaws.{IsFlag, IsHolder, IsIn, IsInSome, IsKnown, IsLock, IsPlace}
-use Rattle.bb_memory_file_machine.specs.FileMachine.{Attached, Checking, DetachedBy, Ending, FileState, FileWords, Finding, Flags, Keeping, Late, Looking, Lost, Place, Posting, Seen, Settled, Slots}
+use Rattle.bb_memory_file_machine.specs.FileMachine.{Addressing, Attached, Checking, DetachedBy, Ending, FileState, FileWords, Finding, Flags, Keeping, Late, Place, Posting, Seen, Sent, Settled, Slots}
 use Rattle.bb_memory_file_machine.specs.FilePool.{IsTaken}
-use Rattle.std.specs.Prelude.{length, ℕ, ◌<◌, ◌≡◌}
+use Rattle.std.specs.Prelude.{length, ℕ, ◌<◌, ◌≡◌, ◌⊎◌}
 
 -- what holds of the words
 pub record Sound (words : FileWords) : Type 0 where
@@ -11,28 +11,33 @@ pub record Sound (words : FileWords) : Type 0 where
   pub taken : (bucket slot : ℕ) → IsIn words bucket slot → IsTaken words bucket
   pub known : (bucket party : ℕ) → IsFlag words bucket (DetachedBy party) → IsKnown words bucket
 
--- no slot before this one has a bucket that the party holds
+-- the bucket's flag names the party: the party holds the bucket, or has detached it
+abbrev pub Names : FileWords → ℕ → ℕ → Type 0
+Names words bucket party = IsHolder words bucket party ⊎ IsFlag words bucket (DetachedBy party)
+
+-- no slot before this one has a bucket whose flag names the party
 abbrev pub IsCleared : FileWords → ℕ → ℕ → Type 0
 IsCleared words party slot =
-    (before bucket : ℕ) → before < slot → IsIn words bucket before → ¬ IsHolder words bucket party
+    (before bucket : ℕ) → before < slot → IsIn words bucket before → ¬ Names words bucket party
 
--- no slot has a bucket that the party holds
+-- no slot has a bucket whose flag names the party
 abbrev pub HoldsNoMessage : FileWords → ℕ → Type 0
-HoldsNoMessage words party = (slot bucket : ℕ) → IsIn words bucket slot → ¬ IsHolder words bucket party
+HoldsNoMessage words party = (slot bucket : ℕ) → IsIn words bucket slot → ¬ Names words bucket party
+
+-- if the flag of this slot's bucket names the party, it is this bucket
+abbrev pub IsOnly : FileWords → ℕ → ℕ → ℕ → Type 0
+IsOnly words party slot bucket = (other : ℕ) → IsIn words other slot → Names words other party → other ≡ bucket
 
 -- the party holds no bucket before this one
 abbrev pub IsGiven : FileWords → ℕ → ℕ → Type 0
 IsGiven words party bucket = (before : ℕ) → before < bucket → ¬ IsHolder words before party
 
--- if the party has detached the bucket, no slot before this one has it
-abbrev pub IsSought : FileWords → ℕ → ℕ → ℕ → Type 0
-IsSought words party bucket slot =
-    IsFlag words bucket (DetachedBy party) → (before : ℕ) → before < slot → ¬ IsIn words bucket before
-
 -- what holds of the words if this process has come that far
 abbrev pub PlaceHas : FileWords → ℕ → Place → Type 0
 PlaceHas words process (Posting party bucket) =
     IsLock words party process × IsHolder words bucket party × IsInSome words bucket
+PlaceHas words process (Sent party bucket) =
+    IsLock words party process × (IsFlag words bucket (DetachedBy party) → IsInSome words bucket)
 PlaceHas words process (Seen party slot bucket size) = IsLock words party process
 PlaceHas words process (Attached party slot bucket size) =
     IsLock words party process × IsHolder words bucket party × IsKnown words bucket
@@ -44,19 +49,17 @@ PlaceHas words process (Ending party slot bucket) =
     IsLock words party process × IsHolder words bucket party × IsIn words bucket slot
 PlaceHas words process (Slots party slot) = IsLock words party process × IsCleared words party slot
 PlaceHas words process (Checking party slot bucket) =
-    IsLock words party process × IsCleared words party slot × (IsHolder words bucket party → IsIn words bucket slot)
-    × ((other : ℕ) → IsIn words other slot → IsHolder words other party → other ≡ bucket)
+    IsLock words party process × IsCleared words party slot × (Names words bucket party → IsIn words bucket slot)
+    × IsOnly words party slot bucket
 PlaceHas words process (Keeping party slot bucket) =
     IsLock words party process × IsCleared words party slot × IsHolder words bucket party × IsIn words bucket slot
+PlaceHas words process (Addressing party slot bucket) =
+    IsLock words party process × IsCleared words party slot × (¬ IsHolder words bucket party)
+    × (IsFlag words bucket (DetachedBy party) → IsIn words bucket slot) × IsOnly words party slot bucket
 PlaceHas words process (Flags party bucket) =
     IsLock words party process × HoldsNoMessage words party × IsGiven words party bucket
-PlaceHas words process (Looking party bucket slot) =
-    IsLock words party process × HoldsNoMessage words party × IsSought words party bucket slot
-PlaceHas words process (Lost party bucket) =
-    IsLock words party process × HoldsNoMessage words party
-    × (IsFlag words bucket (DetachedBy party) → ¬ IsInSome words bucket)
 PlaceHas words process (Settled party) =
-    IsLock words party process × ((bucket : ℕ) → ¬ IsHolder words bucket party)
+    IsLock words party process × ((bucket : ℕ) → ¬ IsHolder words bucket party) × HoldsNoMessage words party
 PlaceHas words process _ = Unit {0}
 
 -- what holds of a state

@@ -1,8 +1,8 @@
 -- Steps of the machine of a pool in a file, by their kinds.
 use Rattle.bb_memory_file_machine.proofs.FileTests.{flag_missing, flag_there, free_found, in_none, in_some, own_there, slot_there}
 use Rattle.bb_memory_file_machine.specs.FileLaws.{IsFlag, IsHolder, IsInSome, IsLock, IsSlot}
-use Rattle.bb_memory_file_machine.specs.FileMachine.{Allocate, AttachNumber, Attached, Checking, Dead, Deallocate, DetachNumber, DetachedBy, Done, Empty, Ending, Exchange, FileMove, FileStep, FileWords, Finding, Flags, Free, HeldBy, Keeping, Kill, Late, Leave, Lock, Look, Looking, Lost, Message, Moves, Next, OnFlag, OnLock, OnSlot, Outside, Place, Post, Posting, Receives, Release, Seen, Settled, Slot, Slots, Take, TryAt, Unlock, after_slot, allocate, attach_number, attaching, begin_done, begin_take, deallocate, detach_number, detaching, done_found, exchange, finds_free, giving_back, has_bucket, is_flag, is_own, is_slot, kill, leave, lock, look, look_slot, move_at, move_of, next, post, refused, release, settle_slot, some_has, take_found, unlock, with_flag, with_lock, with_outside, with_slot}
-use Rattle.std.proofs.Common.{None, Option, Some, false, length, refl, true, ℕ, ◌+◌, ◌≡◌, ◌≤◌}
+use Rattle.bb_memory_file_machine.specs.FileMachine.{Addresses, Addressing, Allocate, AttachNumber, Attached, Checking, Dead, Deallocate, DetachNumber, DetachedBy, Done, Empty, Ending, Exchange, FileMove, FileStep, FileWords, Finding, Flags, Free, HeldBy, Keeping, Kill, Late, Leave, Lock, Message, Moves, Next, OnFlag, OnLock, OnSlot, Outside, Place, Post, Posting, Receives, Recover, Release, Seen, Sent, Settled, Slot, Slots, Take, TryAt, Unlock, addressing, after_slot, allocate, attach_number, attaching, begin_done, begin_take, deallocate, detach_number, detaching, done_found, exchange, finds_free, giving_back, is_flag, is_own, is_slot, kill, leave, lock, move_at, move_of, next, nobody, post, recover, refused, release, settle_message, settle_slot, some_has, take_found, unlock, with_flag, with_lock, with_outside, with_slot}
+use Rattle.std.proofs.Common.{None, Option, Some, false, length, refl, suc, true, zero, ℕ, ◌+◌, ◌≡◌, ◌≤◌}
 use Rattle.std.proofs.lemmas.Bool.{cond_both, ltb-false}
 use Rattle.std.specs.Prelude.{nat_lt, slice_get}
 
@@ -34,9 +34,14 @@ pub data Kind (words : FileWords) : Place → FileStep → FileMove → Type 0 w
       (attaching words party bucket from (Attached party slot bucket size))
   begins_done : (process party slot bucket size : ℕ) → IsLock words party process → IsSlot words slot (Message bucket size) →
       Kind words Outside (Done process party slot) (move_of Moves words (Finding party slot bucket))
-  looks : (process party at bucket : ℕ) →
-      Kind words (Flags party at) (Look process bucket) (move_of Moves words (Looking party bucket 0))
-  posted : (process party bucket : ℕ) → Kind words (Posting party bucket) (Next process) (detaching words party bucket Outside)
+  recovers : (process party at bucket : ℕ) → IsFlag words bucket (DetachedBy party) →
+      Kind words (Flags party at) (Recover process bucket)
+      (attaching (with_outside words bucket false) party bucket party (Flags party 0))
+  posted : (process party bucket : ℕ) →
+      Kind words (Posting party bucket) (Next process) (detaching words party bucket (Sent party bucket))
+  sends : (process party bucket : ℕ) → IsFlag words bucket (DetachedBy party) → Kind words (Sent party bucket) (Next process)
+      (move_of (Addresses bucket party (nobody words)) (with_flag words bucket (DetachedBy (nobody words))) Outside)
+  is_taken : (process party bucket : ℕ) → Kind words (Sent party bucket) (Next process) (move_of Moves words Outside)
   gives_up : (process party slot bucket size : ℕ) →
       Kind words (Seen party slot bucket size) (Next process) (move_of Moves words Outside)
   receives : (process party slot bucket size : ℕ) → IsSlot words slot (Message bucket size) →
@@ -58,29 +63,27 @@ pub data Kind (words : FileWords) : Place → FileStep → FileMove → Type 0 w
       Kind words (Slots party slot) (Next process) (move_of Moves words (Checking party slot bucket))
   keeps : (process party slot bucket : ℕ) → IsHolder words bucket party →
       Kind words (Checking party slot bucket) (Next process) (move_of Moves words (Keeping party slot bucket))
-  anothers : (process party slot bucket : ℕ) → ¬ IsHolder words bucket party →
+  has_sent : (process party slot bucket : ℕ) → ¬ IsHolder words bucket party → IsFlag words bucket (DetachedBy party) →
+      Kind words (Checking party slot bucket) (Next process) (move_of Moves words (Addressing party slot bucket))
+  anothers : (process party slot bucket : ℕ) → ¬ IsHolder words bucket party → ¬ IsFlag words bucket (DetachedBy party) →
       Kind words (Checking party slot bucket) (Next process) (move_of Moves words (Slots party (after_slot words slot)))
   is_kept : (process party slot bucket : ℕ) → Kind words (Keeping party slot bucket) (Next process)
-      (detaching words party bucket (Slots party (after_slot words slot)))
+      (detaching words party bucket (Addressing party slot bucket))
+  addresses : (process party slot bucket : ℕ) → IsFlag words bucket (DetachedBy party) →
+      Kind words (Addressing party slot bucket) (Next process)
+      (move_of (Addresses bucket party (nobody words)) (with_flag words bucket (DetachedBy (nobody words)))
+      (Slots party (after_slot words slot)))
+  is_gone : (process party slot bucket : ℕ) → ¬ IsFlag words bucket (DetachedBy party) →
+      Kind words (Addressing party slot bucket) (Next process) (move_of Moves words (Slots party (after_slot words slot)))
   settles : (process party bucket : ℕ) → IsHolder words bucket party →
       Kind words (Flags party bucket) (Next process) (giving_back words party bucket (Flags party (bucket + 1)))
   is_unheld : (process party bucket : ℕ) → ¬ IsHolder words bucket party →
       Kind words (Flags party bucket) (Next process) (move_of Moves words (Flags party (bucket + 1)))
   all_flags : (process party bucket : ℕ) → length words.flags ≤ bucket →
       Kind words (Flags party bucket) (Next process) (move_of Moves words (Settled party))
-  in_no_slot : (process party bucket slot : ℕ) → slice_get words.slots slot ≡ None →
-      Kind words (Looking party bucket slot) (Next process) (move_of Moves words (Lost party bucket))
-  is_in_slot : (process party bucket slot : ℕ) →
-      Kind words (Looking party bucket slot) (Next process) (move_of Moves words (Flags party 0))
-  not_in_slot : (process party bucket slot : ℕ) (word : Slot) → IsSlot words slot word → has_bucket bucket word ≡ false →
-      Kind words (Looking party bucket slot) (Next process)
-      (move_of Moves words (Looking party bucket (after_slot words slot)))
-  recovers : (process party bucket : ℕ) → IsFlag words bucket (DetachedBy party) →
-      Kind words (Lost party bucket) (Next process)
-      (attaching (with_outside words bucket false) party bucket party (Flags party 0))
-  is_anothers : (process party bucket : ℕ) →
-      Kind words (Lost party bucket) (Next process) (move_of Moves words (Flags party 0))
   joins : (process party : ℕ) → Kind words (Settled party) (Next process) (move_of Moves words Outside)
+  unlocks_first : (process party : ℕ) →
+      Kind words (Slots party zero) (Unlock process) (move_of (OnLock party) (with_lock words party None) Outside)
   unlocks : (process party : ℕ) →
       Kind words (Settled party) (Unlock process) (move_of (OnLock party) (with_lock words party None) Outside)
   dies : (process : ℕ) (place : Place) → Kind words place (Kill process) (kill words)
@@ -204,9 +207,12 @@ module _ (words : FileWords) (process : ℕ) where
       (λ e. refuses (Seen party slot bucket size) (Exchange process from))
   kind_of_exchange place from = refuses place (Exchange process from)
 
-  kind_of_look : (place : Place) (bucket : ℕ) → Kind words place (Look process bucket) (look words place bucket)
-  kind_of_look (Flags party at) bucket = looks process party at bucket
-  kind_of_look place bucket = refuses place (Look process bucket)
+  kind_of_recover : (place : Place) (bucket : ℕ) → Kind words place (Recover process bucket) (recover words place bucket)
+  kind_of_recover (Flags party at) bucket = cond_both (is_flag words bucket (DetachedBy party)) _ _
+      (λ move. Kind words (Flags party at) (Recover process bucket) move)
+      (λ e. recovers process party at bucket (flag_there words bucket (DetachedBy party) e))
+      (λ e. refuses (Flags party at) (Recover process bucket))
+  kind_of_recover place bucket = refuses place (Recover process bucket)
 
   kind_of_settle_slot : (party slot : ℕ) (found : Option Slot) → slice_get words.slots slot ≡ found →
       Kind words (Slots party slot) (Next process) (settle_slot words party slot found)
@@ -214,17 +220,26 @@ module _ (words : FileWords) (process : ℕ) where
   kind_of_settle_slot party slot (Some Empty) is = empty_slot process party slot is
   kind_of_settle_slot party slot (Some (Message bucket size)) is = full_slot process party slot bucket size is
 
-  kind_of_look_slot : (party bucket slot : ℕ) (found : Option Slot) → slice_get words.slots slot ≡ found →
-      Kind words (Looking party bucket slot) (Next process) (look_slot words party bucket slot found)
-  kind_of_look_slot party bucket slot None is = in_no_slot process party bucket slot is
-  kind_of_look_slot party bucket slot (Some word) is = cond_both (has_bucket bucket word) _ _
-      (λ move. Kind words (Looking party bucket slot) (Next process) move)
-      (λ e. is_in_slot process party bucket slot) (λ e. not_in_slot process party bucket slot word is e)
+  kind_of_settle_message : (party slot bucket : ℕ) →
+      Kind words (Checking party slot bucket) (Next process) (settle_message words party slot bucket)
+  kind_of_settle_message party slot bucket = cond_both (is_flag words bucket (HeldBy party)) _ _
+      (λ move. Kind words (Checking party slot bucket) (Next process) move)
+      (λ e. keeps process party slot bucket (flag_there words bucket (HeldBy party) e))
+      (λ unheld. cond_both (is_flag words bucket (DetachedBy party)) _ _
+      (λ move. Kind words (Checking party slot bucket) (Next process) move)
+      (λ e. has_sent process party slot bucket (flag_missing words bucket (HeldBy party) unheld)
+      (flag_there words bucket (DetachedBy party) e))
+      (λ e. anothers process party slot bucket (flag_missing words bucket (HeldBy party) unheld)
+      (flag_missing words bucket (DetachedBy party) e)))
 
   kind_of_next : (place : Place) → Kind words place (Next process) (next words place)
   kind_of_next Outside = refuses Outside (Next process)
   kind_of_next Dead = refuses Dead (Next process)
   kind_of_next (Posting party bucket) = posted process party bucket
+  kind_of_next (Sent party bucket) = cond_both (is_flag words bucket (DetachedBy party)) _ _
+      (λ move. Kind words (Sent party bucket) (Next process) move)
+      (λ e. sends process party bucket (flag_there words bucket (DetachedBy party) e))
+      (λ e. is_taken process party bucket)
   kind_of_next (Seen party slot bucket size) = gives_up process party slot bucket size
   kind_of_next (Attached party slot bucket size) = cond_both (is_slot words slot (Message bucket size)) _ _
       (λ move. Kind words (Attached party slot bucket size) (Next process) move)
@@ -237,11 +252,12 @@ module _ (words : FileWords) (process : ℕ) where
       (λ e. no_holder process party slot bucket)
   kind_of_next (Ending party slot bucket) = empties process party slot bucket
   kind_of_next (Slots party slot) = kind_of_settle_slot party slot (slice_get words.slots slot) refl
-  kind_of_next (Checking party slot bucket) = cond_both (is_flag words bucket (HeldBy party)) _ _
-      (λ move. Kind words (Checking party slot bucket) (Next process) move)
-      (λ e. keeps process party slot bucket (flag_there words bucket (HeldBy party) e))
-      (λ e. anothers process party slot bucket (flag_missing words bucket (HeldBy party) e))
+  kind_of_next (Checking party slot bucket) = kind_of_settle_message party slot bucket
   kind_of_next (Keeping party slot bucket) = is_kept process party slot bucket
+  kind_of_next (Addressing party slot bucket) = cond_both (is_flag words bucket (DetachedBy party)) _ _
+      (λ move. Kind words (Addressing party slot bucket) (Next process) move)
+      (λ e. addresses process party slot bucket (flag_there words bucket (DetachedBy party) e))
+      (λ e. is_gone process party slot bucket (flag_missing words bucket (DetachedBy party) e))
   kind_of_next (Flags party bucket) = cond_both (nat_lt bucket (length words.flags)) _ _
       (λ move. Kind words (Flags party bucket) (Next process) move)
       (λ below. cond_both (is_flag words bucket (HeldBy party)) _ _
@@ -249,14 +265,11 @@ module _ (words : FileWords) (process : ℕ) where
       (λ e. settles process party bucket (flag_there words bucket (HeldBy party) e))
       (λ e. is_unheld process party bucket (flag_missing words bucket (HeldBy party) e)))
       (λ e. all_flags process party bucket (ltb-false bucket (length words.flags) e))
-  kind_of_next (Looking party bucket slot) = kind_of_look_slot party bucket slot (slice_get words.slots slot) refl
-  kind_of_next (Lost party bucket) = cond_both (is_flag words bucket (DetachedBy party)) _ _
-      (λ move. Kind words (Lost party bucket) (Next process) move)
-      (λ e. recovers process party bucket (flag_there words bucket (DetachedBy party) e))
-      (λ e. is_anothers process party bucket)
   kind_of_next (Settled party) = joins process party
 
   kind_of_unlock : (place : Place) → Kind words place (Unlock process) (unlock words place)
+  kind_of_unlock (Slots party zero) = unlocks_first process party
+  kind_of_unlock (Slots party (suc slot)) = refuses (Slots party (suc slot)) (Unlock process)
   kind_of_unlock (Settled party) = unlocks process party
   kind_of_unlock place = refuses place (Unlock process)
 
@@ -279,7 +292,7 @@ kind_of words place (Post process party slot bucket size) = kind_of_post words p
 kind_of words place (Take process party slot) = kind_of_take words process place party slot
 kind_of words place (Exchange process from) = kind_of_exchange words process place from
 kind_of words place (Done process party slot) = kind_of_done words process place party slot
-kind_of words place (Look process bucket) = kind_of_look words process place bucket
+kind_of words place (Recover process bucket) = kind_of_recover words process place bucket
 kind_of words place (Next process) = kind_of_next words process place
 kind_of words place (Unlock process) = kind_of_unlock words process place
 kind_of words place (Kill process) = dies process place

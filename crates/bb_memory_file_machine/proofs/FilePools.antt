@@ -5,9 +5,9 @@ use Rattle.bb_memory_file_machine.proofs.FileSteps.{holds_at_opening, holds_step
 use Rattle.bb_memory_file_machine.proofs.FileTheorem.{effect_in}
 use Rattle.bb_memory_file_machine.specs.FileLaws.{ChangesNone, Effect, IsFlag, IsHolder, IsLock}
 use Rattle.bb_memory_file_machine.specs.FileLaws as laws
-use Rattle.bb_memory_file_machine.specs.FileMachine.{AttachFrom, Detach, DetachedBy, Dies, FileChange, FileOutcome, FileScene, FileState, FileStep, FileWords, Flag, Free, GiveBack, HeldBy, Moves, OnFlag, OnLock, OnSlot, PoolStep, Receives, Refused, TryAt, file_after, file_step, left_by, opening_state, outcomes_of, process_of}
+use Rattle.bb_memory_file_machine.specs.FileMachine.{Addresses, AttachFrom, Detach, DetachedBy, Dies, FileChange, FileOutcome, FileScene, FileState, FileStep, FileWords, Flag, Free, GiveBack, HeldBy, Moves, OnFlag, OnLock, OnSlot, PoolStep, Receives, Refused, TryAt, file_after, file_step, left_by, nobody, opening_state, outcomes_of, process_of}
 use Rattle.bb_memory_file_machine.specs.FilePool.{IsPool, IsTaken, flag_steps, flag_steps_in, pool_of}
-use Rattle.bb_memory_lists.proofs.SliceGets.{length-set_at, slice_get-replicate}
+use Rattle.bb_memory_lists.proofs.SliceGets.{length-set_at, slice_get-replicate, slice_get-set_same}
 use Rattle.bb_memory_pool_machine.proofs.PoolRuns.{taken_is_held}
 use Rattle.bb_memory_pool_machine.proofs.PoolSteps.{test_same}
 use Rattle.bb_memory_pool_machine.specs.PoolLogs.{AllAllowed, IsAllowed, IsPoolRun, Layout, PoolEntry, entry_of, pool_history}
@@ -28,12 +28,18 @@ pool_at parties flags = record { flags = flags; calls = replicate parties None }
 abbrev Leaves : ℕ → List Flag → PoolMove → Type 0
 Leaves parties later move = IsAllowed move.outcome × (move.state ≡ pool_at parties later)
 
+-- the second write of a position is the one that is left
+set_twice : {X : Type 0} (xs : List X) (i : ℕ) (x y : X) → slice_set (slice_set xs i x) i y ≡ slice_set xs i y
+set_twice [] i x y = refl
+set_twice (z ∷ xs) zero x y = refl
+set_twice {X} (z ∷ xs) (suc i) x y = ap (λ (ys : List X). z ∷ ys) (set_twice xs i x y)
+
 set_replicated : {X : Type 0} (n i : ℕ) (x : X) → slice_set (replicate n x) i x ≡ replicate n x
 set_replicated zero i x = refl
 set_replicated (suc n) zero x = refl
 set_replicated {X} (suc n) (suc i) x = ap (λ (xs : List X). x ∷ xs) (set_replicated n i x)
 
-module _ (parties : ℕ) (flags : List Flag) (party bucket : ℕ) (below : party + 1 < parties) where
+module _ (parties : ℕ) (flags : List Flag) (party bucket : ℕ) (below : party < parties) (more : 1 < parties) where
   idle : slice_get (replicate {A = Option ℕ} parties None) party ≡ Some None
   idle = slice_get-replicate parties party None (omega (arith, below))
 
@@ -70,7 +76,7 @@ module _ (parties : ℕ) (flags : List Flag) (party bucket : ℕ) (below : party
       (sym (test_same party party refl))
       (cond_both (nat_lt 1 (length state.calls)) (detaching state party bucket) (passed state) (Leaves parties later)
       (λ e. (tt, refl))
-      (λ e. let few = ltb-false 1 (length state.calls) e in absurd (omega (arith, few, made, below)))))
+      (λ e. let few = ltb-false 1 (length state.calls) e in absurd (omega (arith, few, made, more)))))
 
   attach_leaves : (from : ℕ) → slice_get flags bucket ≡ Some (DetachedBy from) →
       Leaves parties (slice_set flags bucket (HeldBy party)) (pool_step (pool_at parties flags) (AttachFrom party bucket from))
@@ -102,6 +108,7 @@ agree_cons parties flags later step steps end leaves rest =
 agree_quiet : (parties : ℕ) (flags end : List Flag) (outcome : FileOutcome) (outcomes : List FileOutcome) → ChangesNone outcome →
     Agree parties flags (flag_steps_in outcomes) end → Agree parties flags (flag_steps_in (outcome ∷ outcomes)) end
 agree_quiet parties flags end (OnFlag step) outcomes quiet rest = absurd quiet
+agree_quiet parties flags end (Addresses bucket from to) outcomes quiet rest = absurd quiet
 agree_quiet parties flags end (OnSlot slot) outcomes quiet rest = rest
 agree_quiet parties flags end (OnLock party) outcomes quiet rest = rest
 agree_quiet parties flags end Refused outcomes quiet rest = rest
@@ -111,9 +118,36 @@ agree_quiet parties flags end Dies outcomes quiet rest = rest
 
 -- a number with a lock is one of the file's
 number_below : (words : FileWords) (parties party process : ℕ) → length words.locks + 1 ≡ parties →
-    IsLock words party process → party + 1 < parties
+    IsLock words party process → party < parties
 number_below words parties party process many own =
     let below = below_end words.locks party (Some process) own in omega (arith, many, below)
+
+-- if there is a number with a lock, the pool has a party more
+more_parties : (words : FileWords) (parties party process : ℕ) → length words.locks + 1 ≡ parties →
+    IsLock words party process → 1 < parties
+more_parties words parties party process many own =
+    let below = below_end words.locks party (Some process) own in omega (arith, many, below)
+
+-- a bucket that is addressed is attached and detached by the party that nobody joins
+agree_address : (parties : ℕ) (words : FileWords) (party bucket process : ℕ) (steps : List PoolStep) (end : List Flag) →
+    length words.locks + 1 ≡ parties → IsLock words party process → IsFlag words bucket (DetachedBy party) →
+    Agree parties (slice_set words.flags bucket (DetachedBy (nobody words))) steps end →
+    Agree parties words.flags (AttachFrom (nobody words) bucket party ∷ Detach (nobody words) bucket ∷ steps) end
+agree_address parties words party bucket process steps end many own is rest =
+    let to : ℕ = nobody words in
+    let held : List Flag = slice_set words.flags bucket (HeldBy to) in
+    let below : to < parties = omega (arith, many) in
+    let more : 1 < parties = more_parties words parties party process many own in
+    let there : slice_get held bucket ≡ Some (HeldBy to) =
+    slice_get-set_same words.flags bucket (HeldBy to) (DetachedBy party) is in
+    let twice : slice_set held bucket (DetachedBy to) ≡ slice_set words.flags bucket (DetachedBy to) =
+    set_twice words.flags bucket (HeldBy to) (DetachedBy to) in
+    agree_cons parties words.flags held (AttachFrom to bucket party) (Detach to bucket ∷ steps) end
+    (attach_leaves parties words.flags to bucket below more party is)
+    (agree_cons parties held (slice_set words.flags bucket (DetachedBy to)) (Detach to bucket) steps end
+    (subst (λ (later : List Flag). Leaves parties later (pool_step (pool_at parties held) (Detach to bucket))) twice
+    (detach_leaves parties held to bucket below more there))
+    rest)
 
 agree_effect : (parties : ℕ) (words later : FileWords) (process : ℕ) (outcome : FileOutcome) (outcomes : List FileOutcome)
     (end : List Flag) → Effect words process outcome later → length words.locks + 1 ≡ parties →
@@ -127,26 +161,34 @@ agree_effect parties words later process outcome outcomes end (laws.fills party 
 agree_effect parties words later process outcome outcomes end (laws.empties party slot bucket size own held is) many rest = rest
 agree_effect parties words later process outcome outcomes end (laws.takes party bucket own free) many rest =
     agree_cons parties words.flags (slice_set words.flags bucket (HeldBy party)) (TryAt party bucket) (flag_steps_in outcomes) end
-    (take_leaves parties words.flags party bucket (number_below words parties party process many own) free) rest
+    (take_leaves parties words.flags party bucket (number_below words parties party process many own)
+    (more_parties words parties party process many own) free) rest
 agree_effect parties words later process outcome outcomes end (laws.gives_back party bucket own held not_in) many rest =
     agree_cons parties words.flags (slice_set words.flags bucket Free) (GiveBack party bucket) (flag_steps_in outcomes) end
-    (give_leaves parties words.flags party bucket (number_below words parties party process many own) held) rest
+    (give_leaves parties words.flags party bucket (number_below words parties party process many own)
+    (more_parties words parties party process many own) held) rest
 agree_effect parties words later process outcome outcomes end (laws.detaches party bucket own held known) many rest =
     agree_cons parties words.flags (slice_set words.flags bucket (DetachedBy party)) (Detach party bucket)
     (flag_steps_in outcomes) end
-    (detach_leaves parties words.flags party bucket (number_below words parties party process many own) held) rest
+    (detach_leaves parties words.flags party bucket (number_below words parties party process many own)
+    (more_parties words parties party process many own) held) rest
 agree_effect parties words later process outcome outcomes end (laws.detaches_number party bucket own held not_in) many rest =
     agree_cons parties words.flags (slice_set words.flags bucket (DetachedBy party)) (Detach party bucket)
     (flag_steps_in outcomes) end
-    (detach_leaves parties words.flags party bucket (number_below words parties party process many own) held) rest
+    (detach_leaves parties words.flags party bucket (number_below words parties party process many own)
+    (more_parties words parties party process many own) held) rest
+agree_effect parties words later process outcome outcomes end (laws.addresses party bucket own is has) many rest =
+    agree_address parties words party bucket process (flag_steps_in outcomes) end many own is rest
 agree_effect parties words later process outcome outcomes end (laws.attaches party bucket from own is) many rest =
     agree_cons parties words.flags (slice_set words.flags bucket (HeldBy party)) (AttachFrom party bucket from)
     (flag_steps_in outcomes) end
-    (attach_leaves parties words.flags party bucket (number_below words parties party process many own) from is) rest
+    (attach_leaves parties words.flags party bucket (number_below words parties party process many own)
+    (more_parties words parties party process many own) from is) rest
 agree_effect parties words later process outcome outcomes end (laws.attaches_number party bucket from own is) many rest =
     agree_cons parties words.flags (slice_set words.flags bucket (HeldBy party)) (AttachFrom party bucket from)
     (flag_steps_in outcomes) end
-    (attach_leaves parties words.flags party bucket (number_below words parties party process many own) from is) rest
+    (attach_leaves parties words.flags party bucket (number_below words parties party process many own)
+    (more_parties words parties party process many own) from is) rest
 
 -- there are always as many locks as numbers
 locks_effect : (words later : FileWords) (process : ℕ) (outcome : FileOutcome) → Effect words process outcome later →

@@ -1,12 +1,12 @@
 -- A settler that goes on is done after some steps.
 use Rattle.bb_memory_file_machine.proofs.FileEffects.{below_end}
 use Rattle.bb_memory_file_machine.specs.FileLaws.{CanSettle, IsPlace, IsSettling, settled_by}
-use Rattle.bb_memory_file_machine.specs.FileMachine.{Checking, DetachedBy, Empty, FileMove, FileScene, FileState, FileStep, FileWords, Flags, Free, HeldBy, Keeping, Looking, Lost, Message, Moves, Next, Place, Settled, Slot, Slots, after_slot, attaching, change_at, change_by, file_after, giving_back, has_bucket, is_flag, left_by, look_slot, move_of, next, settle_flag, settle_slot, with_outside}
+use Rattle.bb_memory_file_machine.specs.FileMachine.{Addresses, Addressing, Checking, DetachedBy, Empty, FileMove, FileScene, FileState, FileStep, FileWords, Flags, Free, HeldBy, Keeping, Message, Moves, Next, Place, Settled, Slot, Slots, after_slot, change_at, change_by, file_after, giving_back, is_flag, left_by, move_of, next, nobody, settle_flag, settle_slot, with_flag}
 use Rattle.bb_memory_lists.proofs.SliceGets.{length-set_at, slice_get-set_same}
 use Rattle.std.proofs.Common.{List, None, Option, Some, ap, arith, false, length, refl, replicate, subst, suc, sym, zero, ℕ, ◌+◌, ◌<◌, ◌∙◌, ◌≡◌, ◌≤◌}
 use Rattle.std.proofs.lemmas.Bool.{cond_both, ltb-false, ltb-true}
 use Rattle.std.proofs.lemmas.Option.{same_Some}
-use Rattle.std.specs.Prelude.{nat_lt, slice_get}
+use Rattle.std.specs.Prelude.{if◌then◌else◌, nat_lt, slice_get}
 
 -- the state after this move of the process
 abbrev moved : FileState → ℕ → FileMove → FileState
@@ -69,24 +69,44 @@ module _ (process party : ℕ) where
   GoesPast words slot = (state : FileState) → length state.words.slots ≡ length words.slots →
       IsPlace state process (Slots party (after_slot words slot)) → CanSettle state process party
 
+  from_addressing : (state : FileState) (slot bucket : ℕ) → IsPlace state process (Addressing party slot bucket) →
+      GoesPast state.words slot → CanSettle state process party
+  from_addressing state slot bucket is past =
+      let here : Place = Addressing party slot bucket in
+      let after : Place = Slots party (after_slot state.words slot) in
+      let to : ℕ = nobody state.words in
+      let addressed : FileMove = move_of (Addresses bucket party to) (with_flag state.words bucket (DetachedBy to)) after in
+      let passed : FileMove = move_of Moves state.words after in
+      goes_on state process party here is
+      (cond_both (is_flag state.words bucket (DetachedBy party)) addressed passed
+      (λ move. CanSettle (moved state process move) process party)
+      (λ e. past (moved state process addressed) refl (there_after state process here addressed is))
+      (λ e. past (moved state process passed) refl (there_after state process here passed is)))
+
   from_keeping : (state : FileState) (slot bucket : ℕ) → IsPlace state process (Keeping party slot bucket) →
       GoesPast state.words slot → CanSettle state process party
   from_keeping state slot bucket is past =
       let here : Place = Keeping party slot bucket in
       let move : FileMove = next state.words here in
-      goes_on state process party here is (past (moved state process move) refl (there_after state process here move is))
+      goes_on state process party here is
+      (from_addressing (moved state process move) slot bucket (there_after state process here move is) past)
 
   from_checking : (state : FileState) (slot bucket : ℕ) → IsPlace state process (Checking party slot bucket) →
       GoesPast state.words slot → CanSettle state process party
   from_checking state slot bucket is past =
       let here : Place = Checking party slot bucket in
       let keeping : FileMove = move_of Moves state.words (Keeping party slot bucket) in
+      let addressing : FileMove = move_of Moves state.words (Addressing party slot bucket) in
       let passed : FileMove = move_of Moves state.words (Slots party (after_slot state.words slot)) in
+      let other : FileMove = if is_flag state.words bucket (DetachedBy party) then addressing else passed in
       goes_on state process party here is
-      (cond_both (is_flag state.words bucket (HeldBy party)) keeping passed
+      (cond_both (is_flag state.words bucket (HeldBy party)) keeping other
       (λ move. CanSettle (moved state process move) process party)
       (λ e. from_keeping (moved state process keeping) slot bucket (there_after state process here keeping is) past)
-      (λ e. past (moved state process passed) refl (there_after state process here passed is)))
+      (λ e. cond_both (is_flag state.words bucket (DetachedBy party)) addressing passed
+      (λ move. CanSettle (moved state process move) process party)
+      (λ sent. from_addressing (moved state process addressing) slot bucket (there_after state process here addressing is) past)
+      (λ sent. past (moved state process passed) refl (there_after state process here passed is))))
 
   from_slot : (state : FileState) (slot : ℕ) (found : Option Slot) → slice_get state.words.slots slot ≡ found →
       IsPlace state process (Slots party slot) → (slot < length state.words.slots → GoesPast state.words slot) →
@@ -121,47 +141,6 @@ module _ (process party : ℕ) where
   from_any_slot : (state : FileState) (slot : ℕ) → IsPlace state process (Slots party slot) → CanSettle state process party
   from_any_slot state slot is = from_slots (length state.words.slots) state slot is (omega arith)
 
-  -- A LOOK FOR A BUCKET
-
-  from_lost : (state : FileState) (bucket : ℕ) → IsPlace state process (Lost party bucket) → CanSettle state process party
-  from_lost state bucket is =
-      let here : Place = Lost party bucket in
-      let recovered : FileMove = attaching (with_outside state.words bucket false) party bucket party (Flags party 0) in
-      let passed : FileMove = move_of Moves state.words (Flags party 0) in
-      goes_on state process party here is
-      (cond_both (is_flag state.words bucket (DetachedBy party)) recovered passed
-      (λ move. CanSettle (moved state process move) process party)
-      (λ e. from_first_flag (moved state process recovered) (there_after state process here recovered is))
-      (λ e. from_first_flag (moved state process passed) (there_after state process here passed is)))
-
-  from_look : (state : FileState) (bucket slot : ℕ) (found : Option Slot) → slice_get state.words.slots slot ≡ found →
-      IsPlace state process (Looking party bucket slot) →
-      (slot < length state.words.slots → (later : FileState) → length later.words.slots ≡ length state.words.slots →
-      IsPlace later process (Looking party bucket (after_slot state.words slot)) → CanSettle later process party) →
-      CanSettle (moved state process (look_slot state.words party bucket slot found)) process party
-  from_look state bucket slot None there is past =
-      let move : FileMove = move_of Moves state.words (Lost party bucket) in
-      from_lost (moved state process move) bucket (there_after state process (Looking party bucket slot) move is)
-  from_look state bucket slot (Some word) there is past =
-      let here : Place = Looking party bucket slot in
-      let found : FileMove = move_of Moves state.words (Flags party 0) in
-      let passed : FileMove = move_of Moves state.words (Looking party bucket (after_slot state.words slot)) in
-      cond_both (has_bucket bucket word) found passed (λ move. CanSettle (moved state process move) process party)
-      (λ e. from_first_flag (moved state process found) (there_after state process here found is))
-      (λ e. past (below_end state.words.slots slot word there) (moved state process passed) refl
-      (there_after state process here passed is))
-
-  from_looking : (left : ℕ) (state : FileState) (bucket slot : ℕ) → IsPlace state process (Looking party bucket slot) →
-      length state.words.slots ≤ slot + left → CanSettle state process party
-  from_looking zero state bucket slot is end =
-      goes_on state process party (Looking party bucket slot) is
-      (from_look state bucket slot (slice_get state.words.slots slot) refl is (λ below. absurd (omega (arith, below, end))))
-  from_looking (suc left) state bucket slot is end =
-      goes_on state process party (Looking party bucket slot) is
-      (from_look state bucket slot (slice_get state.words.slots slot) refl is (λ below later same there.
-      let after = next_slot state.words slot below in
-      from_looking left later bucket (after_slot state.words slot) there (omega (arith, after, same, end))))
-
 -- a settler that has come so far is done after some steps of its own
 settles_at : (state : FileState) (process party : ℕ) (place : Place) → IsPlace state process place →
     settled_by place ≡ Some party → CanSettle state process party
@@ -176,17 +155,14 @@ settles_at state process party (Keeping number slot bucket) is e =
     let same = same_Some number party e in
     from_keeping process party state slot bucket (is ∙ ap (λ (k : ℕ). Some (Keeping k slot bucket)) same)
     (λ later slots there. from_any_slot process party later (after_slot state.words slot) there)
+settles_at state process party (Addressing number slot bucket) is e =
+    let same = same_Some number party e in
+    from_addressing process party state slot bucket (is ∙ ap (λ (k : ℕ). Some (Addressing k slot bucket)) same)
+    (λ later slots there. from_any_slot process party later (after_slot state.words slot) there)
 settles_at state process party (Flags number bucket) is e =
     let same = same_Some number party e in
     from_flags process party (length state.words.flags) state bucket
     (is ∙ ap (λ (k : ℕ). Some (Flags k bucket)) same) (omega arith)
-settles_at state process party (Looking number bucket slot) is e =
-    let same = same_Some number party e in
-    from_looking process party (length state.words.slots) state bucket slot
-    (is ∙ ap (λ (k : ℕ). Some (Looking k bucket slot)) same) (omega arith)
-settles_at state process party (Lost number bucket) is e =
-    let same = same_Some number party e in
-    from_lost process party state bucket (is ∙ ap (λ (k : ℕ). Some (Lost k bucket)) same)
 settles_at state process party (Settled number) is e =
     let same = same_Some number party e in
     done_with_flags process party state (is ∙ ap (λ (k : ℕ). Some (Settled k)) same)

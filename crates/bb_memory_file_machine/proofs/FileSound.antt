@@ -1,8 +1,8 @@
 -- Each effect keeps the words sound.
 use Rattle.bb_memory_file_machine.proofs.FileEffects.{below_end, one_value, same_message, set_cases}
 use Rattle.bb_memory_file_machine.proofs.FileInvariant.{Sound}
-use Rattle.bb_memory_file_machine.specs.FileLaws.{Effect, IsFlag, IsHolder, IsInSome, IsOutside, IsSlot, attaches, attaches_number, detaches, detaches_number, empties, fills, frees_lock, gives_back, none, takes, takes_lock}
-use Rattle.bb_memory_file_machine.specs.FileMachine.{DetachedBy, Empty, FileOutcome, FileWords, Flag, Free, HeldBy, Message, Slot, with_slot}
+use Rattle.bb_memory_file_machine.specs.FileLaws.{Effect, IsFlag, IsHolder, IsInSome, IsOutside, IsSlot, addresses, attaches, attaches_number, detaches, detaches_number, empties, fills, frees_lock, gives_back, none, takes, takes_lock}
+use Rattle.bb_memory_file_machine.specs.FileMachine.{DetachedBy, Empty, FileOutcome, FileWords, Flag, Free, HeldBy, Message, Slot, nobody, with_slot}
 use Rattle.bb_memory_file_machine.specs.FilePool.{IsTaken}
 use Rattle.bb_memory_lists.proofs.SliceGets.{length-set_at, slice_get-set_apart, slice_get-set_at, slice_get-set_same}
 use Rattle.std.proofs.Common.{Bool, List, Some, ap, arith, false, get_or, inl, inr, length, refl, sym, true, ℕ, ◌∙◌, ◌≡◌, ◌≢◌}
@@ -161,6 +161,9 @@ sound_after words later process outcome (detaches_number party bucket own held n
     sound_flag words bucket (HeldBy party) (DetachedBy party) (slice_set words.outside bucket true) sound held
     (length-set_at words.outside bucket true) (λ has. inr (party, refl)) (told_others words bucket true)
     (λ other same. inr (outside_there words bucket (HeldBy party) true sound held))
+sound_after words later process outcome (addresses party bucket own is has) sound =
+    sound_flag words bucket (DetachedBy party) (DetachedBy (nobody words)) words.outside sound is refl
+    (λ here. inr (nobody words, refl)) (λ other apart told. told) (λ other same. inl has)
 sound_after words later process outcome (attaches party bucket from own is) sound =
     sound_flag words bucket (DetachedBy from) (HeldBy party) words.outside sound is refl (λ has. inl (party, refl))
     (λ other apart told. told) (λ other same. absurd (cc))

@@ -1,12 +1,11 @@
 -- What holds of a state holds after each step.
-use Rattle.bb_memory_file_machine.proofs.FileEffects.{below_end, one_value, place_rests, rests, same_message, set_cases}
-use Rattle.bb_memory_file_machine.proofs.FileInvariant.{Holds, IsCleared, IsGiven, IsSought, PlaceHas, Sound}
-use Rattle.bb_memory_file_machine.proofs.FileKinds.{Kind, all_flags, all_slots, allocates, anothers, attaches, begins_done, detaches, dies, empties, empty_slot, exchanges, full_slot, gives, in_no_slot, is_anothers, is_holder, is_in_slot, is_kept, is_late, is_unheld, keeps, kind_of, leaves, locks, looks, not_in_slot, posted, posts, puts_back, puts_late, receives, recovers, refuses, releases, sees, settles, unlocks}
+use Rattle.bb_memory_file_machine.proofs.FileEffects.{below_end, detached_apart, nobody_apart, one_value, place_rests, rests, same_message, set_cases}
+use Rattle.bb_memory_file_machine.proofs.FileInvariant.{Holds, IsCleared, IsGiven, Names, PlaceHas, Sound}
+use Rattle.bb_memory_file_machine.proofs.FileKinds.{Kind, addresses, all_flags, all_slots, allocates, anothers, attaches, begins_done, detaches, dies, empties, empty_slot, exchanges, full_slot, gives, has_sent, is_gone, is_holder, is_kept, is_late, is_unheld, keeps, kind_of, leaves, locks, posted, posts, puts_back, puts_late, receives, recovers, refuses, releases, sees, sends, settles, unlocks, unlocks_first}
 use Rattle.bb_memory_file_machine.proofs.FileSound.{sound_after}
-use Rattle.bb_memory_file_machine.proofs.FileTests.{has_not}
 use Rattle.bb_memory_file_machine.specs.FileLaws.{Effect, IsFlag, IsHolder, IsIn, IsInSome, IsKnown, IsLock, IsPlace, IsSlot}
 use Rattle.bb_memory_file_machine.specs.FileLaws as laws
-use Rattle.bb_memory_file_machine.specs.FileMachine.{DetachedBy, Dies, Empty, FileMove, FileScene, FileState, FileStep, FileWords, Flag, Free, HeldBy, Message, Moves, Outside, Place, Receives, Refused, after_slot, change_at, file_after, file_step, left_by, move_at, opening_state, process_of, with_flag}
+use Rattle.bb_memory_file_machine.specs.FileMachine.{Addresses, DetachedBy, Dies, Empty, FileMove, FileScene, FileState, FileStep, FileWords, Flag, Free, HeldBy, Message, Moves, Outside, Place, Receives, Refused, after_slot, change_at, file_after, file_step, left_by, move_at, nobody, opening_state, process_of, with_flag, with_outside}
 use Rattle.bb_memory_lists.proofs.SliceGets.{slice_get-replicated, slice_get-set_same}
 use Rattle.std.proofs.Common.{List, None, Option, Some, [], ap, arith, false, inl, inr, length, refl, subst, suc, sym, zero, ℕ, ◌+◌, ◌<◌, ◌∙◌, ◌∷◌, ◌≡◌, ◌≢◌}
 use Rattle.std.proofs.lemmas.Bool.{cond_both}
@@ -30,16 +29,20 @@ effect_of words place step move (posts process party slot bucket size own held n
     laws.fills party slot bucket size own held not_in empty
 effect_of words place step move (exchanges process party slot bucket size from is) has = laws.attaches party bucket from has is
 effect_of words place step move (posted process party bucket) (own, held, known) = laws.detaches party bucket own held (inl known)
+effect_of words place step move (sends process party bucket is) (own, known) = laws.addresses party bucket own is (known is)
 effect_of words place step move (puts_late process party bucket) (own, held, known) = laws.detaches party bucket own held known
 effect_of words place step move (empties process party slot bucket) (own, held, (size, is)) =
     laws.empties party slot bucket size own held is
 effect_of words place step move (is_kept process party slot bucket) (own, cleared, held, in_slot) =
     laws.detaches party bucket own held (inl (slot, in_slot))
+effect_of words place step move (addresses process party slot bucket is) (own, cleared, unheld, found, one) =
+    laws.addresses party bucket own is (slot, found is)
 effect_of words place step move (settles process party bucket held) (own, no_message, given) =
-    laws.gives_back party bucket own held (λ known. no_message known.0 bucket known.1 held)
-effect_of words place step move (recovers process party bucket is) (own, no_message, sought) =
+    laws.gives_back party bucket own held (λ known. no_message known.0 bucket known.1 (inl held))
+effect_of words place step move (recovers process party at bucket is) (own, no_message, given) =
     laws.attaches_number party bucket party own is
-effect_of words place step move (unlocks process party) (own, given) = laws.frees_lock party own
+effect_of words place step move (unlocks_first process party) (own, cleared) = laws.frees_lock party own
+effect_of words place step move (unlocks process party) (own, given, no_message) = laws.frees_lock party own
 effect_of words place step move (releases process party own) has = laws.frees_lock party own
 effect_of words place step move (receives process party slot bucket size is) has = laws.none (Receives slot) tt
 effect_of words place step move (dies process at) has = laws.none Dies tt
@@ -71,29 +74,59 @@ below_or_at m n less = grind arith
 
 -- the slots before the next are those before this one, and this one
 cleared_next : (words later : FileWords) (party slot : ℕ) → IsCleared later party slot →
-    ((bucket : ℕ) → IsIn later bucket slot → ¬ IsHolder later bucket party) → IsCleared later party (after_slot words slot)
+    ((bucket : ℕ) → IsIn later bucket slot → ¬ Names later bucket party) → IsCleared later party (after_slot words slot)
 cleared_next words later party slot cleared here before bucket less has =
     elim (below_or_at before slot (after_at_most words slot before less)) [
       | inl earlier ↦ cleared before bucket earlier has
       | inr same ↦ here bucket (has.0, ap (slice_get later.slots) same ∙ has.1)
     ]
 
-sought_next : (words : FileWords) (party bucket slot : ℕ) → IsSought words party bucket slot → ¬ IsIn words bucket slot →
-    IsSought words party bucket (after_slot words slot)
-sought_next words party bucket slot sought not_here is before less has =
-    elim (below_or_at before slot (after_at_most words slot before less)) [
-      | inl earlier ↦ sought is before earlier has
-      | inr same ↦ not_here (has.0, ap (slice_get words.slots) same ∙ has.1)
+-- If a flag names the party after another flag was written, it named the party before. The written flag is what is left.
+named_before : (words : FileWords) (at party bucket : ℕ) (old flag : Flag) → IsFlag words at old →
+    Names (with_flag words at flag) bucket party →
+    ((at ≢ bucket) × Names words bucket party) ⊎ ((at ≡ bucket) × ((flag ≡ HeldBy party) ⊎ (flag ≡ DetachedBy party)))
+named_before words at party bucket old flag is (inl now) =
+    elim (set_cases words.flags at bucket flag old (HeldBy party) is now) [
+      | inl before ↦ inl (before.0, inl before.1)
+      | inr this ↦ inr (this.0, inl this.1)
+    ]
+named_before words at party bucket old flag is (inr now) =
+    elim (set_cases words.flags at bucket flag old (DetachedBy party) is now) [
+      | inl before ↦ inl (before.0, inr before.1)
+      | inr this ↦ inr (this.0, inr this.1)
     ]
 
--- what the party holds after another flag of its own is written, it held before at another bucket
-held_before : (words : FileWords) (at party bucket : ℕ) (old flag : Flag) → IsFlag words at old → ¬ (flag ≡ HeldBy party) →
-    IsHolder (with_flag words at flag) bucket party → (at ≢ bucket) × IsHolder words bucket party
-held_before words at party bucket old flag is apart now =
-    elim (set_cases words.flags at bucket flag old (HeldBy party) is now) [
+-- if a flag names the party after another one was written that doesn't, it named the party before, at another bucket
+still_named : (words : FileWords) (at party bucket : ℕ) (old flag : Flag) → IsFlag words at old → ¬ (flag ≡ HeldBy party) →
+    ¬ (flag ≡ DetachedBy party) → Names (with_flag words at flag) bucket party → (at ≢ bucket) × Names words bucket party
+still_named words at party bucket old flag is unheld undetached now =
+    elim (named_before words at party bucket old flag is now) [
       | inl before ↦ before
-      | inr this ↦ absurd (apart this.1)
+      | inr this ↦ elim this.1 [
+        | inl held ↦ absurd (unheld held)
+        | inr detached ↦ absurd (undetached detached)
+      ]
     ]
+
+-- after a flag that named the party is written, each flag that names it named it before
+named_still : (words : FileWords) (at party bucket : ℕ) (old flag : Flag) → IsFlag words at old → Names words at party →
+    Names (with_flag words at flag) bucket party → Names words bucket party
+named_still words at party bucket old flag is named now =
+    elim (named_before words at party bucket old flag is now) [
+      | inl before ↦ before.1
+      | inr this ↦ elim named [
+        | inl held ↦ inl (ap (slice_get words.flags) (sym this.0) ∙ held)
+        | inr detached ↦ inr (ap (slice_get words.flags) (sym this.0) ∙ detached)
+      ]
+    ]
+
+-- a flag that is neither "held by" nor "detached by" the party doesn't name it
+unnamed_there : (words : FileWords) (other bucket party : ℕ) → ¬ IsHolder words bucket party →
+    ¬ IsFlag words bucket (DetachedBy party) → other ≡ bucket → ¬ Names words other party
+unnamed_there words other bucket party unheld undetached same (inl held) =
+    unheld (ap (slice_get words.flags) (sym same) ∙ held)
+unnamed_there words other bucket party unheld undetached same (inr detached) =
+    undetached (ap (slice_get words.flags) (sym same) ∙ detached)
 
 -- what holds of a process after its own step
 pub place_after : (words : FileWords) (place : Place) (step : FileStep) (move : FileMove) → Kind words place step move →
@@ -104,11 +137,10 @@ place_after words place step move (leaves process party own) sound has = (own, n
 place_after words place step move (posts process party slot bucket size own held not_in empty) sound has =
     (own, held, (slot, (size, slice_get-set_same words.slots slot (Message bucket size) Empty empty)))
 place_after words place step move (sees process party slot bucket size own is) sound has = own
+place_after words place step move (posted process party bucket) sound (own, held, known) = (own, (λ is. known))
 place_after words place step move (exchanges process party slot bucket size from is) sound has =
     (has, slice_get-set_same words.flags bucket (HeldBy party) (DetachedBy from) is, sound.known bucket from is)
 place_after words place step move (begins_done process party slot bucket size own is) sound has = (own, (λ held. (size, is)))
-place_after words place step move (looks process party at bucket) sound (own, no_message, given) =
-    (own, no_message, (λ is before less. absurd (omega (arith, less))))
 place_after words place step move (is_late process party slot bucket size) sound has = has
 place_after words place step move (is_holder process party slot bucket held) sound (own, found) = (own, held, found held)
 place_after words place step move (all_slots process party slot end) sound (own, cleared) = (
@@ -122,31 +154,58 @@ place_after words place step move (empty_slot process party slot is) sound (own,
       (λ bucket has. let same = one_value words.slots slot Empty (Message bucket has.0) is has.1 in absurd (cc)),
 )
 place_after words place step move (full_slot process party slot bucket size is) sound (own, cleared) =
-    (own, cleared, (λ held. (size, is)), (λ other has held. same_message words slot other bucket has (size, is)))
+    (own, cleared, (λ named. (size, is)), (λ other has named. same_message words slot other bucket has (size, is)))
 place_after words place step move (keeps process party slot bucket held) sound (own, cleared, found, one) =
-    (own, cleared, held, found held)
-place_after words place step move (anothers process party slot bucket unheld) sound (own, cleared, found, one) = (
+    (own, cleared, held, found (inl held))
+place_after words place step move (has_sent process party slot bucket unheld is) sound (own, cleared, found, one) =
+    (own, cleared, unheld, (λ now. found (inr now)), one)
+place_after words place step move (anothers process party slot bucket unheld undetached) sound (own, cleared, found, one) = (
   own,
-  cleared_next words words party slot cleared
-      (λ other has held. unheld (ap (slice_get words.flags) (sym (one other has held)) ∙ held)),
+  cleared_next words words party slot cleared (λ other has named. unnamed_there words other bucket party
+      unheld undetached (one other has named) named),
 )
 place_after words place step move (is_kept process party slot bucket) sound (own, cleared, held, here) =
     let later : FileWords = with_flag words bucket (DetachedBy party) in
-    let was : (other : ℕ) → IsHolder later other party → (bucket ≢ other) × IsHolder words other party =
-    λ other now. held_before words bucket party other (HeldBy party) (DetachedBy party) held (λ same. absurd (cc)) now in (
+    let was : (other : ℕ) → Names later other party → Names words other party =
+    λ other now. named_still words bucket party other (HeldBy party) (DetachedBy party) held (inl held) now in (
       own,
-      cleared_next words later party slot (λ before other less has now. cleared before other less has (was other now).1)
-          (λ other has now. (was other now).0 (same_message words slot bucket other here has)),
+      (λ before other less has now. cleared before other less has (was other now)),
+      (λ now.
+          let flag = one_value later.flags bucket (HeldBy party) (DetachedBy party) now
+          (slice_get-set_same words.flags bucket (DetachedBy party) (HeldBy party) held) in absurd (cc)),
+      (λ now. here),
+      (λ other has now. same_message words slot other bucket has here),
     )
+place_after words place step move (addresses process party slot bucket is) sound (own, cleared, unheld, found, one) =
+    let later : FileWords = with_flag words bucket (DetachedBy (nobody words)) in
+    let apart = nobody_apart words party process own in
+    let was : (other : ℕ) → Names later other party → (bucket ≢ other) × Names words other party =
+    λ other now. still_named words bucket party other (DetachedBy party) (DetachedBy (nobody words)) is
+    (λ same. absurd (cc)) (detached_apart (nobody words) party apart) now in (
+      own,
+      cleared_next words later party slot
+          (λ before other less has now. cleared before other less has (was other now).1)
+          (λ other has now. (was other now).0 (sym (one other has (was other now).1))),
+    )
+place_after words place step move (is_gone process party slot bucket undetached) sound (own, cleared, unheld, found, one) = (
+  own,
+  cleared_next words words party slot cleared (λ other has named. unnamed_there words other bucket party
+      unheld undetached (one other has named) named),
+)
 place_after words place step move (settles process party bucket held) sound (own, no_message, given) =
     let later : FileWords = with_flag words bucket Free in
-    let was : (other : ℕ) → IsHolder later other party → (bucket ≢ other) × IsHolder words other party =
-    λ other now. held_before words bucket party other (HeldBy party) Free held (λ same. absurd (cc)) now in (
+    let was : (other : ℕ) → Names later other party → (bucket ≢ other) × Names words other party =
+    λ other now. still_named words bucket party other (HeldBy party) Free held (λ same. absurd (cc)) (λ same. absurd (cc)) now in
+    let held_before : (other : ℕ) → IsHolder later other party → (bucket ≢ other) × IsHolder words other party =
+    λ other now. elim (set_cases words.flags bucket other Free (HeldBy party) (HeldBy party) held now) [
+      | inl before ↦ before
+      | inr this ↦ let flags = this.1 in absurd (cc)
+    ] in (
       own,
       (λ slot other has now. no_message slot other has (was other now).1),
       (λ before less now. elim (below_or_at before bucket less) [
-        | inl earlier ↦ given before earlier (was before now).1
-        | inr same ↦ (was before now).0 same
+        | inl earlier ↦ given before earlier (held_before before now).1
+        | inr same ↦ (held_before before now).0 same
       ]),
     )
 place_after words place step move (is_unheld process party bucket unheld) sound (own, no_message, given) = (
@@ -161,31 +220,16 @@ place_after words place step move (all_flags process party bucket end) sound (ow
   own,
   (λ other held.
       let below = below_end words.flags other (HeldBy party) held in given other (omega (arith, below, end)) held),
-)
-place_after words place step move (in_no_slot process party bucket slot end) sound (own, no_message, sought) = (
-  own,
   no_message,
-  (λ is has.
-      sought is has.0 (before_end words.slots slot has.0 (Message bucket has.1.0) end has.1.1) has.1),
 )
-place_after words place step move (is_in_slot process party bucket slot) sound (own, no_message, sought) =
-    (own, no_message, no_bucket_before words party)
-place_after words place step move (not_in_slot process party bucket slot word is test) sound (own, no_message, sought) = (
-  own,
-  no_message,
-  sought_next words party bucket slot sought
-      (λ has. has_not bucket word has.0 test (one_value words.slots slot word (Message bucket has.0) is has.1)),
-)
-place_after words place step move (recovers process party bucket is) sound (own, no_message, sought) = (
-  own,
-  (λ slot other has now. elim (set_cases words.flags bucket other (HeldBy party) (DetachedBy party) (HeldBy party) is now) [
-    | inl before ↦ no_message slot other has before.1
-    | inr this ↦ sought is (slot, (has.0, has.1 ∙ ap (λ (b : ℕ). Some (Message b has.0)) (sym this.0)))
-  ]),
-  (λ before less. absurd (omega (arith, less))),
-)
-place_after words place step move (is_anothers process party bucket) sound (own, no_message, sought) =
-    (own, no_message, no_bucket_before words party)
+place_after words place step move (recovers process party at bucket is) sound (own, no_message, given) =
+    let later : FileWords = with_flag (with_outside words bucket false) bucket (HeldBy party) in
+    let was : (other : ℕ) → Names later other party → Names words other party =
+    λ other now. named_still (with_outside words bucket false) bucket party other (DetachedBy party) (HeldBy party) is (inr is) now in (
+      own,
+      (λ slot other has now. no_message slot other has (was other now)),
+      no_bucket_before later party,
+    )
 place_after words place step move (refuses at taken) sound has = has
 place_after words place step move _ sound has = tt
 

@@ -1,14 +1,14 @@
 -- A party that says it is done with a message has attached its bucket since the post.
 use Rattle.bb_memory_file_machine.proofs.FileEffects.{one_value, same_holder, same_message, same_process, set_cases}
 use Rattle.bb_memory_file_machine.proofs.FileInvariant.{Holds, Sound}
-use Rattle.bb_memory_file_machine.proofs.FileKinds.{Kind, all_slots, anothers, dies, empty_slot, full_slot, is_kept, keeps, kind_of, locks, posted, posts, refuses, releases, unlocks}
+use Rattle.bb_memory_file_machine.proofs.FileKinds.{Kind, addresses, all_slots, anothers, dies, empty_slot, full_slot, has_sent, is_gone, is_kept, keeps, kind_of, locks, posted, posts, refuses, releases, unlocks, unlocks_first}
 use Rattle.bb_memory_file_machine.proofs.FileSteps.{after_at_most, before_end, effect_of, holds_always, holds_step}
 use Rattle.bb_memory_file_machine.proofs.FileTests.{flag_missing, flag_there}
 use Rattle.bb_memory_file_machine.specs.FileLaws.{Effect, HasAttached, IsFlag, IsHolder, IsIn, IsLock, IsPlace, IsSlot, StaysIn, after_post}
 use Rattle.bb_memory_file_machine.specs.FileLaws as laws
-use Rattle.bb_memory_file_machine.specs.FileMachine.{AttachFrom, Checking, Dead, DetachedBy, Empty, Ending, FileChange, FileMove, FileOutcome, FileScene, FileState, FileStep, FileWords, Free, HeldBy, Keeping, Message, OnFlag, OnSlot, Outside, Place, Post, Posting, Slots, after_slot, change_at, change_by, file_after, file_step, is_flag, left_by, move_at, outcomes_of, process_of}
+use Rattle.bb_memory_file_machine.specs.FileMachine.{Addressing, AttachFrom, Checking, Dead, DetachedBy, Empty, Ending, FileChange, FileMove, FileOutcome, FileScene, FileState, FileStep, FileWords, Free, HeldBy, Keeping, Message, OnFlag, OnSlot, Outside, Place, Post, Posting, Slots, after_slot, change_at, change_by, file_after, file_step, is_flag, left_by, move_at, nobody, outcomes_of, process_of}
 use Rattle.bb_memory_lists.proofs.ListEntries.{contains-behind, contains-first}
-use Rattle.bb_memory_lists.proofs.SliceGets.{slice_get-set, slice_get-set_apart, slice_get-set_same}
+use Rattle.bb_memory_lists.proofs.SliceGets.{slice_get-set, slice_get-set_apart, slice_get-set_at, slice_get-set_same}
 use Rattle.std.proofs.Common.{List, None, Option, Some, [], ap, arith, inl, inr, refl, subst, sym, ℕ, ◌+◌, ◌<◌, ◌∙◌, ◌∷◌, ◌≡◌, ◌≢◌, ◌≤◌}
 use Rattle.std.proofs.lemmas.Bool.{cases_Bool, cases_eq}
 use Rattle.std.specs.Prelude.{slice_get, slice_set, ◌⊎◌}
@@ -22,6 +22,7 @@ module _ (party slot bucket size : ℕ) where
   IsBefore (Slots number at) = (number ≡ party) × (at ≤ slot)
   IsBefore (Checking number at other) = (number ≡ party) × (at ≤ slot) × (at ≡ slot → other ≡ bucket)
   IsBefore (Keeping number at other) = (number ≡ party) × (at ≤ slot) × (at ≡ slot → other ≡ bucket)
+  IsBefore (Addressing number at other) = (number ≡ party) × (at ≤ slot) × (at ≢ slot)
   IsBefore _ = ⊥
 
   -- if the party holds the bucket, then it hasn't taken the message
@@ -41,6 +42,14 @@ module _ (party slot bucket size : ℕ) where
         | inr more ↦ let one = less slot more in let same : at ≡ slot = omega (arith, one, most) in absurd (apart same)
       ]
 
+  -- nobody has a lock that was freed
+  number_unlocked : (words : FileWords) (number process : ℕ) → IsLock words party process → number ≡ party →
+      ¬ (slice_get (slice_set words.locks number None) party ≡ Some (Some process))
+  number_unlocked words number process lock same now =
+      let freed = slice_get-set_at words.locks number party None (Some process) same
+      (ap (slice_get words.locks) same ∙ lock) in
+      let locks = one_value (slice_set words.locks number None) party None (Some process) freed now in absurd (cc)
+
   -- what holds of a process before its own step holds after it, if the party holds the bucket all the time
   own_before : (words : FileWords) (place : Place) (step : FileStep) (move : FileMove) → Kind words place step move →
       (IsLock words party (process_of step) → IsBefore place) → IsLock move.words party (process_of step) →
@@ -51,6 +60,11 @@ module _ (party slot bucket size : ℕ) where
     | inr apart ↦
         let before = sym (slice_get-set_apart words.locks number party (Some process) apart) ∙ lock in absurd (was before)
   ]
+  own_before words place step move (unlocks_first process number) was lock held now is =
+      elim (slice_get-set words.locks number party None (Some process) lock) [
+        | inl before ↦ let own = was before in absurd (number_unlocked words number process before own.0 lock)
+        | inr this ↦ let locks = this.1 in absurd (cc)
+      ]
   own_before words place step move (unlocks process number) was lock held now is =
       elim (slice_get-set words.locks number party None (Some process) lock) [
         | inl before ↦ absurd (was before)
@@ -84,7 +98,14 @@ module _ (party slot bucket size : ℕ) where
             (length, ap (slice_get words.slots) (sym same) ∙ full) (size, is)),
       )
   own_before words place step move (keeps process number at other mine) was lock held now is = was lock
-  own_before words place step move (anothers process number at other unheld) was lock held now is =
+  own_before words place step move (has_sent process number at other unheld is_sent) was lock held now is =
+      let own = was lock in (
+        own.0,
+        own.1,
+        (λ same. unheld (
+            ap (slice_get words.flags) (own.2 same) ∙ held ∙ ap (λ (k : ℕ). Some (HeldBy k)) (sym own.0))),
+      )
+  own_before words place step move (anothers process number at other unheld undetached) was lock held now is =
       let own = was lock in (
         own.0,
         at_most_slot words at own.1 (λ same. unheld (
@@ -93,13 +114,18 @@ module _ (party slot bucket size : ℕ) where
   own_before words place step move (is_kept process number at other) was lock held now is =
       let own = was lock in (
         own.0,
-        at_most_slot words at own.1 (λ same.
+        own.1,
+        (λ same.
             elim (set_cases words.flags other bucket (DetachedBy number) (HeldBy party) (HeldBy party)
             (ap (slice_get words.flags) (own.2 same) ∙ held) now) [
               | inl before ↦ before.0 (own.2 same)
               | inr this ↦ let flags = this.1 in absurd (cc)
             ]),
       )
+  own_before words place step move (addresses process number at other there) was lock held now is =
+      let own = was lock in (own.0, at_most_slot words at own.1 own.2)
+  own_before words place step move (is_gone process number at other gone) was lock held now is =
+      let own = was lock in (own.0, at_most_slot words at own.1 own.2)
   own_before words place step move _ was lock held now is = absurd (was lock)
 
   attach_named : (number at from : ℕ) → at ≡ bucket → HeldBy number ≡ HeldBy party →
@@ -135,6 +161,11 @@ module _ (party slot bucket size : ℕ) where
       ]
   held_or_attaches words later process outcome (laws.detaches_number number at own held not_in) sound is now =
       elim (set_cases words.flags at bucket (DetachedBy number) (HeldBy number) (HeldBy party) held now) [
+        | inl before ↦ inl before.1
+        | inr this ↦ let flags = this.1 in absurd (cc)
+      ]
+  held_or_attaches words later process outcome (laws.addresses number at own there has) sound is now =
+      elim (set_cases words.flags at bucket (DetachedBy (nobody words)) (DetachedBy number) (HeldBy party) there now) [
         | inl before ↦ inl before.1
         | inr this ↦ let flags = this.1 in absurd (cc)
       ]

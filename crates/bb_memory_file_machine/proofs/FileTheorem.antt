@@ -5,7 +5,7 @@ use Rattle.bb_memory_file_machine.proofs.FileKinds.{Kind, empties, kind_of, post
 use Rattle.bb_memory_file_machine.proofs.FileSteps.{effect_of, holds_always, holds_at_opening, holds_step}
 use Rattle.bb_memory_file_machine.specs.FileLaws.{AreSettled, Effect, HasReceived, IsAccountedFor, IsFlag, IsHolder, IsIn, IsInCallBy, IsInSome, IsKnown, IsLock, IsPlace, IsSlot, SaysDone, number_of}
 use Rattle.bb_memory_file_machine.specs.FileLaws as laws
-use Rattle.bb_memory_file_machine.specs.FileMachine.{Attached, Checking, DetachedBy, Empty, Ending, FileChange, FileMove, FileOutcome, FileScene, FileState, FileStep, FileWords, Finding, Flag, Flags, Free, HeldBy, Keeping, Late, Looking, Lost, Message, Place, Posting, Receives, Refused, Seen, Settled, Slot, Slots, change_at, file_after, file_step, left_by, move_at, opening_state, process_of}
+use Rattle.bb_memory_file_machine.specs.FileMachine.{Addressing, Attached, Checking, DetachedBy, Empty, Ending, FileChange, FileMove, FileOutcome, FileScene, FileState, FileStep, FileWords, Finding, Flag, Flags, Free, HeldBy, Keeping, Late, Message, Place, Posting, Receives, Refused, Seen, Sent, Settled, Slot, Slots, change_at, file_after, file_step, left_by, move_at, nobody, opening_state, process_of}
 use Rattle.bb_memory_file_machine.specs.FilePool.{IsTaken}
 use Rattle.bb_memory_lists.proofs.SliceGets.{length-set_at, slice_get-set_apart}
 use Rattle.std.proofs.Common.{List, None, Option, Some, [], ap, arith, inl, inr, length, refl, suc, sym, zero, ℕ, ◌<◌, ◌∙◌, ◌∷◌, ◌≡◌, ◌≢◌}
@@ -136,6 +136,12 @@ pub settled_always : (scene : FileScene) (steps : List FileStep) (process party 
 settled_always scene steps process party bucket there =
     ((holds_always scene steps).each process (Settled party) there).1 bucket
 
+pub addressed_always : (scene : FileScene) (steps : List FileStep) (process party bucket slot : ℕ) →
+    IsPlace (left_by scene steps) process (Settled party) → IsIn (left_by scene steps).words bucket slot →
+    ¬ IsFlag (left_by scene steps).words bucket (DetachedBy party)
+addressed_always scene steps process party bucket slot there has detached =
+    ((holds_always scene steps).each process (Settled party) there).2 slot bucket has (inr detached)
+
 -- NOTHING IS LOST
 
 buckets_effect : (words later : FileWords) (process : ℕ) (outcome : FileOutcome) → Effect words process outcome later →
@@ -147,6 +153,8 @@ buckets_effect words later process outcome (laws.detaches party bucket own held 
     length-set_at words.flags bucket (DetachedBy party)
 buckets_effect words later process outcome (laws.detaches_number party bucket own held not_in) =
     length-set_at words.flags bucket (DetachedBy party)
+buckets_effect words later process outcome (laws.addresses party bucket own is has) =
+    length-set_at words.flags bucket (DetachedBy (nobody words))
 buckets_effect words later process outcome (laws.attaches party bucket from own is) =
     length-set_at words.flags bucket (HeldBy party)
 buckets_effect words later process outcome (laws.attaches_number party bucket from own is) =
@@ -194,6 +202,7 @@ own_number words process number party lock is = let same = same_Some number part
 lock_of_place : (words : FileWords) (process party : ℕ) (place : Place) → PlaceHas words process place →
     number_of place ≡ Some party → IsLock words party process
 lock_of_place words process party (Posting number bucket) has is = own_number words process number party has.0 is
+lock_of_place words process party (Sent number bucket) has is = own_number words process number party has.0 is
 lock_of_place words process party (Seen number slot bucket size) has is = own_number words process number party has is
 lock_of_place words process party (Attached number slot bucket size) has is = own_number words process number party has.0 is
 lock_of_place words process party (Late number bucket) has is = own_number words process number party has.0 is
@@ -202,9 +211,8 @@ lock_of_place words process party (Ending number slot bucket) has is = own_numbe
 lock_of_place words process party (Slots number slot) has is = own_number words process number party has.0 is
 lock_of_place words process party (Checking number slot bucket) has is = own_number words process number party has.0 is
 lock_of_place words process party (Keeping number slot bucket) has is = own_number words process number party has.0 is
+lock_of_place words process party (Addressing number slot bucket) has is = own_number words process number party has.0 is
 lock_of_place words process party (Flags number bucket) has is = own_number words process number party has.0 is
-lock_of_place words process party (Looking number bucket slot) has is = own_number words process number party has.0 is
-lock_of_place words process party (Lost number bucket) has is = own_number words process number party has.0 is
 lock_of_place words process party (Settled number) has is = own_number words process number party has.0 is
 lock_of_place words process party place has is = absurd (cc)
 

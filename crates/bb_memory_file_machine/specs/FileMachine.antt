@@ -297,7 +297,7 @@ next words (Flags party bucket) =
     if nat_lt bucket (length words.flags) then settle_flag words party bucket else move_of Moves words (Settled party)
 next words (Settled party) = move_of Moves words Outside
 
--- a settler that is done, or that looks at no slot, frees the lock of the settled number
+-- a settler that is done, or that has not looked at a slot yet, frees the lock of the settled number
 abbrev pub unlock : FileWords → Place → FileMove
 unlock words (Slots party zero) = move_of (OnLock party) (with_lock words party None) Outside
 unlock words (Settled party) = move_of (OnLock party) (with_lock words party None) Outside

@@ -1,6 +1,6 @@
 -- Protocols that differ from the machine's at one step, and what goes wrong with each.
 use Rattle.bb_memory_file_machine.specs.FileLaws.{IsFlag, IsHolder, IsInCallBy, IsInSome, IsKnown, IsLock, IsSlot}
-use Rattle.bb_memory_file_machine.specs.FileMachine.{Attached, DetachedBy, Empty, FileChange, FileMove, FileScene, FileState, FileStep, FileWords, Flag, Flags, Free, Leave, Lock, Moves, Next, OnLock, Outside, Place, Post, Receives, Recover, Refused, Slots, attaching, change_by, detaching, finds_free, move_at, move_of, opening_state, process_of, with_lock, with_outside}
+use Rattle.bb_memory_file_machine.specs.FileMachine.{Addressing, Attached, DetachedBy, Empty, FileChange, FileMove, FileScene, FileState, FileStep, FileWords, Flag, Flags, Free, Leave, Lock, Moves, Next, OnLock, Outside, Place, Post, Receives, Recover, Refused, Slots, after_slot, attaching, change_by, detaching, finds_free, move_at, move_of, opening_state, process_of, with_lock, with_outside}
 use Rattle.std.specs.Prelude.{List, None, Option, Some, [], false, if◌then◌else◌, slice_get, ℕ, ◌∷◌, ◌≡◌, ◌≢◌}
 
 -- the moves in which a protocol differs from the machine, and None at all other steps
@@ -26,6 +26,12 @@ no_second_look words place step = None
 abbrev pub settle_forgets_slots : Variant
 settle_forgets_slots words (Slots party slot) (Next process) = Some (move_of Moves words (Flags party 0))
 settle_forgets_slots words place step = None
+
+-- a settler doesn't address the messages that the settled number has detached
+abbrev pub settle_addresses_not : Variant
+settle_addresses_not words (Addressing party slot bucket) (Next process) =
+    Some (move_of Moves words (Slots party (after_slot words slot)))
+settle_addresses_not words place step = None
 
 -- a post detaches the bucket before it fills the slot
 abbrev pub detach_then_post : Variant

@@ -2,7 +2,7 @@
 ghost use Rattle.bb_memory_file_machine.specs.FileLaws.{AreSettled, CanSettle, Effect, HasAttached, HasReceived, IsAccountedFor, IsFlag, IsHolder, IsIn, IsInCallBy, IsInSome, IsKnown, IsLock, IsPlace, IsSettling, IsSlot, SaysDone, StaysIn, after_post};
 ghost use Rattle.bb_memory_file_machine.specs.FileMachine.{DetachedBy, Ending, FileScene, FileStep, Free, Message, OnSlot, Place, Post, Receives, Settled, file_after, file_step, left_by, outcomes_of, process_of};
 ghost use Rattle.bb_memory_file_machine.specs.FilePool.{IsPool, IsTaken, flag_steps, pool_of};
-ghost use Rattle.bb_memory_file_machine.specs.FileVariants.{FreesMessage, LosesBucket, ReceivesNothing, SharesNumber, TakesAway, attach_from_any, detach_then_post, no_second_look, reaps_the_living, settle_forgets_slots, unlock_before};
+ghost use Rattle.bb_memory_file_machine.specs.FileVariants.{FreesMessage, LosesBucket, ReceivesNothing, SharesNumber, TakesAway, attach_from_any, detach_then_post, no_second_look, reaps_the_living, settle_addresses_not, settle_forgets_slots, unlock_before};
 ghost use Rattle.bb_memory_pool_machine.specs.PoolLogs.{AreAsked, IsPoolRun, Layout};
 ghost use Rattle.bb_memory_traits.specs.Chunk.{Chunk, IsSound};
 ghost use Rattle.bb_memory_traits.specs.PoolObject.{IsHeld, IsPoolGeometry, PoolGeometry};
@@ -177,7 +177,7 @@ pub enum FileStep {
     Next {
         process: u32,
     },
-    /// A settler that is done, or that looks at no slot, frees the lock of the settled number.
+    /// A settler that is done, or that has not looked at a slot yet, frees the lock of the settled number.
     Unlock {
         process: u32,
     },
@@ -278,6 +278,13 @@ pub fn file_theorem()
         → IsPlace (left_by scene steps) process (Settled party)
         → ¬ IsHolder (left_by scene steps).words bucket party }
 
+    // When a settler is done, no slot has a bucket that the settled number has detached: its messages are addressed to the
+    // number that nobody joins.
+    ensures addressed { (scene : FileScene) (steps : List FileStep) (process party bucket slot : ℕ)
+        → IsPlace (left_by scene steps) process (Settled party)
+        → IsIn (left_by scene steps).words bucket slot
+        → ¬ IsFlag (left_by scene steps).words bucket (DetachedBy party) }
+
     // A settler is never stuck: however far it has come, some further steps of its own complete it.
     ensures settles { (scene : FileScene) (steps : List FileStep) (process party : ℕ)
         → IsSettling (left_by scene steps) process party
@@ -327,7 +334,7 @@ pub fn file_theorem()
 /// The law of the protocols that differ from the machine's at one step: with each of them something goes wrong. It does nothing:
 /// its contract is the law.
 pub fn file_variants_theorem()
-    // A settler that attaches a lost bucket, whoever has detached it, gives back one that is in a slot.
+    // A settler that attaches a detached bucket, whoever has detached it, gives back one that is in a slot.
     ensures attach_from_any { FreesMessage attach_from_any }
 
     // A take that doesn't look at its slot again receives a message from an empty slot.
@@ -335,6 +342,9 @@ pub fn file_variants_theorem()
 
     // A settler that doesn't go over the slots gives back a bucket that is in one.
     ensures settle_forgets_slots { FreesMessage settle_forgets_slots }
+
+    // A settler that doesn't address the messages of the settled number gives back a bucket that is in a slot.
+    ensures settle_addresses_not { FreesMessage settle_addresses_not }
 
     // A post that detaches before it fills the slot loses the bucket if its process is killed.
     ensures detach_then_post { LosesBucket detach_then_post }

@@ -1,5 +1,5 @@
 //! The machine of a pool in a file that can be run: the words and locks, and how far each process has come.
-ghost use Rattle.bb_memory_file_machine.specs.FileMachine.{Checking, Flags, Slots, addressing, after_slot, allocate, attach_number, attaching, begin_done, begin_take, deallocate, detach_number, detaching, exchange, giving_back, has_bucket, is_flag, is_own, is_slot, kill, leave, lock, may_call, move_at, move_of, next, opening_state, post, process_of, recover, release, same_flag, same_slot, some_has, unlock, with_flag, with_lock, with_slot};
+ghost use Rattle.bb_memory_file_machine.specs.FileMachine.{Checking, Flags, Slots, addressing, after_slot, allocate, attach_number, attaching, begin_done, begin_take, deallocate, detach_number, detaching, exchange, giving_back, has_bucket, is_flag, is_own, is_slot, kill, leave, lock, may_call, move_at, move_of, next, nobody, opening_state, post, process_of, recover, release, same_flag, same_slot, some_has, unlock, with_flag, with_lock, with_slot};
 ghost use Rattle.bb_memory_file_machine.specs.FileWorld.{FileWorld, IsFileWorld, IsMove, Replays, Steps, world_of};
 ghost use Rattle.std.specs.Prelude.{IfOk, IsSome, length, slice_get, slice_set, ◌<◌, ◌≡◌};
 
@@ -513,7 +513,7 @@ impl FileWorld {
         }
     }
 
-    /// A settler that is done, or that looks at no slot, frees the lock of the settled number.
+    /// A settler that is done, or that has not looked at a slot yet, frees the lock of the settled number.
     fn unlock(&mut self, place: Place) -> (FileOutcome, Place)
         ensures { IsMove self.old (unlock self.old.words place) result.0 result.1 self.new }
     {
@@ -558,7 +558,8 @@ impl FileWorld {
     fn address(&mut self, party: u32, bucket: u32, next: Place) -> (FileOutcome, Place)
         ensures { IsMove self.old (addressing self.old.words party bucket next) result.0 result.1 self.new }
     {
-        if !self.is_flag(bucket, Flag::DetachedBy(party)) {
+        let sent = Flag::DetachedBy(party);
+        if !self.is_flag(bucket, sent) {
             return (FileOutcome::Moves, next);
         }
         let to = self.nobody();

@@ -1,4 +1,4 @@
-use Rattle.bb_memory_file_machine.proofs.FileCounterexamples.{any_frees, early_loses, forgetting_frees, reaping_takes, unlocking_shares, unlooked_receives}
+use Rattle.bb_memory_file_machine.proofs.FileCounterexamples.{any_frees, early_loses, forgetting_frees, reaping_takes, unaddressed_frees, unlocking_shares, unlooked_receives}
 use Rattle.bb_memory_file_machine.proofs.steps.file.file_variants_theorem.Goals as goal
 
 pub returns : goal.returns
@@ -6,6 +6,7 @@ returns c = record {
   attach_from_any = any_frees;
   no_second_look = unlooked_receives;
   settle_forgets_slots = forgetting_frees;
+  settle_addresses_not = unaddressed_frees;
   detach_then_post = early_loses;
   reaps_the_living = reaping_takes;
   unlock_before = unlocking_shares;
