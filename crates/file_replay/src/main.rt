@@ -1,19 +1,9 @@
-//! Reads a trace of processes that share a pool in a file, which `trace.c` of the library for C has written, and has the proved
-//! machine take the same steps. The exit status is 0 if the machine allows each change of a word and of a lock, 1 at the first
-//! difference, and otherwise as memrun's.
-//!
-//! - `words`: which word of the file is which flag or slot of the machine.
-//! - `lines`: the lines of a trace.
-//! - `replay`: the machine follows the lines.
-//! - `traces`: from the bytes of a trace to its end.
+//! Reads a trace of processes that share a pool in a file, and has the proved machine take the same steps, by the library
+//! `file_traces`. The exit status is 0 if the machine allows each change of a word and of a lock, and 1 at the first difference.
+//! It is 2 if a line is unreadable, 3 if the input fails, and 4 if memory runs out.
 #![tactic(auto)]
 
-mod lines;
-mod replay;
-mod traces;
-mod words;
-
-use crate::traces::{End, end_of};
+use file_traces::traces::{End, end_of};
 use std::io::{ErrorKind, Read};
 use std::process::ExitCode;
 
@@ -28,15 +18,15 @@ const OUT_OF_MEMORY: u8 = 4;
 fn main(rt: HostRuntime) -> ExitCode {
     let mut input = Vec::new(rt.alloc());
     let mut reader = rt.reader();
-    if let Err(e) = reader.read_to_end(&mut input) {
-        if e.kind() == ErrorKind::OutOfMemory {
-            let _ = eprintln!(rt; "file_replay: out of memory");
-            return ExitCode::from(OUT_OF_MEMORY);
+    let end = match reader.read_to_end(&mut input) {
+        Ok(_) => end_of(rt.alloc(), &input),
+        Err(e) if e.kind() == ErrorKind::OutOfMemory => End::OutOfMemory,
+        Err(_) => {
+            let _ = eprintln!(rt; "file_replay: input failed");
+            return ExitCode::from(INPUT_FAILED);
         }
-        let _ = eprintln!(rt; "file_replay: input failed");
-        return ExitCode::from(INPUT_FAILED);
-    }
-    match end_of(rt.alloc(), &input) {
+    };
+    match end {
         End::Same { lines, changes } => {
             let _ = println!(rt; "{lines} lines, {changes} changes: the machine allows each");
             ExitCode::SUCCESS

@@ -28,31 +28,3 @@ pub fn slot_of(word: usize) -> Option<Slot> {
     let bucket = low.checked_sub(1)?;
     Some(Slot::Message { bucket, length })
 }
-
-#[cfg(test)]
-mod tests {
-    use super::{flag_of, slot_of};
-    use bb_memory_file_machine::steps::Slot;
-    use bb_memory_pool_machine::steps::Flag;
-    use std::process::Abort;
-
-    #[test]
-    fn words_of_flags<A: Abort>(rt: &A) {
-        assert!(rt; flag_of(0) == Some(Flag::Free));
-        assert!(rt; flag_of(1) == Some(Flag::HeldBy(0)));
-        assert!(rt; flag_of(2) == Some(Flag::DetachedBy(0)));
-        assert!(rt; flag_of(7) == Some(Flag::HeldBy(3)));
-        assert!(rt; flag_of(10) == Some(Flag::DetachedBy(4)));
-    }
-
-    #[test]
-    fn words_of_slots<A: Abort>(rt: &A) {
-        assert!(rt; slot_of(0) == Some(Slot::Empty));
-        let message = Slot::Message {
-            bucket: 3,
-            length: 8,
-        };
-        assert!(rt; slot_of((8 << 32) + 4) == Some(message));
-        assert!(rt; slot_of(8 << 32) == None);
-    }
-}

@@ -1,6 +1,6 @@
 //! The lines of a trace: `trace.c` of the library for C says what each has.
 
-use crate::words::{flag_of, slot_of};
+use crate::which_word::{flag_of, slot_of};
 use bb_memory_file_machine::steps::Slot;
 use bb_memory_pool_machine::steps::Flag;
 use scripts::words::{Numbers, is_word, to_u32, words};
