@@ -8,6 +8,7 @@ release in dist has to have the same bytes, if the same kit and tools made it.
 import filecmp
 import os
 import shutil
+import subprocess
 from collections.abc import Mapping
 from pathlib import Path
 
@@ -43,6 +44,16 @@ class Hosts:
         counts = (self.work / "dist/INSTRUCTION_COUNTS").read_text(encoding="utf-8")
         for line in counts.splitlines():
             say(line.replace(" ", " instructions: ", 1))
+
+    def build_replay(self) -> None:
+        """Proves and builds the program that replays traces of pools in files."""
+        folder = self.top / "crates/file_replay"
+        with (folder / "stdin").open(encoding="utf-8") as given:
+            ran = subprocess.run(
+                ["rt", "run"], cwd=folder, stdin=given, capture_output=True, text=True, check=False
+            )
+        if ran.returncode != 0:
+            raise Failed(f"{ran.stderr}status {ran.returncode}: rt run in {folder}")
 
     def environment(self) -> dict[str, str]:
         """Returns the environment in which `rt` fails, and tools of the user's Rust are found."""
@@ -121,6 +132,7 @@ def run(library: Path | None) -> None:
     with temporary_folder() as work:
         hosts = Hosts(TOP, work)
         hosts.make_release(library)
+        hosts.build_replay()
         environment = hosts.environment()
         hosts.check_installation(environment)
         hosts.run_examples(environment)

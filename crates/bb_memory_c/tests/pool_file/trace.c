@@ -100,7 +100,8 @@ enum call {
 
 static const char *const NAMES[CALLS] = {
     "open",     "join",       "show",   "close",  "reap", "recover", "leave", "flush",
-    "allocate", "deallocate", "detach", "attach", "post", "take",    "done"};
+    "allocate", "deallocate", "detach", "attach", "post", "take",    "done",
+};
 
 // A call of a process, in memory that the process shares with this program.
 struct shared {
@@ -179,7 +180,8 @@ static uint32_t find(uint32_t party, enum hand hand) {
 static uint32_t find_detached(uint32_t bucket) {
     bb_holder holder;
     for (uint32_t at = bucket; at < bucket + BUCKETS; at++)
-        if (bb_pool_file_holder(file, at % BUCKETS, &holder) == BB_OK && holder.state == BB_DETACHED)
+        if (bb_pool_file_holder(file, at % BUCKETS, &holder) == BB_OK &&
+            holder.state == BB_DETACHED)
             return at % BUCKETS;
     return bucket;
 }
@@ -312,9 +314,7 @@ static void operate(void) {
     case DETACH:
         mine->code = bb_pool_file_detach(file, party, place_at(mine->party, mine->bucket)).code;
         break;
-    case ATTACH:
-        mine->code = bb_pool_file_attach(file, party, mine->bucket).code;
-        break;
+    case ATTACH: mine->code = bb_pool_file_attach(file, party, mine->bucket).code; break;
     case POST:
         mine->code = bb_pool_file_post(file, party, mine->slot, place_at(mine->party, mine->bucket),
                                        mine->len);
@@ -477,9 +477,7 @@ static void write_call(uint32_t process, const struct shared *call) {
     case DEALLOCATE:
     case DETACH:
     case ATTACH: printf(" %u %u\n", call->party, call->bucket); break;
-    case POST:
-        printf(" %u %u %u %u\n", call->party, call->slot, call->bucket, call->len);
-        break;
+    case POST: printf(" %u %u %u %u\n", call->party, call->slot, call->bucket, call->len); break;
     case TAKE:
     case DONE: printf(" %u %u\n", call->party, call->slot); break;
     default: printf("\n");
@@ -578,10 +576,10 @@ static void compare(uint32_t process) {
         slots[slot] = word;
     }
     for (uint32_t party = 0; party < PARTIES; party++) {
-        const bool is = is_locked(party);
-        if (is != locks[party])
-            change(LOCK, process, party, locks[party], is);
-        locks[party] = is;
+        const bool is_taken = is_locked(party);
+        if (is_taken != locks[party])
+            change(LOCK, process, party, locks[party], is_taken);
+        locks[party] = is_taken;
     }
 }
 
