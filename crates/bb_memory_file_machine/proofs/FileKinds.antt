@@ -1,7 +1,7 @@
 -- Steps of the machine of a pool in a file, by their kinds.
 use Rattle.bb_memory_file_machine.proofs.FileTests.{flag_missing, flag_there, free_found, in_none, in_some, own_there, slot_there}
 use Rattle.bb_memory_file_machine.specs.FileLaws.{IsFlag, IsHolder, IsInSome, IsLock, IsSlot}
-use Rattle.bb_memory_file_machine.specs.FileMachine.{Addresses, Addressing, Allocate, AttachNumber, Attached, Checking, Dead, Deallocate, DetachNumber, DetachedBy, Done, Empty, Ending, Exchange, FileMove, FileStep, FileWords, Finding, Flags, Free, HeldBy, Keeping, Kill, Late, Leave, Lock, Message, Moves, Next, OnFlag, OnLock, OnSlot, Outside, Place, Post, Posting, Receives, Recover, Release, Seen, Sent, Settled, Slot, Slots, Take, TryAt, Unlock, addressing, after_slot, allocate, attach_number, attaching, begin_done, begin_take, deallocate, detach_number, detaching, done_found, exchange, finds_free, giving_back, is_flag, is_own, is_slot, kill, leave, lock, move_at, move_of, next, nobody, post, recover, refused, release, settle_message, settle_slot, some_has, take_found, unlock, with_flag, with_lock, with_outside, with_slot}
+use Rattle.bb_memory_file_machine.specs.FileMachine.{Addresses, Addressing, Allocate, AttachNumber, Attached, Checking, Dead, Deallocate, DetachNumber, DetachedBy, Done, Empty, Ending, Exchange, FileMove, FileStep, FileWords, Finding, Flags, Free, HeldBy, Keeping, Kill, Late, Leave, Lock, Message, Moves, Next, OnFlag, OnLock, OnSlot, Outside, Place, Post, Posting, Receives, Recover, Release, Seen, Sent, Settled, Slot, Slots, Take, TryAt, Unlock, after_slot, allocate, attach_number, attaching, begin_done, begin_take, deallocate, detach_number, detaching, done_found, exchange, finds_free, giving_back, is_flag, is_own, is_slot, kill, leave, lock, move_at, move_of, next, nobody, post, recover, refused, release, settle_message, settle_slot, some_has, take_found, unlock, with_flag, with_lock, with_outside, with_slot}
 use Rattle.std.proofs.Common.{None, Option, Some, false, length, refl, suc, true, zero, ℕ, ◌+◌, ◌≡◌, ◌≤◌}
 use Rattle.std.proofs.lemmas.Bool.{cond_both, ltb-false}
 use Rattle.std.specs.Prelude.{nat_lt, slice_get}

@@ -3,7 +3,7 @@ use Rattle.bb_memory_file_machine.proofs.FileEffects.{below_end}
 use Rattle.bb_memory_file_machine.specs.FileLaws.{CanSettle, IsPlace, IsSettling, settled_by}
 use Rattle.bb_memory_file_machine.specs.FileMachine.{Addresses, Addressing, Checking, DetachedBy, Empty, FileMove, FileScene, FileState, FileStep, FileWords, Flags, Free, HeldBy, Keeping, Message, Moves, Next, Place, Settled, Slot, Slots, after_slot, change_at, change_by, file_after, giving_back, is_flag, left_by, move_of, next, nobody, settle_flag, settle_slot, with_flag}
 use Rattle.bb_memory_lists.proofs.SliceGets.{length-set_at, slice_get-set_same}
-use Rattle.std.proofs.Common.{List, None, Option, Some, ap, arith, false, length, refl, replicate, subst, suc, sym, zero, ℕ, ◌+◌, ◌<◌, ◌∙◌, ◌≡◌, ◌≤◌}
+use Rattle.std.proofs.Common.{List, None, Option, Some, ap, arith, length, refl, replicate, subst, suc, sym, zero, ℕ, ◌+◌, ◌<◌, ◌∙◌, ◌≡◌, ◌≤◌}
 use Rattle.std.proofs.lemmas.Bool.{cond_both, ltb-false, ltb-true}
 use Rattle.std.proofs.lemmas.Option.{same_Some}
 use Rattle.std.specs.Prelude.{if◌then◌else◌, nat_lt, slice_get}

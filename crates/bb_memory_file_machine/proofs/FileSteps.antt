@@ -5,7 +5,7 @@ use Rattle.bb_memory_file_machine.proofs.FileKinds.{Kind, addresses, all_flags, 
 use Rattle.bb_memory_file_machine.proofs.FileSound.{sound_after}
 use Rattle.bb_memory_file_machine.specs.FileLaws.{Effect, IsFlag, IsHolder, IsIn, IsInSome, IsKnown, IsLock, IsPlace, IsSlot}
 use Rattle.bb_memory_file_machine.specs.FileLaws as laws
-use Rattle.bb_memory_file_machine.specs.FileMachine.{Addresses, DetachedBy, Dies, Empty, FileMove, FileScene, FileState, FileStep, FileWords, Flag, Free, HeldBy, Message, Moves, Outside, Place, Receives, Refused, after_slot, change_at, file_after, file_step, left_by, move_at, nobody, opening_state, process_of, with_flag, with_outside}
+use Rattle.bb_memory_file_machine.specs.FileMachine.{DetachedBy, Dies, Empty, FileMove, FileScene, FileState, FileStep, FileWords, Flag, Free, HeldBy, Message, Moves, Outside, Place, Receives, Refused, after_slot, change_at, file_after, file_step, left_by, move_at, nobody, opening_state, process_of, with_flag, with_outside}
 use Rattle.bb_memory_lists.proofs.SliceGets.{slice_get-replicated, slice_get-set_same}
 use Rattle.std.proofs.Common.{List, None, Option, Some, [], ap, arith, false, inl, inr, length, refl, subst, suc, sym, zero, ℕ, ◌+◌, ◌<◌, ◌∙◌, ◌∷◌, ◌≡◌, ◌≢◌}
 use Rattle.std.proofs.lemmas.Bool.{cond_both}
