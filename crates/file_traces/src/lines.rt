@@ -63,7 +63,7 @@ pub enum Change {
     Unlock { party: u32 },
 }
 
-/// What a call returned.
+/// The result of a call.
 #[derive(Debug, Clone, Copy, PartialEq, Eq)]
 pub enum Returned {
     Refused,
@@ -72,7 +72,7 @@ pub enum Returned {
     Message { bucket: u32, length: u32 },
 }
 
-/// What a line says of a process.
+/// The event of a process that a line has.
 #[derive(Debug, Clone, Copy, PartialEq, Eq)]
 pub enum Event {
     Begins(Call),

@@ -43,7 +43,9 @@ pub fn end_of(alloc: Global, input: &[u8]) -> End {
                 difference,
             };
         }
-        changes += line.is_change() as usize;
+        if line.is_change() {
+            changes += 1;
+        }
         left = rest;
     }
     End::Same {
