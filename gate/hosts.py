@@ -9,6 +9,7 @@ GUIDE.md and README.md show, from a copy. Once a release of the library is made,
 import filecmp
 import os
 import shutil
+import subprocess
 from collections.abc import Mapping
 from pathlib import Path
 
@@ -44,6 +45,16 @@ class Hosts:
         counts = (self.work / "dist/INSTRUCTION_COUNTS").read_text(encoding="utf-8")
         for line in counts.splitlines():
             say(line.replace(" ", " instructions: ", 1))
+
+    def build_replay(self) -> None:
+        """Proves and builds the program that replays traces of pools in files."""
+        folder = self.top / "crates/file_replay"
+        with (folder / "stdin").open(encoding="utf-8") as given:
+            ran = subprocess.run(
+                ["rt", "run"], cwd=folder, stdin=given, capture_output=True, text=True, check=False
+            )
+        if ran.returncode != 0:
+            raise Failed(f"{ran.stderr}status {ran.returncode}: rt run in {folder}")
 
     def environment(self) -> dict[str, str]:
         """Returns the environment in which `rt` fails, and tools of the user's Rust are found."""
@@ -124,6 +135,7 @@ def run(library: Path | None) -> None:
     with temporary_folder() as work:
         hosts = Hosts(TOP, work)
         hosts.make_release(library)
+        hosts.build_replay()
         environment = hosts.environment()
         hosts.check_installation(environment)
         hosts.run_examples(environment)

@@ -9,6 +9,8 @@ refused by the program that its file names:
     file: bb_pool_file.c
     old: if (load_slot(file, slot) == word)
     new: if (word != 0)
+
+Last, gate/pool_traces.py compares the code with the proved machine.
 """
 
 import os
@@ -24,12 +26,13 @@ from pathlib import Path
 
 from gate import edits
 from gate.pool_messages import Messages, Program
+from gate.pool_traces import Traces
 from gate.process import Failed, has, must_run, say
 
 CRATE = "crates/bb_memory_c"
 FLAGS = ("-O2", "-Wall", "-Wextra", "-Werror", "-pedantic", "-Wshadow", "-Wconversion")
 CHECKERS = ("-fsanitize=address,undefined", "-fno-sanitize-recover=all")
-PROGRAMS = ("cases", "kills", "shown")
+PROGRAMS = ("cases", "kills", "shown", "trace")
 # A program that hangs is ended after that many seconds.
 LONGEST = "240"
 # Runs of `kills` with each form of the library: words before and after the folder.
@@ -67,6 +70,7 @@ class PoolFile:
     """The tests over the library that is installed below `prefix`, in a folder for what they make."""
 
     def __init__(self, top: Path, prefix: Path, work: Path, environment: Mapping[str, str]) -> None:
+        self.top = top
         self.crate = top / CRATE
         self.sources = self.crate / "tests/pool_file"
         self.prefix = prefix
@@ -217,19 +221,23 @@ class PoolFile:
             self.run_program(program, [word])
         return f"model: a violation is found in each of {len(WRONG)} wrong protocols"
 
-    def check_mutant(self, file: Path) -> None:
-        """Has a mutant be refused by the program that its file names. Raises Failed if it isn't."""
-        text = file.read_text(encoding="utf-8")
-        edit = edits.parse_edit(file, text)
+    def build_mutant(self, file: Path, name: str) -> Path:
+        """Builds a program over a mutant, in a folder of its own, and returns the program."""
+        edit = edits.parse_edit(file, file.read_text(encoding="utf-8"))
         changed = edits.apply(edit, lambda name: (self.crate / name).read_text(encoding="utf-8"))
-        program, *words = refused_by(text)
-        folder = self.work / file.stem
+        folder = self.work / f"{file.stem}.{name}"
         folder.mkdir()
         source = folder / "bb_pool_file.c"
         source.write_text(changed["bb_pool_file.c"], encoding="utf-8")
-        mutant = folder / program
-        objects = [self.work / f"{program}.o", self.work / "bb_memory.o"]
+        mutant = folder / name
+        objects = [self.work / f"{name}.o", self.work / "bb_memory.o"]
         self.compile(["-std=c99", "-O2", "-w", "-o", mutant, source, *objects])
+        return mutant
+
+    def check_mutant(self, file: Path) -> None:
+        """Has a mutant be refused by the program that its file names. Raises Failed if it isn't."""
+        program, *words = refused_by(file.read_text(encoding="utf-8"))
+        mutant = self.build_mutant(file, program)
         place = [words[0], str(self.folders[0]), *words[1:]] if words else [str(self.folders[0])]
         # A test that fails may leave processes for a while, which would keep a pipe open.
         ran = subprocess.run(
@@ -240,16 +248,26 @@ class PoolFile:
             stderr=subprocess.DEVNULL,
             check=False,
         )
-        shutil.rmtree(folder)
+        shutil.rmtree(mutant.parent)
         if ran.returncode == 0:
             raise Failed(f"{file.name}: isn't refused by `{program} {' '.join(words)}`")
 
+    def mutants(self) -> list[Path]:
+        """Returns the files of mutants."""
+        return sorted((self.sources / "mutants").glob("*.mutant"))
+
     def check_mutants(self, pool: ThreadPoolExecutor) -> None:
         """Has each mutant be refused."""
-        files = sorted((self.sources / "mutants").glob("*.mutant"))
+        files = self.mutants()
         for _ in pool.map(self.check_mutant, files):
             pass
         say(f"mutants of bb_pool_file.c: {len(files)} are refused")
+
+    def check_traces(self, pool: ThreadPoolExecutor) -> None:
+        """Compares the code and its mutants with the machine."""
+        traces = Traces(self.top, self.folders[0])
+        traces.check_all(self.work / "trace.archive", pool)
+        traces.check_mutants(self.mutants(), lambda file: self.build_mutant(file, "trace"), pool)
 
     def jobs(self) -> list[Callable[[], str]]:
         """Returns the tests, the longest first. Each returns what it prints."""
@@ -274,6 +292,7 @@ class PoolFile:
             for each in running:
                 say(each.result())
             self.check_mutants(pool)
+            self.check_traces(pool)
 
 
 def check(top: Path, prefix: Path, work: Path, environment: Mapping[str, str]) -> None:

@@ -1,0 +1,419 @@
+//! The machine follows the lines of a trace.
+//!
+//! A line has a change of a word or of a lock. The process takes steps of the machine until one changes something. That has to be
+//! the same change.
+
+use crate::lines::{Call, Change, Event, Figures, Line, Returned};
+use bb_memory_file_machine::steps::{FileOutcome, FileStep, FileWorld, Place, Slot};
+use bb_memory_pool_machine::steps::Flag;
+use std::alloc::{AllocError, Global};
+
+/// The most steps without a change that a process takes in a row. A settler takes two for each slot, and one for each bucket.
+const MOST_MOVES: u32 = 100_000;
+
+/// How a line differs from what the machine allows.
+#[derive(Debug, Clone, Copy, PartialEq, Eq)]
+pub enum Difference {
+    /// There is no such process, or its call has not ended, or it is in none.
+    NotInTurn,
+    /// The word or the lock was not as the line says.
+    OtherBefore,
+    /// The machine's process, in this place, takes this step, with this outcome. The code has done something else.
+    OtherStep {
+        place: Place,
+        step: FileStep,
+        outcome: FileOutcome,
+    },
+    /// The machine's process takes no step that changes something.
+    NoChange,
+    /// The call returned, and the machine's process is in this place.
+    OtherReturn(Place),
+    /// The process is dead, and has the lock of this number.
+    KeepsLock(u32),
+}
+
+/// A process: the call that it is in, and whether it has changed something in that call.
+#[derive(Debug, Clone, Copy, PartialEq, Eq)]
+struct Process {
+    call: Option<Call>,
+    has_changed: bool,
+}
+
+/// The machine, and the calls that its processes are in.
+#[derive(Drop)]
+pub struct Replay {
+    world: FileWorld,
+    processes: Vec<Process>,
+    parties: u32,
+}
+
+impl Replay {
+    /// Makes the machine of a trace with these figures.
+    pub fn new(alloc: Global, figures: Figures) -> Result<Replay, AllocError> {
+        let Figures {
+            processes,
+            parties,
+            buckets,
+            slots,
+        } = figures;
+        let idle = Process {
+            call: None,
+            has_changed: false,
+        };
+        Ok(Replay {
+            world: FileWorld::new(alloc, buckets, slots, parties, processes)?,
+            processes: vec![in alloc; idle; processes as usize]?,
+            parties,
+        })
+    }
+
+    /// Follows a line.
+    pub fn follow(&mut self, line: Line) -> Result<(), Difference> {
+        let Line { process, event } = line;
+        let Some(found) = self.processes.get(process as usize).copied() else {
+            return Err(Difference::NotInTurn);
+        };
+        match (event, found.call) {
+            (Event::Begins(call), None) => {
+                self.note(process, Some(call), false);
+                Ok(())
+            }
+            (Event::Looks, Some(Call::Take { party, slot })) => self.expect_moves(
+                process,
+                FileStep::Take {
+                    process,
+                    party,
+                    slot,
+                },
+            ),
+            (Event::Changes(change), call) => {
+                self.change(process, found, change)?;
+                self.note(process, call, true);
+                Ok(())
+            }
+            (Event::Returns(returned), Some(call)) => {
+                self.end(process, call, found.has_changed, returned)?;
+                self.note(process, None, false);
+                Ok(())
+            }
+            (Event::IsKilled, _) => {
+                let _ = self.world.step(FileStep::Kill { process });
+                self.note(process, None, false);
+                Ok(())
+            }
+            (Event::IsGone, None) => self.expect_no_lock(process),
+            _ => Err(Difference::NotInTurn),
+        }
+    }
+
+    /// Notes the call that a process is in, and whether the process has changed something.
+    fn note(&mut self, process: u32, call: Option<Call>, has_changed: bool) {
+        if let Some(found) = self.processes.get_mut(process as usize) {
+            *found = Process { call, has_changed };
+        }
+    }
+
+    /// Has a process take steps until one makes this change.
+    fn change(&mut self, process: u32, found: Process, change: Change) -> Result<(), Difference> {
+        if !self.is_before(process, change) {
+            return Err(Difference::OtherBefore);
+        }
+        for _ in 0..MOST_MOVES {
+            let place = self.place(process)?;
+            let step = step_for(process, found, place, change);
+            let outcome = self.world.step(step);
+            if self.is_after(process, change) {
+                return Ok(());
+            }
+            if outcome != FileOutcome::Moves {
+                return Err(Difference::OtherStep {
+                    place,
+                    step,
+                    outcome,
+                });
+            }
+        }
+        Err(Difference::NoChange)
+    }
+
+    /// Ends a call: the process takes steps that change nothing, until it is in no call.
+    fn end(
+        &mut self,
+        process: u32,
+        call: Call,
+        has_changed: bool,
+        returned: Returned,
+    ) -> Result<(), Difference> {
+        let is_refused = returned == Returned::Refused;
+        match call {
+            Call::Looks => self.expect_outside(process, !has_changed),
+            Call::Close => {
+                self.expect_outside(process, !is_refused)?;
+                self.expect_no_lock(process)
+            }
+            Call::Reap | Call::Recover | Call::Flush { .. } => {
+                self.expect_outside(process, !is_refused)
+            }
+            Call::Deallocate { .. } => { self.expect_outside(process, !is_refused || !has_changed) }
+            Call::Leave { .. } | Call::Detach { .. } | Call::Attach { .. } => {
+                self.expect_outside(process, has_changed != is_refused)
+            }
+            Call::Join | Call::Post { .. } => {
+                self.move_on(process)?;
+                self.expect_outside(process, has_changed != is_refused)
+            }
+            Call::Allocate { party } => match returned {
+                Returned::Bucket(bucket) => {
+                    let is_held = self.world.flag(bucket) == Some(Flag::HeldBy(party));
+                    self.expect_outside(process, is_held)
+                }
+                _ => self.expect_outside(process, !has_changed),
+            },
+            Call::Take { slot, .. } => match returned {
+                Returned::Message { bucket, length } => {
+                    self.receive(process, slot, bucket, length)
+                }
+                _ => self.move_on(process),
+            },
+            Call::Done { party, slot } => {
+                if is_refused && !has_changed {
+                    let _ = self.world.step(FileStep::Done {
+                        process,
+                        party,
+                        slot,
+                    });
+                    self.move_on(process)?;
+                }
+                self.expect_outside(process, has_changed != is_refused)
+            }
+        }
+    }
+
+    /// Has a process receive this message from this slot.
+    fn receive(
+        &mut self,
+        process: u32,
+        slot: u32,
+        bucket: u32,
+        length: u32,
+    ) -> Result<(), Difference> {
+        let place = self.place(process)?;
+        let message = Slot::Message { bucket, length };
+        if self.world.slot(slot) != Some(message) {
+            return Err(Difference::OtherReturn(place));
+        }
+        let step = FileStep::Next { process };
+        let outcome = self.world.step(step);
+        if outcome == FileOutcome::Receives(slot) {
+            return Ok(());
+        }
+        Err(Difference::OtherStep {
+            place,
+            step,
+            outcome,
+        })
+    }
+
+    /// Has a process take steps that change nothing, until it is in no call.
+    fn move_on(&mut self, process: u32) -> Result<(), Difference> {
+        for _ in 0..MOST_MOVES {
+            if self.place(process)? == Place::Outside {
+                return Ok(());
+            }
+            self.expect_moves(process, FileStep::Next { process })?;
+        }
+        Err(Difference::NoChange)
+    }
+
+    /// Has a process take a step that changes nothing.
+    fn expect_moves(&mut self, process: u32, step: FileStep) -> Result<(), Difference> {
+        let place = self.place(process)?;
+        let outcome = self.world.step(step);
+        if outcome == FileOutcome::Moves {
+            return Ok(());
+        }
+        Err(Difference::OtherStep {
+            place,
+            step,
+            outcome,
+        })
+    }
+
+    /// Tests that a process is in no call, and that something holds.
+    fn expect_outside(&self, process: u32, holds: bool) -> Result<(), Difference> {
+        let place = self.place(process)?;
+        if holds && place == Place::Outside {
+            Ok(())
+        } else {
+            Err(Difference::OtherReturn(place))
+        }
+    }
+
+    /// Tests that a process has no lock.
+    fn expect_no_lock(&self, process: u32) -> Result<(), Difference> {
+        for party in 0..self.parties {
+            if self.world.lock(party) == Some(Some(process)) {
+                return Err(Difference::KeepsLock(party));
+            }
+        }
+        Ok(())
+    }
+
+    fn place(&self, process: u32) -> Result<Place, Difference> {
+        self.world.place(process).ok_or(Difference::NotInTurn)
+    }
+
+    /// Returns whether the word or the lock is as it was before the change.
+    fn is_before(&self, process: u32, change: Change) -> bool {
+        match change {
+            Change::Flag { bucket, from, .. } => self.world.flag(bucket) == Some(from),
+            Change::Slot { slot, from, .. } => self.world.slot(slot) == Some(from),
+            Change::Lock { party } => self.world.lock(party) == Some(None),
+            Change::Unlock { party } => self.world.lock(party) == Some(Some(process)),
+        }
+    }
+
+    /// Returns whether the word or the lock is as it is after the change.
+    fn is_after(&self, process: u32, change: Change) -> bool {
+        match change {
+            Change::Flag { bucket, to, .. } => self.world.flag(bucket) == Some(to),
+            Change::Slot { slot, to, .. } => self.world.slot(slot) == Some(to),
+            Change::Lock { party } => self.world.lock(party) == Some(Some(process)),
+            Change::Unlock { party } => self.world.lock(party) == Some(None),
+        }
+    }
+}
+
+/// Returns the step that a process takes next, on the way to this change.
+fn step_for(process: u32, found: Process, place: Place, change: Change) -> FileStep {
+    match place {
+        Place::Outside => first_step(process, found, change),
+        Place::Dead => released(process, change),
+        Place::Seen { .. } => exchanged(process, change),
+        Place::Flags { .. } => recovered(process, found, change),
+        Place::Settled { .. } => unlocked(process, found, change),
+        _ => FileStep::Next { process },
+    }
+}
+
+/// Returns the first step of a call. A call that makes one step, and has made it, takes no other one.
+fn first_step(process: u32, found: Process, change: Change) -> FileStep {
+    let none = FileStep::Next { process };
+    let Some(call) = found.call else {
+        return none;
+    };
+    match (call, change) {
+        (Call::Join, Change::Lock { party }) if !found.has_changed => {
+            FileStep::Lock { process, party }
+        }
+        (Call::Reap | Call::Recover, Change::Lock { party }) => FileStep::Lock { process, party },
+        (Call::Close, _) => leaving(process, change),
+        (Call::Leave { party }, _) if !found.has_changed => FileStep::Leave { process, party },
+        (Call::Allocate { party }, Change::Flag { bucket, .. }) => FileStep::Allocate {
+            process,
+            party,
+            bucket,
+        },
+        (Call::Deallocate { party, .. } | Call::Flush { party }, Change::Flag { bucket, .. }) =>
+            FileStep::Deallocate {
+                process,
+                party,
+                bucket,
+            },
+        (Call::Detach { party, bucket }, _) if !found.has_changed => FileStep::DetachNumber {
+            process,
+            party,
+            bucket,
+        },
+        (
+            Call::Attach { party, bucket },
+            Change::Flag {
+                from: Flag::DetachedBy(from),
+                ..
+            },
+        ) if !found.has_changed => FileStep::AttachNumber {
+            process,
+            party,
+            bucket,
+            from,
+        },
+        (
+            Call::Post {
+                party,
+                slot,
+                bucket,
+                length,
+            },
+            _,
+        ) if !found.has_changed => FileStep::Post {
+            process,
+            party,
+            slot,
+            bucket,
+            length,
+        },
+        (Call::Done { party, slot }, _) if !found.has_changed => FileStep::Done {
+            process,
+            party,
+            slot,
+        },
+        _ => none,
+    }
+}
+
+/// Returns the step by which a process that closes the file begins to leave: with the number that the change names.
+fn leaving(process: u32, change: Change) -> FileStep {
+    match change {
+        Change::Unlock { party } => FileStep::Leave { process, party },
+        Change::Flag {
+            from: Flag::HeldBy(party) | Flag::DetachedBy(party),
+            ..
+        } => FileStep::Leave { process, party },
+        _ => FileStep::Next { process },
+    }
+}
+
+/// Returns the step by which the lock of a dead process becomes free.
+fn released(process: u32, change: Change) -> FileStep {
+    match change {
+        Change::Unlock { party } => FileStep::Release { process, party },
+        _ => FileStep::Next { process },
+    }
+}
+
+/// Returns the step by which a take attaches its bucket.
+fn exchanged(process: u32, change: Change) -> FileStep {
+    match change {
+        Change::Flag {
+            from: Flag::DetachedBy(from),
+            ..
+        } => FileStep::Exchange { process, from },
+        _ => FileStep::Next { process },
+    }
+}
+
+/// Returns the step of a settler that goes over the flags. Only a reap with detached buckets attaches one.
+fn recovered(process: u32, found: Process, change: Change) -> FileStep {
+    match (found.call, change) {
+        (
+            Some(Call::Recover),
+            Change::Flag {
+                bucket,
+                from: Flag::DetachedBy(_),
+                ..
+            },
+        ) => FileStep::Recover { process, bucket },
+        _ => FileStep::Next { process },
+    }
+}
+
+/// Returns the step of a settler that is done: one that joins keeps the lock.
+fn unlocked(process: u32, found: Process, change: Change) -> FileStep {
+    match (found.call, change) {
+        (
+            Some(Call::Leave { .. } | Call::Close | Call::Reap | Call::Recover),
+            Change::Unlock { .. },
+        ) => FileStep::Unlock { process },
+        _ => FileStep::Next { process },
+    }
+}

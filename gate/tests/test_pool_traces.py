@@ -1,0 +1,66 @@
+"""Tests of gate/pool_traces.py."""
+
+import stat
+import tempfile
+import unittest
+from pathlib import Path
+
+from gate import pool_traces
+from gate.pool_traces import Traces
+from gate.process import Failed
+
+
+def write_program(path: Path, body: str) -> Path:
+    """Writes a shell script."""
+    path.parent.mkdir(parents=True, exist_ok=True)
+    path.write_text(f"#!/bin/sh\n{body}\n", encoding="utf-8")
+    path.chmod(path.stat().st_mode | stat.S_IXUSR)
+    return path
+
+
+class TracesOfPrograms(unittest.TestCase):
+    """Programs in the places of `trace` and `file_replay` write, and end, as they are to."""
+
+    def setUp(self) -> None:
+        made = tempfile.TemporaryDirectory()
+        self.addCleanup(made.cleanup)
+        self.folder = Path(made.name)
+
+    def traces(self, replay: str) -> Traces:
+        """Returns traces that a program of this body replays."""
+        write_program(self.folder / pool_traces.REPLAY, replay)
+        return Traces(self.folder, self.folder)
+
+    def trace(self, body: str) -> Path:
+        """Returns a program of this body that writes traces."""
+        return write_program(self.folder / "trace", body)
+
+    def test_reason_for_no_step(self) -> None:
+        text = "# function: f\n# no step: it sleeps\nfile: f.c\n"
+        self.assertEqual(pool_traces.reason_for_no_step(text), "it sleeps")
+        self.assertIsNone(pool_traces.reason_for_no_step("# function: f\nfile: f.c\n"))
+
+    def test_steps_of(self) -> None:
+        self.assertEqual(pool_traces.steps_of("post 3 40\ntake 1 7\n"), {"post": 40, "take": 7})
+
+    def test_a_trace_is_replayed(self) -> None:
+        traces = self.traces('test "$(cat)" = "random 5"')
+        program = self.trace('echo "$1 $3"; echo "post 3 40" >&2')
+        self.assertEqual(traces.check_code(program, ["random", "5"]), {"post": 40})
+        with self.assertRaises(Failed):
+            traces.check_code(program, ["random", "6"])
+
+    def test_a_trace_that_fails(self) -> None:
+        with self.assertRaises(Failed):
+            self.traces("cat").check_code(self.trace("exit 2"), ["random", "5"])
+
+    def test_a_mutant_has_to_differ(self) -> None:
+        program = self.trace("echo trace")
+        self.traces("exit 1").check_mutant(program, "m")
+        for status in (0, 2):
+            with self.assertRaises(Failed):
+                self.traces(f"exit {status}").check_mutant(program, "m")
+
+
+if __name__ == "__main__":
+    unittest.main()
