@@ -568,7 +568,7 @@ static void many(bool again) {
     const uint32_t numbers[] = {1000, 32760, 32761, 100000, 2200000};
     size_t few = 0;
     maps_again = again;
-    bb_use_memory(allocate, realloc, release);
+    bb_use_memory(allocate, release, &blocks);
     for (int at = 0; at < 5; at++) {
         const bb_pool_file_options options = {
             .bucket_size = 1, .bucket_align = 1, .buckets = numbers[at], .parties = 3, .slots = 1};
@@ -599,7 +599,7 @@ static void many(bool again) {
         remove_it();
     }
     EXPECT(blocks == 0);
-    bb_use_memory(malloc, realloc, free);
+    bb_use_memory(allocate_plainly, release_plainly, NULL);
     maps_again = true;
 }
 
