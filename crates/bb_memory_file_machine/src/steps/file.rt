@@ -278,8 +278,8 @@ pub fn file_theorem()
         → IsPlace (left_by scene steps) process (Settled party)
         → ¬ IsHolder (left_by scene steps).words bucket party }
 
-    // When a settler is done, no slot has a bucket that the settled number has detached: its messages are addressed to the
-    // number that nobody joins.
+    // When a settler is done, no bucket in a slot is detached by the settled number: its messages are addressed to the number
+    // that nobody joins.
     ensures addressed { (scene : FileScene) (steps : List FileStep) (process party bucket slot : ℕ)
         → IsPlace (left_by scene steps) process (Settled party)
         → IsIn (left_by scene steps).words bucket slot
