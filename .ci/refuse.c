@@ -1,18 +1,18 @@
-// Refuses requests for memory of the program that it is loaded into, in one of two ways.
+// Makes requests for memory fail in the program into which it is loaded, in one of two ways.
 //
-// REFUSE_AT=N refuses the Nth request. If that request never came and the program ended well, the
+// REFUSE_AT=N makes the Nth request fail. If that request never came and the program succeeded, the
 // exit status is 99.
 //
-// REFUSE_MARKED=1 refuses each request between two marks, which are requests of sizes that no other
-// request has. The first mark is refused, and so is each request after it. The second mark ends
-// that, and is refused exactly if a request came between the two. A third mark between them is
-// refused exactly if nothing, not even a granted mark, was freed since the first. So a test learns
-// from their answers what happened in between. If the program met the first two and ended well, the
+// REFUSE_MARKED=1 makes each request between two marks fail, which are requests of sizes that no
+// other request has. The first mark fails, and so does each request after it. The second mark ends
+// that, and fails exactly if a request came between the two. A third mark between them fails
+// exactly if nothing, not even a granted mark, was freed since the first. So a test learns from
+// their results what happened in between. If the program requested the first two and succeeded, the
 // exit status is 98.
 //
-// In both ways a fourth mark is refused exactly if a request that is no mark was refused before it.
-// Without REFUSE_MARKED the other three are granted, so a test that requests them is run with ample
-// memory, too. No mark counts as a request.
+// In both ways a fourth mark fails exactly if a request that isn't a mark failed before it. Without
+// REFUSE_MARKED the other three succeed, so a test that requests them is also run with ample
+// memory. No mark counts as a request.
 #define _GNU_SOURCE
 #include <stdlib.h>
 #include <sys/syscall.h>
@@ -30,11 +30,11 @@ extern void *__libc_calloc(size_t count, size_t size);
 extern void *__libc_realloc(void *block, size_t size);
 extern void __libc_free(void *block);
 
-// What the environment asks for.
+// The settings from the environment.
 static long refuse_at;
 static int marked;
 
-// What has happened so far.
+// The state so far.
 static long requested;
 static int refused;
 static int between_marks;
@@ -86,7 +86,7 @@ static int refuses_nth(size_t size) {
     return 1;
 }
 
-// Returns whether this request is refused by marks, and follows them.
+// Returns whether this request fails because of marks, and keeps track of them.
 static int refuses_between(size_t size) {
     switch (size) {
     case FIRST_MARK:

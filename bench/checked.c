@@ -39,7 +39,7 @@ static int is_layout(size_t size, size_t align) {
     return is_power_of_two(align) && size <= ((size_t)1 << 63) - align;
 }
 
-// Allocates what a handle owns.
+// Allocates the object that a handle owns.
 static void *made(checked_handle *handle, size_t size) {
     handle->box = malloc(size);
     handle->is_made = handle->box != NULL;

@@ -23,7 +23,7 @@ constexpr std::size_t request_align = 8;
 std::optional<std::pmr::unsynchronized_pool_resource> pmr;
 std::optional<std::pmr::synchronized_pool_resource> pmr_shared;
 
-// Returns options by which one chunk of the resource has room for all buckets.
+// Returns options with which one chunk of the resource has room for all buckets.
 std::pmr::pool_options options(std::uint32_t buckets, std::size_t bucket_size) {
     std::pmr::pool_options wanted;
     wanted.max_blocks_per_chunk = buckets;

@@ -1,5 +1,5 @@
 // Times the allocators with one owner and their peers on one processor, and prints a line for each
-// figure, which `report` reads. Its argument is the number of rounds.
+// figure, which `report` reads. The argument is the number of rounds.
 #include "heaps.h"
 #include "pin.h"
 #include "pool_bench.h"
@@ -32,7 +32,7 @@ typedef enum {
 
 static const char *const pattern_names[PATTERNS] = {"one", "random", "refused"};
 
-// A loop over an allocator, and whether this machine has that one.
+// A loop over an allocator, and whether this machine has that allocator.
 typedef struct {
     const char *name;
     follow *run;
@@ -60,12 +60,12 @@ static uint64_t next_random(void) {
     return state;
 }
 
-// A number below the bound.
+// Returns a number below the bound.
 static uint32_t below(uint32_t bound) {
     return (uint32_t)((next_random() >> 32) * bound >> 32);
 }
 
-// A script; how many buckets are held after it, and how many it took in all.
+// A script; how many buckets are held after it, and how many it takes in all.
 static uint32_t script[MOST_CALLS], held, born;
 static size_t calls;
 
@@ -107,7 +107,7 @@ static double seconds(void) {
     return (double)now.tv_sec + (double)now.tv_nsec * 1e-9;
 }
 
-// How long the first calls of the script take, in seconds. It ends the program if they don't take
+// Returns how many seconds the first calls of the script take. Ends the program if they don't take
 // the expected number of buckets.
 static double timed(follow *run, const task *t, size_t of, uint32_t expected) {
     double start = seconds();
@@ -124,28 +124,28 @@ static task task_of(uint32_t buckets, uint32_t bucket_size) {
     return (task){buckets, bucket_size, 8, 48};
 }
 
-// That many per cent of the buckets, rounded down.
+// Returns that many per cent of the buckets, rounded down.
 static uint32_t part(uint32_t buckets, uint32_t percent) {
     return (uint32_t)((uint64_t)buckets * percent / 100);
 }
 
-// The nanoseconds for a call of the script after the first ones, which make and fill the pool, and
-// take `first` buckets.
+// Returns the nanoseconds for a call of the script after the first calls, which make and fill the
+// pool, and take `first` buckets.
 static double call_time(follow *run, const task *t, size_t before, uint32_t first) {
-    // The first run finds what the loop before left in the caches and in the heap, and isn't
+    // The first run finds what the loop before it left in the caches and in the heap, and isn't
     // counted.
     timed(run, t, before, first);
     double made = timed(run, t, before, first);
     return (timed(run, t, calls, born) - made) * 1e9 / (double)(calls - before);
 }
 
-// How many calls a figure is of: a taking with its return, or a refusal.
+// Returns for how many calls a figure is: a taking with its return, or a refusal.
 static int calls_of(pattern p) {
     return p == REFUSED ? 1 : 2;
 }
 
-// One round of some loops over pools like this one, of which `percent` are held, each in
-// turn. The time that making and filling the pool takes is subtracted.
+// Times one round of some loops over pools like this one, of which `percent` are held, one after
+// another. The time that making and filling the pool takes is subtracted.
 static void time_each(const char *name, const loop *loops, int many, pattern p, task t,
                       uint32_t percent, size_t of) {
     fill(t.buckets, part(t.buckets, percent));
@@ -159,8 +159,8 @@ static void time_each(const char *name, const loop *loops, int many, pattern p, 
                    calls_of(p) * call_time(loops[i].run, &t, before, first));
 }
 
-// Only a full pool refuses. If filling it takes far longer than the refusals, nothing can be said
-// of them.
+// Only a full pool refuses. If filling it takes far longer than the refusals, their time can't be
+// determined.
 static void time_pools(void) {
     for (int p = 0; p < PATTERNS; p++)
         for (int size = 0; size < SIZES; size++)
@@ -170,16 +170,16 @@ static void time_pools(void) {
                               fills[fill], CALLS);
 }
 
-// What is taken is written, and read before it goes back, in buckets of a cache line: in 256 KiB,
-// and in 4 MiB.
+// Each bucket that is taken is written, and read before it goes back, in buckets of a cache line:
+// in 256 KiB, and in 4 MiB.
 static void time_written(void) {
     time_each("random written", written, WRITTEN, RANDOM, task_of(4096, 64), 50, WRITTEN_CALLS);
     time_each("random written", written, WRITTEN, RANDOM, task_of(MOST_BUCKETS, 64), 50,
               WRITTEN_CALLS);
 }
 
-// The other allocators: for each request of 48 bytes its nanoseconds, together with those of giving
-// back what it took.
+// Times the other allocators: for each request of 48 bytes its nanoseconds, together with those of
+// giving the chunk back.
 static void time_others(void) {
 #define OTHER_ENTRY(name, by, run) {name, by, run},
 
@@ -217,7 +217,7 @@ int main(int argc, char **argv) {
     open_heaps();
     look_for(pools, POOLS);
     look_for(written, WRITTEN);
-    // DPDK lets the first thread move again where it is opened first.
+    // DPDK lets the first thread move again when it is opened first.
     keep_on_a_processor(0);
     // The lines take turns, so that each has its rounds spread over the whole run.
     for (int round = 0; round < rounds; round++) {

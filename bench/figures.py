@@ -7,8 +7,9 @@ from typing import NamedTuple
 
 
 class Key(NamedTuple):
-    """Says what was timed: a call, how many threads make it, over how many buckets, how many per
-    cent of these are held, and by what."""
+    """What was timed: a call, how many threads make it, over how many buckets, how many per cent
+    of these are held, and by which allocator.
+    """
 
     call: str
     threads: int
@@ -30,14 +31,14 @@ Rounds = Mapping[Key, Mapping[int, float]]
 Figures = Mapping[Key, Times]
 
 HEAD = ["call", "threads", "buckets", "held", "by", "nanoseconds", "low", "high"]
-# Peers that take more memory if they have no free bucket, so they refuse nothing.
+# Peers that take more memory if they have no free bucket, so they never refuse.
 GROWING = ("malloc and free", "mimalloc", "pmr", "boost::interprocess")
 # Peers whose largest pool takes longer to make, which is subtracted, than the timed calls.
 SLOWLY_MADE = ("DPDK", "pmr", "boost::interprocess")
 
 
 def says_nothing(key: Key) -> bool:
-    """Returns whether what was timed is none of the peer's calls."""
+    """Returns whether the timed code is none of the peer's calls."""
     if key.call == "refused":
         return key.by in GROWING
     return key.by in SLOWLY_MADE and key.buckets == "65536" and key.call in ("one", "random")
@@ -76,8 +77,10 @@ def times_of(rounds: Rounds) -> Figures:
 
 
 def ratio(rounds: Rounds, key: Key, peers: tuple[str, ...]) -> float | None:
-    """Returns the median of a figure's ratios to the best of its peers within a round, or None if
-    nothing of them was timed."""
+    """Returns the median of a figure's ratios to the best of its peers within a round.
+
+    Returns None if none of the peers was timed.
+    """
     ours = rounds.get(key, {})
     theirs = [rounds[peer] for peer in (key._replace(by=by) for by in peers) if peer in rounds]
     found = []

@@ -1,6 +1,6 @@
 // Times parties of shared pools of several sizes, and their peers, while the pool is kept half full
 // or 99% full: by a coin each call takes a bucket, or gives back any one of those that the thread
-// holds. Each thread is kept on a processor of its own. And times a refusal by a full pool.
+// holds. Each thread is kept on a processor of its own. Also times a refusal by a full pool.
 //
 // A thread's share is half of its part of the pool, or 99% of it. It first takes more than its
 // share: seven eighths of its part, or all that the coin may let it hold. It gives back at random
@@ -8,12 +8,11 @@
 // within half of it if that is small. So a pool of 64 buckets is 25% to 75% full, and a larger one
 // 43% to 57%. If the share is 99%, the coin decides within a 256th of the part. Over a thread's
 // timed calls its share is met within a tenth on average, or the program ends. A round in which a
-// taking or a return was refused has no figure.
+// taking or a return failed has no figure.
 //
 // Arguments: the number of rounds, the number of timed calls of each thread in a round, and the
-// first letters of the kinds to be timed, if not all are meant. Prints a line for each figure,
-// which `report` reads: the nanoseconds of a taking with its return, with those of the loop, or of
-// a refusal.
+// first letters of the kinds to be timed, if not all. Prints a line for each figure, which `report`
+// reads: the nanoseconds of a taking with its return, including those of the loop, or of a refusal.
 #define BB_PLACES_ARE_NUMBERS
 #include "heaps.h"
 #include "pin.h"
@@ -44,7 +43,7 @@ enum {
 #define TAKE UINT32_MAX
 
 // The calls of a thread. First come those that fill the pool and run it in, then those that are
-// timed, and then those that give back all.
+// timed, and then those that give back all buckets.
 typedef struct {
     uint32_t *calls;
     size_t length;
@@ -55,11 +54,11 @@ typedef struct {
 
 typedef struct thread thread;
 
-// Makes the calls of the thread's script from the first up to the last, which is not made. Returns
-// 0 if a taking is refused.
+// Makes the calls of the thread's script from `first` up to `last`, which is not made. Returns 0 if
+// a taking fails.
 typedef int follow(thread *, size_t first, size_t last);
 
-// A thread with its script, its party, the places that it holds, and what it found.
+// A thread with its script, its party, the places that it holds, and its results.
 struct thread {
     unsigned number;
     follow *follow;
@@ -141,7 +140,7 @@ static uint64_t toss(script *s, const part *of, size_t calls) {
     return sum;
 }
 
-// How many calls by a coin are made before the timed ones: half of these are returns.
+// Returns how many calls by a coin are made before the timed ones: half of these are returns.
 static size_t calls_of_run_in(uint32_t share) {
     return (size_t)2 * TURNOVERS * share;
 }
@@ -166,7 +165,7 @@ static void write_script(script *s, const part *of, size_t timed) {
 }
 
 // Makes NAME_follow over a kind of pool, whose calls are NAME_take and NAME_give. A place is 0 if a
-// taking is refused. A return that is refused returns 0.
+// taking fails. A return that fails returns 0.
 #define FOLLOW(NAME)                                                   \
     static int NAME##_follow(thread *own, size_t first, size_t last) { \
         const uint32_t *calls = own->script.calls;                     \
@@ -259,7 +258,7 @@ static int dpdk_is_there(void) {
     return 1;
 }
 
-// What is timed, whether this machine has it, and how many buckets a party caches.
+// The kinds that are timed, whether this machine has them, and how many buckets a party caches.
 static const struct kind {
     const char *name;
     follow *follow;
@@ -283,7 +282,7 @@ static const struct {
     part (*of)(uint32_t buckets);
 } fillings[] = {{50, half_of}, {99, nearly_all_of}};
 
-// The buckets of the full pools that refuse.
+// The numbers of buckets of the full pools that refuse.
 static const uint32_t refusing[] = {64, 512, 4096, MOST_BUCKETS, 1 << 20};
 
 enum {
@@ -292,7 +291,7 @@ enum {
     NUMBERS_OF_THREADS = sizeof numbers_of_threads / sizeof *numbers_of_threads,
     FILLINGS = sizeof fillings / sizeof *fillings,
     REFUSING = sizeof refusing / sizeof *refusing,
-    // How many flags the timed refusals of a round look at, and how many of these there are.
+    // How many flags the timed refusals of a round look at, and how many refusals there are.
     FLAGS_OF_REFUSALS = 1 << 21,
     FEWEST_REFUSALS = 2,
     MOST_REFUSALS = 10000,

@@ -14,11 +14,19 @@ from figures import Key, Rounds, ratio, read_medians, read_rounds, times_of
 
 
 class Ratio(NamedTuple):
-    """A time through C by that of the quickest of its peers, and the most that this may be."""
+    """A time through C divided by its fastest peer's, and the most that this may be."""
 
     label: str
     key: Key
     peers: tuple[str, ...]
+    most: float
+
+
+class Limit(NamedTuple):
+    """A time through C, and the most nanoseconds that it may be."""
+
+    label: str
+    key: Key
     most: float
 
 
@@ -37,6 +45,18 @@ RATIOS = [
     Ratio("a message by number, in groups of 16", MESSAGE, ("DPDK",), 1.15),
     Ratio("a message by number, in groups of 16", MESSAGE, ("mimalloc",), 0.9),
 ]
+PROCESS_RATIOS = [
+    Ratio("a pair in a file", Key("process pair", 1, "", "", "C file take"), ("C take",), 1.05),
+    Ratio(
+        "a pair in a file, of a party that caches 8",
+        Key("process pair", 1, "", "", "C file caching take"),
+        ("C caching take",),
+        1.05,
+    ),
+]
+LIMITS = [
+    Limit("opening a file of 1,000,000 buckets", Key("open", 1, "1000000", "", "C file"), 3_000_000)
+]
 # How much slower than in the earlier run a row may be.
 SLOWER = 1.1
 # The peers by which runs are compared.
@@ -47,7 +67,7 @@ OURS = ("Rattle", "C")
 def missed(rounds: Rounds) -> list[str]:
     """Returns a line for each ratio that is too great, or wasn't measured. Prints all of them."""
     found = []
-    for each in RATIOS:
+    for each in [*RATIOS, *PROCESS_RATIOS]:
         value = ratio(rounds, each.key, each.peers)
         what = f"{each.label}, beside {' or '.join(each.peers)}"
         if value is None:
@@ -56,6 +76,20 @@ def missed(rounds: Rounds) -> list[str]:
         print(f"{value:.2f}, at most {each.most}: {what}")
         if value > each.most:
             found.append(f"{value:.2f} and not at most {each.most}: {what}")
+    return found
+
+
+def too_long(medians: Mapping[Key, float]) -> list[str]:
+    """Returns a line for each time that is too long, or wasn't measured. Prints all of them."""
+    found = []
+    for each in LIMITS:
+        if each.key not in medians:
+            found.append(f"not measured: {each.label}")
+            continue
+        what = f"at most {each.most:,.0f} ns: {each.label}"
+        print(f"{medians[each.key]:,.0f} ns, {what}")
+        if medians[each.key] > each.most:
+            found.append(f"{medians[each.key]:,.0f} ns and not {what}")
     return found
 
 
@@ -89,7 +123,7 @@ def main(words: list[str]) -> None:
     figures, landed = map(Path, words)
     rounds = read_rounds(figures)
     medians = {key: times.median for key, times in times_of(rounds).items()}
-    lines = [*missed(rounds), *slower(medians, read_medians(landed))]
+    lines = [*missed(rounds), *too_long(medians), *slower(medians, read_medians(landed))]
     print(*lines, sep="\n")
     if lines:
         sys.exit(1)

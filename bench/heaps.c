@@ -3,7 +3,7 @@
 
 heap_calls mimalloc_calls;
 
-// A library that is linked would replace the C library's own calls, so each is opened beside them.
+// A linked library would replace the C library's own calls, so each is opened beside them.
 static heap_calls opened(const char *library, const char *take, const char *give) {
     void *handle = dlopen(library, RTLD_NOW | RTLD_LOCAL);
     heap_calls found = {0, 0};

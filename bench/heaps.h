@@ -7,7 +7,7 @@
 extern "C" {
 #endif
 
-// The calls of a heap, which are NULL if there is no such library, and before `open_heaps`.
+// The calls of a heap, which are NULL if the library isn't installed, and before `open_heaps`.
 typedef struct {
     void *(*take)(size_t);
     void (*give)(void *);
@@ -17,7 +17,7 @@ extern heap_calls mimalloc_calls;
 
 void open_heaps(void);
 
-// Opens a pool, of which there is one of each kind at a time. The thread has entered it then. At
+// Opens a pool. Only one of each kind is open at a time. Afterwards the thread has entered it. At
 // most `cached` free buckets are kept for each thread. Returns 0 if the package isn't installed.
 typedef int open_pool(uint32_t buckets, size_t bucket_size, uint32_t cached);
 

@@ -8,8 +8,8 @@
 // The memory at the places of a pool, which begins at place START.
 extern unsigned char *memory;
 
-// What is done at a place that was taken, and at one that goes back: nothing; or 48 bytes are
-// written, and a word of these is read.
+// The work at a place that was taken, and at one that goes back: nothing; or 48 bytes are written,
+// and a word of these is read.
 #define UNTOUCHED(place) ((void)0)
 #define POOL_WRITTEN(place) memset(memory + ((place)-START), 1, 48)
 #define POOL_READ(place) ((void)*(volatile uint64_t *)(memory + ((place)-START)))
@@ -17,8 +17,8 @@ extern unsigned char *memory;
 #define HEAP_READ(place) ((void)*(volatile uint64_t *)(place))
 
 // Makes the loop for a kind of pool, of which it calls NAME_make, NAME_take, NAME_give and
-// NAME_drop. A place is never 0. What is kept in the end is given back, for the sake of malloc. A
-// pool that isn't there can't be made, and answers NOT_THERE.
+// NAME_drop. A place is never 0. The places that are kept in the end are given back, because of
+// malloc. If the machine doesn't have the pool, it can't be made, and the loop returns NOT_THERE.
 #define LOOP_THAT(LOOP_NAME, NAME, POOL, WRITTEN, READ)                       \
     uint64_t LOOP_NAME(const task *t, const uint32_t *script, size_t calls) { \
         POOL pool;                                                            \

@@ -1,4 +1,4 @@
-// What the loops in Rattle and the peers' loops in C share.
+// Declarations that the loops in Rattle and the peers' loops in C share.
 #include <stddef.h>
 #include <stdint.h>
 
@@ -14,14 +14,14 @@ typedef struct {
 // is at that index of those that are kept: the last place moves there.
 #define TAKE UINT32_MAX
 
-// The answer where there is no such pool.
+// The result if the machine doesn't have the pool.
 #define NOT_THERE UINT64_MAX
 
-// Makes a pool, and the calls of a script. The answer is how many buckets were taken.
+// Makes a pool, and the calls of a script. Returns how many buckets were taken.
 typedef uint64_t follow(const task *, const uint32_t *script, size_t calls);
 
-// The pools that are timed: by what, and the loop. A new one is a row here, and its loop in
-// pool_bench/src, border.c or peers.c.
+// The pools that are timed: the name of the allocator, and the loop. A new one is a row here, and
+// its loop in pool_bench/src, border.c or peers.c.
 #define POOL_ROWS(ROW)                            \
     ROW("Rattle", bench_words)                    \
     ROW("Rattle fixed", bench_fixed)              \
@@ -56,7 +56,7 @@ typedef uint64_t rounds_of(const uint32_t *sizes, size_t count, size_t align, ui
 extern rounds_of bench_bump, c_bump, checked_bump, plain_bump;
 extern rounds_of bench_one_chunk, c_one_chunk, checked_one_chunk;
 
-// The other allocators that are timed, likewise.
+// The other allocators that are timed.
 #define OTHER_ROWS(ROW)                         \
     ROW("bump", "Rattle", bench_bump)           \
     ROW("bump", "C", c_bump)                    \

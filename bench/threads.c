@@ -1,11 +1,11 @@
 // Times a bump and a list of free buckets in C, allocators of other packages, and parties of a
-// shared pool of the C library, by several threads at once, each kept on a processor of its own:
-// pairs, bursts, the slowest takings, and a queue between two threads whose receiver gives each
-// message's memory back.
+// shared pool of the C library, by several threads at the same time, each kept on a processor of
+// its own: pairs, bursts, the slowest takings, and a queue between two threads whose receiver gives
+// each message's memory back.
 //
 // Arguments: the number of rounds, the number of calls of each thread in a round, and the first
-// letters of the kinds to be timed, if not all are meant. Prints a line for each figure, as
-// shared_bench does for the shared forms in Rattle.
+// letters of the kinds to be timed, if not all. Prints a line for each figure, as shared_bench does
+// for the shared forms in Rattle.
 #define BB_PLACES_ARE_NUMBERS
 #include "heaps.h"
 #include "pin.h"
@@ -31,7 +31,7 @@ enum {
 #define NONE UINT32_MAX
 #define SIZE ((size_t)1 << 50)
 
-// What threads write while they are timed shares no cache line with anything else.
+// The variables that threads write while they are timed share no cache line with anything else.
 static _Alignas(128) _Atomic size_t used;
 static _Alignas(128) _Atomic uint64_t head;
 static _Alignas(128) _Atomic uint32_t next[BUCKETS];
@@ -39,7 +39,7 @@ static _Alignas(128) atomic_uint came;
 static _Alignas(128) unsigned threads;
 static _Alignas(128) unsigned calls;
 
-// A request for 48 bytes at 8: the place is rounded up, and the position exchanged.
+// A request for 48 bytes at multiples of 8: the place is rounded up, and the position exchanged.
 static size_t bump_pair(void) {
     size_t seen = atomic_load(&used);
     size_t place;
@@ -55,8 +55,8 @@ static uint64_t headed(uint64_t old, uint32_t i) {
     return ((old >> 32) + 1) << 32 | i;
 }
 
-// A bucket is taken from a lock-free list, whose head is exchanged together with a count: its
-// number and 1, or 0 where none is free.
+// Takes a bucket from a lock-free list, whose head is exchanged together with a count. Returns the
+// bucket's number plus 1, or 0 if none is free.
 static inline size_t list_take(void) {
     uint64_t old = atomic_load(&head);
     while ((uint32_t)old != NONE) {
@@ -68,7 +68,7 @@ static inline size_t list_take(void) {
     return 0;
 }
 
-// It is given back, by any thread.
+// Gives the bucket back, by any thread.
 static inline void list_give(size_t taken) {
     uint32_t i = (uint32_t)taken - 1;
     uint64_t old = atomic_load(&head);
@@ -111,7 +111,7 @@ static inline void party_give(size_t taken) {
     (void)bb_pool_party_deallocate(party, taken);
 }
 
-// The same by whole buckets, which are taken with no layout.
+// The same with whole buckets, which are taken without a layout.
 static inline size_t whole_take(void) {
     return bb_pool_party_take(party).place;
 }
@@ -138,7 +138,7 @@ static bb_detached detached[2 * ROOM];
 static _Thread_local unsigned sent;
 static _Thread_local unsigned prepared;
 
-// Detaches a bucket into the next of them.
+// Detaches a bucket into the next `bb_detached`.
 static inline void prepare(size_t taken) {
     if (bb_pool_party_detach(party, taken, 48, &detached[prepared % (2 * ROOM)]) != BB_OK)
         abort();
@@ -157,7 +157,7 @@ static inline void message_give(size_t taken) {
     (void)bb_pool_party_return_detached(party, (bb_detached *)taken);
 }
 
-// The same by a sender that takes and detaches a group at a time, and sends them one by one.
+// The same with a sender that takes and detaches a group at a time, and sends them one by one.
 static inline size_t group_take(void) {
     if (sent == prepared) {
         size_t taken[GROUP];
@@ -172,7 +172,7 @@ static inline size_t group_take(void) {
 
 #define group_give message_give
 
-// The same, with each bucket's number and 1 as the message. The numbers of a group wait here.
+// The same, with each bucket's number plus 1 as the message. The numbers of a group wait here.
 static _Thread_local size_t numbers[GROUP];
 
 static inline size_t number_take(void) {
@@ -191,7 +191,7 @@ static inline void number_give(size_t taken) {
     party_give(bb_pool_party_attach_number(party, (uint32_t)taken - 1, sender).place);
 }
 
-// Gives back what was detached and not sent, and ends the pool and its parties.
+// Gives back the buckets that were detached and not sent, and destroys the pool and its parties.
 static void leave_all(void) {
     party = &parties[0];
     for (int i = 0; i < 2 * ROOM; i++)
@@ -227,7 +227,7 @@ static inline void count_since(uint64_t start) {
     counts[spent < MOST_CYCLES ? spent : MOST_CYCLES - 1]++;
 }
 
-// Eight takings, and then their returns. The answer is 0 where a taking was refused.
+// Eight takings, and then their returns. Returns 0 if a taking fails.
 #define BURST_OF(BURST_NAME, TAKE, GIVE) \
     static size_t BURST_NAME(void) {     \
         size_t taken[BURST];             \
@@ -268,7 +268,7 @@ CALLS_OF(interprocess)
 CALLS_OF(party)
 CALLS_OF(whole)
 
-// The burst of a party by calls of many.
+// The burst of a party with the calls for many buckets.
 static size_t many_burst(void) {
     size_t taken[BURST];
     return bb_pool_party_take_many(party, taken, BURST).number == BURST &&
@@ -276,8 +276,8 @@ static size_t many_burst(void) {
 }
 
 // The ring of rtrb, which shared_bench has: each end owns a position, which it stores in one
-// sequentially consistent step, and keeps a copy of the other's, which it loads anew where the copy
-// says that the ring is full or empty. The positions are 128 bytes apart.
+// sequentially consistent step. It keeps a copy of the other's position, which it loads again if
+// the copy shows that the ring is full or empty. The positions are 128 bytes apart.
 static _Alignas(128) _Atomic uint64_t ring_head;
 static _Alignas(128) _Atomic uint64_t ring_tail;
 static _Alignas(128) size_t ring[ROOM];
@@ -327,7 +327,7 @@ QUEUE(group)
 QUEUE(number)
 QUEUE(none)
 
-// How a pool of another package is opened, closed, entered and left.
+// The calls that open, close, enter and leave a pool of another package.
 typedef struct {
     open_pool *open;
     pool_call *close;
@@ -342,7 +342,7 @@ static const package pmr = {pmr_shared_open, pmr_shared_close, stay, stay};
 static const package interprocess = {interprocess_open, interprocess_close, interprocess_enter,
                                      interprocess_leave};
 
-// What is timed of a kind, by its calls: a taking and its return, eight takings and then their
+// The measurements of a kind, by its calls: a taking and its return, eight takings and then their
 // returns, the slowest takings of these, and the two ends of a queue.
 typedef enum {
     PAIR,
@@ -353,8 +353,8 @@ typedef enum {
     CALL_KINDS
 } what;
 
-// A kind, its calls, the heap or the package that it calls, if it does, and how many buckets a
-// party caches.
+// A kind, its calls, the heap or the package that it calls, if any, and how many buckets a party
+// caches.
 typedef struct {
     const char *name;
     size_t (*call[CALL_KINDS])(void);
@@ -383,7 +383,7 @@ static const kind kinds[] = {
     {"ring", {NULL, NULL, NULL, ENDS(none)}, NULL, NULL, 0},
 };
 
-// Returns 1 if this machine has what the kind calls.
+// Returns 1 if this machine has everything that the kind calls.
 static int is_there(const kind *of) {
     if (of->heap)
         return of->heap->take != NULL;
@@ -410,8 +410,8 @@ enum {
     BUMP = 0
 };
 
-// A thread's calls, its party and its package, and what it found: its nanoseconds, its refused
-// calls, and how long its takings were.
+// A thread's calls, its party and its package, and its results: its nanoseconds, its failed calls,
+// and how long its takings were.
 typedef struct {
     unsigned number;
     size_t (*call)(void);
@@ -470,7 +470,7 @@ static void open_all(const kind *of) {
     join_all(of->cached);
 }
 
-// The cycles that 99.9% of the counted takings take at most.
+// Returns the cycles that 99.9% of the counted takings take at most.
 static unsigned most_cycles(const uint32_t *found) {
     uint64_t all = 0;
     uint64_t below = 0;
@@ -495,9 +495,9 @@ static void time_the_clock(void) {
     cycles_in_a_nanosecond = (double)(cycles() - first) / nanos(start, end);
 }
 
-// Runs the threads, and returns the nanoseconds of a thread's taking and its return, those
-// that 99.9% of the takings take at most, or those of a message: from the gate to the last one, of
-// which the receiver has given the memory back.
+// Runs the threads. Returns the nanoseconds of a thread's taking and its return, those that 99.9%
+// of the takings take at most, or those of a message: from the gate to the last message whose
+// memory the receiver has given back.
 static double timed(const kind *of, what it) {
     static uint32_t found[MOST_THREADS][MOST_CYCLES];
     pthread_t all[MOST_THREADS];

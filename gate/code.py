@@ -8,7 +8,7 @@ from collections.abc import Iterator
 # A text or a character, either of which may hold `//` or a brace.
 TEXT = r'"(?:\\.|[^"\\])*"|\'(?:\\.[^\'\n]*|[^\'\\\n])\''
 TEXT_OR_COMMENT = re.compile(rf"({TEXT})|//[^\n]*", re.S)
-# What isn't read here, so that code after it, or in it, could be left out.
+# Text that isn't read here, so that code after it, or in it, could be left out.
 UNREADABLE = re.compile(r'/\*|\*/|\b[bc]?r#*"|\bmacro_rules\b')
 # A clause or a ghost item, up to its braces or its semicolon.
 CLAUSE_OR_GHOST = re.compile(

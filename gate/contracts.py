@@ -32,7 +32,7 @@ from gate.process import Failed, say
 
 # The wrong bodies of a crate that the check has to refuse.
 EDIT_PATH = re.compile(r"crates/\w+/must-fail/[^/]+\.edit")
-# How the column of a table begins that names what carries a promise.
+# The beginning of the head of a table's column that names what carries a promise.
 CALLS = re.compile(r"Carried by|Calls\b")
 NAMES_OF_A_CELL = re.compile(r"((?:(?:, )?`[\w:]+`)+)((?::(?:(?:,| and|)+ `[a-z_]+`)+)?)")
 
@@ -51,7 +51,7 @@ def edits_of(texts: Mapping[str, str]) -> list[Edit]:
 
 
 def is_same(call: Call, other: Call) -> bool:
-    """Returns whether a contract or a body of one call is that of the other."""
+    """Returns whether a contract or a body of one call is the same as that of the other."""
     if call.place == other.place:
         return True
     if call.trait and other.trait:
@@ -70,7 +70,7 @@ def mutants_of(index: Index, call: Call, edits: Iterable[Edit]) -> Iterator[str]
 
 
 def lines_of_call(index: Index, call: Call, edits: list[Edit]) -> list[str]:
-    """Returns what is printed of a call."""
+    """Returns the printed lines of a call."""
     lines = [f"{call.title}  {call.place}"]
     details = []
     if call.comment:
@@ -84,7 +84,7 @@ def lines_of_call(index: Index, call: Call, edits: list[Edit]) -> list[str]:
 
 
 def lines_of_definition(definition: Definition) -> list[str]:
-    """Returns what is printed of a definition."""
+    """Returns the printed lines of a definition."""
     item = definition.item
     lines = [f"{item.name}  {definition.place}"]
     if item.comment:
@@ -95,7 +95,7 @@ def lines_of_definition(definition: Definition) -> list[str]:
 
 
 def lines_of_type(index: Index, type: Type) -> list[str]:
-    """Returns what is printed of a type: what it is, and its calls, each in a line."""
+    """Returns the printed lines of a type: its kind, and its calls, each in a line."""
     lines = [f"{type.item.kind} {type.item.name}  {type.place}"]
     if type.item.comment:
         lines.append(f"    {rattle.first_sentence(type.item.comment)}")
@@ -108,7 +108,7 @@ def lines_of_type(index: Index, type: Type) -> list[str]:
 
 
 def look_up(index: Index, name: str, labels: list[str]) -> list[list[str]]:
-    """Returns what is printed of each thing that has a name and these labels."""
+    """Returns the printed lines of each thing that has a name and these labels."""
     edits = edits_of(index.texts)
     found = []
     for definition in index.definitions_named(name):
@@ -136,7 +136,8 @@ def with_label(index: Index, label: str) -> list[list[str]]:
 def labels(index: Index) -> list[str]:
     """Returns a line for each call under each of its names, with its labels, sorted.
 
-    So it does for each definition that has fields, which are clauses of the calls that cite it.
+    Definitions that have fields get lines, too: their fields are clauses of the calls that cite
+    them.
     """
     lines = []
     for call in [*index.declared, *index.inherited]:
@@ -172,7 +173,7 @@ def names_of(page: str) -> Iterator[tuple[str, list[str]]]:
 
 
 def untrue(index: Index) -> Iterator[str]:
-    """Yields what PROMISES.md says and isn't so: names, labels, and numbers of lines."""
+    """Yields everything in PROMISES.md that is wrong: names, labels, and numbers of lines."""
     for name, labels in names_of(index.texts[counts.PAGE].partition(counts.HEADING)[0]):
         if not index.is_labelled(name, labels):
             words = " ".join([name, *labels])
@@ -181,7 +182,7 @@ def untrue(index: Index) -> Iterator[str]:
 
 
 def fix(top: Path) -> list[str]:
-    """Writes what files repeat, and returns a line for each file that has changed.
+    """Writes the texts that files repeat, and returns a line for each file that has changed.
 
     A further line names each thing that `docs/public.txt` no longer has.
     """
@@ -222,7 +223,7 @@ def index_lines(index: Index) -> list[str]:
 
 
 def found_lines(index: Index, name: str, labels: list[str]) -> list[str]:
-    """Returns what is printed of a name. Raises Failed if nothing has it."""
+    """Returns the printed lines of a name. Raises Failed if nothing has it."""
     found = look_up(index, name, labels)
     if not found and not labels:
         found = with_label(index, name)
@@ -233,7 +234,7 @@ def found_lines(index: Index, name: str, labels: list[str]) -> list[str]:
 
 
 def check(index: Index) -> None:
-    """Raises Failed if PROMISES.md says what isn't so."""
+    """Raises Failed if PROMISES.md has a wrong name, label or number."""
     found = list(untrue(index))
     if found:
         raise Failed("\n".join([*found, f"contracts: {len(found)} findings"]))

@@ -1,7 +1,7 @@
-"""The crates of crates.txt, what their proofs read, and lanes to prove them in.
+"""The crates of crates.txt, the files that their proofs read, and lanes to prove them in.
 
-A lane is a copy of one crate over the libraries that were built below it. `rt` locks the folders
-that it works in, so crates are proved side by side, each in a lane of its own.
+A lane is a copy of one crate over the libraries that were built below it. `rt` locks the folders in
+which it works, so crates are proved side by side, each in a lane of its own.
 """
 
 import fcntl
@@ -44,7 +44,7 @@ class Crate:
 
 
 def read_line(line: str) -> Crate | None:
-    """Returns the crate of a line of crates.txt, or None of a comment or a blank line."""
+    """Returns the crate of a line of crates.txt, or None for a comment or a blank line."""
     match = re.match(r"(\w+)(.*?):(.*)", line)
     if match is None:
         return None
@@ -66,11 +66,11 @@ class Workspace:
         return self.top / "crates" / name
 
     def out(self, name: str) -> Path:
-        """Returns the folder in which `rt` keeps what it makes of a crate."""
+        """Returns the folder in which `rt` keeps its output for a crate."""
         return self.folder(name) / "out"
 
     def below(self, name: str) -> list[str]:
-        """Returns the crates of this checkout that a crate stands on, lowest first."""
+        """Returns the crates of this checkout on which a crate depends, lowest first."""
         found: dict[str, None] = {}
         for dependency in self.crates[name].dependencies:
             if dependency in self.crates:
@@ -92,7 +92,7 @@ class Workspace:
         return any(b"#[test]" in file.read_bytes() for file in self.sources(name))
 
     def sum_of(self, name: str) -> str:
-        """Returns a checksum of all that the proof of a crate reads.
+        """Returns a checksum of everything that the proof of a crate reads.
 
         That is the kit, and the lines and files of this crate and of those below.
         """
@@ -114,7 +114,7 @@ class Workspace:
         return lock
 
     def lane(self, name: str, label: str = "0") -> "Workspace":
-        """Makes a lane of a crate in its out/, with what earlier checks kept of the crate.
+        """Makes a lane of a crate in its out/, with the results of earlier checks of the crate.
 
         Returns it as a checkout of its own, which has this crate and those below it.
         """
@@ -135,13 +135,13 @@ class Workspace:
 
 
 def keep(made: Path, target: Path, copy: Callable[[str, str], object]) -> None:
-    """Brings what an earlier check kept, if there is any, into a lane."""
+    """Brings the results that an earlier check kept, if there are any, into a lane."""
     if made.is_dir():
         shutil.copytree(made, target, copy_function=copy)
 
 
 def link(one: str, other: str) -> None:
-    """Gives a file that `rt` replaces, and never writes into, a second name; copies any other."""
+    """Gives a second name to a file that `rt` replaces, and never writes into; copies any other."""
     if one.endswith(".oantt"):
         os.link(one, other)
     else:

@@ -11,11 +11,11 @@ MADE = frozenset({".git", "__pycache__", ".mypy_cache", "out", "target"})
 
 
 class TreeChanged(Failed):
-    """A file or a folder that a walk has met isn't there any more, so what was read is not whole."""
+    """A file or a folder that a walk has met isn't there any more, so not everything was read."""
 
 
 def files_below(top: Path, skipped: Collection[str] = MADE) -> Iterator[Path]:
-    """Yields the files below a folder, in order, but none in a folder whose own name is skipped.
+    """Yields the files below a folder, in order, except in folders whose own names are skipped.
 
     Names of folders above `top` don't count, so a checkout may be below a folder named `out`.
     Raises TreeChanged if a folder vanishes during the walk.
@@ -33,7 +33,7 @@ def files_below(top: Path, skipped: Collection[str] = MADE) -> Iterator[Path]:
 def texts_below(top: Path, skipped: Collection[str] = MADE) -> dict[str, str]:
     """Returns the text of each file below a folder, by its path from there with `/`.
 
-    Bytes that are no UTF-8 are replaced. Raises TreeChanged if a file or a folder vanishes during
+    Bytes that aren't UTF-8 are replaced. Raises TreeChanged if a file or a folder vanishes during
     the walk.
     """
     found = {}

@@ -1,8 +1,9 @@
-"""Runs what hosts have of the library for C, FILE or one that `rt lib` proves: `.ci/run-c [FILE]`.
+"""Runs everything that hosts use of the library for C, FILE or one that `rt lib` proves: `.ci/run-c
+[FILE]`.
 
-That is its installation, the release in dist, the examples, the Rust crate, and what GUIDE.md and
-README.md show, from a copy. Once a release of the library is made, nothing may ask for `rt`. The
-release in dist has to have the same bytes, if the same kit and tools made it.
+That is its installation, the release in dist, the examples, the Rust crate, and the programs that
+GUIDE.md and README.md show, from a copy. Once a release of the library is made, nothing may call
+`rt`. The release in dist has to have the same bytes, if the same kit and tools made it.
 """
 
 import filecmp
@@ -18,12 +19,12 @@ from gate.files import MADE
 from gate.process import Failed, has, must_run, must_show, say
 from gate.temporary import temporary_folder
 
-# What is in the place of `rt` once the library is built.
+# The program that replaces `rt` once the library is built.
 NO_RT = '#!/bin/sh\necho "rt was asked: $*" >&2\nexit 1\n'
 
 
 class Hosts:
-    """One run over a library, with a folder for what it makes."""
+    """One run over a library, with a folder for its output."""
 
     def __init__(self, top: Path, work: Path) -> None:
         self.top = top
@@ -73,7 +74,7 @@ class Hosts:
         )
 
     def run_examples(self, environment: Mapping[str, str]) -> None:
-        """Builds and runs the examples by the compilers that are there, and under each checker."""
+        """Builds and runs the examples with the installed compilers, and under each checker."""
         make = ["make", "-s", "-C", "examples/c"]
         prefix = f"PREFIX={self.prefix}"
         words = [*make, "check", prefix, f"WORK={self.work / 'examples'}"]
@@ -109,8 +110,10 @@ class Hosts:
             )
 
     def run_pages(self, environment: Mapping[str, str]) -> None:
-        """Runs what GUIDE.md and README.md show for C, from a fresh copy of the repository."""
+        """Runs the programs of GUIDE.md and README.md for C, from a fresh copy of the tree."""
         if not has("pkg-config", environment):
+            return
+        if not has("c++", environment):
             return
         script = must_run([self.top / ".ci/pages", "--hosts"], self.top)
         shown = self.work / "shown"
@@ -128,7 +131,7 @@ class Hosts:
 
 
 def run(library: Path | None) -> None:
-    """Runs what hosts have of a library. Raises Failed if something of it fails."""
+    """Runs everything that hosts use of a library. Raises Failed if something fails."""
     with temporary_folder() as work:
         hosts = Hosts(TOP, work)
         hosts.make_release(library)

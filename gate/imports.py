@@ -81,7 +81,7 @@ def merged(imports: Iterable[Import]) -> list[str]:
             names.setdefault(key, set()).update(each.names)
     for (module, words, indentation, end), listed in names.items():
         listing = ", ".join(sorted(listed))
-        # A brace and an exclamation mark side by side would be one word, which `rt fmt` parts.
+        # A brace next to an exclamation mark would be one word, which `rt fmt` separates.
         braces = f"{{ {listing}}}" if listing.startswith("!") else f"{{{listing}}}"
         found.append((module, words, f"{indentation}{words} {module}.{braces}{end}"))
     return [line for _, _, line in sorted(dict.fromkeys(found))]

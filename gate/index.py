@@ -29,8 +29,8 @@ class Place:
 class Call:
     """A public call, under one of its names.
 
-    `within` has the crate and the modules that the call is in. `place` is where its body is, or the
-    impl if a trait has the body. `contract` is where its clauses are.
+    `within` has the crate and the modules of the call. `place` is the place of its body, or of the
+    impl if a trait has the body. `contract` is the place of its clauses.
     """
 
     owner: str
@@ -66,7 +66,7 @@ def labels_of(call: Call) -> list[str]:
 
 @dataclass(frozen=True)
 class Type:
-    """A public type, and its steps: what it is another name of, each with its parameters."""
+    """A public type, and its steps: the types that it is another name of, with parameters."""
 
     item: rattle.TypeItem
     within: tuple[str, ...]
@@ -85,9 +85,10 @@ class Definition:
 
 @dataclass(frozen=True)
 class File:
-    """A file of `src`: its path, the crate and the modules that it is, and what it declares.
+    """A file of `src`: its path, its crate and modules, and its declarations.
 
-    `imported` has the module of `specs`, as `CRATE::FILE`, from which it has each word of a clause.
+    `imported` has the module of `specs`, as `CRATE::FILE`, from which the file has each word of a
+    clause.
     """
 
     path: str
@@ -124,7 +125,7 @@ def fits(
     name: rattle.TypeName,
     others: frozenset[str],
 ) -> bool:
-    """Returns whether two types may be one, where both may have parameters."""
+    """Returns whether two types may be the same, if both may have parameters."""
     if pattern.name in parameters or name.name in others:
         return True
     if pattern.name != name.name or len(pattern.arguments) != len(name.arguments):
@@ -163,7 +164,7 @@ def read_below(text: str) -> dict[str, set[str]]:
 
 
 def with_clause(function: rattle.Function) -> rattle.Function:
-    """Returns a method of a trait of a library, whose clause the sources don't show, with one."""
+    """Returns a method of a library's trait, whose clause the sources don't show, with one."""
     return replace(function, clauses=function.clauses or (rattle.Clause("ensures", "", ""),))
 
 
@@ -184,7 +185,7 @@ class Index:
         self.inherited = [call for type in self.types for call in self.read_inherited(type)]
 
     def read(self) -> None:
-        """Reads all files of `src` but tests, and all of `specs`."""
+        """Reads all files of `src` except tests, and all of `specs`."""
         for full, text in self.texts.items():
             path = full.removeprefix("crates/")
             if path == full:
@@ -210,7 +211,7 @@ class Index:
     def type_of(
         self, file: File, item: rattle.TypeItem, aliases: dict[str, rattle.TypeItem]
     ) -> Type:
-        """Returns a type with its steps, of which an alias has more than one."""
+        """Returns a type with its steps; an alias has more than one step."""
         step: rattle.TypeItem | None = item
         own = rattle.TypeName(item.name, tuple(map(rattle.TypeName, sorted(item.parameters))))
         steps = [(own, item.parameters)]
@@ -356,8 +357,8 @@ class Index:
     def has_promise(self, words: str, label: str) -> bool:
         """Returns whether a call of this name has a clause that a label names.
 
-        The label is the clause's own. A clause without one is named so, or by a proposition that
-        it cites, or by a field of that.
+        The label is the clause's own. A clause without one has the name of a proposition that it
+        cites, or of a field of that proposition.
         """
         return any(label in self.names_of_clauses(call) for call in self.calls(words))
 

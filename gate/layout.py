@@ -1,8 +1,8 @@
-"""Layout and slips that tools find, in C, C++, Rust, Python and shell.
+"""Layout and faults that tools find, in C, C++, Rust, Python and shell.
 
 `rt ci` checks the layout of the files of Rattle. A tool that isn't installed is skipped, and a line
-says so; likewise a formatter of another version than the files are laid out by, since versions
-differ in what they write.
+says so. So is a formatter whose version isn't the one by which the files are laid out, since
+versions differ in their output.
 """
 
 import os
@@ -39,7 +39,7 @@ class Sources:
 
 @dataclass(frozen=True)
 class Check:
-    """A tool's command, and the folder that it is run in."""
+    """A tool's command, and the folder in which it is run."""
 
     tool: str
     words: Sequence[str | Path]
@@ -47,7 +47,7 @@ class Check:
 
 
 def first_line(file: Path) -> str:
-    """Returns the first line of a file that is a script, and an empty text of any other."""
+    """Returns the first line of a file that is a script, and an empty text for any other."""
     with file.open("rb") as opened:
         line = opened.readline(200)
     return line.decode(errors="replace").rstrip("\n") if line.startswith(b"#!") else ""
@@ -69,7 +69,7 @@ def find_sources(top: Path) -> Sources:
 
 
 def checks(top: Path) -> list[Check]:
-    """Returns the checks of a checkout: those of each language that it has files of."""
+    """Returns the checks of a checkout: those of each language of which it has files."""
     sources = find_sources(top)
     found = []
     if sources.c:
@@ -90,7 +90,7 @@ def checks(top: Path) -> list[Check]:
 
 
 def is_layout_of(tool: str, environment: Mapping[str, str]) -> bool:
-    """Returns whether a tool has the version that files are laid out by. A line says so if not."""
+    """Returns whether a tool has the version by which files are laid out. A line says if not."""
     if tool not in LAYOUT_OF:
         return True
     version = process.run([tool, "--version"], TOP, environment).text.partition("\n")[0]
@@ -101,7 +101,7 @@ def is_layout_of(tool: str, environment: Mapping[str, str]) -> bool:
 
 
 def findings(check: Check, environment: Mapping[str, str]) -> str | None:
-    """Returns what a tool finds, or None if nothing, or if it can't be run."""
+    """Returns the findings of a tool, or None if it finds nothing or can't be run."""
     if not has(check.tool, environment) or not is_layout_of(check.tool, environment):
         return None
     ran = process.run(check.words, check.folder, environment)
@@ -128,7 +128,7 @@ def install() -> None:
 
 
 def run(top: Path) -> None:
-    """Runs each check of a checkout. Raises Failed, with all that was found, if there is anything."""
+    """Runs each check of a checkout. Raises Failed, with all findings, if there are any."""
     with temporary_folder() as work:
         path = f"{os.environ['PATH']}:{Path.home() / '.cargo/bin'}"
         environment = {**os.environ, "PATH": path, "CARGO_TARGET_DIR": str(work)}

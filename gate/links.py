@@ -61,7 +61,7 @@ class DocLinks:
         self.files = {modules_of(name): text for name, text in self.sources.items()}
 
     def dead(self) -> Iterator[str]:
-        """Yields each link of a doc comment to what isn't there."""
+        """Yields each link of a doc comment to an item that isn't there."""
         for path, text in sorted(self.sources.items()):
             for number, line in enumerate(text.split("\n"), 1):
                 if re.match(r"\s*//[/!]", line) is None:

@@ -1,9 +1,9 @@
 """Runs the proved build of memrun, and reads both of its streams.
 
 `.ci/run-memrun` runs it on its stored script, on the worked scripts of docs/script-format.md, on
-scripts of each exit status, and on scripts of thousands of lines. The pictures of the pages are those
-of their script. `.ci/run-memrun REFUSE.SO` runs it
-with each request for memory refused in turn (.ci/refuse.c); nothing is written then.
+scripts of each exit status, and on scripts of thousands of lines. The pictures of the pages are
+those of their script. `.ci/run-memrun REFUSE.SO` runs it with each request for memory failing in
+turn (.ci/refuse.c); nothing is written then.
 """
 
 import os
@@ -24,7 +24,7 @@ OK = 0
 REFUSED = 2
 IO_FAILED = 3
 OUT_OF_MEMORY = 4
-# The exit status that .ci/refuse.c gives a program from which no request was refused.
+# The exit status that .ci/refuse.c gives a program of which no request failed.
 NONE_REFUSED = 99
 # No script of these makes this many requests for memory.
 MOST_REQUESTS = 1000
@@ -54,7 +54,7 @@ class Ended:
 
 @dataclass(frozen=True)
 class Setting:
-    """What memrun is run in: a file in place of a script or of its output, and its environment."""
+    """The setting of a run: a file instead of a script or of its output, and the environment."""
 
     input_file: Path | None = None
     output_file: Path | None = None
@@ -77,7 +77,7 @@ def run(text: str, setting: Setting = Setting()) -> Ended:
 
 
 def stream(file: Path | None, how: int, files: ExitStack) -> int:
-    """Opens a file for a stream of memrun, or asks for a pipe if there is none."""
+    """Opens a file for a stream of memrun, or returns a pipe if there is none."""
     if file is None:
         return subprocess.PIPE
     opened = os.open(file, how)
@@ -136,16 +136,16 @@ def stored() -> Script:
 
 
 def worked() -> list[Script]:
-    """Returns the worked scripts of docs/script-format.md, with the lines that stand beside them."""
+    """Returns the worked scripts of docs/script-format.md, with the lines beside them."""
     page = (TOP / "docs/script-format.md").read_text(encoding="utf-8")
     part = page.partition("## One script of each kind\n")[2].partition("\n## ")[0]
     return [worked_script(block) for block in re.findall(r"(?:^    .*\n)+", part, re.M)]
 
 
 def worked_script(block: str) -> Script:
-    """Reads a worked script: on each line a command and, two blanks after it, what is written.
+    """Reads a worked script: on each line a command and, after two blanks, its output.
 
-    A line may also have only what is written.
+    A line may also have only output.
     """
     commands = []
     lines = []
@@ -165,7 +165,7 @@ def numbered(count: int, size: int) -> list[str]:
     return [f"chunk P{number} {size}" for number in range(count)]
 
 
-# A pool of 5,000 buckets, which makes output of more than any buffer.
+# A pool of 5,000 buckets, whose output is larger than any buffer.
 LARGE_POOL = " 4096 5242880000 1048576 4096\n"
 
 POOLS = [
@@ -218,7 +218,7 @@ LONG = [
         f"bump 4096 {2**40}\n" + 5000 * "alloc 1048576 1048576\n" + "free 4999\n",
         [*[f"chunk {number * 2**20} 1048576" for number in range(1, 5001)], "released"],
     ),
-    # Each bucket is given once, and one request more is refused.
+    # Each bucket is given once, and a further request is refused.
     Script(
         "pool" + LARGE_POOL + 5000 * "alloc 1048576 4096\n" + "alloc 0 1\nfree 0\n",
         [*numbered(5000, 1048576), "OutOfMemory", "released"],
@@ -227,7 +227,7 @@ LONG = [
         "fixed" + LARGE_POOL + FIXED_BUCKETS * "alloc 1048576 4096\n" + "alloc 0 1\nfree 0\n",
         [*numbered(FIXED_BUCKETS, 1048576), "OutOfMemory", "released"],
     ),
-    # The bucket that comes back is the only one that is free.
+    # The bucket that comes back is the only free one.
     Script(
         "loan-pool"
         + LARGE_POOL
@@ -248,7 +248,7 @@ LONG = [
     ),
 ]
 
-# Scripts that take memory, with the lines that are written if all of it is there. The loan book
+# Scripts that take memory, with the lines that are written if all requests succeed. The loan book
 # grows several times.
 MEMORY = [
     Script(
@@ -301,7 +301,7 @@ def run_scripts() -> None:
 
 
 def run_out_of_memory(library: Path) -> None:
-    """Runs memrun with each request for memory refused, one a run, by a library that does so."""
+    """Runs memrun with each request for memory failing, one in each run, by a library."""
     count = 0
     for script in [*MEMORY, *POOLS, stored(), *worked()]:
         count += refuse_in_turn(script, library)
@@ -309,9 +309,9 @@ def run_out_of_memory(library: Path) -> None:
 
 
 def refuse_in_turn(script: Script, library: Path) -> int:
-    """Runs a script with its first request refused, then its second, until none is left.
+    """Runs a script with its first request failing, then its second, until none is left.
 
-    At least one request has to be refused. Returns the number of runs.
+    At least one request has to fail. Returns the number of runs.
     """
     for at in range(1, MOST_REQUESTS):
         refused = Setting(environment={"REFUSE_AT": str(at), "LD_PRELOAD": str(library)})

@@ -23,7 +23,7 @@ from gate.process import Failed, Finished, say
 
 
 class Outcome(Enum):
-    """What a check says of an edit. Only the first passes the gate."""
+    """A check's verdict on an edit. Only the first passes the gate."""
 
     REFUSED = "refused"
     NOT_REFUSED = "NOT REFUSED"
@@ -33,7 +33,7 @@ class Outcome(Enum):
 
 @dataclass(frozen=True)
 class Judgement:
-    """An edit's file with the outcome, and what it rests on."""
+    """An edit's file with the outcome, and the reason."""
 
     path: Path
     outcome: Outcome
@@ -53,7 +53,7 @@ class Round:
     texts: dict[str, str] = field(default_factory=dict)
 
     def add(self, edit: Edit) -> None:
-        """Adds an edit. Raises BadEdit if it can't be applied to what the others made."""
+        """Adds an edit. Raises BadEdit if it can't be applied after the others."""
 
         def read(file: str) -> str:
             return self.texts[file] if file in self.texts else self.read(file)
@@ -119,8 +119,8 @@ def rounds_of(workspace: Workspace, crate: str) -> Rounds:
 def judge(round_: Round, check: Check) -> list[Judgement]:
     """Judges each edit of a round.
 
-    If an edit has no verdict, since a text of the round is no program, each edit without an open
-    goal is checked once more by itself.
+    If an edit has no verdict, because a text of the round isn't a program, each edit without an
+    open goal is checked once more by itself.
     """
     said = check(round_)
     found = []
@@ -147,7 +147,7 @@ def judgement(edit: Edit, outcome: Outcome, reason: str) -> Judgement:
 
 
 def without_verdict(edit: Edit, said: Finished) -> Judgement:
-    """Judges an edit by itself, of whose function a check says nothing."""
+    """Judges an edit by itself, if a check has no verdict on its function."""
     errors = rt_output.compile_errors(said.text)
     if errors:
         return judgement(edit, Outcome.BAD_EDIT, errors[0])

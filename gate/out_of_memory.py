@@ -1,8 +1,8 @@
-"""OOM tests: runs each test of a module out_of_memory with its requests for memory refused.
+"""OOM tests: runs each test of a module out_of_memory with its requests for memory failing.
 
-First the first request is refused (.ci/refuse.c), then the second, and so on, until none is left.
-Tests of a module after_making are run once more, with each request refused that comes after the
-making. Then memrun is run likewise.
+First the first request fails (.ci/refuse.c), then the second, and so on, until none is left. Tests
+of a module after_making are run once more, with each request failing that comes after the making of
+values. Then memrun is run in the same way.
 
 The tests are proved builds: `rt test` leaves them, or `rt ci` in a copy, `.ci/out-of-memory COPY`.
 """
@@ -18,8 +18,8 @@ from gate.crates import TOP, Workspace
 from gate.process import Failed, Finished, must_run, say
 from gate.temporary import temporary_folder
 
-# The exit statuses that .ci/refuse.c gives a program that ended well: if the request that was to be
-# refused never came, and if the program met the two marks.
+# The exit statuses that .ci/refuse.c gives a program that succeeded: if the request that was to
+# fail never came, and if the program met the two marks.
 NONE_REFUSED = 99
 MET_MARKS = 98
 # No test makes this many requests.
@@ -34,18 +34,18 @@ class OomTest:
     name: str
 
     def run(self, library: Path, variables: Mapping[str, str]) -> Finished:
-        """Runs the test with refused requests, as the variables say."""
+        """Runs the test with failing requests, as the variables say."""
         environment = {**os.environ, **variables, "LD_PRELOAD": str(library)}
         return process.run([self.program, self.name], self.program.parent, environment)
 
     @property
     def is_after_making(self) -> bool:
-        """Returns whether the test marks where its making ends."""
+        """Returns whether the test marks where the making of its values ends."""
         return "::after_making::" in self.name
 
 
 def build_library(top: Path, folder: Path) -> Path:
-    """Builds the library that refuses requests, in a folder."""
+    """Builds the library that makes requests fail, in a folder."""
     library = folder / "refuse.so"
     must_run(["cc", "-O1", "-fPIC", "-shared", "-o", library, ".ci/refuse.c"], top)
     return library
@@ -70,7 +70,10 @@ def tests_of(program: Path) -> list[OomTest]:
 
 
 def refuse_in_turn(test: OomTest, library: Path) -> None:
-    """Runs a test with each of its requests refused, one a run. Raises Failed if it doesn't hold."""
+    """Runs a test with each of its requests failing, one in each run.
+
+    Raises Failed if the test fails.
+    """
     for at in range(1, MOST_REQUESTS):
         said = test.run(library, {"REFUSE_AT": str(at)})
         if said.status == NONE_REFUSED:
@@ -81,7 +84,10 @@ def refuse_in_turn(test: OomTest, library: Path) -> None:
 
 
 def refuse_after_making(test: OomTest, library: Path) -> None:
-    """Runs a test with all memory refused after the making. Raises Failed if it doesn't hold."""
+    """Runs a test with all requests failing after the making of values.
+
+    Raises Failed if the test fails.
+    """
     said = test.run(library, {"REFUSE_MARKED": "1"})
     if said.status != MET_MARKS:
         raise Failed(f"{said.text}\n{test.name}: failed with memory refused after the making")
@@ -104,7 +110,7 @@ def run_tests(workspace: Workspace, built: Path, library: Path) -> int:
 def run(top: Path, built: Path) -> None:
     """Runs all OOM tests of a checkout, and memrun, whose tests are built in another one.
 
-    Raises Failed if a test doesn't hold, or if there is none.
+    Raises Failed if a test fails, or if there is none.
     """
     with temporary_folder() as work:
         library = build_library(top, work)

@@ -5,9 +5,9 @@
 
 Each example of README.md and GUIDE.md is in that script, or in a file that is proved or that tests
 run. What pages and comments name is there, and so is what they link to. PROMISES.md and the edits
-name calls with labels of their clauses. Numbers that a page repeats are right. No text is new by
-which a call of what threads share could wait, and the files that a person has to read are as they
-were read.
+name calls with labels of their clauses. Numbers that a page repeats are right. Pages and comments
+that users read are free of the words in `gate/wording.py`. No text is new by which a call of what
+threads share could wait, and the files that a person has to read are as they were read.
 """
 
 import re
@@ -16,7 +16,7 @@ from dataclasses import dataclass
 from fnmatch import filter as matching
 from pathlib import Path
 
-from gate import contracts, links, places, process, public, readings, versions
+from gate import contracts, links, places, process, public, readings, versions, wording
 from gate.crates import TOP, Workspace
 from gate.edits import BadEdit, parse_edit
 from gate.files import TreeChanged, texts_below
@@ -44,7 +44,7 @@ ATTEMPTS = 3
 
 @dataclass(frozen=True)
 class Tree:
-    """A checkout: its texts by their paths, the words of those that are no pages, and its index."""
+    """A checkout: its texts by their paths, the words of those that aren't pages, and its index."""
 
     top: Path
     texts: Mapping[str, str]
@@ -63,7 +63,7 @@ class Tree:
 def read_texts(top: Path, read: Callable[[Path], dict[str, str]] = texts_below) -> dict[str, str]:
     """Returns the texts of a checkout, which others may write to meanwhile.
 
-    Where a file vanishes while it is read, all is read again. Raises TreeChanged after some times.
+    If a file vanishes while it is read, all is read again. Raises TreeChanged after some attempts.
     """
     for _ in range(ATTEMPTS - 1):
         try:
@@ -196,7 +196,7 @@ def wrong_promises(tree: Tree) -> Iterator[str]:
 
 
 def long_subject(top: Path) -> Iterator[str]:
-    """Yields the subject of the last commit if it is too long, where the checkout is one of git."""
+    """Yields the subject of the last commit if it is too long and the checkout is one of git."""
     if not (top / ".git").exists():
         return
     shown = process.run(["git", "log", "-1", "--format=%s"], top)
@@ -206,7 +206,7 @@ def long_subject(top: Path) -> Iterator[str]:
 
 
 def findings(tree: Tree) -> Iterator[str]:
-    """Yields all that isn't so."""
+    """Yields all findings."""
     yield from untested_examples(tree)
     yield from lost_examples(tree)
     yield from lost_names(tree)
@@ -219,22 +219,25 @@ def findings(tree: Tree) -> Iterator[str]:
     yield from wrong_promises(tree)
     yield from unnamed_crates(tree)
     yield from wrong_first_words(tree)
+    yield from wording.wrong(tree.texts)
+    yield from wording.unused(tree.texts)
     yield from places.findings(tree.texts)
     yield from readings.findings(tree.texts)
     yield from long_subject(tree.top)
 
 
 def hosts(page: str) -> Iterator[str]:
-    """Yields a script of what a page shows from C, in parts.
+    """Yields a script of the programs and commands that a page shows for C, in parts.
 
-    A text of C goes into the file that the line above it names. Raises Failed if none is named.
+    A text of C or C++ goes into the file that the line above it names. Raises Failed if none is
+    named.
     """
-    blocks = re.findall(r"(?:`([\w.]+)`:\n\n)?^```(sh|c)\n(.*?)^```$", page, re.M | re.S)
+    blocks = re.findall(r"(?:`([\w.]+)`:\n\n)?^```(sh|c|cpp)\n(.*?)^```$", page, re.M | re.S)
     for file, language, text in blocks:
         if language == "sh":
             yield text
         elif not file:
-            raise Failed(f"pages: a program in C whose file isn't named:\n{text}")
+            raise Failed(f"pages: a program whose file isn't named:\n{text}")
         else:
             yield f"cat > {file} <<'END'\n{text}END\n"
 

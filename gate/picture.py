@@ -31,9 +31,9 @@ PART = "## Pictures\n"
 SVG = TOP / "docs/picture.svg"
 # The most buckets that a picture has room for.
 MOST_BUCKETS = 1024
-# A fixed pool has no more buckets.
+# A fixed pool has at most that many buckets.
 FIXED_BUCKETS = 512
-# The columns of a region in a text, of which each stands for the same number of bytes.
+# The columns of a region in a text. Each represents the same number of bytes.
 COLUMNS = 64
 # The sign of a chunk in a text, by its position in the live list. Later ones have the last sign.
 SIGNS = "0123456789abcdefghijklmnopqrstuvwxyz#"
@@ -65,7 +65,7 @@ class Chunk:
 
 @dataclass(frozen=True)
 class Region:
-    """The region of a script: its kind, its bytes, and of a pool its buckets."""
+    """The region of a script: its kind, its bytes, and for a pool its buckets."""
 
     kind: str
     start: int
@@ -80,7 +80,7 @@ class Region:
 
 @dataclass(frozen=True)
 class Part:
-    """Bytes of a region that are alike: of one live chunk, kept for none, or free."""
+    """Bytes of a region that are alike: of one live chunk, unusable for every request, or free."""
 
     start: int
     end: int
@@ -189,7 +189,7 @@ def parts_of(region: Region, live: Sequence[Chunk]) -> list[Part]:
 def row_of(region: Region, live: Sequence[Chunk]) -> str:
     """Returns the region as one line of text.
 
-    A column shows the first chunk that has a byte of it, otherwise `-` if a byte of it is kept.
+    A column shows the first chunk that has a byte in it, otherwise `-` if a byte in it is unusable.
     """
     columns = min(COLUMNS, region.size)
     parts = parts_of(region, live)
@@ -258,7 +258,7 @@ def svg_of(first: str, region: Region, steps: Sequence[Step]) -> str:
 
 
 def run_memrun(program: Path, script: str) -> str:
-    """Runs memrun on a script, and returns what it has written. Raises Failed if it refuses it."""
+    """Runs memrun on a script, and returns its output. Raises Failed if memrun fails."""
     ran = subprocess.run([program], input=script.encode(), capture_output=True)
     output = ran.stdout.decode()
     if ran.returncode != 0:
@@ -277,7 +277,7 @@ def draw(program: Path, script: str) -> tuple[str, str]:
 
 
 def wrong_pictures(program: Path, page: str, svg: str) -> Iterator[str]:
-    """Yields what a page and an SVG file have in another form than their script is drawn in."""
+    """Yields the parts of a page and an SVG file that differ from the pictures of their script."""
     part = page.partition(PART)[2].partition("\n## ")[0]
     blocks = [dedent(block) for block in re.findall(r"(?:^    .*\n)+", part, re.M)]
     if len(blocks) != 2:

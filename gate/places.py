@@ -24,12 +24,13 @@ C = "bb_memory_c/src/"
 C_CALLS = "bb_memory_c_calls/src/"
 EDITS = re.compile(r"crates/(\w+)/refused-by-text/[^/]+\.edit")
 SOURCE = re.compile(r"crates/(bb_\w+/src/.*)\.rt")
-# The crates over `atomic_table`: what threads share, and what C calls.
+# The crates over `atomic_table`: the allocators that threads share, and the calls of C.
 SHARED = re.compile(r"bb_memory_(?:bump|c|c_calls|seats|shared_pools)/")
-# The folder of the proof of a function that calls itself, which has the measure by which it ends.
+# The folder of the proof of a function that calls itself, with the measure by which the recursion
+# ends.
 RECURSION = re.compile(r"crates/(bb_\w+/proofs/(?:.*/)?\+[^/]+)/.*")
 
-# What the libraries may name of crates that aren't theirs.
+# What the libraries may name from crates outside this repository.
 NAMED = frozenset(
     {
         "atomic_table::Join",
@@ -52,7 +53,7 @@ NAMED = frozenset(
         "thiserror::Error",
     }
 )
-# How imports of the libraries' own begin, besides those of modules of the same file.
+# How imports from the libraries themselves begin, besides those of modules of the same file.
 OWN = re.compile(r"bb_\w+|crate|self|super")
 MODULE = re.compile(r"\bmod (\w+);")
 IMPORT = re.compile(r"\buse\s+([^;]+);")
@@ -74,9 +75,10 @@ DEFINED = re.compile(r"\bfn (\w+)")
 
 @dataclass(frozen=True)
 class Kind:
-    """A kind of text, and how often each file may have each; a file that isn't named has none.
+    """A kind of text, and how often each file may have each text; a file that isn't named has none.
 
-    A text is what the last group of the pattern finds, in the files whose path begins as `within`.
+    A text is what the last group of the pattern finds, in the files whose path `within` matches at
+    the beginning.
     """
 
     name: str
@@ -92,7 +94,7 @@ PLACES = (
         re.compile(r"\b(Atomic\w*|Ordering|Table\w*|Play|Split|Join|Arc(?:::\w+)?)\b"),
         {
             POOL + "rule": {"TableRule": 1},
-            POOL + "flags": {"Table": 2, "Play": 14, "Split": 2, "Join": 2},
+            POOL + "flags": {"Table": 2, "Play": 13, "Split": 2, "Join": 2},
             BUMP + "/rule": {"TableRule": 1},
             BUMP + "/position": {"Table": 2, "Play": 4, "Split": 1, "Join": 1},
             C + "shared_bump": {"Arc": 2, "Arc::new": 1, "Arc::try_clone": 1},
@@ -113,7 +115,7 @@ PLACES = (
                 "split_seat": 2,
                 "join_seat": 2,
                 "compare_exchange": 3,
-                "load": 5,
+                "load": 4,
                 "load_new_seat": 1,
                 "store": 5,
                 "peek": 1,
@@ -137,7 +139,7 @@ PLACES = (
         SHARED,
         re.compile(
             r"(?:\.|::)(try_flag|try_at|probe|attach_number|meet|meet_rest"
-            r"|load_for_meeting|found|holder|is_held|is_held_by|held_at|is_detached|is_out"
+            r"|load_for_meeting|found|holder|is_held|is_held_by|held_at|is_out"
             r"|is_detached_when_met|have_detached|meet_detached|has_detached"
             r"|count_out|count_taken|held_buckets)\b"
         ),
@@ -147,7 +149,7 @@ PLACES = (
             POOL + "next_fit": {"try_at": 1, "probe": 1},
             POOL + "by_number": {"found": 1, "is_held": 1, "is_held_by": 1, "count_taken": 1},
             POOL + "caching": {"attach_number": 1, "is_held_by": 1, "meet": 1},
-            POOL + "detached": {"attach_number": 1, "is_detached": 1},
+            POOL + "detached": {"attach_number": 1},
             POOL
             + "meeting": {
                 "load_for_meeting": 1,
@@ -251,7 +253,7 @@ def own_calls(code: str) -> Iterator[str]:
 
 
 def counted(found: Iterator[str], right: Mapping[str, int]) -> Iterator[str]:
-    """Yields each text that is found more or less often than is right, with how often it is."""
+    """Yields each text that is found more or less often than it should be, and how often it is."""
     counts = Counter(found)
     for text in sorted({*counts, *right}):
         if counts[text] != right.get(text, 0):
@@ -272,7 +274,7 @@ def defined_in(code: str) -> frozenset[str]:
 
 @functools.cache
 def misplaced_in(name: str, code: str, defined: frozenset[str]) -> tuple[str, ...]:
-    """Returns what the code of one file names or calls that it may not, and its wrong numbers."""
+    """Returns the names and calls that the code of one file may not have, and its wrong numbers."""
     found = [f"names what isn't in NAMED: {path}" for path in unnamed(code)]
     body = IMPORT.sub("", code)
     for kind in PLACES:
@@ -289,7 +291,7 @@ def misplaced_in(name: str, code: str, defined: frozenset[str]) -> tuple[str, ..
 
 
 def misplaced(sources: Mapping[str, str]) -> list[str]:
-    """Returns what sources name or call that they may not, and the texts at wrong places."""
+    """Returns the names and calls that sources may not have, and the texts at wrong places."""
     found = []
     codes = {name: bare(source) for name, source in sources.items()}
     defined = frozenset().union(*map(defined_in, codes.values()))
@@ -305,7 +307,7 @@ def misplaced(sources: Mapping[str, str]) -> list[str]:
 
 
 def recursions(texts: Mapping[str, str]) -> list[str]:
-    """Returns the folders of proofs of recursions that the table doesn't have, or has in vain."""
+    """Returns the folders of proofs of recursions that the table lacks, or has but shouldn't."""
     folders = {match[1] for path in texts if (match := RECURSION.fullmatch(path)) is not None}
     return [
         *(f"crates/{folder}: isn't in RECURSIONS" for folder in sorted(folders - RECURSIONS)),
@@ -335,5 +337,5 @@ def unrefused(texts: Mapping[str, str]) -> list[str]:
 
 
 def findings(texts: Mapping[str, str]) -> list[str]:
-    """Returns all that the table of places finds."""
+    """Returns all findings of the table of places."""
     return [*misplaced(sources_of(texts)), *recursions(texts), *unrefused(texts)]

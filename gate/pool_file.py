@@ -18,7 +18,6 @@ import re
 import shutil
 import subprocess
 import tempfile
-import time
 from collections.abc import Callable, Iterable, Mapping, Sequence
 from concurrent.futures import ThreadPoolExecutor
 from contextlib import ExitStack
@@ -26,6 +25,7 @@ from functools import partial
 from pathlib import Path
 
 from gate import edits
+from gate.pool_messages import Messages, Program
 from gate.pool_traces import Traces
 from gate.process import Failed, has, must_run, say
 
@@ -162,61 +162,47 @@ class PoolFile:
         self.compile(["-std=c99", *FLAGS, "-c", "-o", self.work / "hello.o", source])
         return "bb_pool_file.h: the program at its head is compiled"
 
-    def run_examples(self) -> str:
-        """Runs producers and consumers, and kills some of them. Messages that were posted arrive."""
-        path = self.folders[0] / "example"
-        printed = self.work / "printed"
-        examples = self.crate.parent.parent / "examples/c"
+    def build_examples(self) -> list[Program]:
+        """Builds the producers and consumers: those in C as C and as C++, those in C++ and Rust."""
+        top = self.crate.parent.parent
+        examples = top / "examples/c"
         library = self.prefix / "lib/libbb_memory.a"
+        programs = [Program([self.work / "producer"], [self.work / "consumer"])]
         for name in ("producer", "consumer"):
-            source = examples / f"{name}.c"
-            c99: list[str | Path] = [
-                "-std=c99",
-                "-D_DEFAULT_SOURCE",
-                *FLAGS,
-                "-o",
-                self.work / name,
-            ]
-            self.compile([*c99, source, library])
-            cxx: list[str | Path] = [
-                "-std=c++11",
-                *FLAGS,
-                "-o",
-                self.work / f"{name}.c++",
-                "-x",
-                "c++",
-            ]
-            self.compile([*cxx, source, "-x", "none", library], "c++")
-        with printed.open("w", encoding="utf-8") as output:
-            started = []
-            for form, name in enumerate(["consumer", "producer", "consumer.c++", "producer.c++"]):
-                count = ["1000000"] if "producer" in name else []
-                command = [str(self.work / name), str(path), *count]
-                started.append(subprocess.Popen(command, stdout=output))
-                time.sleep(0.2)
-                if form % 2 == 1:
-                    # A producer and a consumer at work are killed.
-                    for each in started[-2:]:
-                        each.kill()
-            consumer = subprocess.Popen([self.work / "consumer", path], stdout=output)
-            last = subprocess.Popen([self.work / "producer", path, "2000"])
-            started += [consumer, last]
-            try:
-                status = last.wait(timeout=60)
-                # The consumer prints what is left in the slots.
-                time.sleep(2)
-            except subprocess.TimeoutExpired as error:
-                raise Failed("producer: it hangs") from error
-            finally:
-                for each in started:
-                    each.kill()
-                    each.wait()
+            c99: list[str | Path] = ["-std=c99", "-D_DEFAULT_SOURCE", *FLAGS]
+            self.compile([*c99, "-o", self.work / name, examples / f"{name}.c", library])
+        if has("c++", self.environment):
+            for name in ("producer", "consumer"):
+                source: list[str | Path] = ["-x", "c++", examples / f"{name}.c", "-x", "none"]
+                output = self.work / f"{name}.c++"
+                self.compile(["-std=c++11", *FLAGS, "-o", output, *source, library], "c++")
+            programs.append(Program([self.work / "producer.c++"], [self.work / "consumer.c++"]))
+            output = self.work / "messages.c++"
+            self.compile(
+                ["-std=c++17", *FLAGS, "-o", output, examples / "messages.cpp", library], "c++"
+            )
+            programs.append(Program([output], [output]))
+        if has("cargo", self.environment):
+            target = self.work / "target"
+            environment = {
+                **self.environment,
+                "CARGO_TARGET_DIR": str(target),
+                "PKG_CONFIG_PATH": str(self.prefix / "lib/pkgconfig"),
+            }
+            cargo = ["cargo", "build", "-q", "--offline", "--locked", "--example", "messages"]
+            must_run(cargo, top / "bindings/rust", environment)
+            output = target / "debug/examples/messages"
+            programs.append(Program([output], [output]))
+        return programs
+
+    def run_examples(self) -> str:
+        """Runs producers and consumers over one file, and kills them again and again."""
+        programs = self.build_examples()
+        path = self.folders[0] / "example"
+        messages = Messages(programs, path, self.prefix / "bin/bb-pool")
+        came = messages.run(self.work / "printed")
         path.unlink()
-        lines = set(printed.read_text(encoding="utf-8").splitlines())
-        missing = [n for n in range(2000) if f"{last.pid} {n}" not in lines]
-        if status != 0 or missing:
-            raise Failed(f"producer: status {status}, {len(missing)} messages never came")
-        return f"producer and consumer: {len(lines)} messages came, with kills"
+        return f"producers and consumers, {len(programs)} programs of each: {came}"
 
     def run_model(self, size: Mapping[str, int]) -> str:
         """Looks at each state of the model of this size."""

@@ -19,7 +19,7 @@ ONE_TEXT: dict[str, Any] = {
 
 
 class Failed(Exception):
-    """What has been run or checked isn't well; the text says why."""
+    """A command or a check failed; the text says why."""
 
 
 @dataclass(frozen=True)
@@ -83,7 +83,7 @@ def must_show(
 
 
 def say(text: str) -> None:
-    """Prints a text at once."""
+    """Prints a text without delay."""
     print(text, flush=True)
 
 
@@ -99,8 +99,8 @@ def has(tool: str, environment: Mapping[str, str] | None = None) -> bool:
 def status_of(main: Callable[[list[str]], None]) -> int:
     """Runs a command of the gate on the words after its name, and returns its exit status.
 
-    The text of Failed goes to standard error, and the status is 1 then. So it is if a file or a
-    folder is missing, or can't be made.
+    The text of Failed goes to standard error, and the status is 1 then. The status is also 1 if a
+    file or a folder is missing, or can't be made.
     """
     try:
         main(sys.argv[1:])

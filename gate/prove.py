@@ -1,4 +1,4 @@
-"""Proves one crate in a lane, unless it is kept, and runs the tests of one."""
+"""Proves one crate in a lane, unless a proof is kept, and runs the tests of one."""
 
 import os
 import shutil
@@ -15,7 +15,7 @@ from gate.process import ONE_TEXT, say
 
 @dataclass(frozen=True)
 class Built:
-    """A run of `rt` that proved and built a crate, or failed: what it wrote, and what it took."""
+    """A run of `rt` that proved and built a crate, or failed: its output, and its cost."""
 
     status: int
     text: str
@@ -28,7 +28,7 @@ def command_of(workspace: Workspace, name: str) -> str:
 
 
 def product_of(workspace: Workspace, name: str) -> Path:
-    """Returns what a crate's build makes."""
+    """Returns the file that a crate's build makes."""
     if workspace.is_program(name):
         return workspace.out(name) / name
     if workspace.crates[name].is_static_library:
@@ -37,7 +37,7 @@ def product_of(workspace: Workspace, name: str) -> Path:
 
 
 def is_kept(workspace: Workspace, name: str) -> bool:
-    """Returns whether an earlier run proved a crate, and nothing that its proof read has changed."""
+    """Returns whether an earlier run proved a crate, and nothing of what it read has changed."""
     stamp = workspace.out(name) / "proved"
     if not stamp.exists() or not product_of(workspace, name).exists():
         return False
@@ -45,7 +45,7 @@ def is_kept(workspace: Workspace, name: str) -> bool:
 
 
 def build(lane: Workspace, name: str, jobs: int, nice: int, report: Callable[[str], None]) -> Built:
-    """Proves and builds a crate in its lane by some jobs. Reports how far it is."""
+    """Proves and builds a crate in its lane with some jobs. Reports the progress."""
     folder = lane.folder(name)
     words = ["nice", "-n", str(nice), "rt", command_of(lane, name), "--jobs", str(jobs)]
     stdin = folder / "stdin"
@@ -65,7 +65,7 @@ def build(lane: Workspace, name: str, jobs: int, nice: int, report: Callable[[st
 
 
 def bring(made: Path, out: Path) -> None:
-    """Replaces what is in a crate's out/ by what was made in its lane."""
+    """Replaces the contents of a crate's out/ by those of its lane."""
     for each in made.iterdir():
         old = out / each.name
         if old.is_dir():
@@ -76,9 +76,9 @@ def bring(made: Path, out: Path) -> None:
 def prove(
     workspace: Workspace, name: str, jobs: int, nice: int, report: Callable[[str], None]
 ) -> bool:
-    """Proves and builds a crate over those below it, unless it is kept. Returns whether it is proved.
+    """Proves and builds a crate over those below it, unless a proof is kept.
 
-    Prints why it isn't, and what it took.
+    Returns whether it is proved. Prints the reason if it isn't, and the cost.
     """
     if is_kept(workspace, name):
         return True

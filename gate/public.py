@@ -25,7 +25,7 @@ USE = re.compile(r"^pub use ([\w:]+?)(?:::\{([^}]*)\})?;", re.M)
 ITEM = re.compile(r"^pub (?:(?:const|unsafe) )*(fn|struct|enum|type|trait|const) (\w+)", re.M)
 DERIVED = re.compile(r"#\[derive\(([^)]*)\)\]")
 
-# The lines of which each word is a thing that can be lost.
+# The lines of which each word is an item that can be lost.
 WORDS = re.compile(r"(requires|ensures|fields|implements|trait with):? (.*)")
 
 # Where a module or an item is declared: the crate, the modules, and the item's own name.
@@ -33,7 +33,7 @@ Path = tuple[str, ...]
 
 
 class Modules:
-    """The modules of a checkout, and what each of them makes public."""
+    """The modules of a checkout, and the items that each of them makes public."""
 
     def __init__(self, index: Index) -> None:
         self.texts: Mapping[Path, str] = {
@@ -41,7 +41,7 @@ class Modules:
         }
 
     def exports(self, module: Path) -> dict[str, Path]:
-        """Returns where each public name of a module is declared. Names of libraries aren't among them."""
+        """Returns where each public name of a module is declared, except names of libraries."""
         text = self.texts[module]
         found = {name: (*module, name) for name in MODULE.findall(text)}
         found |= {name: (*module, name) for _, name in ITEM.findall(text)}
@@ -54,7 +54,7 @@ class Modules:
         return found
 
     def add(self, found: dict[str, Path], module: Path, words: list[str]) -> None:
-        """Adds what a module passes on by a path, under the path's last name."""
+        """Adds the items that a module passes on by a path, under the path's last name."""
         target = self.resolved(module, words)
         if target is not None:
             found[words[-1]] = target
@@ -68,7 +68,7 @@ class Modules:
         return None
 
     def resolved(self, module: Path, words: list[str]) -> Path | None:
-        """Returns where that is declared which a path in a module leads to, or None."""
+        """Returns where the item is declared to which a path in a module leads, or None."""
         place = self.start(module, words[0])
         for word in words[1:]:
             if place is None:
@@ -85,7 +85,7 @@ def without_comments(lines: list[str]) -> str:
 
 
 def text_of_type(index: Index, type: Type) -> str:
-    """Returns what a type is: its public fields or its variants, or what it is another name of."""
+    """Returns the text of a type: its public fields or variants, or the type that it renames."""
     lines = index.texts[f"crates/{type.place.file}"].split("\n")[type.place.line - 1 :]
     if type.item.kind == "type" or lines[0].endswith((";", "}")):
         after = next(number for number, line in enumerate(lines) if line.endswith((";", "}")))
@@ -134,7 +134,7 @@ class Page:
             self.blocks[name] = fields
 
     def add_module(self, path: str, module: Path) -> None:
-        """Adds what a module makes public."""
+        """Adds the items that a module makes public."""
         self.paths[module] = path
         for name, target in sorted(self.modules.exports(module).items()):
             inner = f"{path}::{name}"
@@ -164,14 +164,14 @@ class Page:
                 self.add_call(path, call)
 
     def add_type(self, path: str, type: Type) -> None:
-        """Adds what a type is, and its traits."""
+        """Adds the text of a type, and its traits."""
         self.blocks[path] = [text_of_type(self.index, type)]
         traits = traits_of(self.index, type, self.crates)
         if traits:
             self.blocks[path].append(f"implements: {' '.join(traits)}")
 
     def add_call(self, path: str, call: Call) -> None:
-        """Adds a call, and what its clauses cite."""
+        """Adds a call, and the definitions that its clauses cite."""
         self.blocks[path] = [call.signature, *labels_of(call)]
         for clause in call.clauses:
             for definition in self.index.cited(call, clause):
@@ -220,13 +220,13 @@ def named_lines(text: str) -> list[str]:
 
 
 def lost(before: str, after: str) -> list[str]:
-    """Returns what one text of the page has and another one hasn't."""
+    """Returns the items that one text of the page has and another one hasn't."""
     kept = set(named_lines(after))
     return [line for line in named_lines(before) if line not in kept]
 
 
 def wrong(index: Index) -> Iterator[str]:
-    """Yields what the page has and the sources haven't, and what it lacks."""
+    """Yields the items that the page has and the sources haven't, and those that it lacks."""
     page, right = index.texts.get(PAGE, ""), text_of(index)
     for line in lost(page, right):
         yield f"{PAGE}: is no longer so: {line}"

@@ -35,9 +35,9 @@ class TypeName:
 
 @dataclass(frozen=True)
 class Function:
-    """A function's head: where it is, the text of its comment, and its clauses, in order.
+    """A function's head: its place, the text of its comment, and its clauses, in order.
 
-    `signature` is what is before the clauses, in one line.
+    `signature` is the text before the clauses, in one line.
     """
 
     name: str
@@ -77,7 +77,7 @@ class TypeItem:
 
 @dataclass(frozen=True)
 class Source:
-    """What a file of `src` declares. `functions` are those that are in no trait and no impl."""
+    """The declarations of a file of `src`. `functions` are those outside traits and impls."""
 
     functions: tuple[Function, ...]
     blocks: tuple[Block, ...]
@@ -155,7 +155,7 @@ def signature_of(text: str) -> str:
 
 
 def split_arguments(text: str) -> list[str]:
-    """Splits a list of arguments at its commas, but for those within an argument."""
+    """Splits a list of arguments at its commas, except those within an argument."""
     parts = [""]
     depth = 0
     for character in text:

@@ -21,7 +21,7 @@ READ = (
     POOL + "rule.rt",
 )
 LINE = re.compile(r"([0-9a-f]{16})  (\S+)")
-# What is to be read before a new sum is written.
+# What to read before a new sum is written.
 TO_READ = (
     "read the whole file: each call makes the steps that its comment names, each once, and no"
     " other; none waits, goes round or asks again but as its comment says; no field is a new word"
@@ -39,7 +39,7 @@ def sums(text: str) -> Iterator[tuple[str, str]]:
 
 
 def findings(texts: Mapping[str, str]) -> Iterator[str]:
-    """Yields each file whose code isn't the one that was read, and each wrong line of the list."""
+    """Yields each file whose code isn't the code that was read, and each wrong line of the list."""
     try:
         read = dict(sums(texts.get(LIST, "")))
     except ValueError as error:

@@ -17,13 +17,13 @@ from gate.process import Failed, say
 
 ROWS = "gate/rows.txt"
 PAGE = "docs/script-format.md"
-# Where the scripts are that `.ci/run-memrun` runs, beside those of the page.
+# The scripts that `.ci/run-memrun` runs, besides those of the page.
 SCRIPTS = (".ci/run-memrun", "gate/memrun.py")
 
 
 @dataclass(frozen=True)
 class Claim:
-    """A test or a script that says which row it has."""
+    """A test or a script that names the rows that it has."""
 
     row: str
     where: str
@@ -31,7 +31,7 @@ class Claim:
 
 @dataclass
 class Report:
-    """Where each row is, and what is wrong."""
+    """The places of each row, and all errors."""
 
     rows: dict[str, str]
     places: dict[str, list[str]] = field(default_factory=dict)
@@ -51,7 +51,7 @@ class Report:
                 self.wrong.append(f"no test has {row}: {shows}")
 
     def lines(self) -> list[str]:
-        """Returns what is printed."""
+        """Returns the printed lines."""
         listed = [f"{row}: {', '.join(self.places.get(row, ['NOWHERE']))}" for row in self.rows]
         return [*listed, *self.wrong, f"{len(self.rows)} worked rows: {len(self.wrong)} findings"]
 
@@ -73,12 +73,12 @@ def names_in(text: str) -> list[str]:
 
 
 def path_of(file: str) -> str:
-    """Returns the path of a module of tests, as a test is named."""
+    """Returns the path of a module of tests, in the form in which a test is named."""
     return "::".join(file.removesuffix(".rt").split("/")).replace("::src::", "::")
 
 
 def marked(path: str, text: str) -> Iterator[Claim | str]:
-    """Yields the rows of comments above tests, and what is wrong of them."""
+    """Yields the rows of comments above tests, and their errors."""
     for names, rest in re.findall(r"^// row: (.*)\n(?:///? .*\n)*(.*\n.*)", text, re.M):
         test = re.match(r"#\[test\]\nfn (\w+)", rest)
         if test is None:
@@ -105,7 +105,7 @@ def tabled(path: str, text: str, rows: dict[str, str]) -> Iterator[Claim | str]:
 
 
 def scripts(top: Path) -> Iterator[Claim]:
-    """Yields the rows of the scripts that memrun is run on."""
+    """Yields the rows of the scripts on which memrun is run."""
     page = (top / PAGE).read_text(encoding="utf-8")
     for name in re.findall(r"^\*\*.*\(row `([\w-]+)`\)", page, re.M):
         yield Claim(name, PAGE)
@@ -119,7 +119,7 @@ def scripts(top: Path) -> Iterator[Claim]:
 
 
 def report(top: Path) -> Report:
-    """Reads the rows of a checkout, and all that has one."""
+    """Reads the rows of a checkout, and everything that has one."""
     found = Report(read_rows((top / ROWS).read_text(encoding="utf-8")))
     claims: list[Claim | str] = []
     for file in sorted(top.glob("crates/*_tests/src/**/*.rt")):

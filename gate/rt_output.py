@@ -1,17 +1,17 @@
-"""The reader of what `rt` writes. No other file knows the form of its lines."""
+"""The reader of `rt`'s output. No other file knows the form of its lines."""
 
 import re
 from collections.abc import Iterator
 from dataclasses import dataclass
 
 # Errors of a proof file that only say that a name is gone, or that another declaration was refused:
-# they show nothing of a contract.
+# they show nothing about a contract.
 NAME_IS_GONE = re.compile("has no |is not in scope|not admitted|stands on")
 
 
 @dataclass(frozen=True)
 class Verdict:
-    """What a check says of one function: the end of its line, and the notes above the line."""
+    """A check's verdict on one function: the end of its line, and the notes above the line."""
 
     text: str
     notes: str
@@ -27,14 +27,14 @@ class Test:
 
 @dataclass(frozen=True)
 class Counts:
-    """The last line of a run: how much has passed, and how much failed."""
+    """The last line of a run: how many passed, and how many failed."""
 
     passed: int
     failed: int
 
 
 def progress(line: str) -> str | None:
-    """Returns how far a check is, as `3 of 10`, if a line says so."""
+    """Returns the progress of a check, as `3 of 10`, if a line reports it."""
     match = re.match(r"so far: (\d+ of \d+)|checked \S+, (\d+ of \d+)", line)
     if match is None:
         return None
@@ -42,7 +42,7 @@ def progress(line: str) -> str | None:
 
 
 def verdict_on(path: str, text: str) -> Verdict | None:
-    """Returns what a check says of the function at a path, which begins with the crate's name."""
+    """Returns a check's verdict on the function at a path, which begins with the crate's name."""
     pattern = rf"((?:^(?:note|help): .*\n)*)^fn {re.escape(path)}: (.*)"
     match = re.search(pattern, text, re.M)
     if match is None:
@@ -51,18 +51,18 @@ def verdict_on(path: str, text: str) -> Verdict | None:
 
 
 def functions_that_may_wait(text: str) -> list[str]:
-    """Returns the functions that are proved, but may wait in place of returning.
+    """Returns the functions that are proved, but may wait instead of returning.
 
-    A test also may abort, so it has another line, and isn't meant.
+    A test may also abort, so it has another line, and isn't meant.
     """
     found = re.findall(r"^fn (.*): proved, may wait", text, re.M)
     return list(dict.fromkeys(found))
 
 
 def open_goals(path: str, text: str) -> list[str]:
-    """Returns the goals of a function that a check left open, and what it says of refused answers.
+    """Returns the goals of a function that a check left open, and its errors about refused answers.
 
-    `path` begins with the crate's name. Answers in the proof files of this function count, but for
+    `path` begins with the crate's name. Answers in the proof files of this function count, except
     those that are refused because a name is gone.
     """
     goals = []
@@ -88,7 +88,7 @@ def refused_answers(path: str, text: str) -> Iterator[str]:
 
 
 def compile_errors(text: str) -> list[str]:
-    """Returns the errors by which a text that is no program ends a check before any proof."""
+    """Returns the errors that end a check before any proof because a text isn't a program."""
     return re.findall(r"^(?:\S+ error\[[\w-]+\]|rattle: error): .*", text, re.M)
 
 
@@ -99,7 +99,7 @@ def tests(text: str) -> list[Test]:
 
 
 def counts(text: str) -> Counts | None:
-    """Returns what the last line of a run counts, if it counts."""
+    """Returns the numbers in the last line of a run, if it has some."""
     match = re.fullmatch(r"(\d+) passed, (\d+) failed", text.strip().rpartition("\n")[2])
     if match is None:
         return None

@@ -5,6 +5,7 @@ the gate's own tests, pages, layout, `./test`, mutants, C plainly and under each
 Rust crate. OOM tests run on what `rt ci` built.
 """
 
+import os
 import re
 import shutil
 import signal
@@ -30,8 +31,8 @@ LIBRARY = "crates/bb_memory_c/out/libbb_memory_c.a"
 def waiting_lines(workspace: Workspace) -> list[str]:
     """Returns the lines of sources that name Wait, each with its place.
 
-    A function that may wait would let a lock be put round an allocator. Tests join threads by the
-    promise that started them.
+    With a function that may wait, a lock could be put around an allocator. Tests join threads by
+    the promise that started them.
     """
     found = []
     for name in workspace.crates:
@@ -53,16 +54,16 @@ def refuse_waiting_lines(workspace: Workspace) -> None:
 
 
 def refuse_waiting_functions(log: str) -> None:
-    """Raises Failed if the toolchain says of a function that it may wait."""
+    """Raises Failed if the toolchain reports that a function may wait."""
     found = rt_output.functions_that_may_wait(log)
     if found:
         raise Failed("\n".join([*found, "run: the functions above may wait"]))
 
 
 def copy_for_rt(top: Path, copy: Path) -> None:
-    """Copies what `rt ci` reads, but no mutants, for each of which it would prove a crate once more.
+    """Copies the files that `rt ci` reads, without mutants.
 
-    `.ci/mutants` judges those.
+    For each mutant it would prove a crate once more. `.ci/mutants` judges them.
     """
     copy.mkdir()
     for file in ("HANDLES", "crates.txt"):
@@ -72,7 +73,10 @@ def copy_for_rt(top: Path, copy: Path) -> None:
 
 
 class Background:
-    """A command that runs beside others. Its output goes to a file, or else to the gate's own."""
+    """A command that runs beside others. Its output goes to a file, or to the gate's own.
+
+    It leads a process group of its own, so that it can be ended with all that it has started.
+    """
 
     def __init__(self, words: Sequence[str | Path], folder: Path, log: Path | None) -> None:
         self.log = log
@@ -85,10 +89,11 @@ class Background:
                 stdin=subprocess.DEVNULL,
                 stdout=output,
                 stderr=subprocess.STDOUT if output is not None else None,
+                start_new_session=True,
             )
 
     def text(self) -> str:
-        """Returns what is in the file with the output."""
+        """Returns the contents of the file with the output."""
         if self.log is None:
             return ""
         return self.log.read_text(encoding="utf-8", errors="replace")
@@ -100,9 +105,15 @@ class Background:
             raise Failed(f"{self.text().rstrip()}\nstatus {status}: {self.command}".strip())
         return self.text()
 
+    def end(self) -> None:
+        """Ends the command if it still runs, and with it what it has started."""
+        if self.process.poll() is None:
+            os.killpg(self.process.pid, signal.SIGTERM)
+            self.process.wait()
+
 
 def show_until_end(command: Background, log: Path, beginning: str) -> None:
-    """Shows the lines of a command's output that begin so, old and new, until it ends."""
+    """Shows the lines of a command's output that begin with a text, old and new, until it ends."""
     with log.open(encoding="utf-8", errors="replace") as output:
         rest = ""
         has_ended = False
@@ -125,9 +136,7 @@ def background(
     try:
         yield started
     finally:
-        if started.process.poll() is None:
-            started.process.terminate()
-            started.process.wait()
+        started.end()
 
 
 def test_gate(top: Path) -> None:
@@ -138,13 +147,13 @@ def test_gate(top: Path) -> None:
 
 
 def show_rows(top: Path) -> None:
-    """Checks that each worked row has a test, and shows the end of what is said of them."""
+    """Checks that each worked row has a test, and shows the end of the report."""
     lines = must_run([top / ".ci/rows"], top).splitlines()
     say("\n".join(lines[-5:]))
 
 
 def check_texts(top: Path) -> None:
-    """Runs what proves nothing, in seconds: the gate's tests, sources, pages, rows and layout."""
+    """Runs the checks that prove nothing: the gate's tests, sources, pages, rows and layout."""
     test_gate(top)
     refuse_waiting_lines(Workspace(top))
     must_show([top / ".ci/pages"], top)
@@ -155,9 +164,9 @@ def check_texts(top: Path) -> None:
 
 
 def run_commands(top: Path, work: Path) -> str:
-    """Runs `rt ci` and beside it all else of the gate that doesn't need its end.
+    """Runs `rt ci` and, beside it, everything else of the gate that doesn't need its results.
 
-    Returns what `rt ci` has written. Raises Failed if a command fails.
+    Returns the output of `rt ci`. Raises Failed if a command fails.
     """
     with background(["rt", "ci"], work / "all", work / "log") as rt_ci:
         check_texts(top)
@@ -185,7 +194,7 @@ def run(top: Path) -> None:
 
 
 def end(number: int, frame: FrameType | None) -> None:
-    """Ends the gate at a signal, and with it what it has started."""
+    """Ends the gate at a signal, and the commands that it has started."""
     raise Failed(f"run: ended by signal {number}")
 
 

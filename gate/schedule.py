@@ -1,20 +1,20 @@
-"""The scheduler: which crate is proved when, and by how many jobs of `rt`."""
+"""The scheduler: which crate is proved when, and with how many jobs of `rt`."""
 
 from collections.abc import Callable, Collection, Mapping, Sequence
 from concurrent.futures import FIRST_COMPLETED, Future, ThreadPoolExecutor, wait
 from dataclasses import dataclass
 
-# A large crate that is waited for gets at most this many jobs. Each additional job loads all
+# A large crate that others wait for gets at most this many jobs. Each additional job loads all
 # libraries again.
 MOST_JOBS = 3
 
 
 @dataclass(frozen=True)
 class Plan:
-    """What is to be done: crates to prove, in the order of crates.txt, and crates of tests to run.
+    """The work to do: crates to prove, in the order of crates.txt, and crates of tests to run.
 
-    `below` has for each crate all that it stands on; a crate is proved once all of these are done.
-    A large crate is waited for by others, and gets processors that no other can use.
+    `below` has for each crate all crates on which it depends; a crate is proved once all of these
+    are done. Others wait for a large crate, and it gets processors that no other can use.
     """
 
     proves: Sequence[str]
@@ -28,8 +28,8 @@ class Plan:
 class Scheduler:
     """Proves the crates of a plan side by side, and runs tests beside them.
 
-    `prove` proves one crate by some jobs, and returns whether it is proved. `test` runs the tests of
-    one crate, and returns for each whether it passed.
+    `prove` proves one crate with some jobs, and returns whether it is proved. `test` runs the tests
+    of one crate, and returns for each whether it passed.
     """
 
     def __init__(
@@ -47,7 +47,7 @@ class Scheduler:
         self.results: dict[str, list[bool]] = {}
 
     def ready(self) -> list[str]:
-        """Returns the crates that have not begun, and below which all are done, well or not."""
+        """Returns the crates that have not begun, and below which all are done or have failed."""
         return [
             name
             for name in self.plan.proves
@@ -61,10 +61,10 @@ class Scheduler:
         return [name for name in self.running.values() if name in self.jobs]
 
     def jobs_for(self, name: str) -> int:
-        """Returns by how many jobs a crate that is ready is proved.
+        """Returns with how many jobs a crate that is ready is proved.
 
-        That is one, and for a large crate also each processor that neither a running job nor another
-        ready crate takes.
+        That is one, and for a large crate also each processor that neither a running job nor
+        another ready crate takes.
         """
         if name not in self.plan.large:
             return 1
@@ -82,7 +82,7 @@ class Scheduler:
         self.running[self.pool.submit(lambda: [self.prove(name, jobs)])] = name
 
     def start_ready(self) -> None:
-        """Starts what is ready, as much as may run at once."""
+        """Starts all work that is ready and may run at the same time."""
         while len(self.proving()) < self.plan.most_at_once:
             ready = self.ready()
             if not ready:
@@ -90,9 +90,10 @@ class Scheduler:
             self.start(ready[0])
 
     def run(self, wait_longer: Callable[[list[str]], None]) -> dict[str, list[bool]]:
-        """Does all of the plan, and returns for each crate whether it, or each test, is well.
+        """Does all of the plan, and returns for each crate whether it, or each test, succeeded.
 
-        `wait_longer` is called with the names of what runs if none of it has ended for 30 seconds.
+        `wait_longer` is called with the names of the running work if none of it has ended for 30
+        seconds.
         """
         with self.pool:
             for name in self.plan.tests:

@@ -27,7 +27,7 @@ from gate.temporary import temporary_folder
 LOGIC = "dac8208d650f15bf"
 # A crate of at least this many files is large: more than one job proves it sooner.
 LARGE = 10
-# The memory that a check takes at most, in kilobytes.
+# The most memory that a check takes, in kilobytes.
 CHECK_TAKES = 4_000_000
 
 
@@ -52,7 +52,7 @@ def wanted_crates(workspace: Workspace, names: Sequence[str]) -> list[str]:
 
 
 def plan_of(workspace: Workspace, wanted: Sequence[str]) -> Plan:
-    """Returns what has to be done for these crates."""
+    """Returns the work to do for these crates."""
     tests = [name for name in wanted if workspace.has_tests(name)]
     proves = [name for name in wanted if name not in tests]
     below = {name: workspace.below(name) for name in proves}
@@ -70,7 +70,7 @@ class Test:
         self.how_far: dict[str, str] = {}
 
     def prove(self, name: str, jobs: int) -> bool:
-        """Proves a crate, those that are higher in crates.txt first where processors are few."""
+        """Proves a crate. If processors are few, those that are higher in crates.txt come first."""
 
         def report(how_far: str) -> None:
             self.how_far[name] = how_far
@@ -83,19 +83,19 @@ class Test:
         return prove.run_tests(self.workspace, name)
 
     def say_how_far(self, names: Sequence[str]) -> None:
-        """Prints what is running, and how far it is."""
+        """Prints the running work, and its progress."""
         running = ", ".join(f"{name} {self.how_far.get(name, '')}".strip() for name in names)
         say(f"test: {time.monotonic() - self.began:.0f} s: {running}")
 
     def crates(self, plan: Plan) -> list[bool]:
-        """Proves crates and runs tests, and returns for each whether it is well."""
+        """Proves crates and runs tests, and returns for each whether it succeeded."""
         results = Scheduler(plan, self.prove, self.run_tests).run(self.say_how_far)
         return [is_ok for each in results.values() for is_ok in each]
 
     def part(self, what: str, words: Sequence[str | Path]) -> list[bool]:
-        """Runs a part of the tests on what was built.
+        """Runs a part of the tests on the built files.
 
-        Returns for each that its last line counts that it passed.
+        Returns for each test that its last line counts that it passed.
         """
         say(f"test: {what}")
         ran = process.run(words, self.workspace.top)
@@ -114,14 +114,12 @@ class Test:
             # `make` splits a path at a blank, and the path of a checkout may have some.
             library = work / "libbb_memory_c.a"
             shutil.copy2(self.workspace.out("bb_memory_c") / library.name, library)
-            # Each of four builds of `workers` kills 250 processes in each of its two ways; in
-            # .ci/run-c each kills 1,000.
-            given = [f"LIBRARY={library}", "KILLS_archive=250", "KILLS_shared=250"]
-            make = ["make", f"-sj{CORES}", "-C", "examples/c", "plain", *given, f"WORK={work}"]
+            given = [f"LIBRARY={library}", f"WORK={work}"]
+            make = ["make", f"-sj{CORES}", "-C", "examples/c", "plain", *given]
             return self.part("runs the examples in C", make)
 
     def run(self, names: Sequence[str]) -> list[bool]:
-        """Tests these crates and those below them, or all, and returns for each part if it is well."""
+        """Tests these crates and those below them, or all. Returns whether each part succeeded."""
         wanted = wanted_crates(self.workspace, names)
         plan = plan_of(self.workspace, wanted)
         say(

@@ -6,7 +6,7 @@ from dataclasses import dataclass
 
 from gate.index import Call, Index
 
-# Where tests and examples are: their files, and what the head of a function looks like there.
+# Where tests and examples are: their files, and the form of a function's head there.
 RATTLE = re.compile(r" *(?:pub )?fn (\w+)")
 C = re.compile(r"(?:\w+[ *]+)+(\w+)\(.*\) \{$")
 PLACES = (

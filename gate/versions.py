@@ -28,14 +28,14 @@ def version_of(texts: Mapping[str, str]) -> str:
 
 
 def pages(texts: Mapping[str, str]) -> Iterator[str]:
-    """Yields the pages, but for CHANGELOG.md."""
+    """Yields the pages except CHANGELOG.md."""
     for path in sorted(texts):
         if PAGE.fullmatch(path) and path != CHANGES:
             yield path
 
 
 def copies(texts: Mapping[str, str]) -> Iterator[tuple[str, re.Pattern[str], str]]:
-    """Yields each file that repeats the version, the text in which it does, and what is right."""
+    """Yields each file that repeats the version, the text with it, and the right version."""
     version = version_of(texts)
     for name, number in zip(PARTS, version.split(".")):
         yield HEADER, re.compile(rf"(^#define BB_VERSION_{name} )(\d+)($)", re.M), number
@@ -58,7 +58,7 @@ def wrong(texts: Mapping[str, str]) -> Iterator[str]:
 
 
 def wrong_changes(texts: Mapping[str, str]) -> Iterator[str]:
-    """Yields what is wrong of the versions that CHANGELOG.md lists.
+    """Yields the errors in the versions that CHANGELOG.md lists.
 
     The newest one is the header's, each older one names its commit, and a page names no other one.
     """

@@ -1,8 +1,8 @@
 //! Finds the C library: in the folder that `BB_MEMORY_LIB_DIR` names, otherwise by the first
-//! `bb_memory.pc` in the folders of `PKG_CONFIG_PATH`, in the release in the repository's `dist`, and
-//! in the folders where systems keep such files. Links the archive if there is one, and with
-//! `BB_MEMORY_LINK=dylib` the shared library. Fails if no library is found. With `DOCS_RS` set it
-//! looks for none: `cargo check` and `cargo doc` need none.
+//! `bb_memory.pc` in the folders of `PKG_CONFIG_PATH`, in the release in the repository's `dist`,
+//! and in the folders where systems keep such files. Links the archive if there is one, and with
+//! `BB_MEMORY_LINK=dylib` the shared library. Fails if no library is found. With `DOCS_RS` set,
+//! looks for no library: `cargo check` and `cargo doc` need none.
 use std::env;
 use std::fs;
 use std::iter;
@@ -19,7 +19,7 @@ const STANDARD_FOLDERS: [&str; 5] = [
 ];
 
 /// The ABI of this crate's declarations: `BB_ABI` of the header.
-const ABI: &str = "3";
+const ABI: &str = "4";
 
 fn main() {
     for name in ["BB_MEMORY_LIB_DIR", "BB_MEMORY_LINK", "PKG_CONFIG_PATH", "DOCS_RS"] {
@@ -49,7 +49,7 @@ fn main() {
     println!("cargo::rustc-link-lib={kind}=bb_memory");
 }
 
-/// The folder of the library that the first `bb_memory.pc` names.
+/// Returns the folder of the library that the first `bb_memory.pc` names.
 fn folder_by_pkg_config() -> Option<PathBuf> {
     let path = env::var_os("PKG_CONFIG_PATH").unwrap_or_default();
     let folders = env::split_paths(&path)
@@ -79,8 +79,8 @@ fn unpacked_release() -> Option<PathBuf> {
     Some(built.join(release).join("lib/pkgconfig"))
 }
 
-/// The folder that this text of `bb_memory.pc` names. The library has to have this crate's ABI, and
-/// to be no older than the crate.
+/// Returns the folder that this text of `bb_memory.pc` names. The library has to have this crate's
+/// ABI, and must not be older than the crate.
 fn folder_of(file: &Path, text: &str) -> PathBuf {
     let value = |name: &str| {
         let found = text.lines().find_map(|line| line.strip_prefix(name));

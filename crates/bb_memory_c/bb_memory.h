@@ -1,9 +1,9 @@
 // bb_memory: allocators over a region of the host's own memory.
-//
+
 // For C99 or later and C++11 or later, on Linux with an x86-64-v2 processor. bb_memory.hpp has
-// owners for C++17. The contract of each exported function but `bb_use_memory` and
-// `bb_pool_party_recover` is proved, for every caller that keeps the rules below.
-//
+// owners for C++17. The contract of each exported function but `bb_use_memory` is proved, for every
+// caller that keeps the rules below.
+
 // EXAMPLE
 //
 //     #include <stdio.h>
@@ -30,7 +30,7 @@
 //         bb_pool_destroy(&pool);
 //         return 0;
 //     }
-//
+
 // HANDLES
 //
 // | Handle                            | Gives                            | Takes back        |
@@ -41,50 +41,62 @@
 // | `bb_shared_bump`, `bb_bump_party` | as a bump, to threads            | all, by `reset`   |
 // | `bb_shared_pool`, `bb_pool_party` | as a pool, to threads            | each by its party |
 // | `bb_detached`                     | no bucket: it carries one        |                   |
-//
+
 // Sizes and alignments are in bytes. No function reads or writes a byte of a region. Chunks that
 // are in use lie inside the region, at multiples of the requested alignment, and never overlap.
-//
+
 // RULES
 //
 // No function tests these rules. Breaking one may give a chunk to two holders, or corrupt the
 // library's memory. The most dangerous ones come first.
-//
+
 //  1. Only one call at a time uses a handle. A data race on a handle is undefined behaviour, and
 //     may give one chunk twice. Threads that call at once have a party each, or a lock.
+
 //  2. A handle goes to another thread by a lock, an atomic, or the start or join of a thread.
+
 //  3. Return each chunk once. A second return is refused until the place is given again; from then
 //     on it takes the chunk from its new holder.
+
 //  4. A region serves one allocator at a time. The host keeps the region while a chunk in it is in
-//     use. It may be a chunk of another allocator: that chunk then serves nothing else, and is
-//     returned after the inner allocator is destroyed.
+//     use. A region may be a chunk of another allocator. That chunk then serves nothing else, and
+//     is returned after the inner allocator is destroyed.
+
 //  5. While a shared pool or bump exists, no other one has the same start, not even one that lies
 //     in a chunk of the first. Parties and detached buckets are known by that start. It is
 //     `start_address` of the figures. `bb_shared_pool_abandon` and `bb_shared_bump_abandon` say
 //     how long an abandoned one exists.
+
 //  6. A handle is a variable with both fields zero before its first use: `bb_pool pool =
 //     BB_EMPTY;`. It is passed by its address, which is never null.
+
 //  7. Only these functions write a handle, and it keeps its kind. A compiler refuses a handle of
 //     another kind, unless the host casts. A handle may be moved; its old copy is not used again.
-//  8. A call that has two handles as parameters gets two different ones.
+
+//  8. Two handles that are passed to one call are different ones.
+
 //  9. No function is called in a signal handler. The handler may have interrupted a call with the
 //     handle, or `malloc`.
-// 10. No function is called in a child that a process of several threads forked: another thread
-//     may have locked `malloc`. After any other fork, only one of the two processes goes on using
-//     a handle. PROCESSES, at the end, has the exception.
-// 11. `malloc`, `realloc` and `free`, or the functions that replace them by `bb_use_memory`, belong
-//     to one allocator, and align memory as C requires.
-//
+
+// 10. After `fork`, only one of the two processes goes on using a handle. If the process had
+//     several threads, that is the parent: in the child `malloc` may be locked for good. Processes
+//     share a pool through bb_pool_file.h.
+
+// 11. `malloc` and `free` are those of C, or two functions of the host with the same meaning. The
+//     comment of `bb_use_memory` says what the functions that it names have to do.
+
 // Functions with a `const` handle are the exception to rule 1: they may run beside other calls with
 // their handle, except those that make it or empty it. That is tested (examples/c/places.c) and
 // not proved, since the proofs are of one call at a time.
-//
+
 // CHECKERS
 //
 // If AddressSanitizer or ThreadSanitizer is on, or if BB_VALGRIND is defined before the first
 // include, bb_memory_sanitize.h reports to the checker what is in use. BB_NO_SANITIZE turns that
-// off. Both are defined for all files of a program, or for none. MemorySanitizer needs
-// `__msan_unpoison` of each struct that a call filled.
+// off. Either macro is defined for all files of a program, or for none.
+
+// MemorySanitizer needs `__msan_unpoison` of each struct that a call filled.
+
 #ifndef BB_MEMORY_H
 #define BB_MEMORY_H
 
@@ -105,10 +117,10 @@ extern "C" {
 //
 
 // The version of this header and of the library, as text.
-#define BB_VERSION "2.0.0"
+#define BB_VERSION "3.0.0"
 
 // The first number of the version.
-#define BB_VERSION_MAJOR 2
+#define BB_VERSION_MAJOR 3
 
 // The second number of the version.
 #define BB_VERSION_MINOR 0
@@ -121,39 +133,44 @@ extern "C" {
 
 // The number in the shared library's SONAME. It grows if a function goes, or if a type, a struct's
 // fields or a code's number changes. It stays if functions or codes are added. A program runs with
-// each library of its number, from the version on with which it was linked.
-#define BB_ABI 3
+// any library of this number that is at least as new as the one that it was linked with.
+#define BB_ABI 4
 
 //
 // PLACES
 //
-// A place is where a region, a bucket or a chunk begins. The functions use only its number. A host
-// whose places are numbers, such as offsets, defines BB_PLACES_ARE_NUMBERS before the first
-// include.
-//
+
+// A place is where a region, a bucket or a chunk begins. The functions compute with its number, and
+// never read or write there. A host whose places are numbers, such as offsets, defines
+// BB_PLACES_ARE_NUMBERS before the first include.
 
 #ifdef BB_PLACES_ARE_NUMBERS
+
 // Where a region begins, or a chunk that a call gives.
 typedef size_t bb_place;
 
 // A place that is only passed to a call.
 typedef size_t bb_address;
+
 #else
+
 // Where a region begins, or a chunk that a call gives.
 typedef void *bb_place;
 
 // A place that is only passed to a call.
 typedef const void *bb_address;
+
 #endif
 
 //
 // CODES
 //
+
 // A call that can be refused returns a code, or a struct that begins with one. If the code isn't
-// BB_OK, the call did nothing (`bb_pool_party_recover` says what it does), and the rest of a
-// returned struct is 0. The last line of a function's comment lists its codes other than BB_OK. If
-// several apply, the first one in that list is returned.
-//
+// BB_OK, the call did nothing, and the rest of a returned struct is 0.
+
+// The last line of a function's comment lists its codes other than BB_OK. If several apply, the
+// first one in that list is returned.
 
 enum {
     // Done.
@@ -185,8 +202,8 @@ enum {
     // A handle that must not be empty is empty.
     BB_UNINITIALIZED = 8,
 
-    // No chunk that is in use begins at the place; for a party, no bucket that it holds and doesn't
-    // cache. For a bucket's number: the bucket isn't detached as the call requires.
+    // No chunk in use begins at the place; for a party, no bucket that it holds and doesn't cache.
+    // For `attach_number`: that party hasn't detached the bucket by its number.
     BB_NOT_HELD = 9,
 
     // A handle that must be empty is not.
@@ -309,26 +326,35 @@ static inline const char *bb_text(uint32_t code) {
 // Marks a function whose result has to be used: compilers warn if it is not.
 #define BB_MUST_USE __attribute__((warn_unused_result))
 
-// What C and C++ write differently: a null pointer, the alignment of a type, and a conversion to
-// size_t. The macros below use these.
 #ifdef __cplusplus
+
+// A null pointer of C++.
 #define BB_NULL nullptr
+
+// The alignment of a type, as C++ writes it.
 #define BB_ALIGN_OF(type) alignof(type)
+
+// A conversion to size_t, as C++ writes it.
 #define BB_SIZE(number) static_cast<size_t>(number)
+
 #else
+
+// A null pointer of C.
 #define BB_NULL NULL
+
+// The alignment of a type, as C writes it.
 #define BB_ALIGN_OF(type) __alignof__(type)
+
+// A conversion to size_t, as C writes it.
 #define BB_SIZE(number) ((size_t)(number))
+
 #endif
 
-// A handle before its first use: `bb_pool pool = BB_EMPTY;`.
 // clang-format off
-#define BB_EMPTY {BB_NULL, false}
-// clang-format on
 
-// A `bb_lost` before its use: `bb_lost lost = BB_LOST;`.
-// clang-format off
-#define BB_LOST {BB_NULL, true}
+// A handle before its first use: `bb_pool pool = BB_EMPTY;`.
+#define BB_EMPTY {BB_NULL, false}
+
 // clang-format on
 
 // The size and the alignment of a type, for two parameters: `bb_pool_allocate(&pool,
@@ -338,9 +364,9 @@ static inline const char *bb_text(uint32_t code) {
 //
 // TYPES
 //
+
 // A handle is a variable of the host's, of a type for each kind. Its fields `at` and `made` are
 // read and written only by these functions. An empty handle has both fields zero.
-//
 
 // A bump: one chunk after another.
 typedef struct bb_bump {
@@ -390,31 +416,32 @@ typedef struct bb_detached {
     bool made;
 } bb_detached;
 
-// A host's promise that a detached bucket is lost: see `bb_pool_party_recover`.
-typedef struct bb_lost {
-    void *at;
-    bool made;
-} bb_lost;
-
-// What a request returns: a code, and with BB_OK the place where the chunk begins. Returned in
-// registers.
+// The result of a request: a code, and with BB_OK the place where the chunk begins. It is returned
+// in registers.
 typedef struct bb_chunk {
+    // BB_OK, or why there is no place.
     uint32_t code;
+
+    // Where the chunk begins, or 0.
     bb_place place;
 } bb_chunk;
 
-// What a question returns: a code, and with BB_OK a number. Returned in registers.
+// The result of a question: a code, and with BB_OK a number. It is returned in registers.
 typedef struct bb_number {
+    // BB_OK, or why there is no number.
     uint32_t code;
+
+    // The number, or 0.
     size_t number;
 } bb_number;
 
 //
 // MEMORY
 //
+
 // Only `init`, `join`, `join_number`, `cache` and `reset` take memory, and always outside the
 // region. They request at most this many bytes of `malloc` in all:
-//
+
 //     bb_bump, bb_one_chunk    64
 //     bb_pool                  256, and 16 for each 64 buckets
 //     bb_shared_bump           256, and 16 for each party; to join 64; to reset as much as at
@@ -422,17 +449,26 @@ typedef struct bb_number {
 //     bb_shared_pool           336, 16 for each bucket, 12 for each party; to join 256; to cache
 //                              256, 1 for each bucket, 4 for each that may be cached
 //     bb_detached              128
-//
+
 // `destroy` frees that memory, and `leave`, `forget` and `abandon` free a party's. The handle is
 // empty then, and may be used again. The bytes of chunks that are still in use stay the host's.
-//
 
-// Has the library call these functions in place of `malloc`, `realloc` and `free`. They have the
-// meaning of the C functions that they replace, and `release` may be called with NULL. A process
-// calls this before its other calls; no lock guards it. A host without `malloc` can thus give the
-// library an arena.
-void bb_use_memory(void *(*allocate)(size_t size), void *(*resize)(void *block, size_t size),
-                   void (*release)(void *block));
+// Has the library call `allocate` in place of `malloc`, and `release` in place of `free`. Each of
+// them gets `context` as its first parameter. So a host without `malloc` can give the library an
+// arena. Call this before any other function, or while every handle is empty and no pool's file is
+// open. No lock guards it.
+//
+// `allocate` returns a block of at least `size` bytes at a multiple of `align`, or NULL if it has
+// none. The block overlaps no other one, and nobody else writes it until it is released. `size` is
+// never 0, and `align` is 16.
+//
+// `release` gets a block that `allocate` returned, once. It is never NULL.
+//
+// Any thread that is in a call of the library may call either function, and several threads at
+// once. Neither function calls this library, and each returns to its caller: neither throws, and
+// neither calls `longjmp`.
+void bb_use_memory(void *(*allocate)(void *context, size_t size, size_t align),
+                   void (*release)(void *context, void *block), void *context);
 
 //
 // BUMP: chunks of any size, one after another, all given back at once.
@@ -579,10 +615,10 @@ uint32_t bb_one_chunk_info(bb_one_chunk *one, bb_one_chunk_figures *figures);
 //
 // POOL: a region that is cut into buckets of one layout.
 //
+
 // Bucket 0 begins at the first multiple of the alignment in the region. Each further bucket begins
 // a stride after the one before it, and the region has a whole stride for the last one, too. A
 // chunk is at the start of its bucket.
-//
 
 // The stride of buckets of `size` bytes at multiples of `align`: the size rounded up to the
 // alignment. Nothing is tested. With constants it is a constant.
@@ -594,12 +630,14 @@ uint32_t bb_one_chunk_info(bb_one_chunk *one, bb_one_chunk_figures *figures);
 // for `static unsigned char region[BB_BYTES_FOR(48, 8, 16)]`.
 #define BB_BYTES_FOR(size, align, buckets) (BB_STRIDE(size, align) * BB_SIZE(buckets))
 
-// Returns BB_BYTES_FOR of numbers that are known only at run time, or 0 if the numbers make no
-// bucket or if the result is greater than PTRDIFF_MAX.
+// Returns BB_BYTES_FOR(size, align, buckets), for numbers that are known only at run time. Returns
+// 0 if `size` is 0, if `align` isn't a power of two, or if the result exceeds PTRDIFF_MAX.
 static inline size_t bb_bytes_for(size_t size, size_t align, uint32_t buckets) {
     const size_t most = BB_SIZE(PTRDIFF_MAX);
+
     if (size == 0 || align == 0 || (align & (align - 1)) != 0 || size > most - (align - 1))
         return 0;
+
     return buckets > most / BB_STRIDE(size, align) ? 0 : BB_BYTES_FOR(size, align, buckets);
 }
 
@@ -682,9 +720,9 @@ uint32_t bb_pool_info(bb_pool *pool, bb_pool_figures *figures);
 
 // Returns where the bucket of this number begins, held or not. Buckets count from 0.
 //
-// A process that maps the region at another address reads bucket n at its own bucket 0 plus n *
-// BB_STRIDE(bucket_size, bucket_align); it has no pool of its own over the region. If the alignment
-// is greater than a page, its bucket 0 is as far after the mapping's start as in the first process.
+// A process that maps the region at another address may read bucket n there: it begins n *
+// BB_STRIDE(bucket_size, bucket_align) bytes after bucket 0. If the alignment is greater than a
+// page, bucket 0 is as far after the mapping's start as it is in the process that has the pool.
 //
 // BB_NOT_A_BUCKET if the pool has no bucket of this number.
 //
@@ -718,13 +756,16 @@ BB_MUST_USE static inline uint32_t bb_pool_init_at_least(bb_pool *pool, size_t b
     uint32_t code = bb_pool_init(pool, bucket_size, bucket_align, start, size);
     if (code != BB_OK)
         return code;
+
     if (bb_pool_info(pool, &figures) == BB_OK && figures.number_of_buckets >= buckets)
         return BB_OK;
+
     bb_pool_destroy(pool);
     return BB_NO_BUCKET;
 }
 
 #ifndef BB_PLACES_ARE_NUMBERS
+
 // Allocates a whole bucket, for hosts that want only a pointer. Any free bucket may be taken.
 //
 // Returns the place of the bucket, or NULL if every bucket is held or if the handle is empty.
@@ -733,18 +774,19 @@ BB_MUST_USE static inline uint32_t bb_pool_init_at_least(bb_pool *pool, size_t b
 BB_MUST_USE __attribute__((malloc)) static inline void *bb_pool_get(bb_pool *pool) {
     return bb_pool_take(pool).place;
 }
+
 #endif
 
 //
 // PARTIES: what threads share.
 //
+
 // A shared bump or pool is made for some number of parties. `join` makes a party in a handle of its
 // own, for one thread at a time. `leave` ends it, and it can join again. No call of a party waits
 // for another thread.
-//
+
 // Only one thread at a time calls `join`, `join_number`, `leave`, `forget`, `reset`, `destroy` or
 // `abandon` of what is shared. Parties may be used meanwhile.
-//
 
 //
 // SHARED BUMP: a bump for threads.
@@ -822,14 +864,14 @@ uint32_t bb_bump_party_info(bb_bump_party *party, bb_bump_figures *figures);
 //
 // SHARED POOL: a pool for threads.
 //
+
 // A bucket is returned through the party that holds it, which took it or attached it. A return
 // comes before the bucket's next taking (the steps are sequentially consistent), so the bytes of a
 // bucket need no further lock.
-//
+
 // Each bucket has a flag, which says that it is free, or which party holds it or has detached it. A
 // bucket that a party caches counts as held. Calls that look at each bucket say that their time is
 // proportional to the number of buckets.
-//
 
 // Makes a shared pool in an empty handle, over the region of `size` bytes at `start`, for this
 // number of parties. None of them has joined. The pool has as many buckets as the region has room
@@ -919,9 +961,8 @@ typedef struct bb_holder {
     uint32_t party;
 } bb_holder;
 
-// Stores in `holder` what the flag of the bucket of this number says. It is found by one load. If
-// the call is refused, `holder` stays as it was. Any thread or process may call this while parties
-// are used.
+// Stores in `holder` what the flag of the bucket of this number says, as one load finds it. If the
+// call is refused, `holder` stays as it was. Any thread may call this while parties are used.
 //
 // BB_NOT_A_BUCKET if the pool has no bucket of this number.
 //
@@ -1042,9 +1083,9 @@ uint32_t bb_pool_party_info(bb_pool_party *party, bb_shared_pool_figures *figure
 
 // Returns where the bucket of this number begins, held or not. Buckets count from 0.
 //
-// A process that maps the region at another address reads bucket n at its own bucket 0 plus n *
-// BB_STRIDE(bucket_size, bucket_align). If the alignment is greater than a page, its bucket 0 is as
-// far after the mapping's start as in the first process.
+// A process that maps the region at another address may read bucket n there: it begins n *
+// BB_STRIDE(bucket_size, bucket_align) bytes after bucket 0. If the alignment is greater than a
+// page, bucket 0 is as far after the mapping's start as it is in the process that has the pool.
 //
 // BB_NOT_A_BUCKET if the pool has no bucket of this number.
 //
@@ -1095,13 +1136,16 @@ BB_MUST_USE static inline uint32_t bb_shared_pool_init_at_least(bb_shared_pool *
     uint32_t code = bb_shared_pool_init(pool, bucket_size, bucket_align, start, size, parties);
     if (code != BB_OK)
         return code;
+
     if (bb_shared_pool_info(pool, &figures) == BB_OK && figures.number_of_buckets >= buckets)
         return BB_OK;
+
     bb_shared_pool_destroy(pool);
     return BB_NO_BUCKET;
 }
 
 #ifndef BB_PLACES_ARE_NUMBERS
+
 // Allocates a whole bucket, for hosts that want only a pointer: the bucket that the party cached
 // last, otherwise one that a search over all buckets finds, by next fit.
 //
@@ -1112,19 +1156,20 @@ BB_MUST_USE static inline uint32_t bb_shared_pool_init_at_least(bb_shared_pool *
 BB_MUST_USE __attribute__((malloc)) static inline void *bb_pool_party_get(bb_pool_party *party) {
     return bb_pool_party_take(party).place;
 }
+
 #endif
 
 //
 // DETACHED BUCKETS: a bucket that goes from one party to another.
 //
+
 // In a pool of two parties or more, a party detaches a bucket that it holds. No party holds the
 // bucket then. Any party of the same pool attaches it, in any thread, and holds it then. So the
 // receiver of a message returns its bucket (examples/c/returns.c).
-//
+
 // A bucket goes either in a `bb_detached`, which is itself a handle, or by its number, which the
 // host may pass in any way. Several threads may read a detached bucket; the host counts them, and
 // the last one attaches or returns it (examples/c/pubsub.c). Only `bb_detached_init` takes memory.
-//
 
 // Makes a `bb_detached` in an empty handle, with no bucket in it. It serves one bucket after
 // another, of any pool.
@@ -1133,8 +1178,10 @@ BB_MUST_USE __attribute__((malloc)) static inline void *bb_pool_party_get(bb_poo
 BB_MUST_USE uint32_t bb_detached_init(bb_detached *detached);
 
 // Frees the memory of the `bb_detached` and empties the handle. A bucket that is in it stays
-// detached, and then its pool can't be destroyed. A `bb_detached` doesn't keep a pool: if the pool
-// was abandoned and its parties are gone, this is the only call that is left.
+// detached for good, and its pool can only be abandoned. So attach or return the bucket first.
+//
+// A `bb_detached` doesn't keep a pool. If the pool was abandoned and its parties are gone, this is
+// the only call that is left.
 //
 // Codes, in order: BB_UNINITIALIZED.
 uint32_t bb_detached_destroy(bb_detached *detached);
@@ -1165,29 +1212,13 @@ BB_MUST_USE uint32_t bb_pool_party_detach(bb_pool_party *party, bb_address place
 // Codes, in order: BB_UNINITIALIZED, BB_DETACHED_EMPTY, BB_OTHER_POOL.
 BB_MUST_USE bb_chunk bb_pool_party_attach(bb_pool_party *party, bb_detached *detached);
 
-// Gives back the bucket that is in `detached`, which has none then. It is one store, and no party
-// holds the bucket in between.
+// Gives back the bucket that is in `detached`, which has none then. The call makes one store, and
+// no party holds the bucket in between.
 //
 // BB_UNINITIALIZED if either handle is empty. BB_OTHER_POOL if the bucket belongs to another pool.
 //
 // Codes, in order: BB_UNINITIALIZED, BB_DETACHED_EMPTY, BB_OTHER_POOL.
 uint32_t bb_pool_party_return_detached(bb_pool_party *party, bb_detached *detached);
-
-// Gives back the bucket of this number, which was detached into a `bb_detached` that is lost, as
-// that of a dead process. By `bb_lost lost = BB_LOST;` the host promises that nobody has that
-// `bb_detached` or will use it. If the party's handle and `lost` aren't empty, the call empties
-// `lost`, even if it is refused, and calls `free` with NULL.
-//
-// BB_UNINITIALIZED if either handle is empty, and then both stay as they were. BB_NOT_A_BUCKET if
-// the pool has no bucket of this number. BB_NOT_HELD if the bucket isn't detached, or was detached
-// by its number.
-//
-// A process that died in `bb_pool_party_return_detached`, or in this call, may have given the
-// bucket back already, and another party may have taken it and detached it since. Neither this call
-// nor `bb_shared_pool_holder` can find that out, and this call would free that party's message.
-//
-// Codes, in order: BB_UNINITIALIZED, BB_NOT_A_BUCKET, BB_NOT_HELD.
-uint32_t bb_pool_party_recover(bb_pool_party *party, uint32_t number, bb_lost *lost);
 
 // Detaches the bucket at `place` by its number. The host passes the number to another party, with
 // the number of this party, and that one attaches the bucket by these two numbers.
@@ -1199,8 +1230,8 @@ uint32_t bb_pool_party_recover(bb_pool_party *party, uint32_t number, bb_lost *l
 BB_MUST_USE bb_number bb_pool_party_detach_number(bb_pool_party *party, bb_address place);
 
 // Attaches the bucket of this number if the party of number `from` has detached it by its number:
-// this party holds it then. It is one exchange of the bucket's flag, so of any number of callers at
-// most one gets the bucket. Any two numbers may be passed.
+// this party holds it then. The call makes one exchange of the bucket's flag, so if several parties
+// call it, at most one gets the bucket. Any two numbers may be passed.
 //
 // Returns the place of the bucket. BB_NOT_A_BUCKET if the pool has no bucket of this number.
 // BB_NOT_HELD if the flag says anything else, also if the bucket is in a `bb_detached`.
@@ -1209,39 +1240,13 @@ BB_MUST_USE bb_number bb_pool_party_detach_number(bb_pool_party *party, bb_addre
 BB_MUST_USE bb_chunk bb_pool_party_attach_number(bb_pool_party *party, uint32_t number,
                                                  uint32_t from);
 
-//
-// PROCESSES share a pool as threads do, under these conditions:
-//
-// - The region and the library's memory (`bb_use_memory`) lie in a mapping that all processes have
-//   at one address: one that `fork` copies (examples/c/workers.c), or one of a file
-//   (examples/c/processes.c).
-// - All processes have one version of the library.
-// - A handle is copied by `fork`, or lies in the mapping. One process at a time uses it.
-// - Only one process at a time joins and leaves. A supervisor does that best: the others get
-//   parties that have joined.
-//
-// A process may be killed at any instruction, except in a call that takes or frees memory: `init`,
-// `join`, `join_number`, `leave`, `forget`, `cache`, `recover`, `reset`, `destroy` or `abandon`. If
-// a process died in one of these, what it shared is not used any more.
-//
-// After a process died, another one does this:
-//
-// - It calls `leave` for the dead process's party. Exactly what the party held is free then.
-//   `leave` trusts the pool's words. Of what the party's handle owns, it trusts only what never
-//   changes: where the pool and the cache lie, and the party's number. All else may be torn.
-// - It destroys each `bb_detached` that the dead process was in a call with, which may be torn.
-//   The bucket of such a one is held by the dead party until that leaves, or it is still detached.
-//   `bb_shared_pool_holder`, called before `leave`, says which. If it is detached,
-//   `bb_pool_party_recover` gives it back. If the dead process was in
-//   `bb_pool_party_return_detached`, the bucket may already be another party's.
-//
-
 #ifdef __cplusplus
 }
 #endif
 
 // A checker that is on learns what is in use.
 #if !defined(BB_NO_SANITIZE) && !defined(BB_PLACES_ARE_NUMBERS)
+
 #if defined(__SANITIZE_ADDRESS__) || defined(__SANITIZE_THREAD__) || defined(BB_VALGRIND)
 #include "bb_memory_sanitize.h"
 #elif defined(__has_feature)
@@ -1249,6 +1254,7 @@ BB_MUST_USE bb_chunk bb_pool_party_attach_number(bb_pool_party *party, uint32_t 
 #include "bb_memory_sanitize.h"
 #endif
 #endif
+
 #endif
 
 #endif

@@ -1,10 +1,10 @@
 // bb_memory for C++17, over bb_memory.h. Its rules and codes hold here too.
-//
+
 // There are owners that destroy what they initialized, parties that leave when they end,
 // `std::unique_ptr` that gives its bucket back, and `std::pmr::memory_resource` over a bump, a pool
 // and a party. A refusal is a value: of an enum, or empty. Only a memory resource throws:
 // `std::bad_alloc`, as containers require.
-//
+
 //     alignas(64) static unsigned char region[BB_BYTES_FOR(64, 64, 16)];
 //
 //     // The pool outlives its parties, and each thread has a party.
@@ -21,12 +21,13 @@
 //     // There are no figures if there is no party.
 //     if (party.info()->held_buckets != 4)
 //         return;
-//
+
 // `get()` is the handle, for each function of bb_memory.h.
-//
+
 // Owners and parties neither move nor are copied, since resources and pointers keep the addresses
 // of their handles. A container that constructs them in place, as `std::deque` and
 // `std::optional` do, may have them. Only `bb::detached` moves: nothing keeps its address.
+
 #ifndef BB_MEMORY_HPP
 #define BB_MEMORY_HPP
 
@@ -368,12 +369,6 @@ public:
     // Gives back the bucket that is in `from`, without attaching it.
     error return_detached(detached &from) noexcept {
         return static_cast<error>(bb_pool_party_return_detached(get(), from.get()));
-    }
-
-    // Gives back the detached bucket of this number, whose `bb_detached` nobody has or will use.
-    error recover(std::uint32_t number) noexcept {
-        bb_lost lost = BB_LOST;
-        return static_cast<error>(bb_pool_party_recover(get(), number, &lost));
     }
 
     // Gives back each bucket that this party holds, cached ones too. The party stays.

@@ -9,14 +9,11 @@
 //   So it stops if that is a copy of a destroyed handle.
 // - ThreadSanitizer and valgrind's helgrind learn that a bucket's return comes before its next
 //   taking. So they find a race only if there is one.
-//
+
 // Regions are memory of the process. A host whose places are other numbers defines
 // BB_PLACES_ARE_NUMBERS or BB_NO_SANITIZE, and then bb_memory.h doesn't include this file. A host
 // destroys a pool before it uses the region for something else, for example a region on a stack.
-//
-// Each process has reports of its own. One that reads a bucket that another process took, and
-// doesn't attach it, first calls `bb_sanitize_open`. A bucket that `bb_pool_party_recover` gives
-// back is reported as free only after its next return.
+
 #ifndef BB_MEMORY_SANITIZE_H
 #define BB_MEMORY_SANITIZE_H
 
@@ -515,17 +512,6 @@ BB_SANITIZE_INLINE uint32_t bb_sanitize_pool_party_return_detached(bb_pool_party
     return code == BB_OK ? bb_pool_party_return_detached(party, detached) : code;
 }
 
-// Calls `bb_pool_party_recover`, and reports that another thread may have the bucket.
-BB_SANITIZE_INLINE uint32_t bb_sanitize_pool_party_recover(bb_pool_party *party, uint32_t number,
-                                                           bb_lost *lost) {
-    bb_chunk bucket;
-    bb_sanitize_handle(party->at, party->made);
-    bucket = bb_pool_party_place_at(party, number);
-    if (bucket.code == BB_OK)
-        bb_sanitize_sending(bucket.place);
-    return bb_pool_party_recover(party, number, lost);
-}
-
 // Calls `bb_pool_party_detach_number`, and reports that another thread may have the bucket.
 BB_MUST_USE BB_SANITIZE_INLINE bb_number bb_sanitize_pool_party_detach_number(bb_pool_party *party,
                                                                               bb_address place) {
@@ -578,7 +564,6 @@ BB_MUST_USE BB_SANITIZE_INLINE bb_chunk bb_sanitize_pool_party_attach_number(bb_
 #define bb_pool_party_detach bb_sanitize_pool_party_detach
 #define bb_pool_party_attach bb_sanitize_pool_party_attach
 #define bb_pool_party_return_detached bb_sanitize_pool_party_return_detached
-#define bb_pool_party_recover bb_sanitize_pool_party_recover
 #define bb_pool_party_detach_number bb_sanitize_pool_party_detach_number
 #define bb_pool_party_attach_number bb_sanitize_pool_party_attach_number
 

@@ -2,9 +2,9 @@
 //
 // The file has a header page, the pages of the flags' words, those of the slots, and those of the
 // region. Each process maps all but the header, at any address, and makes a shared pool of its own:
-// the library gets private memory for the flags' words by a loan (memory.h), and then the file's
-// words are mapped over it. A process uses the party of a number while it has the lock of a byte of
-// the file.
+// the library gets memory of this process's for the flags' words by a loan (memory.h), and then the
+// file's words are mapped over it. A process uses the party of a number while it has the lock of a
+// byte of the file.
 //
 // A bucket's flag says who may touch the bucket, and a slot says that a bucket has a message. A
 // sender fills the slot first and detaches the bucket then. Whoever holds a bucket and finds it in
@@ -31,6 +31,11 @@
 
 #include "memory.h"
 
+// A request that older headers of the C library lack.
+#ifndef MADV_POPULATE_READ
+#define MADV_POPULATE_READ 22
+#endif
+
 // Sizes in bytes.
 enum {
     PAGE = 4096,
@@ -47,9 +52,14 @@ enum {
     MOST_PARTIES = 65535,
     // The flags' words begin with this many that are no flag.
     WORDS_BEFORE = 8,
-    // Of the requests for memory that `bb_shared_pool_init` makes, the number of the one for the
-    // flags' words: the parties, a list of zeros and the words, which are a copy of that list.
-    WORDS_REQUEST = 3,
+    // Of the requests for memory that `bb_shared_pool_init` makes, the second is for a list of
+    // zeros, and the third for the flags' words, which are a copy of that list.
+    ZEROS_REQUEST = 2,
+    WORDS_REQUESTS = 2,
+    // If the flags' words take more bytes than this, they are at first that many bytes or more, which
+    // are mapped again and again, at most MOST_STAND_INS times.
+    STAND_IN = 1 << 18,
+    MOST_STAND_INS = 64,
     // A sleep lasts at most this many milliseconds. So whoever was killed before it woke others
     // keeps them waiting no longer.
     LONGEST_SLEEP = 100,
@@ -359,12 +369,44 @@ static uint32_t enter(bb_pool_file *file, const bb_pool_file_options *options) {
     return BB_OK;
 }
 
-// Makes this process's pool over the words, which are private memory so far.
+// Maps the same few pages over the words again and again: they stay in the cache, and no others have
+// to be cleared. Returns false if the system refuses, as valgrind does.
+static bool map_again_and_again(const bb_pool_file *file) {
+    char *words = (char *)file->words;
+    size_t part = round_up(file->words_size / MOST_STAND_INS + 1, PAGE);
+    if (part < STAND_IN)
+        part = STAND_IN;
+    char *pages = mmap(NULL, part, PROT_READ | PROT_WRITE, MAP_SHARED | MAP_ANONYMOUS, -1, 0);
+    if (pages == MAP_FAILED)
+        return false;
+    const char *mapped = words;
+    for (size_t at = 0; at < file->words_size && mapped != MAP_FAILED; at += part) {
+        const size_t length = smaller(part, file->words_size - at);
+        // The old size of 0 says to keep what is mapped.
+        mapped = mremap(pages, 0, length, MREMAP_MAYMOVE | MREMAP_FIXED, words + at);
+    }
+    munmap(pages, part);
+    // This saves a page fault for each page. Linux before 5.14 refuses it.
+    madvise(words, file->words_size, MADV_POPULATE_READ);
+    return mapped != MAP_FAILED;
+}
+
+// Maps memory for the words while the library makes its pool, which fills them with zeros.
+static bool map_stand_ins(const bb_pool_file *file) {
+    const int private = MAP_PRIVATE | MAP_ANONYMOUS | MAP_FIXED;
+    if (file->words_size > STAND_IN && map_again_and_again(file))
+        return true;
+    return mmap(file->words, file->words_size, PROT_READ | PROT_WRITE, private, -1, 0) ==
+           file->words;
+}
+
+// Makes this process's pool over the words, which are the stand-ins so far. The library has them
+// for its list of zeros and for the copy of it: it writes nothing but zeros by either.
 static uint32_t make_pool(bb_pool_file *file) {
     const struct header *head = &file->head;
     const size_t words_size = (WORDS_BEFORE + (size_t)head->buckets) * sizeof(uint64_t);
     const size_t size = BB_BYTES_FOR(head->bucket_size, head->bucket_align, head->buckets);
-    memory_lend(file->words, words_size, WORDS_REQUEST);
+    memory_lend(file->words, words_size, ZEROS_REQUEST, WORDS_REQUESTS);
     const uint32_t code = bb_shared_pool_init(&file->pool, head->bucket_size, head->bucket_align,
                                               file->region, size, head->parties + 1);
     const bool is_kept = memory_end_loan();
@@ -395,10 +437,8 @@ static uint32_t map_all(bb_pool_file *file) {
     file->events = (struct events *)(void *)slots;
     file->slots = (struct slot *)(void *)(slots + sizeof(struct events));
     file->words = (uint64_t *)(void *)words;
-    if (mprotect(words, file->words_size, PROT_READ | PROT_WRITE) != 0)
+    if (!map_stand_ins(file))
         return BB_FILE_SYSTEM;
-    // Large pages are quicker to make. They are gone once the file is mapped.
-    madvise(words, file->words_size, MADV_HUGEPAGE);
     const uint32_t code = make_pool(file);
     if (code != BB_OK)
         return code;
@@ -416,7 +456,7 @@ static void free_pool(bb_pool_file *file) {
         return;
     if (mmap(file->words, file->words_size, PROT_READ | PROT_WRITE, private, -1, 0) == MAP_FAILED)
         return;
-    memory_lend(file->words, 0, 0);
+    memory_lend(file->words, 0, 1, 0);
     bb_shared_pool_abandon(&file->pool);
     memory_end_loan();
 }

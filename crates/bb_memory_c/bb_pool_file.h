@@ -3,6 +3,8 @@
 // with no parent, no daemon and no agreed address. A process that is killed at any instruction
 // loses neither a bucket nor a message: the next one that joins or reaps gives back exactly what
 // the dead one held.
+
+// EXAMPLE
 //
 //     #include <string.h>
 //     #include "bb_pool_file.h"
@@ -25,32 +27,43 @@
 //             bb_pool_file_deallocate(file, mine, chunk.place);           // this once already
 //         return bb_pool_file_close(file) == BB_OK ? 0 : 1;
 //     }
-//
+
 // Each process has its own shared pool (bb_memory.h) in private memory, over the flags and the
 // region in the file. A party takes and gives back buckets by the calls of bb_memory.h, at the same
 // cost.
+
+// WHO IS ALIVE
 //
-// WHO IS ALIVE: a party that has joined has a lock on a byte of the file. The kernel drops the lock
+// A party that has joined has a lock on a byte of the file. The kernel drops the lock
 // once the process has neither a descriptor nor a mapping of the open file, so after its last
 // access. If nobody has the lock of a number, its party is dead. No process number is compared.
+
+// RULES
 //
-// RULES, besides those of bb_memory.h, which no function tests:
-//
+// These come in addition to those of bb_memory.h. No function tests them.
+
 //  1. One thread at a time uses a party; other threads join their own. All other calls with a
 //     `bb_pool_file` may run at once, but for `close`.
+
 //  2. A place is valid in one process. A bucket goes to another process by its number: in a slot,
 //     or by any channel of the host's.
+
 //  3. Of bb_memory.h's calls of a party use only `allocate`, `take`, `get`, `deallocate`,
 //     `take_many`, `deallocate_many`, `cache`, `flush`, `info`, `holds`, `number`, `number_at`,
 //     `place_at` and `give_all_back`. Don't abandon it.
+
 //  4. A forked child has nothing of the file: its handles are empty, and it opens the file anew.
 //     That takes `pthread_atfork`, which a raw `clone` doesn't run. `exec` closes the file.
+
 //  5. Whoever may write the file is trusted. Wrong words can make two parties hold one bucket, but
 //     no call reads or writes outside the file's pages for them. Whoever truncates the file kills
 //     each process that uses it (SIGBUS). Whoever may only read it can lock its bytes, and so keep
 //     others from opening it and dead parties from being reaped.
+
 //  6. The file is on a file system of the machine (tmpfs, ext4), or is a memfd; never on NFS.
+
 //  7. All processes that open a file have one version of the library.
+
 #ifndef BB_POOL_FILE_H
 #define BB_POOL_FILE_H
 
@@ -61,7 +74,9 @@
 #ifndef BB_NO_SANITIZE
 #define BB_NO_SANITIZE
 #endif
+
 #include "bb_memory.h"
+
 #ifdef BB_MEMORY_SANITIZE_H
 #error "include bb_pool_file.h before bb_memory.h, or define BB_NO_SANITIZE"
 #endif
@@ -70,28 +85,41 @@
 extern "C" {
 #endif
 
-// The codes of these calls, besides those of bb_memory.h. If the code isn't BB_OK, the call did
-// nothing, except that `open` may have made the file and `reap` may have given back some buckets.
+//
+// CODES
+//
+
+// The codes of these calls, in addition to those of bb_memory.h. If the code isn't BB_OK, the call
+// did nothing, except that `open` may have made the file and `reap` may have given back some
+// buckets.
 enum {
     // A call of the system failed: `errno` says why. ENOENT if there is no file and no options say
     // what to make, ENOSPC if there is no room for it.
     BB_FILE_SYSTEM = 26,
+
     // The file is not a pool's. Nothing was written to it.
     BB_FILE_FOREIGN = 27,
+
     // The file is a pool's, in the format of another version.
     BB_FILE_VERSION = 28,
+
     // The file's figures aren't those of the options.
     BB_FILE_MISMATCH = 29,
+
     // The file's length isn't what its figures take, or its figures are impossible.
     BB_FILE_DAMAGED = 30,
+
     // It isn't a regular file; others may write it though `mode` doesn't let them; or `mode` lets
     // no others write, and it belongs neither to this user nor to root.
     BB_FILE_UNSAFE = 31,
+
     // The file was never finished, or is from before the machine's last start, and no options say
     // to make it anew.
     BB_FILE_STALE = 32,
+
     // The time is over.
     BB_FILE_TIMED_OUT = 33,
+
     // The greatest code of this version.
     BB_FILE_LAST_CODE = BB_FILE_TIMED_OUT
 };
@@ -126,30 +154,45 @@ static inline const char *bb_pool_file_name(uint32_t code) {
     }
 }
 
+//
+// FILES AND PARTIES
+//
+
 // A pool's file that this process has opened.
 typedef struct bb_pool_file bb_pool_file;
 
 // The figures that a file is made with. A file that exists has to have the same, except for `mode`.
-// The size and the alignment of a bucket are in bytes. `parties` is how many may have joined at one
-// time, over all processes, at most 65,535; `slots` is the number of mailboxes for messages, which
-// may be 0. `mode` has the permissions of a file that is made, less the umask; 0 stands for 0600.
 typedef struct bb_pool_file_options {
+    // The bytes of a bucket.
     size_t bucket_size;
+
+    // The alignment of a bucket, in bytes.
     size_t bucket_align;
+
+    // How many buckets the pool has.
     uint32_t buckets;
+
+    // How many parties may have joined at one time, over all processes: at most 65,535.
     uint32_t parties;
+
+    // The number of mailboxes for messages, which may be 0.
     uint32_t slots;
+
+    // The permissions of a file that is made, less the umask. 0 means 0600.
     mode_t mode;
 } bb_pool_file_options;
 
 // Opens the pool in the file at `path`, and makes it if there is no file, or an empty one. With
 // NULL for the options, or with no buckets, a file that exists is taken as it is, and none is made.
+//
 // Any number of processes may open a file at once, and be killed while they do. A file whose maker
 // was killed, or from before the machine's last start, is made anew, unless another process has it
 // open. An open waits while another process makes the file. All pages of a new file are allocated
-// before the call returns. Codes, in order: BB_INVALID_ARGUMENT if no pool has such options;
-// BB_FILE_SYSTEM; BB_FILE_UNSAFE; BB_FILE_FOREIGN; BB_FILE_VERSION; BB_FILE_STALE;
-// BB_FILE_MISMATCH; BB_FILE_DAMAGED; BB_MALLOC_REFUSED.
+// before the call returns.
+//
+// Codes, in order: BB_INVALID_ARGUMENT if no pool has such options; BB_FILE_SYSTEM; BB_FILE_UNSAFE;
+// BB_FILE_FOREIGN; BB_FILE_VERSION; BB_FILE_STALE; BB_FILE_MISMATCH; BB_FILE_DAMAGED;
+// BB_MALLOC_REFUSED.
 BB_MUST_USE uint32_t bb_pool_file_open(bb_pool_file **, const char *path,
                                        const bb_pool_file_options *);
 
@@ -163,61 +206,81 @@ BB_MUST_USE uint32_t bb_pool_file_open_fd(bb_pool_file **, int fd, const bb_pool
 uint32_t bb_pool_file_close(bb_pool_file *);
 
 // Makes a party join that no living process uses, after what a dead process left in it is given
-// back. The party is the file's: `leave` or `close` ends it. BB_UNINITIALIZED in a forked child;
-// BB_NO_PARTY if each party is in use or is being reaped; BB_FILE_SYSTEM; BB_MALLOC_REFUSED.
+// back. The party is the file's: `leave` or `close` ends it.
+//
+// Codes: BB_UNINITIALIZED in a forked child; BB_NO_PARTY if each party is in use or is being
+// reaped; BB_FILE_SYSTEM; BB_MALLOC_REFUSED.
 BB_MUST_USE uint32_t bb_pool_file_join(bb_pool_file *, bb_pool_party **);
 
 // Ends a party, and gives back what it holds, cached or not. A message that it took and isn't done
-// with can be taken again. BB_UNINITIALIZED if it isn't a party of this `bb_pool_file`.
+// with can be taken again.
+//
+// Codes: BB_UNINITIALIZED if it isn't a party of this `bb_pool_file`.
 uint32_t bb_pool_file_leave(bb_pool_file *, bb_pool_party *);
 
 // Takes back the bucket at this place as `bb_pool_party_deallocate` does, and wakes who waits for a
 // bucket.
 uint32_t bb_pool_file_deallocate(bb_pool_file *, bb_pool_party *, bb_address place);
 
+//
 // MESSAGES IN SLOTS: a killed process loses neither a message nor a bucket.
+//
 
 // Puts the bucket at `place`, with a message of `len` bytes, into an empty slot, and wakes who
 // waits for it. From then on the message is sent, even if the sender is killed in the call, and the
-// party doesn't hold the bucket. BB_UNINITIALIZED; BB_INVALID_ARGUMENT if there is no such slot;
-// BB_NOT_HELD; BB_SIZE_TOO_LARGE; BB_DETACHED_FULL if the slot is full.
+// party doesn't hold the bucket.
+//
+// Codes: BB_UNINITIALIZED; BB_INVALID_ARGUMENT if there is no such slot; BB_NOT_HELD;
+// BB_SIZE_TOO_LARGE; BB_DETACHED_FULL if the slot is full.
 BB_MUST_USE uint32_t bb_pool_file_post(bb_pool_file *, bb_pool_party *, uint32_t slot,
                                        bb_address place, size_t len);
 
-// A code, and with BB_OK a message: the number of its bucket, where that lies in this process, and
-// its length in bytes.
+// A code, and with BB_OK a message.
 typedef struct bb_message {
+    // BB_OK, or why there is no message.
     uint32_t code;
+
+    // The number of its bucket.
     uint32_t number;
+
+    // Where the bucket is in this process.
     bb_place place;
+
+    // The length of the message in bytes.
     size_t len;
 } bb_message;
 
-// Takes the message in this slot: the party holds its bucket then. Of any number of callers at most
-// one gets it. The message stays in its slot until the party is done with it. If the party dies or
-// leaves before that, the message can be taken again. BB_UNINITIALIZED; BB_INVALID_ARGUMENT if
-// there is no such slot; BB_DETACHED_EMPTY if the slot is empty; BB_NOT_HELD if a party has taken
-// it, or if its sender is still in `bb_pool_file_post` or was killed there and isn't reaped yet;
-// BB_NOT_A_BUCKET if the slot has no bucket's number, or a length greater than a bucket's size.
+// Takes the message in this slot: the party holds its bucket then. If several parties call this, at
+// most one gets the message. It stays in its slot until the party is done with it. If the party
+// dies or leaves before that, the message can be taken again.
+//
+// Codes: BB_UNINITIALIZED; BB_INVALID_ARGUMENT if there is no such slot; BB_DETACHED_EMPTY if the
+// slot is empty; BB_NOT_HELD if a party has taken the message, or if its sender is still in
+// `bb_pool_file_post` or was killed there and isn't reaped yet; BB_NOT_A_BUCKET if the slot has no
+// bucket's number, or a length greater than a bucket's size.
 BB_MUST_USE bb_message bb_pool_file_take(bb_pool_file *, bb_pool_party *, uint32_t slot);
 
 // Empties the slot whose message this party has taken. The bucket stays the party's, to give back
 // or to post again. Call it right after `take` to process each message at most once, or after the
 // work to process it at least once. Give the bucket back, or post it again, only after this call.
-// To put a message back, `bb_pool_file_detach` its bucket. BB_UNINITIALIZED; BB_INVALID_ARGUMENT if
-// there is no such slot; BB_NOT_HELD if the party doesn't hold the bucket in the slot.
+// To put a message back, `bb_pool_file_detach` its bucket.
+//
+// Codes: BB_UNINITIALIZED; BB_INVALID_ARGUMENT if there is no such slot; BB_NOT_HELD if the party
+// doesn't hold the bucket in the slot.
 uint32_t bb_pool_file_done(bb_pool_file *, bb_pool_party *, uint32_t slot);
 
-// Stands for any slot in a wait.
+// Any slot, in a wait.
 #define BB_ANY_SLOT UINT32_MAX
 
-// Stands for a wait without an end.
+// No limit, for the time of a wait.
 #define BB_NO_TIMEOUT UINT32_MAX
 
 // Waits until a message can be taken from the slot, or from any slot with BB_ANY_SLOT, for at most
 // this many milliseconds. Another party may take it first. If a sender is killed in
 // `bb_pool_file_post`, its message is noticed within a tenth of a second, or only after its party
-// is reaped. BB_UNINITIALIZED in a forked child; BB_INVALID_ARGUMENT if there is no such slot;
+// is reaped.
+//
+// Codes: BB_UNINITIALIZED in a forked child; BB_INVALID_ARGUMENT if there is no such slot;
 // BB_FILE_TIMED_OUT; BB_FILE_SYSTEM.
 BB_MUST_USE uint32_t bb_pool_file_wait_full(bb_pool_file *, uint32_t slot, uint32_t milliseconds);
 
@@ -226,69 +289,105 @@ BB_MUST_USE uint32_t bb_pool_file_wait_empty(bb_pool_file *, uint32_t slot, uint
 
 // Waits until a bucket is free, for at most this many milliseconds. Another party may be quicker to
 // take it. A bucket that was given back by `bb_pool_party_deallocate` is noticed within a tenth of
-// a second. What dead parties hold isn't free before a reap. BB_UNINITIALIZED in a forked child;
-// BB_FILE_TIMED_OUT; BB_FILE_SYSTEM.
+// a second. What dead parties hold isn't free before a reap.
+//
+// Codes: BB_UNINITIALIZED in a forked child; BB_FILE_TIMED_OUT; BB_FILE_SYSTEM.
 BB_MUST_USE uint32_t bb_pool_file_wait_bucket(bb_pool_file *, uint32_t milliseconds);
 
+//
 // MESSAGES BY ANY CHANNEL: the sender detaches, and sends the number; the receiver attaches by it.
+//
+
 // If either side is killed while it has the number, the bucket stays detached until a reap with
 // `detached`. If a party that takes from a slot in which the bucket was before is killed in that
-// call, a reap gives the bucket back, and the message is lost. A number that comes late may name a
-// newer message: write an identification into the bucket, compare it, and detach a bucket that
-// isn't yours.
+// call, a reap gives the bucket back, and the message is lost.
 
-// Detaches the bucket at this place, and returns its number. BB_UNINITIALIZED; BB_NOT_HELD if this
-// party doesn't hold the bucket, or caches it.
+// A number that comes late may name a newer message: write an identification into the bucket,
+// compare it, and detach a bucket that isn't yours.
+
+// Detaches the bucket at this place, and returns its number.
+//
+// Codes: BB_UNINITIALIZED; BB_NOT_HELD if this party doesn't hold the bucket, or caches it.
 BB_MUST_USE bb_number bb_pool_file_detach(bb_pool_file *, bb_pool_party *, bb_address place);
 
-// Attaches the bucket of this number, and returns its place: the party holds the bucket then. Of
-// any number of callers at most one gets it. BB_UNINITIALIZED; BB_NOT_A_BUCKET; BB_NOT_HELD if the
-// bucket isn't detached. A `bb_pool_file_take` of another party may hold it for a moment: if
-// numbers can come late, or slots are used too, try again.
+// Attaches the bucket of this number, and returns its place: the party holds the bucket then. If
+// several parties call this, at most one gets the bucket.
+//
+// Codes: BB_UNINITIALIZED; BB_NOT_A_BUCKET; BB_NOT_HELD if the bucket isn't detached. A
+// `bb_pool_file_take` of another party may hold it for a moment: if numbers can come late, or slots
+// are used too, try again.
 BB_MUST_USE bb_chunk bb_pool_file_attach(bb_pool_file *, bb_pool_party *, uint32_t number);
 
+//
+// DEAD PARTIES
+//
+
 // Gives back what dead parties held, while others work; any number of processes may reap at once.
-// Messages in slots stay, and can be taken. If `detached` is true, it also gives back buckets that
-// dead parties detached and that are in no slot: pass true only if their numbers can't arrive any
-// more. Such a bucket stays detached while a later party has the dead one's number. `given_back`
-// may be NULL; it gets the number of buckets. BB_UNINITIALIZED in a forked child; BB_FILE_SYSTEM;
-// BB_MALLOC_REFUSED.
+// Messages in slots stay, and can be taken. `given_back` gets the number of buckets, and may be
+// NULL.
+//
+// If `detached` is true, it also gives back buckets that dead parties detached and that are in no
+// slot: pass true only if their numbers can't arrive any more. Such a bucket stays detached while a
+// later party has the dead one's number.
+//
+// Codes: BB_UNINITIALIZED in a forked child; BB_FILE_SYSTEM; BB_MALLOC_REFUSED.
 uint32_t bb_pool_file_reap(bb_pool_file *, bool detached, uint32_t *given_back);
 
+//
 // FIGURES: each flag, slot and lock is looked at once, while others work.
+//
 
-// The figures of a pool's file. `start` is where bucket 0 lies in this process. `alive` counts the
-// parties that have joined, `held` the buckets that parties hold, cached or not, and `lost` those
-// of them whose party is dead, which a reap gives back. `wrong` counts flags that no party writes.
+// The figures of a pool's file.
 typedef struct bb_pool_file_figures {
+    // The figures that the file was made with.
     bb_pool_file_options options;
+
+    // Where bucket 0 is in this process.
     bb_place start;
+
+    // How many parties have joined.
     uint32_t alive;
+
+    // How many buckets parties hold, cached or not.
     uint32_t held;
+
+    // How many buckets are detached.
     uint32_t detached;
+
+    // How many of the held buckets have a dead party. A reap gives them back.
     uint32_t lost;
+
+    // How many slots have a message.
     uint32_t full_slots;
+
+    // How many flags have a value that no party writes.
     uint32_t wrong;
 } bb_pool_file_figures;
 
-// Fills in the figures of the file. BB_UNINITIALIZED in a forked child; BB_MALLOC_REFUSED.
+// Fills in the figures of the file.
+//
+// Codes: BB_UNINITIALIZED in a forked child; BB_MALLOC_REFUSED.
 uint32_t bb_pool_file_info(bb_pool_file *, bb_pool_file_figures *);
 
 // Fills in what the flag of the bucket of this number says, as `bb_shared_pool_holder` does. For a
 // message in a slot, `party` is mostly `options.parties`, a number that no party has.
-// BB_UNINITIALIZED in a forked child; BB_NOT_A_BUCKET.
+//
+// Codes: BB_UNINITIALIZED in a forked child; BB_NOT_A_BUCKET.
 uint32_t bb_pool_file_holder(bb_pool_file *, uint32_t number, bb_holder *);
 
-// Returns 1 if a living process uses the party of this number, otherwise 0. BB_UNINITIALIZED in a
-// forked child; BB_NO_PARTY if there is no such number.
+// Returns 1 if a living process uses the party of this number, otherwise 0.
+//
+// Codes: BB_UNINITIALIZED in a forked child; BB_NO_PARTY if there is no such number.
 bb_number bb_pool_file_is_alive(bb_pool_file *, uint32_t party);
 
-// Returns what is in this slot, and takes nothing: another party may have taken the message. Codes,
-// in order: BB_UNINITIALIZED in a forked child; BB_INVALID_ARGUMENT; BB_DETACHED_EMPTY;
+// Returns what is in this slot, and takes nothing: another party may have taken the message.
+//
+// Codes, in order: BB_UNINITIALIZED in a forked child; BB_INVALID_ARGUMENT; BB_DETACHED_EMPTY;
 // BB_NOT_A_BUCKET.
 bb_message bb_pool_file_look(bb_pool_file *, uint32_t slot);
 
 #ifdef __cplusplus
 }
 #endif
+
 #endif

@@ -1,20 +1,47 @@
-// Where the library's own memory comes from. This file is outside the proofs: no contract says more
-// of a request for memory than that it may fail. The Makefile has the library call `memory_*` in
+// The source of the library's own memory. This file is outside the proofs: all that a contract says
+// of a request for memory is that it may fail. The Makefile has the library call `memory_*` in
 // place of `malloc`, `realloc` and `free`.
 #include <stdlib.h>
 
 #include "bb_memory.h"
 #include "memory.h"
 
-static void *(*allocate_by)(size_t) = malloc;
-static void *(*resize_by)(void *, size_t) = realloc;
-static void (*release_by)(void *) = free;
+// The alignment of each block, which `malloc` has on x86-64.
+enum {
+    BLOCK_ALIGN = 16
+};
 
-void bb_use_memory(void *(*allocate)(size_t), void *(*resize)(void *, size_t),
-                   void (*release)(void *)) {
-    allocate_by = allocate;
-    resize_by = resize;
-    release_by = release;
+static void *allocate_by_malloc(void *context, size_t size, size_t align) {
+    (void)context;
+    (void)align;
+    return malloc(size);
+}
+
+static void release_by_free(void *context, void *block) {
+    (void)context;
+    free(block);
+}
+
+// The functions that the library calls, and what each of them gets as its first parameter.
+static struct {
+    void *(*allocate)(void *context, size_t size, size_t align);
+    void (*release)(void *context, void *block);
+    void *context;
+} memory = {allocate_by_malloc, release_by_free, NULL};
+
+void bb_use_memory(void *(*allocate)(void *context, size_t size, size_t align),
+                   void (*release)(void *context, void *block), void *context) {
+    memory.allocate = allocate;
+    memory.release = release;
+    memory.context = context;
+}
+
+static void *allocate_by(size_t size) {
+    return memory.allocate(memory.context, size, BLOCK_ALIGN);
+}
+
+static void release_by(void *block) {
+    memory.release(memory.context, block);
 }
 
 // Hidden: the archive and the shared library export only `bb_*`.
@@ -26,42 +53,51 @@ void memory_release(void *block);
 static __thread struct {
     void *block;
     size_t size;
-    unsigned requests_left;
-    bool is_kept;
+    // How many requests come before those that get the block, and how many of these are left.
+    unsigned before;
+    unsigned left;
+    // How many times the library has the block.
+    int given;
 } loan;
 
-void memory_lend(void *block, size_t size, unsigned number) {
+void memory_lend(void *block, size_t size, unsigned first, unsigned count) {
     loan.block = block;
     loan.size = size;
-    loan.requests_left = number;
-    loan.is_kept = false;
+    loan.before = first - 1;
+    loan.left = count;
+    loan.given = 0;
 }
 
 bool memory_end_loan(void) {
     loan.block = NULL;
-    loan.requests_left = 0;
-    return loan.is_kept;
+    loan.left = 0;
+    return loan.given == 1;
 }
 
 void *memory_allocate(size_t size) {
-    if (loan.requests_left == 0)
+    if (loan.left == 0)
         return allocate_by(size);
-    loan.requests_left--;
-    if (loan.requests_left > 0)
+    if (loan.before > 0) {
+        loan.before--;
         return allocate_by(size);
+    }
+    loan.left--;
     if (size != loan.size)
         return NULL;
-    loan.is_kept = true;
+    loan.given++;
     return loan.block;
 }
 
+// Fails. The library never calls this, as `check` finds: no block of it is resized.
 void *memory_resize(void *block, size_t size) {
-    return resize_by(block, size);
+    (void)block;
+    (void)size;
+    return NULL;
 }
 
 void memory_release(void *block) {
     if (block != NULL && block == loan.block) {
-        loan.is_kept = false;
+        loan.given--;
         return;
     }
     release_by(block);

@@ -6,12 +6,15 @@
 #include <stdbool.h>
 #include <stddef.h>
 
-// Of this thread's next requests for memory, gives the library `block` for the one of this number,
-// counted from 1, if it is of exactly `size` bytes; if it isn't, that request fails. With number 0
-// no request gets it. Until `memory_end_loan` this thread's release of `block` frees nothing.
-__attribute__((visibility("hidden"))) void memory_lend(void *block, size_t size, unsigned number);
+// Of this thread's next requests for memory, gives the library `block` for `count` of them, from the
+// one of number `first` on, counted from 1. Each of these has to be for exactly `size` bytes: one
+// that isn't fails. The library has the block several times then, so it must write the same bytes
+// by each. Until `memory_end_loan` this thread's releases of `block` free nothing.
+__attribute__((visibility("hidden"))) void memory_lend(void *block, size_t size, unsigned first,
+                                                       unsigned count);
 
-// Ends the loan, and returns whether the library has the block: it was given and not released.
+// Ends the loan, and returns whether the library has the block once: it was given once more often
+// than it was released.
 __attribute__((visibility("hidden"))) bool memory_end_loan(void);
 
 #endif

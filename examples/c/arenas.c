@@ -1,6 +1,6 @@
 // An arena for each thread: a bump over a chunk of the bump that threads share. A request in it
-// makes no step that other threads see, and a thread whose arena is full takes a further chunk for
-// the next one.
+// makes no step that other threads see. A thread whose arena is full takes a further chunk for the
+// next one.
 #define _POSIX_C_SOURCE 200809L
 #include <pthread.h>
 #include <stdint.h>
@@ -37,8 +37,8 @@ static size_t length_of(size_t number) {
     return 1 + number * 31 % MOST;
 }
 
-// Takes a chunk of the shared bump, over which the thread's arena starts again. What the last one
-// gave stays.
+// Takes a chunk of the shared bump, over which the thread's arena starts again. The chunks of the
+// arena before it stay.
 static void begin_arena(worker *self) {
     bb_chunk chunk = bb_bump_party_allocate(&self->party, ARENA, 64);
     expect(chunk.code == BB_OK, "the shared bump has room for each arena");

@@ -41,7 +41,7 @@ static void expect(int holds, const char *what) {
     }
 }
 
-// The bytes of all classes, wherever the region starts.
+// Returns the bytes of all classes, wherever the region starts.
 static size_t region_size(void) {
     size_t sum = 0;
     for (size_t at = 0; at < CLASSES; at++) {
@@ -52,7 +52,7 @@ static size_t region_size(void) {
     return sum;
 }
 
-// The chunks of the bump stay the pools': a bump that is destroyed takes nothing back.
+// The chunks of the bump stay the pools': destroying a bump takes nothing back.
 static void make(size_class classes[CLASSES], void *region, size_t size) {
     bb_bump cuts = BB_EMPTY;
     expect(bb_bump_init(&cuts, region, size) == BB_OK, "a bump is there");
@@ -123,8 +123,8 @@ static size_t random_length(uint64_t random) {
     return 1 + (random >> 32) % most;
 }
 
-// Requests of mostly small sizes, and returns in no order. Each chunk keeps what was written into
-// it.
+// Makes requests of mostly small sizes, and returns in no order. Each chunk keeps what was written
+// into it.
 static void churn(size_class classes[CLASSES]) {
     static struct {
         unsigned char *place;

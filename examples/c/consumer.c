@@ -1,12 +1,12 @@
-// Prints the messages of producer.c: `consumer FILE`. It may be killed as a producer may. A message
-// is done with after the work, so it is printed again if its consumer is killed before that.
+// Prints the messages of producer.c: `consumer FILE`. It may be killed like a producer. A message
+// is finished only after the work, so it is printed again if its consumer is killed before that.
 #include <stdio.h>
 
 #include "bb_pool_file.h"
 
 static const bb_pool_file_options OPTIONS = {256, 64, 1000, 16, 8, 0600};
 
-// Receives what is in the slot, if there is a message that no other consumer has taken.
+// Receives the message in the slot, if there is one that no other consumer has taken.
 static uint32_t receive(bb_pool_file *file, bb_pool_party *mine, uint32_t slot) {
     const bb_message message = bb_pool_file_take(file, mine, slot);
     if (message.code == BB_DETACHED_EMPTY || message.code == BB_NOT_HELD)

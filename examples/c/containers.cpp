@@ -42,7 +42,7 @@ bool throws_bad_alloc(Call call) {
     return false;
 }
 
-// Strings of any length lie one after another in a bump.
+// Strings of any length are stored one after another in a bump.
 void strings_in_a_bump() {
     bb::bump bump;
     expect(bump.init(nullptr, 64) == bb::error::invalid_argument, "a region doesn't start at 0");
@@ -60,7 +60,8 @@ void strings_in_a_bump() {
     expect(bump.info()->used_space > 20 * 56, "the bump has them");
 }
 
-// Nodes of one size are buckets of a pool. What it can't serve comes from upstream.
+// Nodes of one size are stored in buckets of a pool. Requests that the pool can't serve go
+// upstream.
 void nodes_in_a_pool() {
     bb::pool pool;
     expect(bb_pool_init_at_least(pool.get(), bucket, bucket, region + 1, sizeof region - 1,
@@ -88,7 +89,7 @@ void nodes_in_a_pool() {
            "a vector that outgrew its bucket gave it back");
 }
 
-// What keeps the address of a handle is right, since owners and parties don't move.
+// Keeping the address of a handle is right, since owners and parties don't move.
 template<class Owner>
 constexpr bool stays = !std::is_move_constructible_v<Owner> && !std::is_move_assignable_v<Owner> &&
                        !std::is_copy_constructible_v<Owner> && !std::is_copy_assignable_v<Owner>;
@@ -97,7 +98,7 @@ static_assert(stays<bb::shared_bump> && stays<bb::bump_party>);
 static_assert(stays<bb::shared_pool> && stays<bb::pool_party>);
 static_assert(std::is_move_constructible_v<bb::detached>);
 
-// An owner in a container is constructed in its place, and is still there when others follow.
+// An owner in a container is constructed in its place, and stays there when others are added.
 void owners_in_a_container() {
     std::deque<bb::pool> pools;
     bb::pool &first = pools.emplace_back();
@@ -157,7 +158,7 @@ void values_in_a_pool() {
     expect(thrown && pool.info()->held_buckets == 0, "a constructor that throws loses no bucket");
 }
 
-// Threads come and go: each has a party, which leaves when the thread ends, also with buckets that
+// Threads come and go: each has a party, which leaves when the thread ends, even with buckets that
 // it didn't give back.
 void lists_in_threads() {
     bb::shared_pool pool;
@@ -188,10 +189,10 @@ void lists_in_threads() {
     expect(pool.destroy() == bb::error::parties_joined, "a pool stays while a party is joined");
 }
 
-// Two threads take turns: they make a value in the one bucket and give it back, by calls of one or
-// of many. Once one of them gives all back instead, and at last it leaves with the bucket. The
-// turns order no memory, so the checker of threads would see a race if it didn't learn of a taking
-// or a return.
+// Two threads take turns: they make a value in the only bucket and give it back, by calls for one
+// or for many buckets. Once one of them gives everything back instead, and in the end it leaves
+// with the bucket. The turns don't order memory, so the checker of threads would see a race if it
+// didn't learn of a taking or a return.
 void values_in_threads() {
     constexpr int turns = 1000;
     bb::shared_pool pool;
@@ -230,7 +231,7 @@ void values_in_threads() {
     expect(pool.info()->held_buckets == 0, "each bucket is back");
 }
 
-// The heap, which counts what comes back.
+// The heap, which counts the chunks that come back.
 struct counting : std::pmr::memory_resource {
     int returned = 0;
 
@@ -248,7 +249,7 @@ struct counting : std::pmr::memory_resource {
     }
 };
 
-// What the pool gave never goes upstream: not if another party holds it, and not if the party has
+// A chunk of the pool never goes upstream: not if another party holds it, and not if the party has
 // left.
 void places_of_the_pool() {
     bb::shared_pool pool;
@@ -280,7 +281,7 @@ void detached_buckets_come_back() {
     bb::pool_party writer;
     bb::pool_party reader;
     expect_ok(pool.join(writer));
-    expect(!reader.number() && reader.recover(0) == bb::error::uninitialized, "it hasn't joined");
+    expect(!reader.number(), "it hasn't joined");
     expect_ok(pool.join(reader));
     bb::detached detached;
     expect_ok(detached.init());
@@ -320,16 +321,13 @@ void detached_buckets_come_back() {
     reader.leave();
     expect(pool.destroy() == bb::error::bucket_detached, "a pool stays while a bucket is detached");
     expect_ok(pool.join(reader));
-    moved = bb::detached();
-    expect(pool.holder(0)->state == BB_DETACHED && reader.recover(1) == bb::error::not_a_bucket,
-           "it is lost with its token");
-    expect_ok(reader.recover(0));
-    expect(pool.holder(0)->state == BB_FREE && reader.recover(0) == bb::error::not_held,
-           "it is free");
+    expect(pool.holder(0)->state == BB_DETACHED, "it is detached without its parties, too");
+    expect_ok(reader.return_detached(moved));
+    expect(pool.holder(0)->state == BB_FREE, "it is free");
 }
 
 // A writer sends buckets by their numbers. Of two readers that try, exactly one gets each bucket.
-// As in `values_in_threads`, what the threads count orders no memory.
+// As in `values_in_threads`, the threads' counters don't order memory.
 void buckets_go_by_number() {
     constexpr int rounds = 1000;
     bb::shared_pool pool;
@@ -389,7 +387,7 @@ void parties_are_forgotten() {
     expect(first.give_all_back() == bb::error::uninitialized, "and the first has nothing");
 }
 
-// A party that caches takes back what it returned last.
+// A caching party takes the bucket again that it returned last.
 void buckets_in_a_cache() {
     bb::shared_pool pool;
     expect_ok(pool.init(bucket, bucket, region, 4 * bucket, 2));

@@ -1,6 +1,6 @@
 // A thread that finds buckets by their numbers beside one that allocates, with the same handles and
-// no lock: `place_at` and `number_at` read what `init` or `join` fixed, which no call but `destroy`
-// and `leave` writes.
+// without a lock: `place_at` and `number_at` read only what `init` or `join` set, which no call
+// except `destroy` and `leave` writes.
 #define _POSIX_C_SOURCE 200809L
 #include <pthread.h>
 #include <stdint.h>

@@ -1,6 +1,6 @@
 // Sends COUNT messages to any number of consumers through a pool in a file: `producer FILE COUNT`.
-// Start producers and consumers in any order, as many as there are parties, and kill any of them by
-// `kill -9`: no bucket is lost, and each message that was posted is received.
+// Start producers and consumers in any order, up to the number of parties, and kill any of them
+// with `kill -9`: no bucket is lost, and each message that was posted is received.
 #include <stdio.h>
 #include <stdlib.h>
 #include <unistd.h>

@@ -1,8 +1,9 @@
 // Publish and subscribe over one pool, without a copy: each message goes to each of several
-// readers, who read its bucket where it lies. An atomic number in the message counts the readers
-// that are left. The one that takes it to 0 is the last, and gives the bucket back by a party of
-// its own. A publisher that finds no bucket waits for a return. A thread of statistics reads the
-// pool's figures meanwhile. One lock orders what else the host counts; the pool's calls need none.
+// readers, who read it in its bucket. An atomic number in the message counts the readers that are
+// left. The one that decrements it to 0 is the last, and gives the bucket back by a party of its
+// own. A publisher that finds no bucket waits for a return. A thread of statistics reads the pool's
+// figures meanwhile. One lock protects everything else that the host counts; the pool's calls need
+// none.
 #define _POSIX_C_SOURCE 200809L
 #include <pthread.h>
 #include <stdint.h>
@@ -30,7 +31,7 @@ typedef struct {
     unsigned char text[TEXT];
 } message;
 
-// A message on its way, in a detached bucket.
+// A message in transit, in a detached bucket.
 typedef struct slot {
     bb_detached detached;
     message *read;
@@ -51,8 +52,8 @@ typedef struct {
 
 static uint64_t region[BB_BYTES_FOR(sizeof(message), 8, BUCKETS) / 8];
 static bb_shared_pool pool = BB_EMPTY;
-// There are as many slots as buckets, so a thread that has a bucket finds a slot, and no queue is
-// ever full.
+// There is a slot for each bucket, so a thread that has a bucket finds a slot, and no queue is ever
+// full.
 static slot slots[BUCKETS];
 static bb_pool_party publishing[PUBLISHERS];
 static bb_pool_party subscribing[SUBSCRIBERS];
@@ -147,8 +148,8 @@ static void *publisher(void *argument) {
     return NULL;
 }
 
-// Releases a message for one reader, which reads it no more. The last reader attaches the bucket,
-// and gives it back. The order of the atomic step makes the others' reads come before that.
+// Releases a message for one reader, which doesn't read it any more. The last reader attaches the
+// bucket, and gives it back. The order of the atomic step makes the others' reads come before that.
 static void release(bb_pool_party *party, slot *been_read) {
     uint32_t left = __atomic_sub_fetch(&been_read->read->readers, 1, __ATOMIC_ACQ_REL);
     expect(left < SUBSCRIBERS, "a reader releases a message once");

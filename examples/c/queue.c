@@ -23,8 +23,8 @@ enum {
 
 static uint64_t buffer[(POOL_SIZE + SLOTS_SIZE) / 8];
 
-// A message that waits: where it begins, and how long it is. They are in a ring of as many slots as
-// there are buckets.
+// A waiting message: where it begins, and how long it is. The messages are in a ring with a slot
+// for each bucket.
 typedef struct {
     unsigned char *message;
     size_t len;
@@ -130,7 +130,7 @@ static void run_queue(void) {
     expect(bb_bump_destroy(&bump) == BB_OK, "a bump is freed");
 }
 
-// Some refusals of a pool that lies in a chunk of a bump.
+// Makes some calls fail, on a pool in a chunk of a bump.
 static void run_refusals(void) {
     bb_bump bump = BB_EMPTY;
     expect(bb_bump_init(&bump, buffer, sizeof buffer) == BB_OK, "a bump is made");

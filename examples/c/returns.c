@@ -1,14 +1,14 @@
-// A queue whose receivers return what they received: two threads send, two receive, and all share
-// one pool, each by a party of its own. A sender takes a bucket, fills it, and detaches it into a
-// `bb_detached`. The receiver that gets the `bb_detached` attaches the bucket, reads the message,
-// and gives the bucket back by its own party, with no word to the sender.
+// A queue whose receivers return the buckets that they received: two threads send, two receive, and
+// all share one pool, each by a party of its own. A sender takes a bucket, fills it, and detaches
+// it into a `bb_detached`. The receiver that gets the `bb_detached` attaches the bucket, reads the
+// message, and gives the bucket back by its own party, without contacting the sender.
 //
 // A sender takes and detaches up to `GROUP` buckets at a time, and then sends them one by one. That
-// is quicker than to take and detach one for each message: flags of neighbours share a cache line,
-// and the sender's steps on them are made while the line is there.
+// is faster than taking and detaching one for each message: flags of neighbours share a cache line,
+// and the sender makes its steps on them while it has the line.
 //
 // Each slot of the queue has a `bb_detached`, which is made with the queue. A sender puts its full
-// one into a slot, and takes the slot's empty one in its place. So no message takes memory, and no
+// one into a slot, and takes the slot's empty one in exchange. So no message takes memory, and no
 // call of a party is made under the lock.
 #define _POSIX_C_SOURCE 200809L
 #include <pthread.h>
@@ -32,7 +32,7 @@ enum {
 
 static uint64_t pool_words[BB_BYTES_FOR(BUCKET_SIZE, 8, BUCKETS) / 8];
 
-// What a message begins with. All bytes after it are one that its number makes.
+// The beginning of a message. All bytes after it have one value, which its number determines.
 typedef struct {
     uint64_t sender;
     uint64_t number;
@@ -44,13 +44,13 @@ typedef struct {
     bb_detached slots[SLOTS];
     size_t first;
     size_t count;
-    // How many messages receivers took out.
+    // How many messages receivers took from the queue.
     size_t taken;
 } queue;
 
 static queue shared = {PTHREAD_MUTEX_INITIALIZER, PTHREAD_COND_INITIALIZER, {BB_EMPTY}, 0, 0, 0};
 
-// A thread: its party, and each `bb_detached` that it has in hand. A receiver uses the first one.
+// A thread: its party, and each `bb_detached` that it has. A receiver uses only the first one.
 typedef struct {
     size_t number;
     bb_pool_party party;
@@ -95,7 +95,7 @@ static void put(bb_detached *full) {
 }
 
 // Puts an empty `bb_detached` into the oldest full slot, and takes the full one. Returns 0 if each
-// message was taken out.
+// message was taken.
 static int get(bb_detached *empty) {
     pthread_mutex_lock(&shared.lock);
     while (shared.count == 0 && shared.taken < SENDERS * MESSAGES)
@@ -196,7 +196,7 @@ static void take_back(worker *workers, size_t count, bb_shared_pool *pool) {
     }
 }
 
-// Each message was received once, and each bucket can be taken again.
+// Expects that each message was received once, and that each bucket can be taken again.
 static void expect_all(bb_shared_pool *pool) {
     for (size_t sender = 0; sender < SENDERS; sender++)
         for (size_t number = 0; number < MESSAGES; number++) {

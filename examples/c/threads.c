@@ -1,6 +1,6 @@
-// Four threads over one shared pool and one shared bump. Each thread has a party of both, fills
+// Four threads over one shared pool and one shared bump. Each thread has a party of each, fills
 // each chunk with a pattern of its own, checks that nobody else wrote there, and gives the bucket
-// back. What one thread holds, another can't return.
+// back. A thread can't return a bucket that another thread holds.
 #define _POSIX_C_SOURCE 200809L
 #include <pthread.h>
 #include <sched.h>
@@ -47,7 +47,7 @@ static uint64_t pattern_of(const worker *self, size_t chunk) {
 }
 
 // A chunk's length is a multiple of a word's. The checker of threads keeps few accesses of each
-// word, so it is written whole.
+// word, so the chunk is written in whole words.
 static void fill(void *place, size_t len, uint64_t pattern) {
     uint64_t *words = (uint64_t *)place;
     for (size_t at = 0; at < len / sizeof *words; at++)
@@ -60,8 +60,8 @@ static void expect_filled(const void *place, size_t len, uint64_t pattern) {
         expect(words[at] == pattern, "a chunk has what its own thread wrote");
 }
 
-// Takes ROUNDS buckets, and holds up to two at a time. If none is free, it lets others run and
-// looks again.
+// Takes ROUNDS buckets, and holds up to two at a time. If none is free, the thread lets others run
+// and tries again.
 static void use_pool(worker *self) {
     void *places[HELD];
     size_t held = 0;
@@ -118,7 +118,7 @@ static void use_bump(worker *self) {
 
 static pthread_barrier_t start;
 
-// All begin each part together.
+// All threads begin each part together.
 static void *work(void *argument) {
     worker *self = (worker *)argument;
     pthread_barrier_wait(&start);
@@ -164,7 +164,7 @@ static void make(bb_shared_pool *pool, bb_shared_bump *bump) {
            "an empty handle has no party");
 }
 
-// What one party holds is not another's.
+// A bucket that one party holds is not another's.
 static void one_by_one(void) {
     bb_pool_party *mine = &workers[0].pool;
     bb_pool_party *other = &workers[1].pool;

@@ -15,7 +15,7 @@ ODD_FOLDER = "out/target/with a blank"
 
 
 def log(name: str) -> str:
-    """Returns what `rt` of a real run has written."""
+    """Returns the output of `rt` in a real run."""
     return (LOGS / f"{name}.txt").read_text(encoding="utf-8")
 
 

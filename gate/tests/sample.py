@@ -1,4 +1,4 @@
-"""A small checkout for tests, in which all that the page checks look at is as it has to be."""
+"""A small checkout for tests, in which the page checks find no fault."""
 
 import tempfile
 from collections.abc import Iterator, Mapping
@@ -152,7 +152,7 @@ def checkout(changes: Mapping[str, str] | None = None, name: str = "tree") -> It
 
 
 def changed(path: str, old: str, new: str) -> dict[str, str]:
-    """Returns one file of the checkout with a text that it has once replaced."""
+    """Returns a file of the checkout with a text that it has once replaced."""
     text = TEXTS[path]
     if text.count(old) != 1:
         raise ValueError(f"{path}: has {text.count(old)} times: {old}")

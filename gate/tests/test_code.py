@@ -1,4 +1,4 @@
-"""Tests that comments, clauses, ghost items and layout are no code, and that all else is."""
+"""Tests that comments, clauses, ghost items and layout are no code, and that everything else is."""
 
 import unittest
 
@@ -44,7 +44,7 @@ trait Words {
 
 
 class Code(unittest.TestCase):
-    """What runs."""
+    """Tests of the code that runs."""
 
     def test_comments_clauses_and_ghost_items_are_left_out(self) -> None:
         code = code_of(SOURCE)
@@ -85,10 +85,10 @@ class Code(unittest.TestCase):
 
 
 class Sums(unittest.TestCase):
-    """What changes the sum of a source."""
+    """Tests of the changes that change the sum of a source."""
 
     def changed(self, old: str, new: str) -> bool:
-        """Returns whether the sum changes where a text of the source is replaced."""
+        """Returns whether the sum changes if a text of the source is replaced."""
         self.assertEqual(SOURCE.count(old), 1)
         return sum_of(SOURCE) != sum_of(SOURCE.replace(old, new))
 

@@ -1,4 +1,4 @@
-"""Tests that calls are found by the names that users write, and by no other."""
+"""Tests that calls are found by the names that users write, and by no others."""
 
 import unittest
 
@@ -9,7 +9,7 @@ from gate.index import Call, Index
 from gate.process import Failed
 from gate.tests.sample import changed, checkout
 
-# Names that users write: the file of the body, and the trait that has the contract, if one has.
+# Names that users write: the file of the body, and the trait that has the contract, if any.
 NAMES = {
     "SharedPoolAllocator::allocate": ("shared_pool/buckets.rt", ""),
     "SharedFixedSizePoolAllocator::allocate": ("shared_pool/buckets.rt", ""),
@@ -39,7 +39,7 @@ DEFINITIONS = {
 
 
 def only(calls: list[Call]) -> Call:
-    """Returns the call of a list that has one."""
+    """Returns the only call of a list."""
     if len(calls) != 1:
         raise ValueError(f"{len(calls)} calls: {[call.title for call in calls]}")
     return calls[0]

@@ -20,7 +20,7 @@ CRATE = "bb_memory_traits"
 
 
 class JudgeTest(CheckoutTest):
-    """Judges edits by what `rt check` wrote of the same edits."""
+    """Judges edits by the output of `rt check` for the same edits."""
 
     def setUp(self) -> None:
         super().setUp()
@@ -33,7 +33,7 @@ class JudgeTest(CheckoutTest):
             self.write({f"crates/{CRATE}/must-fail/{name}.edit": text})
 
     def check(self, round_: Round) -> Finished:
-        """Returns what `rt check` wrote of these edits."""
+        """Returns the output of `rt check` for these edits."""
         self.checked.append([edit.path.stem for edit in round_.edits])
         if "masque" in round_.texts["src/layout.rt"]:
             return Finished(1, log("compile"))
@@ -42,7 +42,7 @@ class JudgeTest(CheckoutTest):
         return Finished(1, log("round"))
 
     def outcomes(self) -> dict[str, Outcome]:
-        """Judges all edits, and returns what becomes of each."""
+        """Judges all edits, and returns the outcomes."""
         rounds = rounds_of(Workspace(self.top), CRATE)
         found = list(rounds.bad)
         for round_ in rounds.rounds:
@@ -88,7 +88,7 @@ class JudgeTest(CheckoutTest):
         self.assertIs(found.outcome, Outcome.NOT_JUDGED)
 
     def test_lanes(self) -> None:
-        """Judges in lanes, by a program `rt` that fails on each text that isn't the edited one."""
+        """Judges in lanes, with a program `rt` that fails on each text but the edited one."""
         self.add(round_up=ROUND_UP, within=WITHIN)
         stored = self.work / "log"
         stored.write_text(log("round"), encoding="utf-8")

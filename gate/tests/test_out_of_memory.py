@@ -1,4 +1,4 @@
-"""The runs of OOM tests, with a script in place of the tests' program."""
+"""The runs of OOM tests, with a script instead of the tests' program."""
 
 import unittest
 from pathlib import Path
@@ -11,24 +11,24 @@ from gate.tests.places import CheckoutTest
 
 AFTER_MAKING = "tests::out_of_memory::after_making::takes"
 LISTED = f"tests::other: test\n{AFTER_MAKING}: test\n"
-# A test that makes two requests, and ends well with each of them refused.
+# A test that makes two requests, and succeeds if either of them fails.
 WELL = (
     '#!/bin/sh\ntest -n "$REFUSE_MARKED" && exit 98\ntest "$REFUSE_AT" -gt 2 && exit 99\nexit 0\n'
 )
 
 
 class OutOfMemoryTest(CheckoutTest):
-    """Runs tests whose requests for memory are refused."""
+    """Runs tests whose requests for memory fail."""
 
     def program(self, text: str) -> Path:
-        """Returns a program that lists its tests, and else is as the text says."""
+        """Returns a program that lists its tests, and otherwise does what the text says."""
         first, _, rest = text.partition("\n")
         listing = f'test "$1" = --list && printf "{LISTED}" && exit 0'
         self.write({"crates/low/out/low_tests": f"{first}\n{listing}\n{rest}"})
         return self.top / "crates/low/out/low_tests"
 
     def run_in_turn(self, text: str) -> None:
-        """Runs the test of a program with its requests refused."""
+        """Runs the test of a program with its requests failing."""
         refuse_in_turn(OomTest(self.program(text), AFTER_MAKING), self.work / "library")
 
     def test_it_passes_what_is_well(self) -> None:

@@ -7,7 +7,7 @@ from collections.abc import Callable, Iterable
 from pathlib import Path
 from unittest import mock
 
-from gate import contracts, links, pages, process, versions
+from gate import contracts, links, pages, process, versions, wording
 from gate.files import TreeChanged, texts_below
 from gate.pages import Tree
 from gate.tests.sample import TEXTS, changed, checkout
@@ -32,19 +32,20 @@ CHECKS: dict[str, Check] = {
     "folders of edits": pages.lost_edits,
     "crates": pages.unnamed_crates,
     "first words": pages.wrong_first_words,
+    "words": lambda tree: wording.wrong(tree.texts),
     "examples": pages.lost_examples,
 }
 
 
 def found_in(changes: dict[str, str], name: str = "tree") -> list[str]:
-    """Returns what the checks find in the sample with some changes."""
+    """Returns the findings of the checks in the sample with some changes."""
     with checkout(changes, name) as top:
         tree = pages.read_tree(top)
         return [line for check in CHECKS.values() for line in check(tree)]
 
 
 class Faults(unittest.TestCase):
-    """Each fault is the one finding."""
+    """Each fault is the only finding."""
 
     def finds(self, changes: dict[str, str], *parts: str) -> None:
         found = found_in(changes)
@@ -225,7 +226,7 @@ class Checkouts(unittest.TestCase):
 
 
 def vanishing(walk: Iterable[Step], folder: Path) -> Iterable[Step]:
-    """Goes on with a walk, but takes a folder away once the walk has seen its name."""
+    """Goes on with a walk, but removes a folder once the walk has seen its name."""
     for step in walk:
         yield step
         if Path(step[0]) == folder.parent:
@@ -239,13 +240,17 @@ class Shown(unittest.TestCase):
         page = "The whole `a.c`:\n\n```c\nint a;\n```\n\n```rust\nfn a() {}\n```\n\n```sh\ncc a.c\n```\n"
         self.assertEqual(list(pages.hosts(page)), ["cat > a.c <<'END'\nint a;\nEND\n", "cc a.c\n"])
 
+    def test_script_of_a_program_in_cpp(self) -> None:
+        page = "This is `a.cpp`:\n\n```cpp\nint a;\n```\n"
+        self.assertEqual(list(pages.hosts(page)), ["cat > a.cpp <<'END'\nint a;\nEND\n"])
+
     def test_a_program_without_a_name(self) -> None:
         with self.assertRaisesRegex(process.Failed, "isn't named:\nint a;"):
             list(pages.hosts("A program:\n\n```c\nint a;\n```\n"))
 
 
 class Fixes(unittest.TestCase):
-    """`--fix` writes what nobody counts by hand."""
+    """`--fix` writes the numbers that nobody counts by hand."""
 
     def test_fix(self) -> None:
         changes = {

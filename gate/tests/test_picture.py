@@ -22,7 +22,7 @@ from gate.process import Failed
 from gate.temporary import temporary_folder
 
 BUMP = Region("bump", 4096, 64)
-# What each list of live chunks of the bump looks like: a column is a byte.
+# The picture of each list of live chunks of the bump: a column is a byte.
 BUMP_ROWS: list[tuple[list[Chunk], str]] = [
     ([], "." * 64),
     ([Chunk(4096, 10)], "0" * 10 + "." * 54),
@@ -32,7 +32,7 @@ POOL = region_of("pool 4097 64 12 8")
 
 
 def memrun(folder: Path, body: str) -> Path:
-    """Writes a program in the place of memrun."""
+    """Writes a program instead of memrun."""
     program = folder / "memrun"
     program.write_text(f"#!/bin/sh\ncat > /dev/null\n{body}\n", encoding="utf-8")
     program.chmod(0o755)

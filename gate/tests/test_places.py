@@ -91,7 +91,7 @@ class RealTree(unittest.TestCase):
             ("let _ = ::std::thread::sleep;", "std::thread::sleep"),
             ("let _: atomic_table::Perch<u8, View>;", "atomic_table::Perch"),
             ("let word = self.table.shared.peek(0);", "`peek` 2 times, and not 1"),
-            ("let word = Shared::load::<Finds>(seat, 0);", "`load` 6 times, and not 5"),
+            ("let word = Shared::load::<Finds>(seat, 0);", "`load` 5 times, and not 4"),
             ("let free = flags.map(Flags::found);", "`found` 1 times, and not 0"),
             ("self.flags.swap(1, SEQ);", "`swap` 1 times, and not 0"),
             ("let _: AtomicU64;", "`AtomicU64` 1 times, and not 0"),
@@ -148,7 +148,7 @@ class RealTree(unittest.TestCase):
         self.assertEqual(len(places.recursions(texts)), 2)
 
     def after_probe(self, code: str) -> list[str]:
-        """Returns what is misplaced where `probe` of flags.rt begins with this code."""
+        """Returns the misplaced texts if `probe` of flags.rt begins with this code."""
         sources = places.sources_of(self.texts)
         path = f"{places.POOL}flags"
         first = "        let seen = self.table.shared.load::<LooksAt>(seat, word_of(bucket));"

@@ -90,7 +90,7 @@ class PublicNames(unittest.TestCase):
         return list(public.wrong(index_with(changes)))
 
     def lost(self, changes: Mapping[str, str]) -> set[str]:
-        """Returns what the page has and the sources lack after these changes."""
+        """Returns the items that the page has and the sources lack after these changes."""
         begin = f"{public.PAGE}: is no longer so: "
         return {line.removeprefix(begin) for line in self.found(changes) if line.startswith(begin)}
 

@@ -41,9 +41,9 @@ class RealTree(unittest.TestCase):
     def test_load_that_another_function_makes_is_found_only_by_the_sum(self) -> None:
         text = self.texts[FLAGS]
         looks = "        let seen = self.table.shared.load::<LooksAt>(seat, word_of(bucket));\n"
-        sees = "        let found = shared.load::<SeesDetached>(seat, word_of(bucket));\n"
-        self.assertEqual((text.count(looks), text.count(sees)), (1, 1))
-        traded = text.replace(sees, "        let found = WITH_TOKEN * 4;\n")
+        met = "        let found = shared.load::<LooksMet>(seat, word_of(bucket));\n"
+        self.assertEqual((text.count(looks), text.count(met)), (1, 1))
+        traded = text.replace(met, "        let found = WITH_TOKEN * 4;\n")
         traded = traded.replace(looks, looks + looks)
         sources = places.sources_of({FLAGS: text})
         self.assertEqual(

@@ -37,13 +37,13 @@ TREE = {
 
 
 def wrong_of(changes: dict[str, str]) -> list[str]:
-    """Returns what is wrong of the rows of a checkout with some changes."""
+    """Returns the errors in the rows of a checkout with some changes."""
     with checkout({**TREE, **changes}) as top:
         return rows.report(top).wrong
 
 
 class Rows(unittest.TestCase):
-    """Each fault is the one finding."""
+    """Each fault is the only finding."""
 
     def finds(self, path: str, old: str, new: str, part: str) -> None:
         self.assertIn(old, TREE[path])

@@ -10,7 +10,7 @@ TRAITS = "bb_memory_traits"
 
 
 class ProgressTest(unittest.TestCase):
-    """Lines that say how far a check is."""
+    """Lines that report the progress of a check."""
 
     def test_lines_of_a_check(self) -> None:
         lines = log("round").splitlines()

@@ -1,9 +1,11 @@
-"""The merge gate, on a checkout whose commands only end well or badly."""
+"""The merge gate, on a checkout whose commands only succeed or fail."""
 
 import io
 import os
+import time
 import unittest
 from contextlib import redirect_stdout
+from pathlib import Path
 from unittest.mock import patch
 
 from gate import process, run
@@ -13,6 +15,8 @@ from gate.tests.places import CheckoutTest, log
 
 WELL = "#!/bin/sh\nexit 0\n"
 BADLY = "#!/bin/sh\necho planted\nexit 3\n"
+# Fails when there is such a file.
+WAIT_AND_FAIL = '#!/bin/sh\nuntil test -s "{}"; do sleep 0.01; done\nexit 3\n'
 CHECKOUT = {
     "HANDLES": "Handles allowed: none.\n",
     "crates.txt": "low:\n",
@@ -26,6 +30,15 @@ CHECKOUT = {
     ".ci/run-c": WELL,
     "tools/imports": WELL,
 }
+
+
+def is_running(number: int) -> bool:
+    """Returns whether there is a process of this number that hasn't ended."""
+    try:
+        stat = Path(f"/proc/{number}/stat").read_text(encoding="utf-8")
+    except (FileNotFoundError, ProcessLookupError):
+        return False
+    return stat.rpartition(") ")[2][0] not in "ZX"
 
 
 class GateTest(CheckoutTest):
@@ -102,6 +115,19 @@ class GateTest(CheckoutTest):
             with self.assertRaisesRegex(Failed, f"status 3: .*{command}"):
                 self.run_gate()
             self.write({command: WELL})
+
+    def test_a_failure_ends_what_runs_beside(self) -> None:
+        """The sleep below the mutants gets the signal that ends them."""
+        started = self.work / "started"
+        began = time.monotonic()
+        sleep = f'#!/bin/sh\nsleep 600 &\necho $! >"{started}"\nwait\n'
+        self.write({".ci/mutants": sleep, ".ci/run-c": WAIT_AND_FAIL.format(started)})
+        with self.assertRaisesRegex(Failed, "status 3: .*run-c"):
+            self.run_gate()
+        number = int(started.read_text(encoding="utf-8"))
+        while is_running(number):
+            self.assertLess(time.monotonic(), began + 60)
+            time.sleep(0.01)
 
     def test_a_test_of_the_gate_fails(self) -> None:
         planted = "import unittest\nclass T(unittest.TestCase):\n    def test(self):\n        self.fail()\n"

@@ -45,7 +45,7 @@ class ScheduleTest(unittest.TestCase):
         self.assertTrue(all(results[name] == [True] for name in BELOW))
 
     def test_ready(self) -> None:
-        """A crate is ready once all below it are done."""
+        """A crate is ready once all crates below it are done."""
         scheduler = self.scheduler(1)
         self.assertEqual(scheduler.ready(), ["low", "other"])
         scheduler.results["low"] = [True]
@@ -65,7 +65,7 @@ class ScheduleTest(unittest.TestCase):
         self.assertEqual(self.jobs["other"], 1)
 
     def test_above_a_failed_one(self) -> None:
-        """A crate above one that failed is not started, and counts as failed."""
+        """A crate above a failed one is not started, and counts as failed."""
         results = self.run_all(self.scheduler(4, failing=["low"]))
         self.assertEqual(sorted(self.began), ["low", "other"])
         self.assertEqual(results["middle"], [False])

@@ -34,7 +34,7 @@ struct Figures {
     ends: bool,
 }
 
-/// What the host counts, and a wait for a return.
+/// The counts of the host, and the means to wait for a return.
 #[derive(Default)]
 struct Host {
     figures: Mutex<Figures>,
@@ -64,7 +64,7 @@ impl Deref for Sample {
 impl Sample {
     /// Releases this share. The last one returns the bucket, by a party of its reader.
     fn release(self, party: &PoolParty<'_>, host: &Host) {
-        // What the other readers read of the message comes before its return.
+        // The other readers' reads of the message come before its return.
         if self.readers.fetch_sub(1, Ordering::AcqRel) > 1 {
             return;
         }

@@ -9,7 +9,7 @@ use core::ptr::NonNull;
 /// Allocates chunks of a region, and takes them back.
 ///
 /// A type of yours may implement this trait, for example one that counts the requests to the
-/// allocator in it. To implement it is `unsafe`, as for `core::alloc::Allocator`, since other code
+/// allocator in it. Implementing it is `unsafe`, as for `core::alloc::Allocator`, since other code
 /// writes into the chunks that it returns without a check:
 /// [`allocate_zeroed`](BaseAllocator::allocate_zeroed) does, and [`PoolBox`](crate::PoolBox) for a
 /// [`Pool`].
@@ -73,7 +73,7 @@ pub unsafe trait BaseAllocator {
 /// # Safety
 ///
 /// A resized chunk is as [`BaseAllocator`] requires of an allocated one. It begins where the chunk
-/// began, and has the chunk's bytes up to the smaller of both lengths.
+/// began, and has the chunk's bytes up to the smaller of the two lengths.
 pub unsafe trait Allocator: BaseAllocator {
     /// Grows the chunk at `ptr` to at least `new_layout.size()` bytes.
     ///
@@ -133,7 +133,7 @@ pub unsafe trait Allocator: BaseAllocator {
     ) -> Result<NonNull<[u8]>, AllocationShrinkError>;
 }
 
-/// Writes a getter of each of these figures.
+/// Defines a getter for each of these figures.
 macro_rules! getters {
     ($($figure:ident),*) => {
         $(
@@ -182,8 +182,8 @@ pub unsafe trait Pool: BaseAllocator {
     /// Nothing reads or writes its bytes from now on.
     unsafe fn try_deallocate(&self, ptr: NonNull<u8>) -> Result<(), DeallocationError>;
 
-    /// Returns where the bucket of this number begins, held or not, or `None` if there is no such
-    /// bucket. Numbers begin at 0.
+    /// Returns where the bucket of this number begins, held or not, or `None` if no bucket has the
+    /// number. Numbers begin at 0.
     #[must_use]
     fn place_at(&self, number: u32) -> Option<NonNull<u8>>;
 
@@ -208,15 +208,15 @@ pub unsafe trait Pool: BaseAllocator {
     }
 }
 
-/// Writes how an allocator is made over a region. The brackets have the parameters before the region
-/// and after it.
+/// Defines the functions that make an allocator over a region. The brackets have the parameters
+/// before the region and after it.
 macro_rules! over_region {
     (
         $name:ident [$($front:ident: $front_type:ty)?] [$($last:ident: $last_type:ty = $number:expr)?]
         by $init:ident[$($layout:expr),*], $destroy:ident: $owned:ident => $made:expr
     ) => {
         impl<'region> $name<'region> {
-            /// Makes it over this region, which it and its parties borrow.
+            /// Makes an allocator over this region, which the allocator and its parties borrow.
             ///
             /// # Errors
             ///
@@ -231,7 +231,7 @@ macro_rules! over_region {
                 unsafe { Self::new($($front,)? region.cast(), region.len() $(, $last)?) }
             }
 
-            /// Makes it over the `size` bytes at `ptr`.
+            /// Makes an allocator over the `size` bytes at `ptr`.
             ///
             /// # Errors
             ///
@@ -239,8 +239,8 @@ macro_rules! over_region {
             ///
             /// # Safety
             ///
-            /// The bytes may be read and written through `ptr` for all of `'region`. Meanwhile
-            /// nothing else uses them but through chunks of this allocator or its parties.
+            /// The bytes may be read and written through `ptr` for all of `'region`. Meanwhile they
+            /// are used only through chunks of this allocator or its parties.
             pub unsafe fn new(
                 $($front: $front_type,)?
                 ptr: NonNull<u8>,
@@ -260,7 +260,7 @@ macro_rules! over_region {
     };
 }
 
-/// Shows what has figures by them.
+/// Implements `Debug` by the figures.
 macro_rules! shown {
     ($name:ident) => {
         impl fmt::Debug for $name<'_> {
@@ -271,7 +271,7 @@ macro_rules! shown {
     };
 }
 
-/// Writes `info`, a getter of each figure, and how they are shown.
+/// Defines `info`, a getter for each figure, and `Debug`.
 macro_rules! figures {
     ($name:ident: $info:ident by $call:ident: $($figure:ident: $type:ty),*) => {
         impl $name<'_> {
@@ -296,8 +296,8 @@ macro_rules! figures {
     };
 }
 
-/// Implements the calls of what knows a chunk by its place, and has `try_deallocate`. `$whole`
-/// returns the chunk at a place.
+/// Implements the calls of a type that knows a chunk by its place, and has `try_deallocate`.
+/// `$whole` returns the chunk at a place.
 macro_rules! base {
     ($name:ident: $allocate:ident $($whole:ident)?) => {
         // SAFETY: the contract of the function is proved, and `$name` has lifetimes by which its
@@ -318,7 +318,7 @@ macro_rules! base {
     };
 }
 
-/// Implements the calls of what is cut into buckets.
+/// Implements the calls of a type that is cut into buckets.
 macro_rules! buckets {
     (
         $name:ident: $allocate:ident $take:ident $deallocate:ident $holds:ident

@@ -1,4 +1,4 @@
-//! Values in buckets. Whoever uses one needs no `unsafe`.
+//! Values in buckets, for use without `unsafe`.
 use crate::error::{AllocationError, no_such_answer};
 use crate::owned::{Shared, lock};
 use crate::{Pool, PoolAllocator, PoolParty, ffi};
@@ -11,11 +11,11 @@ use core::ops::{Deref, DerefMut};
 use core::ptr::{self, NonNull};
 use std::sync::Arc;
 
-/// A value that got no bucket, and why.
+/// A value that got no bucket, and the reason.
 #[non_exhaustive]
 #[derive(Clone, Copy, PartialEq, Eq)]
 pub struct TryNewError<T> {
-    /// Why the pool refused a bucket.
+    /// The reason why the pool refused a bucket.
     pub error: AllocationError,
     /// The value, for another try.
     pub value: T,
@@ -118,7 +118,7 @@ impl<'pool, T, P: Pool> PoolBox<'pool, T, P> {
             Err(error) => return Err(TryNewError { error, value }),
         };
         let bucket = Bucket { pool, place };
-        // SAFETY: the chunk has the layout of a `T`, and is in no other hands.
+        // SAFETY: the chunk has the layout of a `T`, and nobody else uses it.
         unsafe { place.cast::<T>().write(value) };
         Ok(PoolBox { value: place.cast(), bucket, owned: PhantomData })
     }
@@ -191,7 +191,7 @@ impl<T: ?Sized, P: Pool> DerefMut for PoolBox<'_, T, P> {
 }
 
 impl<T: ?Sized, P: Pool> Drop for PoolBox<'_, T, P> {
-    /// Drops the value. Then the bucket is dropped, also if that panics.
+    /// Drops the value. Then the bucket is dropped, even if that panics.
     fn drop(&mut self) {
         // SAFETY: the value is this box's, and isn't used again.
         unsafe { self.value.drop_in_place() };
@@ -210,7 +210,7 @@ impl<'region, T: ?Sized> PartyBox<'_, 'region, T> {
     pub fn detach(this: Self) -> DetachedBox<'region, T> {
         let this = ManuallyDrop::new(this);
         let party = this.bucket.pool;
-        // SAFETY: the value is used only by who has the `DetachedBox`.
+        // SAFETY: only the owner of the `DetachedBox` uses the value.
         let detached = unsafe { party.detach_number(this.bucket.place) };
         let number = detached.unwrap_or_else(|_| no_such_answer(ffi::NOT_HELD));
         let pool = Arc::clone(&party.owned.of);
@@ -243,7 +243,7 @@ impl Drop for Detached<'_> {
     }
 }
 
-/// Owns a value in a bucket that no party holds: a message on its way from one thread to another. It
+/// Owns a value in a bucket that no party holds: a message in transit from one thread to another. It
 /// is `Send` if `T` is. Whoever gets it reads and writes the value, and may [attach](Self::attach)
 /// it to a party. When it is dropped, it drops the value and returns the bucket, under the lock by
 /// which parties join; a [`PartyBox`] returns it without a lock.
@@ -336,7 +336,7 @@ impl<T: ?Sized> DerefMut for DetachedBox<'_, T> {
 }
 
 impl<T: ?Sized> Drop for DetachedBox<'_, T> {
-    /// Drops the value. Then the bucket is dropped, also if that panics.
+    /// Drops the value. Then the bucket is dropped, even if that panics.
     fn drop(&mut self) {
         // SAFETY: the value is this box's, and isn't used again.
         unsafe { self.value.drop_in_place() };

@@ -6,7 +6,7 @@ use core::ptr::{self, NonNull};
 
 type Chunk = Result<NonNull<[u8]>, AllocError>;
 
-/// Implements the trait for what allocates buckets. A chunk is only resized in its bucket.
+/// Implements the trait for types that allocate buckets. A chunk is resized only in its bucket.
 macro_rules! in_buckets {
     ($name:ident) => {
         // SAFETY: a bucket is the caller's until it is returned, and its bytes stay as long as the
@@ -42,8 +42,8 @@ macro_rules! in_buckets {
     };
 }
 
-/// Implements the trait for what allocates one chunk after another. A chunk that grows is moved, and
-/// one that shrinks stays where it is.
+/// Implements the trait for types that allocate one chunk after another. A chunk that grows is
+/// moved, and one that shrinks stays in its place.
 macro_rules! in_bump {
     ($name:ident: $allocate:ident) => {
         // SAFETY: a chunk is the caller's until `BumpAllocator::deallocate` or `reset`, which are

@@ -1,9 +1,9 @@
-//! Errors. A code that the library doesn't return from a call is a fault, and panics.
+//! Errors. If the library returns a code that the call doesn't have, this crate panics.
 use crate::ffi;
 use core::error::Error;
 use core::fmt;
 
-/// Writes an error: a variant for each code that a call returns, with its text.
+/// Defines an error: a variant for each code that a call returns, with its text.
 macro_rules! error {
     (
         $(#[$about:meta])*
@@ -42,14 +42,14 @@ macro_rules! error {
     };
 }
 
-/// Panics: the library and this crate aren't of one version.
+/// Panics because the library and this crate have different versions.
 #[cold]
 pub(crate) fn no_such_answer(code: u32) -> ! {
     panic!("bb_memory returned code {code}, which this call doesn't have")
 }
 
 error! {
-    /// Why a request was refused.
+    /// The reason why a request failed.
     AllocationError {
         /// The size is 0. Only bumps refuse it.
         SizeIsZero = SIZE_IS_ZERO: "the size is zero",
@@ -63,7 +63,7 @@ error! {
 }
 
 error! {
-    /// Why a chunk didn't grow. It is unchanged.
+    /// The reason why a chunk didn't grow. It is unchanged.
     AllocationGrowError {
         /// The new size isn't greater than the old one.
         GrowWouldShrink = GROW_WOULD_SHRINK: "the new size is not greater than the old one",
@@ -80,7 +80,7 @@ error! {
 }
 
 error! {
-    /// Why a chunk didn't shrink. It is unchanged.
+    /// The reason why a chunk didn't shrink. It is unchanged.
     AllocationShrinkError {
         /// The new size isn't smaller than the old one.
         ShrinkWouldGrow = SHRINK_WOULD_GROW: "the new size is not smaller than the old one",
@@ -95,7 +95,7 @@ error! {
 }
 
 error! {
-    /// Why no chunk was freed.
+    /// The reason why no chunk was freed.
     DeallocationError {
         /// No allocated chunk begins at the place; for a party, no bucket that it holds.
         NotHeld = NOT_HELD: "nothing is held at the place",
@@ -103,7 +103,7 @@ error! {
 }
 
 error! {
-    /// Why nothing was made.
+    /// The reason why nothing was made.
     InitError {
         /// The region ends after the last address, a bucket has no byte, there are `u32::MAX`
         /// buckets or more, or no party.
@@ -116,7 +116,7 @@ error! {
 }
 
 error! {
-    /// Why no party joined.
+    /// The reason why no party joined.
     JoinError {
         /// Each party has joined. For a number: its party has joined, or there is none.
         NoParty = NO_PARTY: "no party is left to join",
@@ -126,7 +126,7 @@ error! {
 }
 
 error! {
-    /// Why a bucket wasn't detached. Nothing changed.
+    /// The reason why a bucket wasn't detached. Nothing changed.
     DetachError {
         /// The party holds no bucket at the place.
         NotHeld = NOT_HELD: "nothing is held at the place",
@@ -138,20 +138,10 @@ error! {
 }
 
 error! {
-    /// Why a bucket wasn't attached by its number. Nothing changed.
+    /// The reason why a bucket wasn't attached by its number. Nothing changed.
     AttachError {
         /// The bucket isn't detached by its number, or another party than the named one detached it.
         NotHeld = NOT_HELD: "the bucket is not detached by its number and by that party",
-        /// No bucket has the number.
-        NotABucket = NOT_A_BUCKET: "no bucket has the number",
-    }
-}
-
-error! {
-    /// Why a bucket wasn't recovered.
-    RecoverError {
-        /// The bucket isn't detached, or was detached by its number.
-        NotHeld = NOT_HELD: "the bucket is not detached with a token",
         /// No bucket has the number.
         NotABucket = NOT_A_BUCKET: "no bucket has the number",
     }

@@ -12,8 +12,6 @@ pub struct Handle {
 
 impl Handle {
     pub const EMPTY: Handle = Handle { at: ptr::null_mut(), made: false };
-    /// Stands for a lost `bb_detached`: `BB_LOST` of the header.
-    pub const LOST: Handle = Handle { at: ptr::null_mut(), made: true };
 }
 
 /// A code, and with [`OK`] a place: `bb_chunk` of the header.
@@ -39,7 +37,7 @@ pub struct Number {
 pub struct BumpInfo {
     /// The address of the region's start.
     pub start_address: usize,
-    /// The bytes that are used, the padding between chunks among them.
+    /// The bytes that are used, including the padding between chunks.
     pub used_space: usize,
     /// The bytes after the last chunk.
     pub free_space: usize,
@@ -56,7 +54,7 @@ pub struct OneChunkInfo {
     pub start_address: usize,
     /// The bytes of the region.
     pub size: usize,
-    /// Whether the chunk is free.
+    /// True if the chunk is free.
     pub has_chunk_available: bool,
 }
 
@@ -70,14 +68,14 @@ pub struct PoolInfo {
     pub start_address: usize,
     /// The bytes of the region, with the padding before bucket 0.
     pub size: usize,
-    /// The bytes of a bucket, as they were requested.
+    /// The bytes of a bucket, as requested.
     pub bucket_size: usize,
     /// The greatest alignment that a request may have, which is the bucket's.
     pub max_alignment: usize,
     /// The number of buckets.
     pub number_of_buckets: usize,
-    /// The number of buckets that are held: of a party, those that it holds; of a shared pool, those
-    /// that are held, cached or detached.
+    /// The number of buckets that are held: for a party, those that it holds; for a shared pool,
+    /// those that are held, cached or detached.
     pub held_buckets: usize,
 }
 
@@ -130,18 +128,16 @@ pub type Take = unsafe extern "C" fn(*mut Handle) -> Chunk;
 /// Resizes the chunk at this place, of this old size and alignment, to these new ones.
 pub type Resize =
     unsafe extern "C" fn(*mut Handle, *const c_void, usize, usize, usize, usize) -> Chunk;
-/// Lets the party of the second handle join, or leave.
+/// Makes the party of the second handle join, or leave.
 pub type Parties = unsafe extern "C" fn(*mut Handle, *mut Handle) -> u32;
 
-/// Replaces `malloc`.
-pub type TakeMemory = unsafe extern "C" fn(usize) -> *mut c_void;
-/// Replaces `realloc`.
-pub type ResizeMemory = unsafe extern "C" fn(*mut c_void, usize) -> *mut c_void;
-/// Replaces `free`.
-pub type ReleaseMemory = unsafe extern "C" fn(*mut c_void);
+/// Replaces `malloc`: gets the context, a size and an alignment.
+pub type AllocateMemory = unsafe extern "C" fn(*mut c_void, usize, usize) -> *mut c_void;
+/// Replaces `free`: gets the context and a block.
+pub type ReleaseMemory = unsafe extern "C" fn(*mut c_void, *mut c_void);
 
 unsafe extern "C" {
-    pub fn bb_use_memory(take: TakeMemory, resize: ResizeMemory, release: ReleaseMemory);
+    pub fn bb_use_memory(allocate: AllocateMemory, release: ReleaseMemory, context: *mut c_void);
 }
 
 /// Declares the functions, whose parameters need no names.
@@ -211,7 +207,6 @@ functions! {
     bb_pool_party_detach(*const c_void, usize, *mut Handle) -> u32;
     bb_pool_party_attach(*mut Handle) -> Chunk;
     bb_pool_party_return_detached(*mut Handle) -> u32;
-    bb_pool_party_recover(u32, *mut Handle) -> u32;
     bb_pool_party_detach_number(*const c_void) -> Number;
     bb_pool_party_attach_number(u32, u32) -> Chunk;
 }

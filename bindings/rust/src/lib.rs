@@ -17,7 +17,7 @@ pub use allocator::{Allocator, BaseAllocator, Pool};
 pub use boxes::{DetachedBox, PartyBox, PoolBox, TryNewError};
 pub use error::{
     AllocationError, AllocationGrowError, AllocationShrinkError, AttachError, DeallocationError,
-    DetachError, InitError, JoinError, RecoverError, ResetError,
+    DetachError, InitError, JoinError, ResetError,
 };
 pub use ffi::{BumpInfo, OneChunkInfo, PoolInfo};
 pub use owned::use_memory;

@@ -12,19 +12,25 @@ use core::ptr::NonNull;
 use std::alloc;
 use std::sync::{Arc, Mutex, MutexGuard, PoisonError};
 
-/// Makes the library call these functions instead of `malloc`, `realloc` and `free`.
+/// Makes the library call `allocate` instead of `malloc`, and `release` instead of `free`. Each of
+/// them gets `context` as its first parameter.
+///
+/// `allocate` also gets a size and an alignment, and returns a null pointer if it has no such block.
+/// `release` also gets a block that `allocate` returned.
 ///
 /// # Safety
 ///
-/// Nothing of this crate was made before in this process. The functions do what `malloc`, `realloc`
-/// and `free` do, in any thread.
+/// Nothing of this crate was made before in this process. Any thread that uses this crate may call
+/// the functions with `context`, several at once, until the process ends. A block has at least the
+/// requested size, begins at a multiple of the alignment, overlaps no other one, and is nobody
+/// else's until it is released. The functions don't use this crate, and don't unwind.
 pub unsafe fn use_memory(
-    take: ffi::TakeMemory,
-    resize: ffi::ResizeMemory,
+    allocate: ffi::AllocateMemory,
     release: ffi::ReleaseMemory,
+    context: *mut c_void,
 ) {
     // SAFETY: as the caller says.
-    unsafe { ffi::bb_use_memory(take, resize, release) };
+    unsafe { ffi::bb_use_memory(allocate, release, context) };
 }
 
 /// A handle that isn't empty, where its region starts, and how it is emptied. A call writes what the
@@ -63,7 +69,7 @@ impl Owned<'_> {
         Owned { handle, start, destroy, memory: None, region: PhantomData }
     }
 
-    /// Returns a party of what threads share, which `join` makes in an empty handle.
+    /// Returns a party of a shared allocator, which `join` makes in an empty handle.
     ///
     /// # Safety
     ///
@@ -79,7 +85,7 @@ impl Owned<'_> {
         Ok(Owned::of(handle, self.start, destroy))
     }
 
-    /// Keeps the region's memory, which is freed after what is over it.
+    /// Keeps the region's memory, which is freed after the allocator over it.
     pub fn keep(&mut self, memory: Memory) {
         self.memory = Some(memory);
     }
@@ -89,13 +95,14 @@ impl Owned<'_> {
         self.handle.get()
     }
 
-    /// Returns a place of the region, by the pointer by which the region was passed.
+    /// Returns a place of the region, through the pointer by which the region was passed.
     pub fn at(&self, place: usize) -> NonNull<u8> {
         let place = self.start.as_ptr().with_addr(place);
         NonNull::new(place).unwrap_or_else(|| no_such_answer(ffi::OK))
     }
 
-    /// Returns the place of a chunk, by the pointer by which the region was passed, or the code.
+    /// Returns the place of a chunk, through the pointer by which the region was passed, or the
+    /// code.
     pub fn place(&self, answer: ffi::Chunk) -> Result<NonNull<u8>, u32> {
         if answer.code == ffi::OK { Ok(self.at(answer.place.addr())) } else { Err(answer.code) }
     }
@@ -173,7 +180,7 @@ impl Memory {
 
 impl Drop for Memory {
     fn drop(&mut self) {
-        // SAFETY: the memory was allocated with this layout, and what was over it is gone.
+        // SAFETY: the memory was allocated with this layout, and nothing over it is left.
         unsafe { alloc::dealloc(self.start.as_ptr(), self.layout) };
     }
 }
@@ -188,24 +195,25 @@ pub struct Joining {
 /// A bump or a pool that threads share. A pool has a party of its own, which returns buckets that
 /// nobody attached.
 ///
-/// Each party and each detached bucket has a share of it, so none is left when it is dropped, unless
-/// it was forgotten, and then it isn't dropped. So it is abandoned, which is never refused: a bucket
-/// that was detached by its number is left if nobody attached it, and `destroy` would be refused.
+/// Each party and each detached bucket has a share of this value. So none of them is left when the
+/// value is dropped; if one was forgotten, the value is never dropped. The value is abandoned,
+/// which can't fail: `destroy` would fail if a bucket that was detached by its number was never
+/// attached.
 pub struct Common<'region> {
     pub keeper: Option<Owned<'region>>,
     pub owned: Owned<'region>,
 }
 
-/// A share of it. Parties join and leave under the lock.
+/// A share of a [`Common`]. Parties join and leave under the lock.
 pub type Shared<'region> = Arc<Mutex<Common<'region>>>;
 
-/// Locks what is shared, for calls that one thread at a time makes. None of them panics halfway, so
-/// a poisoned lock is as good as another.
+/// Locks the shared value, for calls that only one thread may make at a time. None of them panics
+/// halfway, so a poisoned lock may be used.
 pub fn lock<'lock, 'region>(shared: &'lock Shared<'region>) -> MutexGuard<'lock, Common<'region>> {
     shared.lock().unwrap_or_else(PoisonError::into_inner)
 }
 
-/// A party, which leaves what it joined when it is dropped.
+/// A party, which leaves when it is dropped.
 pub struct Member<'region> {
     owned: Owned<'region>,
     pub of: Shared<'region>,
@@ -213,7 +221,7 @@ pub struct Member<'region> {
 }
 
 impl<'region> Member<'region> {
-    /// Joins.
+    /// Joins as a party.
     ///
     /// # Safety
     ///
@@ -224,7 +232,7 @@ impl<'region> Member<'region> {
         unsafe { Member::join_with(of, by, |all, party| (by.join)(all, party)) }
     }
 
-    /// Joins by another function than the one of `by`.
+    /// Joins by another function instead of the one of `by`.
     ///
     /// # Safety
     ///
@@ -240,7 +248,7 @@ impl<'region> Member<'region> {
         Ok(Member { owned, of: Arc::clone(of), end: by.leave })
     }
 
-    /// Ends the party by this function, and not by leaving.
+    /// Ends the party by this function instead of leaving.
     ///
     /// # Safety
     ///
@@ -267,7 +275,7 @@ impl Drop for Member<'_> {
     }
 }
 
-/// Returns the number of an answer, or `None` if its code is this one.
+/// Returns the number of an answer, or `None` if its code is `none`.
 pub fn number_if(none: u32, answer: ffi::Number) -> Option<usize> {
     match answer.code {
         ffi::OK => Some(answer.number),

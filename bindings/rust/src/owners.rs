@@ -176,7 +176,7 @@ unsafe impl Allocator for OneChunkAllocator<'_> {
     }
 }
 
-/// Allocates buckets of one layout. What it knows of its buckets is in memory of `malloc`.
+/// Allocates buckets of one layout. Its records of the buckets are in memory from `malloc`.
 /// [`PoolBox`](crate::PoolBox) owns a value in a bucket, without `unsafe`; this is a raw chunk:
 ///
 /// ```

@@ -3,7 +3,7 @@
 use crate::allocator::{Allocator, Pool, base, buckets, figures, over_region, shown};
 use crate::error::{
     AllocationError, AllocationGrowError, AllocationShrinkError, AttachError, DeallocationError,
-    DetachError, InitError, JoinError, RecoverError, ResetError, no_such_answer,
+    DetachError, InitError, JoinError, ResetError, no_such_answer,
 };
 use crate::owned::{
     Common, Joining, Member, Memory, Owned, Shared, bucket_number, expect_ok, lock, number_if,
@@ -31,7 +31,7 @@ static POOL_PARTIES: Joining = Joining {
 /// A bump that threads share. It is made for a number of parties, and each thread joins as one. No
 /// call of a party waits for another's. A party leaves when it is dropped, and then one more can
 /// join. [`reset`](SharedBumpAllocator::reset) frees all chunks at once, after each party has left.
-/// A clone is of the same bump.
+/// A clone refers to the same bump.
 #[derive(Clone)]
 pub struct SharedBumpAllocator<'region> {
     shared: Shared<'region>,
@@ -59,7 +59,7 @@ impl<'region> SharedBumpAllocator<'region> {
         Ok(BumpParty { owned })
     }
 
-    /// Frees all chunks. The bump is then as it was made.
+    /// Frees all chunks. Afterwards the bump is as new.
     ///
     /// # Errors
     ///
@@ -126,7 +126,7 @@ figures! {
 
 /// A pool that threads share. It is made for a number of parties, and each thread joins as one. No
 /// call of a party waits for another's. A party leaves when it is dropped, returns what it holds,
-/// and then one more can join. A clone is of the same pool.
+/// and then one more can join. A clone refers to the same pool.
 ///
 /// ```
 /// use bb_memory::{PartyBox, SharedPoolAllocator};
@@ -157,8 +157,8 @@ over_region! {
     owned => Self::kept(owned, bucket)
 }
 
-/// Returns how many parties something is made for: a pool has one more, which returns buckets that
-/// nobody attached.
+/// Returns the number of parties to make: a pool has one more, which returns buckets that nobody
+/// attached.
 fn number_of(parties: u32, keepers: u32) -> Result<u32, InitError> {
     let number = parties.checked_add(keepers).ok_or(InitError::InvalidArgument)?;
     if parties > 0 { Ok(number) } else { Err(InitError::InvalidArgument) }
@@ -171,7 +171,7 @@ impl<'region> SharedPoolAllocator<'region> {
         let keeper = unsafe {
             owned.join(POOL_PARTIES.destroy, |all, party| (POOL_PARTIES.join)(all, party))
         };
-        // No party has joined yet, so only `malloc` refuses.
+        // No party has joined yet, so only `malloc` can fail.
         let keeper = Some(keeper.map_err(|_| InitError::MallocRefused)?);
         Ok(SharedPoolAllocator { shared: Arc::new(Mutex::new(Common { keeper, owned })), bucket })
     }
@@ -225,7 +225,7 @@ impl<'region> SharedPoolAllocator<'region> {
     }
 }
 
-/// Who holds a bucket of a shared pool. A party is named by its [`number`](PoolParty::number).
+/// The holder of a bucket of a shared pool. A party is named by its [`number`](PoolParty::number).
 #[non_exhaustive]
 #[derive(Clone, Copy, Debug, PartialEq, Eq)]
 pub enum Holder {
@@ -271,7 +271,8 @@ impl SharedPoolAllocator<'static> {
     pub fn with_buckets(bucket: Layout, buckets: u32, parties: u32) -> Result<Self, InitError> {
         let memory = Memory::of_buckets(bucket, buckets)?;
         let (start, size) = (memory.start, memory.layout.size());
-        // SAFETY: nothing else uses the memory, which lives as long as the pool and what is of it.
+        // SAFETY: nothing else uses the memory, which lives as long as the pool, its parties and
+        // its detached buckets.
         let pool = unsafe { SharedPoolAllocator::new(bucket, start, size, parties)? };
         lock(&pool.shared).owned.keep(memory);
         Ok(pool)
@@ -281,8 +282,9 @@ impl SharedPoolAllocator<'static> {
 shown! { SharedPoolAllocator }
 
 /// A party of a [`SharedPoolAllocator`], for one thread at a time. A bucket is returned through the
-/// party that holds it: the one that took it, or one that attached it. When a party is dropped, also
-/// by a panic, it leaves: it returns each bucket that it holds, and their chunks aren't used then.
+/// party that holds it: the one that took it, or one that attached it. When a party is dropped,
+/// even by a panic, it leaves: it returns each bucket that it holds, and their chunks aren't used
+/// then.
 ///
 /// [`PartyBox`](crate::PartyBox) owns a value in a bucket of a party, without `unsafe`.
 #[must_use = "a party leaves when it is dropped"]
@@ -335,7 +337,7 @@ pub struct DetachedBucket<'region> {
 }
 
 impl DetachedBucket<'_> {
-    /// Makes an empty one, for buckets of any pool.
+    /// Makes an empty `DetachedBucket`, for buckets of any pool.
     ///
     /// # Errors
     ///
@@ -439,8 +441,8 @@ impl<'region> PoolParty<'region> {
     }
 
     /// Returns the buckets at these places to the pool, as repeated calls of
-    /// [`try_deallocate`](Pool::try_deallocate) do, up to the first that is refused. The result is
-    /// how many were returned.
+    /// [`try_deallocate`](Pool::try_deallocate) do, up to the first that fails. The result is how
+    /// many were returned.
     ///
     /// # Safety
     ///
@@ -517,25 +519,6 @@ impl<'region> PoolParty<'region> {
         true
     }
 
-    /// Returns the bucket of this number, which was detached into a [`DetachedBucket`], to the pool.
-    ///
-    /// # Errors
-    ///
-    /// Each variant of [`RecoverError`] says when it is returned. Nothing changes.
-    ///
-    /// # Safety
-    ///
-    /// The bucket's [`DetachedBucket`] was forgotten, or was a dead process's: nobody uses it from
-    /// now on, nor the chunk.
-    pub unsafe fn recover(&self, number: u32) -> Result<(), RecoverError> {
-        let mut lost = ffi::Handle::LOST;
-        // SAFETY: the function is of this kind, no other call has the handle, and nobody has the
-        // bucket's token.
-        RecoverError::unless_ok(unsafe {
-            ffi::bb_pool_party_recover(self.owned.handle(), number, &raw mut lost)
-        })
-    }
-
     /// Detaches the bucket at `ptr`, which this party holds, and returns the bucket's number. Send it
     /// to another party in any way, with this party's [`number`](PoolParty::number). That party
     /// attaches the bucket by [`attach_number`](PoolParty::attach_number). A bucket that nobody
@@ -596,7 +579,8 @@ impl<'region> PoolParty<'region> {
         Ok(NonNull::slice_from_raw_parts(place, self.bucket.size()))
     }
 
-    /// Returns each bucket that this party holds to the pool, cached ones too. The party stays.
+    /// Returns each bucket that this party holds to the pool, including cached ones. The party
+    /// stays.
     ///
     /// # Safety
     ///
@@ -607,7 +591,8 @@ impl<'region> PoolParty<'region> {
     }
 
     /// Ends the party without returning a bucket. The next party that joins [by its
-    /// number](SharedPoolAllocator::join_number), or happens to get it, holds what this one held.
+    /// number](SharedPoolAllocator::join_number), or happens to get that number, holds what this
+    /// one held.
     pub fn forget(self) {
         // SAFETY: the function is of this kind, and empties the party's handle.
         unsafe { self.owned.end_by(ffi::bb_shared_pool_forget) };

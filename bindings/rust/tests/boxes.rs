@@ -11,7 +11,7 @@ use std::thread;
 
 const MESSAGES: u64 = 10_000;
 
-/// Counts how often it is dropped. Its drop panics if it is to.
+/// Counts how often it is dropped. Its drop panics if `panics` says so.
 struct Counted<'count> {
     drops: &'count AtomicUsize,
     panics: bool,
@@ -21,7 +21,7 @@ impl Drop for Counted<'_> {
     fn drop(&mut self) {
         self.drops.fetch_add(1, Ordering::Relaxed);
         if self.panics {
-            // A panic without the text of one, so that the test prints nothing.
+            // Panics without a message, so that the test prints nothing.
             resume_unwind(Box::new("a drop"));
         }
     }

@@ -6,35 +6,41 @@ use std::sync::atomic::{AtomicUsize, Ordering};
 
 unsafe extern "C" {
     fn malloc(size: usize) -> *mut c_void;
-    fn realloc(block: *mut c_void, size: usize) -> *mut c_void;
     fn free(block: *mut c_void);
 }
 
-static OUT: AtomicUsize = AtomicUsize::new(0);
+/// The blocks that the library has: the context of the two functions.
+static BLOCKS: AtomicUsize = AtomicUsize::new(0);
 
-unsafe extern "C" fn take(size: usize) -> *mut c_void {
-    OUT.fetch_add(1, Ordering::SeqCst);
-    unsafe { malloc(size) }
+unsafe extern "C" fn allocate(context: *mut c_void, size: usize, align: usize) -> *mut c_void {
+    assert!(align <= 16);
+    // SAFETY: the context is `BLOCKS`, and `malloc` may be called with any size.
+    unsafe {
+        (*context.cast::<AtomicUsize>()).fetch_add(1, Ordering::SeqCst);
+        malloc(size)
+    }
 }
 
-unsafe extern "C" fn release(block: *mut c_void) {
-    if !block.is_null() {
-        OUT.fetch_sub(1, Ordering::SeqCst);
+unsafe extern "C" fn release(context: *mut c_void, block: *mut c_void) {
+    // SAFETY: the context is `BLOCKS`, and the block is one of `malloc`'s.
+    unsafe {
+        (*context.cast::<AtomicUsize>()).fetch_sub(1, Ordering::SeqCst);
+        free(block);
     }
-    unsafe { free(block) }
 }
 
 #[test]
 fn the_library_asks_the_functions_that_are_named() {
-    // SAFETY: nothing was made before, and the functions do what `malloc`, `realloc` and `free` do.
-    unsafe { use_memory(take, realloc, release) };
+    // SAFETY: nothing was made before, and the functions do what `malloc` and `free` do. The context
+    // is shared only as an atomic number.
+    unsafe { use_memory(allocate, release, (&raw const BLOCKS).cast_mut().cast()) };
     let pool = SharedPoolAllocator::with_buckets(Layout::new::<u64>(), 2, 1).unwrap();
-    let made = OUT.load(Ordering::SeqCst);
+    let made = BLOCKS.load(Ordering::SeqCst);
     let party = pool.join().unwrap();
-    assert!(made > 0 && OUT.load(Ordering::SeqCst) > made);
+    assert!(made > 0 && BLOCKS.load(Ordering::SeqCst) > made);
     let chunk = party.allocate(Layout::new::<u64>()).unwrap().cast();
     let number = bb_memory::Pool::number_at(&party, chunk).unwrap();
     assert_eq!(pool.holder(number), Some(Holder::HeldBy(party.number())));
     drop((party, pool));
-    assert_eq!(OUT.load(Ordering::SeqCst), 0);
+    assert_eq!(BLOCKS.load(Ordering::SeqCst), 0);
 }

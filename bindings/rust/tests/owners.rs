@@ -1,4 +1,4 @@
-//! The allocators with one owner: each answer and each refusal, at the border of the C library.
+//! The allocators with one owner: each result and each error, through the C library.
 use bb_memory::{
     AllocationError, AllocationGrowError, AllocationShrinkError, Allocator, BaseAllocator,
     BumpAllocator, DeallocationError, InitError, OneChunkAllocator, Pool, PoolAllocator,

@@ -1,8 +1,8 @@
-//! What threads share: each thread is a party, which it takes along.
+//! Shared allocators: each thread has a party of its own.
 use bb_memory::{
     AllocationError, AttachError, BaseAllocator, BumpParty, DeallocationError, DetachError,
-    DetachedBucket, Holder, InitError, JoinError, Pool, PoolParty, RecoverError, ResetError,
-    SharedBumpAllocator, SharedPoolAllocator,
+    DetachedBucket, Holder, InitError, JoinError, Pool, PoolParty, ResetError, SharedBumpAllocator,
+    SharedPoolAllocator,
 };
 use std::alloc::Layout;
 use std::mem::MaybeUninit;
@@ -21,7 +21,7 @@ fn bucket() -> Layout {
     Layout::from_size_align(64, 8).unwrap()
 }
 
-/// Takes buckets, and writes into each what no other thread writes.
+/// Takes buckets, and writes into each a value that no other thread writes.
 fn use_pool(party: &PoolParty<'_>, number: u32) {
     let mut taken = 0;
     while taken < ROUNDS {
@@ -60,8 +60,8 @@ fn no_bucket_has_two_holders() {
     });
 }
 
-/// Takes as many chunks of 8 bytes as there are, and returns how many. Each has what this party
-/// wrote at the end.
+/// Takes chunks of 8 bytes until none is left, and returns how many. At the end each has what this
+/// party wrote.
 fn use_bump(party: &BumpParty<'_>, number: u64) -> usize {
     let mut chunks: Vec<NonNull<u64>> = Vec::new();
     while let Ok(chunk) = party.allocate(Layout::new::<u64>()) {
@@ -146,7 +146,7 @@ fn threads_that_come_and_go_lose_nothing() {
             }
             assert!(worker.allocate(bucket()).is_ok() && worker.allocate(bucket()).is_ok());
             refuses(worker.allocate(bucket()), AllocationError::OutOfMemory);
-            // A panic without the text of one, so that the test says nothing.
+            // Panics without a message, so that the test prints nothing.
             if round % 2 == 0 {
                 std::panic::resume_unwind(Box::new("a worker"));
             }
@@ -168,7 +168,8 @@ fn the_memory_lives_as_long_as_what_is_of_the_pool() {
     let mut detached = DetachedBucket::new().unwrap();
     drop(pool);
     let chunk = party.allocate(bucket()).unwrap().cast::<u64>();
-    // SAFETY: the chunk is this thread's until it is detached, and then read as long as it is.
+    // SAFETY: the chunk is this thread's until it is detached, and is only read while it is
+    // detached.
     unsafe {
         chunk.write(7);
         party.detach(chunk.cast(), 64, &mut detached).unwrap();
@@ -264,15 +265,13 @@ fn a_flag_says_who_holds_a_bucket() {
         |number| thread::scope(|scope| scope.spawn(|| pool.holder(number)).join().unwrap());
     let says = [holder_of(number), holder_of(1 - number), holder_of(2)];
     assert_eq!(says, [Some(Holder::HeldBy(mine.number())), Some(Holder::Free), None]);
-    // SAFETY: no chunk is used, and what is recovered was forgotten.
+    // SAFETY: no chunk is used.
     unsafe {
         assert!(!other.return_detached(&mut detached));
         mine.detach(chunk, 64, &mut detached).unwrap();
         assert_eq!(holder_of(number), Some(Holder::DetachedBy(mine.number())));
         assert!(other.return_detached(&mut detached) && !detached.is_full());
         assert_eq!(holder_of(number), Some(Holder::Free));
-        refuses(other.recover(number), RecoverError::NotHeld);
-        refuses(other.recover(2), RecoverError::NotABucket);
         let chunk = mine.allocate(bucket()).unwrap().cast();
         let number = mine.number_at(chunk).unwrap();
         mine.detach(chunk, 64, &mut detached).unwrap();
@@ -281,9 +280,9 @@ fn a_flag_says_who_holds_a_bucket() {
         assert_eq!(holder_of(number), Some(Holder::HeldBy(other.number())));
         other.detach(taken, 64, &mut attached).unwrap();
         std::mem::forget(attached);
+        let sender = other.number();
         drop(other);
-        assert_eq!(mine.recover(number), Ok(()));
-        assert_eq!(holder_of(number), Some(Holder::Free));
+        assert_eq!(holder_of(number), Some(Holder::DetachedBy(sender)));
     }
 }
 
@@ -379,7 +378,6 @@ fn a_bucket_goes_by_its_number_to_one_party() {
         }
         refuses(receiver.attach_number(1 - number, 2), AttachError::NotHeld);
         refuses(receiver.attach_number(2, 2), AttachError::NotABucket);
-        refuses(receiver.recover(number), RecoverError::NotHeld);
         let received = receiver.attach_number(number, 2).unwrap();
         assert_eq!((received.cast(), received.len()), (chunk, 64));
         refuses(sender.attach_number(number, 2), AttachError::NotHeld);

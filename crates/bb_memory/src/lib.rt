@@ -1,5 +1,5 @@
-//! Allocators over a region that is passed as numbers: a start and a size in bytes. All modules are passed on, and a user of
-//! some of them may use their crates instead of this one:
+//! Allocators over a region that is given as two numbers: its start and its size in bytes. All modules are passed on. A user
+//! who needs only some of them may use their crates instead of this one:
 //!
 //! - `allocator`, `equality`, `layout`, `region`, `steps`: of `bb_memory_base`.
 //! - `heap_allocator`: of `bb_memory_heap`. `one_chunk_allocator`, `pool_allocator`: of `bb_memory_owned`.

@@ -44,7 +44,7 @@ nothing_lost party added most same = grind (arith, nothing_added)
 
 -- REQUESTS THAT MADE STEPS
 
--- what a request has of its answer and its party
+-- the facts about a request's answer and its party
 pub record Says (scene : BumpScene) (party new : BumpParty) (layout : Layout) (told : Result Chunk AllocationError)
     : Type 0 where
   pub answer : MayTake party layout told new

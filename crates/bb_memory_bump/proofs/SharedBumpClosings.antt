@@ -35,7 +35,7 @@ pub record AfterLast (scene : BumpScene) (number : ℕ) (log : BumpLog) (met las
   pub exact : scene.parties ≡ 1 → last ≡ seen_in scene log
   pub chunks : HasChunksWithin scene.region log last
 
--- what it says to the only party
+-- the facts about the last position, for the only party
 pub last_known : (scene : BumpScene) (number : ℕ) (log : BumpLog) (met last : ℕ) →
     AfterMeetingLoad scene (numbered number log ∷ []) met last → AfterLast scene number log met last
 last_known scene number log met last told =
@@ -50,7 +50,7 @@ last_known scene number log met last told =
       chunks = ends_by scene log last seen;
     }
 
--- and to a party by its fields
+-- the facts about the last position, for a party by its fields
 pub last_of : (table : TableId) (scene here : BumpScene) (number : ℕ) (me : Me ℕ SeatView) (party : BumpParty) (last : ℕ) →
     IsPartySeat number me → party_in table number me.0 ≡ party → scene ≡ here →
     AfterMeetingLoad scene me.0.parties (met_by me.0) last → AfterLast here party.number party.log party.met last

@@ -17,7 +17,7 @@ won_in_history scene position party log history =
     subst (λ (l : BumpLog). All (Contains won) (chunks_won l)) history.logged
     (all_in_log (Contains won) party entries (All-contains_itself won))
 
--- and is in the list that the history leaves
+-- a held chunk is in the list that the history leaves
 pub held_in_list : (scene : BumpScene) (live : List Chunk) (position party : ℕ) (log : BumpLog)
     (history : Interleaving scene party log position) →
     All (Contains (live_after scene live history.steps)) (chunks_won log)

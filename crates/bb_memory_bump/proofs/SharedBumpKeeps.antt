@@ -24,7 +24,7 @@ use prog.Atomic.{either}
 
 -- ONE STEP
 
--- what the rule says about a party with this log
+-- the facts of the rule about a party with this log
 pub record IsKnown (scene : BumpScene) (state : State ℕ SeatView) (rule : WordsAndLogsAgree scene state) (party : ℕ)
     (log : BumpLog) : Type 0 where
   pub there : party < scene.parties
@@ -83,7 +83,7 @@ only_one scene state rule party log know one =
     let first : party ≡ 0 = omega arith in
     alone_exact scene rule.position rule.logs log one rule.agree (subst (λ (p : ℕ). HasLog rule.logs p log) first know.own)
 
--- A step of the machine, as the table asks for it: `left` is what it does to the word, of which the party has then seen the
+-- A step of the machine, in the form that the table needs: `left` is its effect on the word, and the party has then seen the
 -- result.
 step_tells : (scene : BumpScene) (slots seat party : ℕ) (log : BumpLog) (met : ℕ) (left : ℕ → ℕ) (kind : BumpStep)
     (outcome : ℕ → BumpOutcome) →
@@ -167,7 +167,7 @@ reads_as scene slots seat party layout asked log met me is idle asks for_it =
 
 -- EXCHANGES
 
--- what an exchange leaves is what the machine says
+-- the word after an exchange is the one of the machine
 exchange_leaves : (scene : BumpScene) (found behind : ℕ) (call : OngoingCall) (same fitting : Bool) →
     either same behind found ≡
     (if same then ending (Wins (chunk_at scene.region found call.layout)) behind

@@ -1,4 +1,4 @@
--- A load by a seat of several parties: how they agree with the position, and what two of them have of one another.
+-- A load by a seat of several parties: how they agree with the position, and what two of them know of each other.
 use Rattle.atomic_table.specs.Table.{Allows, Me, State, keeps, step}
 use Rattle.bb_memory_bump.proofs.SharedBumpFloors.{met_set}
 use Rattle.bb_memory_bump.specs.SharedBumpRule.{AfterMeeting, AfterMeetingLoad, NumberedLog, SeatView, WordsAndLogsAgree, meeting_of, meets, met_by, sight}
@@ -62,7 +62,7 @@ meets_as scene slots seat met parties me is =
     (meets (step slots 0 0 0 none) m)) (sym is)
     (meets_at scene slots seat met parties)
 
--- what a meeting of two has found
+-- the result of a meeting of two parties
 pub two_met : (scene : BumpScene) (number : ℕ) (log : BumpLog) (other : ℕ) (other_log : BumpLog) (met found : ℕ) →
     AfterMeetingLoad scene (numbered other other_log ∷ numbered number log ∷ []) met found →
     AfterMeeting scene number log other other_log found

@@ -1,4 +1,4 @@
--- Parties that come to one seat, and what their meeting says about their logs.
+-- Parties that come to one seat, and what their meeting shows about their logs.
 use Rattle.atomic_table.specs.Seated.{TableId}
 use Rattle.atomic_table.specs.Table.{Me}
 use Rattle.bb_memory_bump.specs.SharedBump.{AgreeAt, BumpParty, HaveMet, IsSharedScene, SharedBump, floor_of, greatest_seen, meeting_at, seen_by}
@@ -20,7 +20,7 @@ use Rattle.std.specs.Prelude.{Contains, map}
 
 -- GATHERING
 
--- a party's seat stands only for it
+-- a party's seat stands only for that party
 pub parties_of : (table : TableId) (number : ℕ) (me : Me ℕ SeatView) (party : BumpParty) → IsPartySeat number me →
     party_in table number me.0 ≡ party → me.0.parties ≡ numbered_of party ∷ []
 parties_of table number me party fields view_is =
@@ -71,7 +71,7 @@ module _ (bump : SharedBump) (items : List BumpParty) (met found : ℕ) (theirs 
       let seen = seen_below scene found told.logs party.number party.log told.agree own in
       omega (arith, seen, its_scene party there)
 
-  -- how their logs agree with it
+  -- the agreement of the parties' logs with the position
   pub agrees : IsSharedScene scene → AgreeAt scene found items
   agrees shared = record {
     logs = told.logs;
@@ -100,7 +100,7 @@ module _ (bump : SharedBump) (items : List BumpParty) (met found : ℕ) (theirs 
         );
   }
 
-  -- they have known no more than that
+  -- no party knew a greater position
   pub floors_below : All (λ party. party.met ≤ found) items → All (λ party. floor_of party ≤ found) items
   floors_below mets = grind (arith, seen_at_most, All-contains_itself)
 

@@ -14,8 +14,8 @@ use Rattle.std.proofs.Common.{Bool, Some, [], ap, append_assoc, arith, eq-eqb, f
 use Rattle.std.proofs.lemmas.List.Elements.{All-from_recursion}
 use Rattle.std.specs.Prelude.{if◌then◌else◌, max}
 
--- A request under way: the party has tried so, and has seen `last`, which is no more than what its log says. Each loss has
--- raised that by one at least, and none of these steps has won a chunk.
+-- A request in progress: the party has made these tries, and has seen `last`, which is at most what its log says. Each loss has
+-- raised that by at least one, and none of these steps has won a chunk.
 pub record IsTrying (scene : BumpScene) (number : ℕ) (log : BumpLog) (met : ℕ) (layout : Layout) (last : ℕ)
     (me : Me ℕ SeatView) : Type 0 where
   pub tried : BumpLog
@@ -135,7 +135,7 @@ module _ (scene : BumpScene) (party : ℕ) (log : BumpLog) (met : ℕ) (layout :
   alone_wins : scene.parties ≡ 1 → found ≡ last
   alone_wins one = exchanged.exact one ∙ sym trying.seen
 
-  -- what an exchange finds is no less than what was seen
+  -- an exchange finds at least the position that was seen
   pub raises : (last ≤ found) × (found ≤ scene.region.size)
   raises = (omega (arith, exchanged.seen, trying.seen), exchanged.within)
 
@@ -183,7 +183,7 @@ module _ (scene : BumpScene) (party : ℕ) (log : BumpLog) (met : ℕ) (layout :
         alone = λ one. absurd (apart (alone_wins one));
       }
 
-  -- a loss at which it doesn't fit
+  -- a loss at a position at which the layout doesn't fit
   pub refused_later : found ≢ last → fits scene.region found layout ≡ false → AfterRefusal scene party log met layout new
   refused_later apart unfit =
       let decides = entry_of (Exchange party) (RefusedAtLoss found) in

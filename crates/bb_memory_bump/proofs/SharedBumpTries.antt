@@ -1,4 +1,4 @@
--- One more entry of a request: what it finds, loses and wins.
+-- One more entry of a request: what the step finds, loses and wins.
 use Rattle.bb_memory_bump.specs.SharedBumpRule.{IsCounted}
 use Rattle.bb_memory_bump_machine.proofs.BumpBounds.{won_grows}
 use Rattle.bb_memory_bump_machine.specs.BumpLogs.{BumpEntry, BumpLog, HasPositionFrom, HasPositionUpTo, chunks_won, is_loss, losses_in, seen_in}

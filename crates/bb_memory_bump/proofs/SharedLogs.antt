@@ -12,7 +12,7 @@ pub call_next : (log : BumpLog) (step : BumpStep) (outcome : BumpOutcome) →
     call_in (log ++ entry_of step outcome ∷ []) ≡ call_after (call_in log) (entry_of step outcome)
 call_next log step outcome = call_grows None log (entry_of step outcome ∷ [])
 
--- what a party has seen whose log has one more entry
+-- the position that a party has seen whose log has one more entry
 pub seen_next : (scene : BumpScene) (log : BumpLog) (step : BumpStep) (outcome : BumpOutcome) →
     seen_in scene (log ++ entry_of step outcome ∷ []) ≡ greater_of (seen_in scene log) (position_in scene.region outcome)
 seen_next scene log step outcome = seen_grows scene.region scene.opening log (entry_of step outcome ∷ [])

@@ -17,7 +17,7 @@ pub record Bump : Type 0 where
 abbrev pub bump_of : ℕ → ℕ → ℕ → Bump
 bump_of start size used = record { region = region_at start size; used = used }
 
--- The invariant of a bump: the region is valid, and no more of it is used than there is.
+-- The invariant of a bump: the region is valid, and at most all of it is used.
 pub record IsBump (bump : Bump) : Type 0 where
   pub region : IsRegion bump.region
   pub used : bump.used ≤ bump.region.size

@@ -1,5 +1,5 @@
--- The rule of a shared bump's word, what its seats and fields stand for, and what each step on the word leaves to the seat that
--- makes it.
+-- The rule of a shared bump's word, the meaning of its seats and fields, and the effect of each step on the word on the seat
+-- that makes it.
 use Rattle.atomic_table.specs.Seated.{TableId}
 use Rattle.atomic_table.specs.Table.{Me, State, Step}
 use Rattle.bb_memory_bump.specs.Bump.{Layout}
@@ -121,8 +121,7 @@ all_parties scene = standing_for (sight scene 0) (fresh_from 0 scene.parties)
 abbrev pub nobody : SeatView
 nobody = standing_for (sight (scene_at (region_at 0 0) 0 0) 0) []
 
--- the view of a seat that took over a guest's parties, and of its last meetings knows the greater
--- position
+-- the view of a seat that took over a guest's parties, and that keeps the greater position of the last meetings
 abbrev pub merged : SeatView → SeatView → SeatView
 merged view guest = standing_for (sight (scene_of view) (max (met_by view) (met_by guest))) (guest.parties ++ view.parties)
 
@@ -158,9 +157,9 @@ AfterExchange scene number log met found new = (call : OngoingCall) → call_in 
 abbrev pub AfterLoad : BumpScene → ℕ → BumpLog → ℕ → ℕ → Me ℕ SeatView → Type 0
 AfterLoad scene number log met found new = AfterStep scene number log met (Load number) (Loaded found) found new
 
--- A load by a seat that stands for these parties found this position: at least what the last
--- meetings had found, and at most the region's size. Some logs, one for each of the bump's parties,
--- agree with it, and the logs of these parties are among them. No party is there twice.
+-- A load by a seat that stands for these parties found this position: at least what the last meetings had found, and at most
+-- the region's size. Some logs, one for each of the bump's parties, agree with it, and the logs of these parties are among
+-- them. No party is in the list twice.
 pub record AfterMeetingLoad (scene : BumpScene) (parties : List NumberedLog) (met found : ℕ) : Type 0 where
   pub above : met ≤ found
   pub within : found ≤ scene.region.size

@@ -1,4 +1,4 @@
-//! An allocator that gives one chunk after another, and takes all of them back at once.
+//! An allocator that gives one chunk after another, and takes all of them back in one release.
 ghost use Rattle.bb_memory_bump.specs.Bump.{AllocationError, Bump, Frees, IsBump, Layout, OutOfMemory, Takes, bump_of, bump_text};
 ghost use Rattle.bb_memory_bump.specs.SharedBump.{fresh_party, scene_at};
 ghost use Rattle.bb_memory_traits.specs.BumpObject.{IsInOrder, MayAllocate, StandsFor, bump_object, used_space};
@@ -16,7 +16,7 @@ use std::alloc::{AllocError, Global};
 use std::fmt;
 use std::marker::Model;
 
-/// Gives chunks in order, each at the first suitable place after the one before. All are given back at once.
+/// Gives chunks in order, each at the first suitable place after the one before. A release gives back all chunks.
 ///
 /// Example: `comments::bump` of `crates/examples`.
 #[derive(Debug, Drop)]
@@ -37,7 +37,7 @@ impl Model for BumpAllocator {
 }
 
 impl BumpAllocator {
-    /// Makes an allocator over the region of `size` bytes at `start`, with nothing given. The start has to be greater than 0,
+    /// Makes an allocator over the region of `size` bytes at `start`. No chunk is given. The start has to be greater than 0,
     /// and start plus size at most `usize::MAX`; [`BumpAllocator::can_make`] tests both.
     #[inline]
     pub fn new(start: usize, size: usize) -> Self
@@ -52,7 +52,7 @@ impl BumpAllocator {
         }
     }
 
-    /// Tests that `new` may be called with these.
+    /// Returns whether `new` may be called with these arguments.
     pub fn can_make(start: usize, size: usize) -> bool
         ensures { IsTrue result ↔ IsRegion (region_at start size) }
     {
@@ -108,8 +108,8 @@ impl BumpAllocator {
     }
 
     /// Shares the bump among that many parties, at least one: what was used stays used, and each party begins with an empty
-    /// log. The only error is `OutOfMemory`, if memory for the word or for the parties ran out; the allocator then comes back
-    /// as it was.
+    /// log. Fails only with `OutOfMemory`, if memory for the word or for the parties ran out; the allocator then comes back
+    /// unchanged.
     pub fn share(
         self,
         alloc: Global,
@@ -121,7 +121,7 @@ impl BumpAllocator {
         ensures scene { IfOk result (λ shared.
             shared.0.scene ≡ scene_at self.region self.used parties) }
 
-        // The parties are of the requested number, all of this shared bump, numbered from 0, with empty logs.
+        // There are as many parties as requested, all of this shared bump, numbered from 0, with empty logs.
         ensures parties { IfOk result (λ shared. shared.0.scene.parties ≡ parties) }
         ensures as_many { IfOk result (λ shared. length shared.1.items ≡ parties) }
         ensures fresh { IfOk result (λ shared. (number : ℕ) → number < parties
@@ -183,9 +183,9 @@ impl BaseAllocator for BumpAllocator {
 
     ghost frees = { λ bump _ _ new. Frees bump new };
 
-    /// Allocates a chunk of exactly `layout.size()` bytes, at the least multiple of `layout.align()` after what is used. Size 0
-    /// is refused with `SizeIsZero`, and a chunk that would end after the region with `OutOfMemory`. A refusal leaves the
-    /// allocator as it was.
+    /// Allocates a chunk of exactly `layout.size()` bytes, at the least multiple of `layout.align()` after what is used. Fails
+    /// with `SizeIsZero` if the size is 0, and with `OutOfMemory` if the chunk would end after the region. A refusal leaves the
+    /// allocator unchanged.
     #[inline(always)]
     fn allocate(&mut self, layout: Layout) -> Result<Chunk, AllocationError> {
         if layout.size() == 0 {
@@ -199,7 +199,7 @@ impl BaseAllocator for BumpAllocator {
         Ok(chunk)
     }
 
-    /// Gives back all chunks, whichever place and layout are named.
+    /// Gives back all chunks. The place and the layout decide nothing.
     #[inline(always)]
     fn deallocate(&mut self, _place: usize, _layout: Layout) {
         self.last = self.start - 1;
@@ -219,10 +219,10 @@ impl BaseAllocator for BumpAllocator {
     ghost sound = { λ bump live stands. stands.sound };
 }
 
-/// Says what the definition of the bump object means for every region and every list of commands. There is exactly one answer to
-/// each request. A chunk that is given begins at a multiple of the requested alignment, has exactly the requested size, and
+/// States what the definition of the bump object means for every region and every list of commands. There is exactly one answer
+/// to each request. A chunk that is given begins at a multiple of the requested alignment, has exactly the requested size, and
 /// begins at or after the end of every chunk of the list, if that is in order. Each run from a live list that a bump stands for
-/// leads to such a list again, which is sound. The function does nothing: its contract is the law.
+/// leads to another such list, which is sound. The function does nothing: its contract is the law.
 pub fn bump_object_law()
     ensures some_answer { (region : Region) → AnswersAll (bump_object region) }
     ensures one_answer { (region : Region) → AnswersOnce (bump_object region) }

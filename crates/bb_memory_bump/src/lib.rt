@@ -1,12 +1,12 @@
-//! Bump allocators over a region that is passed as numbers, a start and a size in bytes: for one owner, and for threads.
+//! Bump allocators over a region that is given as two numbers, its start and its size in bytes: for one owner, and for threads.
 //!
 //! The modules, in the order in which to read them:
 //!
-//! - `bump_allocator`: one chunk after another, all given back at once.
+//! - `bump_allocator`: one chunk after another, all given back in one release.
 //! - `shared_bump`: the bump that threads share.
-//!   - `position`: its word, and the only calls that touch it. `rule`: what each step on it keeps.
+//!   - `position`: its word, and the only calls that touch it. `rule`: the rule that each step on it keeps.
 //!   - `party`: one user's right to step. `request`: the loop of a request. `meeting`: any number of parties at one seat.
-//!   - `all_parties`: what a user has who met all of them.
+//!   - `all_parties`: the law of parties that met.
 //!
 //! Crate `bb_memory` passes all of it on.
 #![tactic(auto)]

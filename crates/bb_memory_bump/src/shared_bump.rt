@@ -26,12 +26,12 @@ use std::alloc::{AllocError, Global};
 use std::marker::{Brand, Model};
 
 /// A bump that threads share through `&`, made by [`BumpAllocator::share`]. Each call of a thread takes its own party by
-/// `&mut`; the party has to be this allocator's, and stays so. No call takes memory, and none waits for another.
+/// `&mut`; the party has to be this allocator's, and stays so. No call allocates memory, and none waits for another.
 ///
-/// A party's log has its own atomic steps on the position, in order, each with what it found. Whatever the threads do, word
-/// and logs agree: the steps of all parties together are one list that the bump machine allows, which leaves the word. A user
-/// who has all parties knows it of them by [`meet_all`](SharedBumpAllocator::meet_all), and then has [`shared_bump_meeting_law`];
-/// [`shared_bump_law`] says what a user has of one party, and of two that met.
+/// A party's log has its own atomic steps on the position, in order, each with what it found. Whatever the threads do, word and
+/// logs agree: the steps of all parties together are one list that the bump machine allows, and which leaves the word. A user
+/// who has all parties learns this by [`meet_all`](SharedBumpAllocator::meet_all), and then has [`shared_bump_meeting_law`].
+/// [`shared_bump_law`] states what a user has who has one party, or two that met.
 ///
 /// Example: `comments::shared_bump` of `crates/examples`.
 #[derive(Drop)]
@@ -83,19 +83,19 @@ impl SharedBumpAllocator {
 
     /// Allocates a chunk of exactly `layout.size()` bytes, at the least multiple of `layout.align()` after what is used.
     ///
-    /// Size 0 is refused with `SizeIsZero`, and no step is made. Otherwise the party reads the position. If the layout doesn't
+    /// Fails with `SizeIsZero` if the size is 0, without a step. Otherwise the party reads the position. If the layout doesn't
     /// fit there, the request fails with `OutOfMemory`. Otherwise an exchange replaces the position by the end of the chunk, if
     /// the position is still what the party has seen. If it isn't, the party goes on from the position that it found: it rounds
-    /// anew, or fails with `OutOfMemory` if the layout doesn't fit there. There is no other refusal. Each loss raises what the
-    /// party has seen, so a request loses at most one exchange for each byte of the region. The party has to be this bump's.
+    /// that position up, or fails with `OutOfMemory` if the layout doesn't fit there. There is no other refusal. Each loss
+    /// raises what the party has seen, so a request loses at most one exchange for each byte of the region. The party has to be
+    /// this bump's.
     pub fn allocate(&self, party: &mut BumpParty, layout: Layout) -> Result<Chunk, AllocationError>
         requires party { party.old.allocator ≡ self.now }
 
         // The entries that were added to the party's log decide the answer.
         ensures answer { MayTake party.old layout result party.new }
 
-        // The party stays this allocator's, and some interleaving has its log. So what `shared_bump_law`
-        // says holds of it.
+        // The party stays this allocator's, and some interleaving has its log. So `shared_bump_law` holds for it.
         ensures party { party.new.allocator ≡ self.now }
         ensures is_party { IsSameParty party.old party.new }
 
@@ -104,7 +104,7 @@ impl SharedBumpAllocator {
             chunks_won party.new.log ≡ chunks_won party.old.log ++ chunk ∷ []) }
         ensures none_won { OnErr result (chunks_won party.new.log ≡ chunks_won party.old.log) }
 
-        // Each position that it finds is at least the party's floor, and at most the size.
+        // Each position that the call finds is at least the party's floor, and at most the size.
         ensures found { (added : BumpLog) → party.new ≡ with_entries party.old added
             → IsFoundBy party.old added }
 
@@ -116,7 +116,7 @@ impl SharedBumpAllocator {
         ensures alone { self.now.scene.parties ≡ 1
             → IsAnsweredAt self.now.scene.region (seen_by party.old) layout result }
 
-        // It loses at most one exchange for each byte of the region.
+        // The call loses at most one exchange for each byte of the region.
         ensures losses { (added : BumpLog) → party.new ≡ with_entries party.old added
             → losses_in added ≤ self.now.scene.region.size }
 
@@ -135,16 +135,16 @@ impl SharedBumpAllocator {
         }
     }
 
-    /// Two parties meet: no chunk of the one overlaps one of the other. It loads a word, which is in no log. What it
-    /// finds raises the floor of both, and nothing else changes. The parties have to be this bump's.
+    /// Makes two parties meet: no chunk of one overlaps a chunk of the other. The meeting loads a word, which is in no log.
+    /// The position that it finds raises the floor of both, and nothing else changes. The parties have to be this bump's.
     pub fn meet(&self, a: &mut BumpParty, b: &mut BumpParty)
         requires parties { AreBothOf self.now a.old b.old }
         ensures kept { (a.new ≡ meeting_at a.new.met a.old) × (b.new ≡ meeting_at a.new.met b.old) }
         ensures parties { AreBothOf self.now a.new b.new }
         ensures apart { HaveChunksApart a.old.log b.old.log }
 
-        // The position is at least the one that either knew, at most the size, and one that an interleaving of
-        // both logs leaves.
+        // The position is at least the one that either party knew, at most the size, and one that an interleaving of both logs
+        // leaves.
         ensures met { MeetAt self.now a.old b.old a.new.met }
 
         // Each chunk of either ends there or before.
@@ -154,9 +154,9 @@ impl SharedBumpAllocator {
         self.position.meet(&mut a.seat, &mut b.seat);
     }
 
-    /// All these parties meet: no chunk of one overlaps a chunk of another. One interleaving has all their logs, and leaves the
-    /// position that the meeting finds. If these are all the bump's parties, it has no other steps, and the position is the
-    /// greatest that one of them has seen. The position found raises the floor of each, and nothing else changes. The meeting
+    /// Makes all these parties meet: no chunk of one overlaps a chunk of another. One interleaving has all their logs, and
+    /// leaves the position that the meeting finds. If these are all the bump's parties, it has no other steps, and the position
+    /// is the greatest that one of them has seen. The position raises the floor of each, and nothing else changes. The meeting
     /// loads a word, which is in no log. The parties have to be this bump's.
     pub fn meet_all(&self, parties: &mut Vec<BumpParty>)
         requires parties { All (λ party. party.allocator ≡ self.now) parties.old.items }
@@ -181,8 +181,8 @@ impl SharedBumpAllocator {
         self.start
     }
 
-    /// Returns the bytes that are used: those from the region's start to the end of the last chunk, padding included. It is what
-    /// one load found. The party has to be this bump's.
+    /// Returns the bytes that are used: those from the region's start to the end of the last chunk, padding included. The
+    /// number is what one load found. The party has to be this bump's.
     pub fn used_space(&self, party: &mut BumpParty) -> usize
         requires party { party.old.allocator ≡ self.now }
         ensures party { party.new.allocator ≡ self.now }
@@ -191,8 +191,8 @@ impl SharedBumpAllocator {
         self.position.load(&mut party.seat)
     }
 
-    /// Returns the number of bytes after the last chunk: the total less what one load found to be used. The party has to be this
-    /// bump's.
+    /// Returns the number of bytes after the last chunk: the total minus the used bytes, which one load found. The party has to
+    /// be this bump's.
     pub fn free_space(&self, party: &mut BumpParty) -> usize
         requires party { party.old.allocator ≡ self.now }
         ensures party { party.new.allocator ≡ self.now }
@@ -203,7 +203,7 @@ impl SharedBumpAllocator {
         self.size - self.used_space(party)
     }
 
-    /// Returns the size of the region in bytes. Its clauses also state the bump's invariant.
+    /// Returns the size of the region in bytes. The clauses also state the bump's invariant.
     pub fn total_space(&self) -> usize
         ensures value { result ≡ self.now.scene.region.size }
         ensures region { IsRegion self.now.scene.region }
@@ -212,9 +212,9 @@ impl SharedBumpAllocator {
         self.size
     }
 
-    /// Returns the bump again, for one owner: of the same region, at the position that the parties' steps left (with several
-    /// parties that is tested, and no clause says so). It is at least what this party has seen, and exactly that if it was the
-    /// only party ever. The party has to be this bump's.
+    /// Returns the bump for one owner: over the same region, at the position that the parties' steps left (with several parties
+    /// that is tested, and no clause states it). The position is at least what this party has seen, and exactly that if it was
+    /// the only party ever. The party has to be this bump's.
     pub fn into_owner(self, party: BumpParty) -> BumpAllocator
         requires party { party.allocator ≡ self }
         ensures region { result.region ≡ self.scene.region }
@@ -237,9 +237,9 @@ impl SharedBumpAllocator {
         BumpAllocator::at_position(start, size, used)
     }
 
-    /// Returns the bump again, for one owner who has all its parties: of the same region, and at exactly the greatest position
-    /// that one of them has seen. It stands for the list that was live before the bump was shared, followed by the chunks that
-    /// were won since, in the order of an interleaving of all logs. The parties have to be all of this bump's parties.
+    /// Returns the bump for one owner who has all its parties: over the same region, and at exactly the greatest position that
+    /// one of them has seen. The bump stands for the list that was live before it was shared, followed by the chunks that were
+    /// won since, in the order of an interleaving of all logs. The parties have to be all of this bump's parties.
     pub fn into_owner_all(self, mut parties: Vec<BumpParty>) -> BumpAllocator
         requires parties { All (λ party. party.allocator ≡ self) parties.items }
         requires all { length parties.items ≡ self.scene.parties }
@@ -281,14 +281,14 @@ impl SharedBumpAllocator {
     }
 }
 
-/// Says what follows for each party of a shared bump, and for two that met, whatever the threads did. It does nothing: its
-/// contract is the law.
+/// States what holds for each party of a shared bump, and for two that met, whatever the threads did. The function does
+/// nothing: its contract is the law.
 ///
 /// A possible history of a party is an interleaving of its log: a list of allowed steps from the opening, in which the party's
 /// steps are exactly its log, and which leaves a position. `IsParty` has one that leaves what the party has seen, and one that
-/// leaves its floor, so that one list of steps explains its log and what its last meeting found. The others' steps in it are some
-/// that explain the log, and needn't be those that were made. Two parties that met have such a list together, which
-/// `AreInterleaved` says. A list that the opening stands for is one that was live before the bump was shared.
+/// leaves its floor, so that one list of steps explains its log and what its last meeting found. The steps of the others in it
+/// explain the log, and need not be those that they made. Two parties that met have one such list together: `AreInterleaved`. A
+/// list that the opening stands for is one that was live before the bump was shared.
 pub fn shared_bump_law()
     // The calls of a party's history are a run of the bump object from that list.
     ensures run { (party : BumpParty) (position : ℕ) (live : List Chunk)
@@ -308,7 +308,7 @@ pub fn shared_bump_law()
         (history : IsInterleaved party position) → let scene = party.allocator.scene in
         All (Contains (live_after scene live history.steps)) (chunks_won party.log) }
 
-    // A bump whose used space is what the history leaves stands for that list.
+    // A bump that has used exactly what the history leaves as used stands for that list.
     ensures stands { (party : BumpParty) (position : ℕ) (live : List Chunk)
         (history : IsInterleaved party position) → let scene = party.allocator.scene in
         OpensWith scene live
@@ -328,8 +328,7 @@ pub fn shared_bump_law()
         → IsParty party → OpensWith party.allocator.scene live
         → All (λ older. All (AreApart older) (chunks_won party.log)) live }
 
-    // Two parties that met have one history together, whose calls are a run too: one run has the
-    // calls of both.
+    // Two parties that met have one history together, whose calls are also a run: one run has the calls of both.
     ensures both_run { (a b : BumpParty) (live : List Chunk) (met : AreInterleaved a b)
         → let scene = a.allocator.scene in
         let steps = met.1.steps in
@@ -346,7 +345,7 @@ pub fn shared_bump_law()
         → IsParty a → AreInterleaved a b → a.number ≢ b.number
         → HaveChunksApart a.log b.log }
 
-    // So of each two of their chunks.
+    // So the same holds for each two of their chunks.
     ensures each_apart { (log other_log : BumpLog) (i j : ℕ) (chunk other : Chunk)
         → HaveChunksApart log other_log
         → slice_get (chunks_won log) i ≡ Some chunk

@@ -1,4 +1,4 @@
--- A party's log says what the party is in, and a step adds only to the log of its party.
+-- A party's log determines the call that the party is in, and a step adds only to the log of its party.
 use Rattle.bb_memory_bump_machine.proofs.BumpAllowed.{none_allowed}
 use Rattle.bb_memory_bump_machine.proofs.BumpSteps.{ExchangeView, ReadView, StepView, exchange_move_view, exchanges, loses, others_stay, read_move_view, reads, refuses_loss, refuses_read, sees, step_view, wins, written}
 use Rattle.bb_memory_bump_machine.specs.BumpLogs.{AllAllowed, BumpEntry, BumpLog, HasLog, IsAllowed, LogsAgree, bump_history, call_after, call_in, call_through, entries_by, entry_at, entry_of, history_of, is_by, log_of, with_entry}
@@ -15,7 +15,7 @@ use Rattle.std.specs.Prelude.{if◌then◌else◌, slice_get, ◌==◌}
 
 -- THE CALL OF A PARTY
 
--- a party's own step leaves it in what the entry says
+-- a party's own step leaves the party in the call that the entry determines
 own_call : (region : Region) (state : BumpState) (step : BumpStep) (move : BumpMove) (party : ℕ) (now : Option OngoingCall) →
     StepView region state step move → is_by party step ≡ true → slice_get state.calls party ≡ Some now →
     slice_get move.state.calls party ≡ Some (call_after now (entry_of step move.outcome))

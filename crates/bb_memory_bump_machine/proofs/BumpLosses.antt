@@ -14,7 +14,7 @@ use Rattle.std.specs.Prelude.{count_by, if◌then◌else◌}
 
 -- WHAT A CALL HAS SEEN
 
--- a party's call, if it is in one, has seen no more than the position
+-- a party's call, if it is in one, has seen at most the position
 abbrev pub SeesNoMore : BumpState → ℕ → Type 0
 SeesNoMore state party = (call : OngoingCall) → IsInCall state party call → call.seen ≤ state.position
 
@@ -50,17 +50,17 @@ idle_sees state party idle = λ call is. let none = same_Some None (Some call) (
 
 -- ONE STEP
 
--- what a step that is no clear does to a party in a call, with the exchanges that it loses at it
+-- the effect of a step that isn't a clear on a party in a call, with the exchanges that the step loses
 data CallTurn (next : BumpState) (party : ℕ) (call : OngoingCall) (lost : ℕ) : Type 0 where
   goes_on : (later : OngoingCall) → IsInCall next party later → lost + call.seen ≤ later.seen → CallTurn next party call lost
   ends : IsIdle next party → lost + call.seen ≤ next.position → CallTurn next party call lost
 
--- and to an idle party, with the calls that it begins at it
+-- the effect of such a step on an idle party, with the calls that the step begins
 data IdleTurn (next : BumpState) (party : ℕ) (lost begun : ℕ) : Type 0 where
   stays : IsIdle next party → lost ≡ 0 → IdleTurn next party lost begun
   begins : (call : OngoingCall) → IsInCall next party call → lost ≡ 0 → begun ≡ 1 → IdleTurn next party lost begun
 
--- what an entry adds to a count over a log
+-- the summand of an entry in a count over a log
 abbrev weight : Bool → Bool → ℕ
 weight own counted = if own then (if counted then 1 else 0) else 0
 
@@ -165,7 +165,7 @@ module _ (region : Region) (party : ℕ) where
         | begins call is lost one ↦ absurd (omega (arith, begun, few, one))
       ]
 
-  -- a call that goes on loses at most what is above the position that it has seen
+  -- a call that goes on loses at most one exchange for each position above the one that it has seen
   call_loses_little : (state : BumpState) (steps : List BumpStep) (call : OngoingCall) →
       HasNoClear steps → SeesNoMore state party → IsInCall state party call → begun_from state steps ≡ 0 →
       losses_from state steps + call.seen ≤ (bump_after region state steps).position

@@ -15,14 +15,14 @@ use Rattle.std.specs.Prelude.{if◌then◌else◌}
 
 -- FACTS OF EACH CHUNK
 
--- what holds for all holds for the first ones, and for those after them
+-- a property of all holds for the first ones, and for those after them
 pub all_parts : (P : Chunk → Type 0) (xs ys : List Chunk) → All P (xs ++ ys) → All P xs × All P ys
 all_parts P [] ys all = (All-nil P, all)
 all_parts P (x ∷ xs) ys all =
     let parts = all_parts P xs ys (All-tail P x (xs ++ ys) all) in
     (All-cons P x xs (All-head P x (xs ++ ys) all) parts.0, parts.1)
 
--- what holds of all that was won holds of what one party won
+-- a property of all chunks that were won holds for those that one party won
 all_own : (P : Chunk → Type 0) (own : Bool) (entry : BumpEntry) (log : BumpLog) → All P (won_at entry.outcome) →
     All P (chunks_won log) → All P (chunks_won (if own then entry ∷ log else log))
 all_own P true entry log here rest = All-append P (won_at entry.outcome) (chunks_won log) here rest

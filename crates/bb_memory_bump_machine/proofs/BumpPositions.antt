@@ -80,7 +80,7 @@ module _ (scene : BumpScene) (position : ℕ) (logs : List BumpLog) (party : ℕ
       subst (λ (bound : ℕ). AllByRecursion (HasPositionUpTo bound scene.region) log) agree.leaves
       (recursion_from_All P log (subst (All P) (agree.each party log at) own))
 
-  -- a party has seen no more than the position
+  -- a party has seen at most the position
   pub seen_below : seen_in scene log ≤ position
   seen_below =
       greatest_in-below scene.region scene.opening position log (position_risen scene position logs agree) log_below

@@ -45,13 +45,13 @@ calls-append region live first then between position one more =
 
 -- ONE STEP
 
--- what a layout gets at a position is what it gets on a list that the position stands for
+-- the chunk of a layout at a position is the one that the layout gets on a list that the position stands for
 chunk_at-next : (region : Region) (position : ℕ) (live : List Chunk) (layout : Layout) → StandsFor region position live →
     chunk_at region position layout ≡ next_chunk region live layout
 chunk_at-next region position live layout stands =
     ap (λ v. chunk_at_or_after v layout) (StandsFor-end region position live stands)
 
--- the chunk at a position begins at or after it
+-- the chunk at a position begins at that position or after it
 pub chunk_at-above : (region : Region) (position : ℕ) (layout : Layout) →
     region.start + position ≤ (chunk_at region position layout).place
 chunk_at-above region position layout = (least_place-is (region.start + position) layout.align layout.valid.positive).above

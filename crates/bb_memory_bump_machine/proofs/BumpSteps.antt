@@ -10,12 +10,12 @@ use Rattle.std.specs.Prelude.{IfSome, if◌then◌else◌, slice_get, slice_set,
 
 -- CASES
 
--- what a read does of a layout that has a byte
+-- the effect of a read for a layout that has a byte
 pub data ReadView (region : Region) (position : ℕ) (layout : Layout) : PartyMove → Type 0 where
   sees : fits region position layout ≡ true → ReadView region position layout (seeing (Sees position) position layout)
   refuses_read : fits region position layout ≡ false → ReadView region position layout (ending (RefusedAtRead position) position)
 
--- what an exchange does of a party in a call
+-- the effect of an exchange by a party in a call
 pub data ExchangeView (region : Region) (position : ℕ) (call : OngoingCall) : PartyMove → Type 0 where
   wins : position ≡ call.seen → ExchangeView region position call
       (ending (Wins (chunk_at region position call.layout)) (position_behind region (chunk_at region position call.layout)))
@@ -24,7 +24,7 @@ pub data ExchangeView (region : Region) (position : ℕ) (call : OngoingCall) : 
   refuses_loss : position ≢ call.seen → fits region position call.layout ≡ false →
       ExchangeView region position call (ending (RefusedAtLoss position) position)
 
--- a step, and what it does
+-- a step, and its effect
 pub data StepView (region : Region) (state : BumpState) : BumpStep → BumpMove → Type 0 where
   reads : (party : ℕ) (layout : Layout) (turn : PartyMove) → IsIdle state party → 0 < layout.size →
       ReadView region state.position layout turn → StepView region state (Read party layout) (moved state party turn)
@@ -91,14 +91,14 @@ other_set : (state : BumpState) (other party : ℕ) (now : Option OngoingCall) �
 other_set state other party now by =
     slice_get-set_other state.calls other party now (λ same. eqb-false other party by (sym same))
 
--- a step of another party leaves a party as it is
+-- a step of another party leaves a party unchanged
 pub others_stay : (region : Region) (state : BumpState) (step : BumpStep) (move : BumpMove) (party : ℕ) →
     StepView region state step move → is_by party step ≡ false → slice_get move.state.calls party ≡ slice_get state.calls party
 others_stay region state step move party (reads other layout turn idle asks view) by = other_set state other party turn.call by
 others_stay region state step move party (exchanges other call turn is view) by = other_set state other party turn.call by
 others_stay region state step move party _ by = refl
 
--- what is written to a party's place is then there
+-- the call that is written to a party's place is then there
 pub written : (state : BumpState) (other party : ℕ) (was now : Option OngoingCall) → (other == party) ≡ true →
     slice_get state.calls other ≡ Some was → slice_get (slice_set state.calls other now) party ≡ Some now
 written state other party was now by is = grind (arith, eqb-true, slice_get-set_same)
@@ -111,7 +111,7 @@ one_there state other party one now by is at =
 
 -- CALLS THAT FIT
 
--- a fact about each call that a party may be in holds afterwards, if it holds for what is written
+-- a property of each call that a party may be in holds afterwards, if it holds for the call that is written
 pub each_call-set : (P : OngoingCall → Type 0) (calls : List (Option OngoingCall)) (party other : ℕ) (now : Option OngoingCall) →
     ((call : OngoingCall) → slice_get calls other ≡ Some (Some call) → P call) → IfSome now P →
     (call : OngoingCall) → slice_get (slice_set calls party now) other ≡ Some (Some call) → P call

@@ -24,7 +24,7 @@ pub record IsHealthy (region : Region) (state : BumpState) : Type 0 where
   pub stands : StandsFor region state.position live
   pub fitting : AllFitting region state
 
--- each state that a list of steps leaves is such a one
+-- each state that a list of steps leaves is healthy
 pub healthy_after : (scene : BumpScene) (steps : List BumpStep) → scene.opening ≤ scene.region.size →
     IsHealthy scene.region (left_by scene steps)
 healthy_after scene steps within =
@@ -43,7 +43,7 @@ position_in_size scene steps within =
 
 -- ONE STEP
 
--- the object's list grows by what is won, whatever it is
+-- the object's list, whichever it is, grows by the chunk that is won
 step_grows : (region : Region) (state : BumpState) (live : List Chunk) (step : BumpStep) (move : BumpMove) →
     StepView region state step move → ¬ IsClear step →
     left_by_calls live (decided move.outcome (asked_by state step)) ≡ live ++ won_at move.outcome

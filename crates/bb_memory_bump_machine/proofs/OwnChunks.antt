@@ -58,7 +58,7 @@ interleaved_own scene position party log within own =
       apart = apart_from_order v (chunks_won (entries_by party history)) mine;
     }
 
--- they are apart from all that was given before the opening
+-- the chunks of a party are apart from all that was given before the opening
 pub interleaved_older : (scene : BumpScene) (position party : ℕ) (log : BumpLog) (live : List Chunk) → OpensWith scene live →
     Interleaving scene party log position → All (λ older. All (AreApart older) (chunks_won log)) live
 interleaved_older scene position party log live opens own =

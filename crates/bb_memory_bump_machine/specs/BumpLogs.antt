@@ -219,7 +219,7 @@ pub data BumpCall : Type 0 where
   ClearAll : BumpCall
 
 -- With the live list `old` the bump object may make this call, and `new` is its live list after it.
--- A clear empties every list, also the empty one.
+-- A clear empties every list, even the empty one.
 abbrev pub CallStep : Region → List Chunk → BumpCall → List Chunk → Type 0
 CallStep region old (Allocate layout answer) new = Allocates (bump_object region) old layout answer new
 CallStep region old ClearAll new = new ≡ []

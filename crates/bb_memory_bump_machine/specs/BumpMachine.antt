@@ -54,7 +54,7 @@ fits region position layout = nat_le (chunk_end (chunk_at region position layout
 abbrev pub position_behind : Region → Chunk → ℕ
 position_behind region chunk = chunk_end chunk - region.start
 
--- the call asks for at least one byte, and its chunk fits at the position that it has seen
+-- the call requests at least one byte, and its chunk fits at the position that it has seen
 pub record IsFitting (region : Region) (call : OngoingCall) : Type 0 where
   pub asks : 0 < call.layout.size
   pub fitting : fits region call.seen call.layout ≡ true
@@ -69,8 +69,8 @@ AllFitting region state = (party : ℕ) (call : OngoingCall) → IsInCall state 
 abbrev pub ending : BumpOutcome → ℕ → PartyMove
 ending outcome position = record { outcome = outcome; position = position; call = None }
 
--- a move with this outcome that leaves the party in a call for this layout, which has seen this
--- position, and the machine there
+-- a move with this outcome that leaves the party in a call for this layout, which has seen this position, and the machine at
+-- this position
 abbrev pub seeing : BumpOutcome → ℕ → Layout → PartyMove
 seeing outcome position layout =
     let call : OngoingCall = record { layout = layout; seen = position } in
@@ -113,8 +113,8 @@ moved state party turn = record {
 }
 
 -- A read, by what the machine has for its party: idle is `Some None`, a call in progress is `Some
--- (Some call)`, and `None` is no party of the machine. It is allowed if the party is idle and asks
--- for at least one byte.
+-- (Some call)`, and `None` isn't a party of the machine. The read is allowed if the party is idle
+-- and requests at least one byte.
 abbrev pub read : Region → BumpState → ℕ → Layout → Option (Option OngoingCall) → BumpMove
 read region state party layout (Some None) =
     if layout.size == 0 then passed state else moved state party (read_move region state.position layout)

@@ -1,4 +1,4 @@
--- How many buckets are out, counted from bucket 0 up.
+-- How many buckets are in use, counted from bucket 0 up.
 use Rattle.bb_memory_c.specs.SharedPools.{CountsOut}
 use Rattle.bb_memory_index_set.specs.IndexSets.{Has}
 use Rattle.bb_memory_lists.proofs.SliceGets.{slice_get-last, slice_get-push}
@@ -12,7 +12,7 @@ use Rattle.std.proofs.lemmas.List.Sums.{sum_by_push}
 use Rattle.std.proofs.lemmas.Option.{same_Some, slice_get-get_or, slice_get_within}
 use Rattle.std.specs.Prelude.{count_by, slice_get}
 
--- of the first buckets, this many are out
+-- of the first buckets, this many are in use
 pub record CountsBelow (joined : CachingParty) (number count : ℕ) : Type 0 where
   pub flags : List Bool
   pub long : length flags ≡ number
@@ -27,7 +27,7 @@ counts-none joined = record {
   counted = refl;
 }
 
--- one bucket more, which is out or not
+-- one bucket more, which is in use or not
 module _ (joined : CachingParty) (number count : ℕ) (before : CountsBelow joined number count) where
   with-flag : (flag : Bool) → ((flag ≡ true) ↔ IsOut joined number) → (more : ℕ) →
       more ≡ count_by (λ f. f) (before.flags ++ flag ∷ []) → CountsBelow joined (number + 1) more

@@ -1,4 +1,4 @@
--- Answers where a party detaches a bucket.
+-- The results of a party's detaching of a bucket.
 use Rattle.bb_memory_c.specs.SharedPools.{Detached, HasDetached, HasOthers, HoldsAt, TellsDetach, geometry_of}
 use Rattle.bb_memory_c_calls.specs.declared.code.TheConstants.{OK as ok}
 use Rattle.bb_memory_shared_pools.specs.SharedPool.{TakenBucket}

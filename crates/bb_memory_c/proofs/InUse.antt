@@ -52,7 +52,7 @@ held-is-out joined number few none = (
 
 -- ONE ENTRY
 
--- one entry is written, and no other bucket comes into use or goes out of it
+-- one entry is written, and no other bucket comes into use or ceases to be in use
 pub flagged-noted : {pool : SharedPool} {before after : ℕ → Type 0} (number : ℕ) (is : Bool) {list : List Bool} →
     AreFlagged pool before list → number < pool.scene.geometry.buckets → (is ≡ true) ↔ after number →
     ((other : ℕ) → other ≢ number → before other ↔ after other) → AreFlagged pool after (set list number is)
@@ -167,7 +167,7 @@ joined-noted {pool} {joined} {after} number is {list} at same most below here ot
       };
     }
 
--- after a step by which a bucket comes into use, or goes out of it
+-- after a step by which a bucket comes into use or ceases to be in use
 pub joined-gains : {pool : SharedPool} {joined after : CachingParty} (number : ℕ) {list : List Bool} →
     IsJoinedAt pool joined list → after.party.allocator ≡ joined.party.allocator → after.most ≡ joined.most →
     number < pool.scene.geometry.buckets → IsOut after number → ((other : ℕ) → IsOut joined other → IsOut after other) →

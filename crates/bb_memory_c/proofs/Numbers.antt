@@ -1,4 +1,4 @@
--- Parties by their numbers: where one stands among those that haven't joined, and how it joins.
+-- Parties by their numbers: the position of one among those that haven't joined, and how it joins.
 use Rattle.bb_memory_c.specs.SharedPools.{HasUnjoined, IsNumberAt, IsWithout, PoolParties, with_last, with_unjoined}
 use Rattle.bb_memory_lists.proofs.SliceGets.{slice_get-last}
 use Rattle.bb_memory_shared_pools.specs.SharedPool.{PoolParty}
@@ -58,7 +58,7 @@ with_last-back all at party there =
 
 -- JOINING
 
--- the last one joined, where the party of the number was made the last one
+-- the last one joined, after the party of the number was made the last one
 pub joined-by-number : (all swapped after : PoolParties) (at number : ℕ) (joined : CachingParty) →
     IsNumberAt all.parties at number → swapped ≡ with_last all at → swapped ≡ with_unjoined after joined →
     (joined.party.number ≡ number) × IsWithout all joined.party after

@@ -22,7 +22,7 @@ IsAt all party = IsOneOf all party.allocator all.shared.scene.parties
 abbrev pub Knows : BumpParties → BumpParty → Type 0
 Knows all party = AreKnown (λ bump. bump.scene.region.start) party.allocator all.shared
 
--- how a shared bump describes its parties: one that leaves is as it was
+-- how a shared bump describes its parties: one that leaves is unchanged
 abbrev pub sharing_bump : Sharing BumpParties BumpParty
 sharing_bump = record {
   unjoined = count_unjoined;
@@ -49,8 +49,9 @@ pub record IsShareable (region : Region) (parties : ℕ) : Type 0 where
   pub is_region : IsRegion region
   pub some : 1 ≤ parties
 
--- The answer to a party's request: the chunk that it won, or why it won none. Each position that it
--- found is at least the party's floor, so its chunk begins at the floor or after it.
+-- The answer to a party's request: the chunk that it won, or the reason why it won none. Each
+-- position that it found is at least the party's floor, so its chunk begins at the floor or after
+-- it.
 pub record GivesChunk (party : BumpParty) (layout : Layout) (result : Result Chunk AllocationError) (after : BumpParty)
     : Type 0 where
   pub answer : MayTake party layout result after

@@ -119,8 +119,8 @@ abbrev pub ShowsShared : PoolParties → SharedPoolInfo → PoolParties → Type
 ShowsShared all info after = let geometry = all.shared.scene.geometry in (held : ℕ)
     × (held ≤ geometry.buckets) × (info ≡ shared_pool_info geometry held) × (after ≡ all)
 
--- C gets the flag of the bucket of a number, as it may be found, or BB_NOT_A_BUCKET if there is no
--- such bucket.
+-- C gets the flag of the bucket of a number, as it may be found, or BB_NOT_A_BUCKET if the pool has
+-- no bucket of this number.
 pub record TellsHolder (all : PoolParties) (number code : ℕ) (before told : Holder) : Type 0 where
   pub found : number < all.shared.scene.geometry.buckets → (code ≡ ok)
       × ((flag : Flag) × MayBeFound all.shared.scene number flag × (told ≡ shown_flag flag))
@@ -135,7 +135,7 @@ pub record HoldsAt (joined : CachingParty) (place number : ℕ) : Type 0 where
 abbrev pub HoldsPlace : CachingParty → ℕ → Type 0
 HoldsPlace joined place = (number : ℕ) × HoldsAt joined place number
 
--- the answer to a request: the chunk in the bucket that it took, or why it took none
+-- the answer to a request: the chunk in the bucket that it took, or the reason why it took none
 abbrev pub GivesChunk : CachingParty → Layout → Result Chunk AllocationError → CachingParty → Type 0
 GivesChunk joined layout answer after =
     (taken : Result TakenBucket AllocationError) × (answer ≡ result_map_both chunk_of (λ error. error) taken)
@@ -151,8 +151,8 @@ abbrev pub emptied : CachingParty → ℕ → CachingParty
 emptied joined most = let returns = caching.returns_of joined.party.number joined.cached in
     record { party = with_entries joined.party returns; cached = []; most = most }
 
--- The party gives back what it caches, and caches at most `most` buckets from then on, or as many
--- as the pool has if that is less. If memory for their list runs out, nothing changes.
+-- The party gives back what it caches, and caches at most `most` buckets from then on, or all of
+-- the pool's if there are fewer. If memory for their list runs out, nothing changes.
 pub record TellsCache (joined : CachingParty) (most code : ℕ) (after : CachingParty) : Type 0 where
   pub done : code ≡ ok → after ≡ emptied joined (min most (geometry_of joined).buckets)
   pub else_memory : code ≢ ok → (code ≡ malloc_refused) × (after ≡ joined)
@@ -288,7 +288,7 @@ pub record TellsDetachNumber (party : CachingParty) (place : ℕ) (told : Figure
   pub unchanged : told.code ≢ ok → after ≡ party
 
 -- A party is to attach the bucket of this number, if `from` has detached it by number. C gets the
--- bucket's place if the party's exchange won. If it lost, or there is no such bucket, nothing
+-- bucket's place if the party's exchange won. If it lost, or no bucket has this number, nothing
 -- changes.
 pub record TellsAttachNumber (party : CachingParty) (number from : ℕ) (told : Answer) (after : CachingParty) : Type 0 where
   pub past : (geometry_of party).buckets ≤ number → told ≡ refused not_a_bucket
@@ -314,14 +314,15 @@ HasReturned joined number after =
     after ≡ record joined { party = with_entries joined.party (return_detached_entry joined.party.number number) }
 
 -- The bucket is taken out of a `bb_detached` for a party of its pool. If several errors apply, the
--- first one in this list is returned, and nothing changes: none is there, it is of another pool.
+-- first one in this list is returned, and nothing changes: the `bb_detached` is empty, its bucket
+-- is of another pool.
 pub record TakesInside (joined : CachingParty) (before : Detached) (told : Result TakenBucket ℕ) (left : Detached) : Type 0 where
   pub empty : before ≡ None → told ≡ Err detached_empty
   pub others : IfSome before (λ token. token.allocator ≢ joined.party.allocator → told ≡ Err other_pool)
   pub taken : IfSome before (λ token. token.allocator ≡ joined.party.allocator → (told ≡ Ok token) × (left ≡ None))
   pub unchanged : IfErr told (λ code. left ≡ before)
 
--- If a bucket was taken out of a `bb_detached`, `done` holds of it. Otherwise C gets the code of
+-- If a bucket was taken out of a `bb_detached`, `done` holds for it. Otherwise C gets the code of
 -- the error, and the party doesn't change.
 abbrev pub OfInside : {T : Type 0} → CachingParty → Detached → T → CachingParty → Detached → (ℕ → T) → (TakenBucket → Type 0)
     → Type 0
@@ -338,13 +339,3 @@ TellsAttach joined before told after left = OfInside joined before told after le
 abbrev pub TellsReturnDetached : CachingParty → Detached → ℕ → CachingParty → Detached → Type 0
 TellsReturnDetached joined before code after left = OfInside joined before code after left (λ cause. cause)
     (λ token. (code ≡ ok) × HasReturned joined token.number after)
-
--- A party is to give back a detached bucket by its number. If there is no such bucket, nothing
--- changes.
-pub record TellsRecover (joined : CachingParty) (number code : ℕ) (after : CachingParty) : Type 0 where
-  pub recovered : number < (geometry_of joined).buckets → (code ≡ ok) × HasReturned joined number after
-  pub past : (geometry_of joined).buckets ≤ number → (code ≡ not_a_bucket) × (after ≡ joined)
-
--- if the party's pool has a bucket of this number, the token is that of the bucket
-abbrev pub IsLostAt : CachingParty → ℕ → TakenBucket → Type 0
-IsLostAt joined number lost = number < (geometry_of joined).buckets → lost ≡ taken_bucket joined.party.allocator number 0

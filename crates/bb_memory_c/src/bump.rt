@@ -1,4 +1,4 @@
-//! A bump behind a handle.
+//! A bump in a handle.
 ghost use Rattle.bb_memory_bump.specs.Bump.{bump_of};
 ghost use Rattle.bb_memory_c_calls.specs.Calls.{Answers, AnswersFree, AnswersInfo, AnswersMake, AnswersRequest};
 ghost use Rattle.bb_memory_c_calls.specs.OneOwner.{BumpAllocates, ShowsBump};
@@ -13,8 +13,8 @@ use bb_memory_c_calls::{call, code};
 use bb_memory_traits::layout::Layout;
 use std::alloc::Global;
 
-/// Makes a bump over the region of `size` bytes at `start`, behind a handle that has to be empty. The start has to be greater
-/// than 0, and start plus size at most `SIZE_MAX`.
+/// Makes a bump over the region of `size` bytes at `start`, in a handle that has to be empty. The start has to be greater than 0,
+/// and start plus size at most `SIZE_MAX`.
 #[unsafe(no_mangle)]
 pub extern "C" fn bb_bump_init(
     alloc: Global,
@@ -34,7 +34,7 @@ pub extern "C" fn bb_bump_init(
     call::keep(handle, alloc, BumpAllocator::new(start, size))
 }
 
-/// Frees the bump, whose handle is empty then.
+/// Frees the bump and empties its handle.
 #[unsafe(no_mangle)]
 pub extern "C" fn bb_bump_destroy(alloc: Global, handle: &mut BumpHandle) -> u32
     ensures { AnswersFree handle.old.value handle.new.value result }
@@ -42,7 +42,7 @@ pub extern "C" fn bb_bump_destroy(alloc: Global, handle: &mut BumpHandle) -> u32
     call::free(handle, alloc)
 }
 
-/// Asks for a chunk of exactly `size` bytes at a multiple of `align`.
+/// Allocates a chunk of exactly `size` bytes at a multiple of `align`.
 #[unsafe(no_mangle)]
 pub extern "C" fn bb_bump_allocate(handle: &mut BumpHandle, size: usize, align: usize) -> Answer
     ensures { AnswersRequest handle.old.value handle.new.value size align result BumpAllocates }
@@ -63,7 +63,7 @@ pub extern "C" fn bb_bump_deallocate(handle: &mut BumpHandle) -> u32
     code::OK
 }
 
-/// Fills the struct with the bump's figures. The used space has the padding between chunks in it.
+/// Fills the struct with the bump's figures. The used space includes the padding between chunks.
 #[unsafe(no_mangle)]
 pub extern "C" fn bb_bump_info(handle: &mut BumpHandle, to: &mut BumpInfo) -> u32
     ensures { AnswersInfo handle.old.value handle.new.value to.old to.new result ShowsBump }

@@ -1,15 +1,15 @@
-//! Detached buckets behind handles, which go from party to party of a shared pool, and those that go by their numbers alone.
-ghost use Rattle.bb_memory_c.specs.SharedPools.{Detached, IsLostAt, KnowsInside, TakesInside, TellsAttach, TellsAttachNumber, TellsDetach, TellsDetachNumber, TellsLen, TellsRecover, TellsReturnDetached, start_of};
+//! Detached buckets, which go from one party of a shared pool to another: in handles, or only by their numbers.
+ghost use Rattle.bb_memory_c.specs.SharedPools.{Detached, KnowsInside, TakesInside, TellsAttach, TellsAttachNumber, TellsDetach, TellsDetachNumber, TellsLen, TellsReturnDetached, start_of};
 ghost use Rattle.bb_memory_c_calls.specs.Answers.{no_figure, refused};
 ghost use Rattle.bb_memory_c_calls.specs.Calls.{Answers, AnswersFree, AnswersMake, AnswersOfBoth, IfBoth};
 ghost use Rattle.bb_memory_c_calls.specs.declared.code.TheConstants.{UNINITIALIZED as uninitialized};
-ghost use Rattle.std.specs.Prelude.{IfOk, IfSome, MatchOption, None, Some, ◌≡◌};
+ghost use Rattle.std.specs.Prelude.{IfOk, IfSome, None, Some, ◌≡◌};
 
-use crate::handle::{DetachedHandle, Handle, LostHandle, PoolPartyHandle};
+use crate::handle::{DetachedHandle, Handle, PoolPartyHandle};
 use crate::shared_pool::{JoinedPool, note};
 use bb_memory_c_calls::answer::{Answer, Figure};
 use bb_memory_c_calls::{call, code};
-use bb_memory_shared_pools::shared_pool::{DetachedBucket, LostBucket, by_number};
+use bb_memory_shared_pools::shared_pool::{DetachedBucket, by_number};
 use bb_memory_traits::layout::Chunk;
 use std::alloc::Global;
 use std::marker::Model;
@@ -32,7 +32,7 @@ impl Model for Detached {
 }
 
 impl JoinedPool {
-    /// Detaches the bucket at this place, with a chunk of `len` bytes. It is then in `detached`, which has to have none.
+    /// Detaches the bucket at this place, with a chunk of `len` bytes, into `detached`, which must not have a bucket yet.
     #[tactic(auto, unfolding(bb_memory_shared_pools::specs::SharedPoolCaching::IsOut))]
     pub(crate) fn detach(&mut self, place: usize, len: usize, detached: &mut Detached) -> u32
         ensures { TellsDetach self.old detached.old place len result self.new detached.new }
@@ -57,7 +57,7 @@ impl JoinedPool {
         code::OK
     }
 
-    /// Takes the bucket out of `detached` if it is of the party's pool, or returns why it stays.
+    /// Takes the bucket out of `detached` if it is of the party's pool. Otherwise returns the code of the error.
     fn take_inside(&self, detached: &mut Detached) -> Result<DetachedBucket, u32>
         requires { KnowsInside self.now detached.old }
         ensures takes { TakesInside self.now detached.old result detached.new }
@@ -135,24 +135,9 @@ impl JoinedPool {
             Err(code) => code,
         }
     }
-
-    /// Gives back the detached bucket of this number, whose token was lost.
-    fn recover(&mut self, number: u32, lost: LostBucket) -> u32
-        requires { IsLostAt self.old number lost }
-        ensures { TellsRecover self.old number result self.new }
-    {
-        if number >= self.pool.number_of_buckets() {
-            return code::NOT_A_BUCKET;
-        }
-        if self.party.recover(&*self.pool, number, lost) {
-            code::OK
-        } else {
-            code::NOT_HELD
-        }
-    }
 }
 
-/// Makes a `bb_detached` with no bucket in it, behind a handle that has to be empty.
+/// Makes a `bb_detached` with no bucket in it, in a handle that has to be empty.
 #[unsafe(no_mangle)]
 pub extern "C" fn bb_detached_init(alloc: Global, detached: &mut DetachedHandle) -> u32
     ensures { AnswersMake detached.old.value detached.new.value result (Unit {0}) (λ new. new ≡ Some None) }
@@ -168,7 +153,7 @@ pub extern "C" fn bb_detached_init(alloc: Global, detached: &mut DetachedHandle)
     call::keep(detached, alloc, none)
 }
 
-/// Frees a `bb_detached`, whose handle is empty then. A bucket that is in it stays detached for good.
+/// Frees a `bb_detached` and empties its handle. A bucket that is in it stays detached for good.
 #[unsafe(no_mangle)]
 pub extern "C" fn bb_detached_destroy(alloc: Global, detached: &mut DetachedHandle) -> u32
     ensures { AnswersFree detached.old.value detached.new.value result }
@@ -176,7 +161,8 @@ pub extern "C" fn bb_detached_destroy(alloc: Global, detached: &mut DetachedHand
     call::free(detached, alloc)
 }
 
-/// Returns the length in bytes of the chunk with which the bucket in it was detached, or `BB_DETACHED_EMPTY` where none is in it.
+/// Returns the length in bytes of the chunk with which the bucket in it was detached, or `BB_DETACHED_EMPTY` if no bucket is in
+/// it.
 #[unsafe(no_mangle)]
 pub extern "C" fn bb_detached_len(detached: &mut DetachedHandle) -> Figure
     ensures { Answers detached.old.value detached.new.value (result ≡ no_figure uninitialized)
@@ -192,7 +178,7 @@ pub extern "C" fn bb_detached_len(detached: &mut DetachedHandle) -> Figure
 }
 
 /// Detaches the bucket at this place, which this party holds, with a chunk of `len` bytes. The bucket goes into a `bb_detached`
-/// that has none, and the party doesn't hold it then. It takes no memory, and waits for nothing.
+/// that has none, and the party doesn't hold it then. The call takes no memory, and waits for nothing.
 #[unsafe(no_mangle)]
 pub extern "C" fn bb_pool_party_detach(
     handle: &mut PoolPartyHandle,
@@ -212,8 +198,8 @@ pub extern "C" fn bb_pool_party_detach(
     joined.detach(place, len, inside)
 }
 
-/// Detaches the bucket at this place, which this party holds, and returns the bucket's number. The party doesn't hold it then, and
-/// another party attaches it by that number and this party's. It takes no memory, and waits for nothing.
+/// Detaches the bucket at this place, which this party holds, and returns the bucket's number. The party doesn't hold it then.
+/// Another party attaches it by that number and this party's number. The call takes no memory, and waits for nothing.
 #[unsafe(no_mangle)]
 pub extern "C" fn bb_pool_party_detach_number(handle: &mut PoolPartyHandle, place: usize) -> Figure
     ensures { Answers handle.old.value handle.new.value (result ≡ no_figure uninitialized)
@@ -225,9 +211,10 @@ pub extern "C" fn bb_pool_party_detach_number(handle: &mut PoolPartyHandle, plac
     }
 }
 
-/// Attaches the bucket of this number, if the party of number `from` has detached it by its number: this party holds it then, and
-/// its place is returned. It makes one exchange of the bucket's flag, so of any number of callers at most one wins. The others get
-/// `BB_NOT_HELD`, and that changes nothing. A number past the last is refused. It takes no memory, and waits for nothing.
+/// Attaches the bucket of this number, if the party of number `from` has detached it by its number: this party holds it then.
+/// Returns its place. The call makes one exchange of the bucket's flag, so if several parties call it, at most one gets the bucket.
+/// The others get `BB_NOT_HELD`, and nothing changes. If no bucket has the number, it returns `BB_NOT_A_BUCKET`. The call takes no
+/// memory, and waits for nothing.
 #[unsafe(no_mangle)]
 pub extern "C" fn bb_pool_party_attach_number(
     handle: &mut PoolPartyHandle,
@@ -243,8 +230,8 @@ pub extern "C" fn bb_pool_party_attach_number(
     }
 }
 
-/// Attaches the bucket that is in the `bb_detached`, which has none then: this party holds it, with the chunk that is returned.
-/// One of a pool that begins at another place is refused with `BB_OTHER_POOL`. It takes no memory, and waits for nothing.
+/// Attaches the bucket that is in the `bb_detached`, which has none then: this party holds it. Returns the place of the chunk. If
+/// the bucket's pool begins at another place, it returns `BB_OTHER_POOL`. The call takes no memory, and waits for nothing.
 #[unsafe(no_mangle)]
 pub extern "C" fn bb_pool_party_attach(
     handle: &mut PoolPartyHandle,
@@ -263,8 +250,8 @@ pub extern "C" fn bb_pool_party_attach(
     joined.attach(inside)
 }
 
-/// Gives back the bucket that is in the `bb_detached`, which has none then, by one store and without attaching it. It is refused
-/// as attaching is. It takes no memory, and waits for nothing.
+/// Gives back the bucket that is in the `bb_detached`, which has none then, by one store and without attaching it. If the bucket's
+/// pool begins at another place, it returns `BB_OTHER_POOL`. The call takes no memory, and waits for nothing.
 #[unsafe(no_mangle)]
 pub extern "C" fn bb_pool_party_return_detached(
     handle: &mut PoolPartyHandle,
@@ -281,26 +268,4 @@ pub extern "C" fn bb_pool_party_return_detached(
         return code::UNINITIALIZED;
     };
     joined.return_detached(inside)
-}
-
-/// Gives back the detached bucket of this number, whose `bb_detached` was lost. The token of the bucket, which has no bytes, is
-/// behind the second handle, as nobody else has it. A number past the last is refused.
-#[unsafe(no_mangle)]
-pub extern "C" fn bb_pool_party_recover(
-    alloc: Global,
-    handle: &mut PoolPartyHandle,
-    number: u32,
-    lost: &mut LostHandle,
-) -> u32
-    requires { IfBoth handle.old.value lost.old.value (λ joined token. IsLostAt joined number token) }
-    ensures { Answers handle.old.value handle.new.value (result ≡ uninitialized) (λ joined after. MatchOption lost.old.value
-        ((result ≡ uninitialized) × (after ≡ joined)) (λ token. TellsRecover joined number result after)) }
-{
-    let Some(joined) = handle.made_mut() else {
-        return code::UNINITIALIZED;
-    };
-    let Some(token) = lost.take(alloc) else {
-        return code::UNINITIALIZED;
-    };
-    joined.recover(number, Box::into_inner(token))
 }

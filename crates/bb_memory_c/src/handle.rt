@@ -1,6 +1,6 @@
-//! Handles: a pointer that owns an allocator, which the host holds. There is a type for each kind, since no type with parameters
-//! is passed to C; all have the same two fields. The host holds a handle in a variable of its own, and passes that by its
-//! address. An empty one has both fields zero. It may be moved, and then the old one isn't used.
+//! Handles: pointers that own an allocator. There is a type for each kind, since no type with parameters is passed to C. All of
+//! them have the same two fields. The host holds a handle in a variable of its own, and passes its address. An empty handle has
+//! both fields zero. A handle may be moved, and then the old copy isn't used.
 ghost use Rattle.bb_memory_bump.specs.contracts.bump_allocator.BumpAllocator.{the_row as bump_row};
 ghost use Rattle.bb_memory_c.specs.contracts.detached.Detached.{the_row as detached_row};
 ghost use Rattle.bb_memory_c.specs.contracts.shared_bump.BumpParties.{the_row as shared_bump_row};
@@ -10,7 +10,6 @@ ghost use Rattle.bb_memory_c.specs.contracts.shared_pool.PoolParties.{the_row as
 ghost use Rattle.bb_memory_c_calls.specs.Handles.{owns_if};
 ghost use Rattle.bb_memory_c_calls.specs.contracts.one_owner.Pool.{the_row as pool_row};
 ghost use Rattle.bb_memory_owned.specs.contracts.one_chunk_allocator.OneChunkAllocator.{the_row as one_chunk_row};
-ghost use Rattle.bb_memory_shared_pools.specs.contracts.shared_pool.detached.LostBucket.{the_row as lost_row};
 ghost use Rattle.std.specs.Prelude.{Option};
 
 use crate::detached::Detached;
@@ -21,7 +20,6 @@ pub use bb_memory_c_calls::handle::Handle;
 use bb_memory_c_calls::held::Held;
 use bb_memory_c_calls::one_owner::Pool;
 use bb_memory_owned::one_chunk_allocator::OneChunkAllocator;
-use bb_memory_shared_pools::shared_pool::LostBucket;
 use std::marker::Model;
 
 /// Empty, or the owner of a bump.
@@ -208,30 +206,6 @@ impl Handle<Detached> for DetachedHandle {
     }
 }
 
-/// Empty, or the owner of the token of a lost bucket, which has no bytes. The token that a host passes has a null pointer, at which
-/// no box is. So the contract of a call with it says nothing of a host's call, and tests show what that does.
-#[repr(C)]
-#[derive(Drop)]
-pub struct LostHandle {
-    at: *mut u8,
-    made: bool,
-    pub ghost value: { Option lost_row.Denot },
-}
-
-impl Model for LostHandle {
-    ghost also_owns = { λ h. owns_if lost_row h.made h.at h.value };
-}
-
-impl Handle<LostBucket> for LostHandle {
-    ghost made = { λ h. h.value };
-
-    ghost of = { λ held. record { at = held.at; made = held.made; value = held.value } };
-
-    fn held(&mut self) -> &mut Held<LostBucket> {
-        unsafe { &mut *(self as *mut Self as *mut Held<LostBucket>) }
-    }
-}
-
 unsafe impl Send for BumpHandle {}
 
 unsafe impl Send for OneChunkHandle {}
@@ -247,5 +221,3 @@ unsafe impl Send for SharedPoolHandle {}
 unsafe impl Send for PoolPartyHandle {}
 
 unsafe impl Send for DetachedHandle {}
-
-unsafe impl Send for LostHandle {}

@@ -1,8 +1,8 @@
-//! The allocators for C: each exported function makes, asks or frees one behind a handle that the host holds. A place is a
-//! number, such as the address of a byte in the host's own buffer, and no byte there is read or written. `bb_memory.h` declares
-//! the functions, and says what a caller has to guarantee.
+//! The allocators for C: each exported function makes, uses or frees one in a handle that the host holds. A place is a number,
+//! such as the address of a byte in the host's own buffer. No byte there is read or written. `bb_memory.h` declares the
+//! functions, and says what a caller has to guarantee.
 //!
-//! The modules, in the order in which to read them, behind those of `bb_memory_c_calls`, which has each call written once:
+//! The modules, in the order in which to read them, after those of `bb_memory_c_calls`, which has each call written once:
 //!
 //! - `handle`: what the host holds, by a type for each kind.
 //! - `bump`, `one_chunk`, `pool`: the exported functions of each allocator with one owner.

@@ -1,4 +1,4 @@
-//! A one-chunk allocator behind a handle.
+//! A one-chunk allocator in a handle.
 ghost use Rattle.bb_memory_c_calls.specs.Answers.{AnswersStill, TellsOfLayouts, no_figure};
 ghost use Rattle.bb_memory_c_calls.specs.Calls.{Answers, AnswersFree, AnswersInfo, AnswersMake, AnswersRequest, AnswersResize, AnswersReturn, AnswersWhether};
 ghost use Rattle.bb_memory_c_calls.specs.OneOwner.{OneChunkAllocates, ShowsOneChunk, TellsGrow, TellsReserved, TellsShrink};
@@ -16,8 +16,8 @@ use bb_memory_traits::allocator::{Allocator, BaseAllocator};
 use bb_memory_traits::layout::Layout;
 use std::alloc::Global;
 
-/// Makes a one-chunk allocator over the region of `size` bytes at `start`, behind a handle that has to be empty. The start
-/// has to be greater than 0, and start plus size at most `SIZE_MAX`.
+/// Makes a one-chunk allocator over the region of `size` bytes at `start`, in a handle that has to be empty. The start has to be
+/// greater than 0, and start plus size at most `SIZE_MAX`.
 #[unsafe(no_mangle)]
 pub extern "C" fn bb_one_chunk_init(
     alloc: Global,
@@ -37,7 +37,7 @@ pub extern "C" fn bb_one_chunk_init(
     call::keep(handle, alloc, OneChunkAllocator::new(start, size))
 }
 
-/// Frees the allocator, whose handle is empty then.
+/// Frees the allocator and empties its handle.
 #[unsafe(no_mangle)]
 pub extern "C" fn bb_one_chunk_destroy(alloc: Global, handle: &mut OneChunkHandle) -> u32
     ensures { AnswersFree handle.old.value handle.new.value result }
@@ -45,7 +45,7 @@ pub extern "C" fn bb_one_chunk_destroy(alloc: Global, handle: &mut OneChunkHandl
     call::free(handle, alloc)
 }
 
-/// Asks for a chunk of all the region from the first multiple of `align` in it on, which has to be at least `size` bytes.
+/// Allocates all of the region from the first multiple of `align` on. That has to be at least `size` bytes.
 #[unsafe(no_mangle)]
 pub extern "C" fn bb_one_chunk_allocate(
     handle: &mut OneChunkHandle,
@@ -57,7 +57,7 @@ pub extern "C" fn bb_one_chunk_allocate(
     call::request(handle, size, align)
 }
 
-/// Gives back the chunk at this place. Another place is refused and changes nothing.
+/// Takes back the chunk at this place. For any other place it returns `BB_NOT_HELD`, and nothing changes.
 #[unsafe(no_mangle)]
 pub extern "C" fn bb_one_chunk_deallocate(handle: &mut OneChunkHandle, place: usize) -> u32
     ensures { AnswersReturn handle.old.value handle.new.value result
@@ -66,7 +66,7 @@ pub extern "C" fn bb_one_chunk_deallocate(handle: &mut OneChunkHandle, place: us
     call::give_back(handle, place)
 }
 
-/// Tells whether this is the place of the chunk that is out: 1 or 0.
+/// Returns 1 if the chunk in use begins at this place, otherwise 0.
 #[unsafe(no_mangle)]
 pub extern "C" fn bb_one_chunk_holds(handle: &mut OneChunkHandle, place: usize) -> Figure
     ensures { AnswersWhether handle.old.value handle.new.value result (λ one. one.kept ≡ Some place) }
@@ -74,7 +74,8 @@ pub extern "C" fn bb_one_chunk_holds(handle: &mut OneChunkHandle, place: usize) 
     call::holds(handle, place)
 }
 
-/// Returns the bytes that are reserved for the chunk at this place: all of the region from there on. Another place is refused.
+/// Returns how many bytes are reserved for the chunk at this place: everything up to the end of the region. For any other place
+/// it returns `BB_NOT_HELD`.
 #[unsafe(no_mangle)]
 pub extern "C" fn bb_one_chunk_reserved(handle: &mut OneChunkHandle, place: usize) -> Figure
     ensures { Answers handle.old.value handle.new.value (result ≡ no_figure uninitialized)
@@ -113,7 +114,7 @@ fn grow(one: &mut OneChunkAllocator, place: usize, layouts: Option<(Layout, Layo
     Answer::of_grow(one.grow(place, from, to))
 }
 
-/// Gives the chunk at this place the new size or more: all that is reserved for it.
+/// Grows the chunk at this place to at least the new size: to all bytes that are reserved for it.
 #[unsafe(no_mangle)]
 pub extern "C" fn bb_one_chunk_grow(
     handle: &mut OneChunkHandle,
@@ -152,7 +153,7 @@ fn shrink(one: &mut OneChunkAllocator, place: usize, layouts: Option<(Layout, La
     Answer::of_shrink(one.shrink(place, from, to))
 }
 
-/// Gives the chunk at this place exactly the new size.
+/// Shrinks the chunk at this place to exactly the new size.
 #[unsafe(no_mangle)]
 pub extern "C" fn bb_one_chunk_shrink(
     handle: &mut OneChunkHandle,

@@ -1,4 +1,4 @@
-//! A pool behind a handle.
+//! A pool in a handle.
 ghost use Rattle.bb_memory_c_calls.specs.Calls.{AnswersFree, AnswersInfo, AnswersNumber, AnswersPlace, AnswersPoolMake, AnswersRequest, AnswersReturn, AnswersTake, AnswersWhether};
 ghost use Rattle.bb_memory_c_calls.specs.OneOwner.{PoolAllocates, ShowsPool, cutting_pool};
 ghost use Rattle.bb_memory_owned.specs.Pool.{FreesBucket, HoldsPlace};
@@ -12,8 +12,8 @@ use bb_memory_c_calls::{call, code};
 use bb_memory_owned::pool_allocator::PoolAllocator;
 use std::alloc::Global;
 
-/// Makes a pool over the region of `size` bytes at `start`, behind a handle that has to be empty. The region is cut into
-/// buckets of `bucket_size` bytes at multiples of `bucket_align`, and has to have room for one.
+/// Makes a pool over the region of `size` bytes at `start`, in a handle that has to be empty. The region is cut into buckets of
+/// `bucket_size` bytes at multiples of `bucket_align`, and has to have room for one.
 #[unsafe(no_mangle)]
 pub extern "C" fn bb_pool_init(
     alloc: Global,
@@ -39,7 +39,7 @@ pub extern "C" fn bb_pool_init(
     call::keep(handle, alloc, Pool { pool })
 }
 
-/// Frees the pool, whose handle is empty then. The answer is 0, or `BB_UNINITIALIZED` where it was empty already.
+/// Frees the pool and empties its handle. Returns 0, or `BB_UNINITIALIZED` if the handle was empty already.
 #[unsafe(no_mangle)]
 pub extern "C" fn bb_pool_destroy(alloc: Global, handle: &mut PoolHandle) -> u32
     ensures { AnswersFree handle.old.value handle.new.value result }
@@ -47,7 +47,7 @@ pub extern "C" fn bb_pool_destroy(alloc: Global, handle: &mut PoolHandle) -> u32
     call::free(handle, alloc)
 }
 
-/// Asks for a chunk of `size` bytes at a multiple of `align`, in a bucket that isn't held.
+/// Allocates a chunk of `size` bytes at a multiple of `align`, in a bucket that isn't held.
 #[unsafe(no_mangle)]
 pub extern "C" fn bb_pool_allocate(handle: &mut PoolHandle, size: usize, align: usize) -> Answer
     ensures { AnswersRequest handle.old.value handle.new.value size align result PoolAllocates }
@@ -64,7 +64,7 @@ pub extern "C" fn bb_pool_take(handle: &mut PoolHandle) -> Answer
     call::take(handle)
 }
 
-/// Gives back the bucket at this place. A place that isn't a held bucket's is refused and changes nothing.
+/// Takes back the bucket at this place. If no held bucket begins there, it returns `BB_NOT_HELD`, and nothing changes.
 #[unsafe(no_mangle)]
 pub extern "C" fn bb_pool_deallocate(handle: &mut PoolHandle, place: usize) -> u32
     ensures { AnswersReturn handle.old.value handle.new.value result
@@ -73,7 +73,7 @@ pub extern "C" fn bb_pool_deallocate(handle: &mut PoolHandle, place: usize) -> u
     call::give_back(handle, place)
 }
 
-/// Returns 1 where this is the place of a held bucket, else 0.
+/// Returns 1 if a held bucket begins at this place, otherwise 0.
 #[unsafe(no_mangle)]
 pub extern "C" fn bb_pool_holds(handle: &mut PoolHandle, place: usize) -> Figure
     ensures { AnswersWhether handle.old.value handle.new.value result (λ pool. HoldsPlace pool.pool place) }
@@ -89,7 +89,7 @@ pub extern "C" fn bb_pool_info(handle: &mut PoolHandle, to: &mut PoolInfo) -> u3
     call::info(handle, to)
 }
 
-/// Returns where the bucket of this number begins, held or not, or `BB_NOT_A_BUCKET` where there is no such bucket.
+/// Returns where the bucket of this number begins, held or not, or `BB_NOT_A_BUCKET` if there is no such bucket.
 #[unsafe(no_mangle)]
 pub extern "C" fn bb_pool_place_at(handle: &mut PoolHandle, number: u32) -> Figure
     ensures { AnswersPlace handle.old.value handle.new.value result number (λ pool. pool.pool.geometry) }
@@ -97,7 +97,7 @@ pub extern "C" fn bb_pool_place_at(handle: &mut PoolHandle, number: u32) -> Figu
     call::place(handle, number)
 }
 
-/// Returns the number of the bucket at this place, held or not, or `BB_NOT_A_BUCKET` where no bucket begins there.
+/// Returns the number of the bucket at this place, held or not, or `BB_NOT_A_BUCKET` if no bucket begins there.
 #[unsafe(no_mangle)]
 pub extern "C" fn bb_pool_number_at(handle: &mut PoolHandle, place: usize) -> Figure
     ensures { AnswersNumber handle.old.value handle.new.value result place (λ pool. pool.pool.geometry) }

@@ -1,4 +1,4 @@
-//! A shared bump behind handles: one for the bump and the parties that haven't joined, and one for each party that has.
+//! A shared bump in handles: one for the bump and the parties that haven't joined, and one for each party that has.
 ghost use Rattle.bb_memory_bump.specs.SharedBump.{BumpParty};
 ghost use Rattle.bb_memory_c.specs.SharedBumps.{AreFreshOver, AreUnjoined, BumpParties, GivesChunk, IsShareable, Knows, ShowsLoad, TellsDestroy, TellsReset, sharing_bump};
 ghost use Rattle.bb_memory_c_calls.specs.Calls.{Answers, AnswersDestroy, AnswersFree, AnswersInfo, AnswersJoin, AnswersLeave, AnswersMake, AnswersRequest, IfBoth, IsThere};
@@ -72,7 +72,7 @@ impl Model for BumpParties {
 }
 
 impl BumpParties {
-    /// Makes a shared bump over the region of `size` bytes at `start`, with no party joined, or `None` where memory was refused.
+    /// Makes a shared bump over the region of `size` bytes at `start`, with no party joined, or `None` if memory ran out.
     pub(crate) fn new(alloc: Global, start: usize, size: usize, count: u32) -> Option<BumpParties>
         requires { IsShareable (region_at start size) count }
         ensures { IfSome result (AreFreshOver (region_at start size) count) }
@@ -131,8 +131,8 @@ impl Ends for BumpParties {
     }
 }
 
-/// Makes a shared bump over the region of `size` bytes at `start`, behind a handle that has to be empty. The start has to be
-/// greater than 0, and start plus size at most `SIZE_MAX`. Each of the parties, at least one, can join.
+/// Makes a shared bump over the region of `size` bytes at `start`, in a handle that has to be empty. The start has to be greater
+/// than 0, and start plus size at most `SIZE_MAX`. There is at least one party, and each of them can join.
 #[unsafe(no_mangle)]
 pub extern "C" fn bb_shared_bump_init(
     alloc: Global,
@@ -156,7 +156,7 @@ pub extern "C" fn bb_shared_bump_init(
     call::keep(handle, alloc, all)
 }
 
-/// Frees a shared bump, whose handle is empty then. It is refused with `BB_PARTIES_JOINED` unless each party has left.
+/// Frees a shared bump and empties its handle. Unless each party has left, it returns `BB_PARTIES_JOINED`, and nothing changes.
 #[unsafe(no_mangle)]
 pub extern "C" fn bb_shared_bump_destroy(alloc: Global, handle: &mut SharedBumpHandle) -> u32
     ensures { AnswersDestroy handle.old.value handle.new.value result TellsDestroy }
@@ -164,7 +164,7 @@ pub extern "C" fn bb_shared_bump_destroy(alloc: Global, handle: &mut SharedBumpH
     call::destroy(handle, alloc)
 }
 
-/// Empties the handle of a shared bump, whatever its parties do. The bump stays as long as one of them does.
+/// Empties the handle of a shared bump without looking at its parties. The bump exists as long as one of them does.
 #[unsafe(no_mangle)]
 pub extern "C" fn bb_shared_bump_abandon(alloc: Global, handle: &mut SharedBumpHandle) -> u32
     ensures { AnswersFree handle.old.value handle.new.value result }
@@ -172,7 +172,7 @@ pub extern "C" fn bb_shared_bump_abandon(alloc: Global, handle: &mut SharedBumpH
     call::free(handle, alloc)
 }
 
-/// Makes a party that hasn't joined join, behind a handle that has to be empty.
+/// Makes a party that hasn't joined join, in a handle that has to be empty.
 #[unsafe(no_mangle)]
 pub extern "C" fn bb_shared_bump_join(
     alloc: Global,
@@ -185,7 +185,8 @@ pub extern "C" fn bb_shared_bump_join(
     call::join(handle, alloc, party)
 }
 
-/// Ends a party of this bump, whose handle is empty then; it may join again. Another bump's party is refused (`BB_OTHER_POOL`).
+/// Ends a party of this bump and empties its handle. The party may join again. For a party of another bump it returns
+/// `BB_OTHER_POOL`.
 #[unsafe(no_mangle)]
 pub extern "C" fn bb_shared_bump_leave(
     alloc: Global,
@@ -199,7 +200,8 @@ pub extern "C" fn bb_shared_bump_leave(
     call::leave(handle, alloc, party)
 }
 
-/// Starts again over the same region, with as many parties: nothing is used, and each can join. Each has to have left.
+/// Starts again over the same region, with the same number of parties: nothing is used, and each party can join. Each has to have
+/// left.
 #[unsafe(no_mangle)]
 pub extern "C" fn bb_shared_bump_reset(alloc: Global, handle: &mut SharedBumpHandle) -> u32
     ensures { Answers handle.old.value handle.new.value (result ≡ uninitialized) (λ all after. TellsReset all after result) }
@@ -219,7 +221,8 @@ pub extern "C" fn bb_shared_bump_reset(alloc: Global, handle: &mut SharedBumpHan
     code::OK
 }
 
-/// Frees a party that hasn't left, whose handle is empty then. It can't join again, so the bump can't be reset or destroyed.
+/// Frees a party that hasn't left, and empties its handle. The party can't join again, so the bump can be neither reset nor
+/// destroyed.
 #[unsafe(no_mangle)]
 pub extern "C" fn bb_bump_party_abandon(alloc: Global, handle: &mut BumpPartyHandle) -> u32
     ensures { AnswersFree handle.old.value handle.new.value result }
@@ -227,7 +230,7 @@ pub extern "C" fn bb_bump_party_abandon(alloc: Global, handle: &mut BumpPartyHan
     call::free(handle, alloc)
 }
 
-/// Asks for a chunk of exactly `size` bytes at a multiple of `align`.
+/// Allocates a chunk of exactly `size` bytes at a multiple of `align`.
 #[unsafe(no_mangle)]
 pub extern "C" fn bb_bump_party_allocate(
     handle: &mut BumpPartyHandle,

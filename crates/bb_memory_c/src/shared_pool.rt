@@ -1,4 +1,4 @@
-//! A shared pool behind handles: one for the pool and the parties that haven't joined, and one for each party that has.
+//! A shared pool in handles: one for the pool and the parties that haven't joined, and one for each party that has.
 ghost use Rattle.bb_memory_c.specs.SharedPools.{AnswersJoinNumber, AreListed, AreUnjoined, CountsOut, GivesBack, GivesChunk, HasGivenAllBack, HasUnjoined, HoldsAt, HoldsPlace, IsAt, IsJoinedAt, IsNumberAt, Knows, PoolParties, ShowsParty, ShowsShared, TakesNumber, TellsCache, TellsDestroy, TellsHolder, as_joined, cutting_shared_pool, emptied, forgetting_pool, geometry_of, shared_pool_info, sharing_pool, with_last, with_unjoined};
 ghost use Rattle.bb_memory_c_calls.specs.Answers.{figure_of, no_figure};
 ghost use Rattle.bb_memory_c_calls.specs.Calls.{Answers, AnswersDestroy, AnswersFree, AnswersInfo, AnswersJoin, AnswersLeave, AnswersNumber, AnswersPlace, AnswersPoolMake, AnswersRequest, AnswersReturn, AnswersReturns, AnswersTake, AnswersTakings, AnswersWhether, IfBoth};
@@ -27,8 +27,8 @@ use std::sync::Arc;
 /// The bytes of two cache lines.
 const GAP: usize = 128;
 
-/// One party. The pool's flags say which buckets it holds. If it caches some of them, `in_use` says of each of the pool's buckets
-/// whether the party has it in use: holds it, and doesn't cache it. Gaps keep what parties' calls write on lines apart.
+/// One party. The pool's flags say which buckets it holds. If it caches some of them, `in_use` says for each of the pool's buckets
+/// whether the party has it in use: holds it, and doesn't cache it. Gaps keep what different parties write on separate cache lines.
 #[derive(Drop)]
 pub struct JoinedPool {
     pub(crate) pool: Arc<SharedPoolAllocator, Global>,
@@ -59,7 +59,7 @@ fn figures_of(pool: &SharedPoolAllocator, held: usize) -> SharedPoolInfo
     }
 }
 
-/// Returns how many entries the list of a party has that caches at most `most` of that many buckets: none if it caches none.
+/// Returns how many entries the list of a party has if it caches at most `most` of `buckets` buckets: none if `most` is 0.
 fn room_for(most: u32, buckets: u32) -> usize
     ensures none { most ≡ 0 → result ≡ 0 }
     ensures some { 0 < most → (buckets ≤ result) × (0 < result) }
@@ -96,8 +96,8 @@ fn clear(in_use: &mut Vec<bool>, number: u32) -> Option<bool>
     Some(was_in_use)
 }
 
-/// Returns whether the party has the bucket of this number in use, and clears its entry. One that caches none asks the bucket's
-/// flag.
+/// Returns whether the party has the bucket of this number in use, and clears its entry. If the party caches no bucket, this loads
+/// the bucket's flag.
 #[inline(always)]
 fn end_use(
     party: &mut CachingParty,
@@ -120,7 +120,7 @@ fn end_use(
 }
 
 impl JoinedPool {
-    /// Boxes the party as one that has joined. The error is the party, where a request for memory was refused.
+    /// Boxes the party as one that has joined. Returns the party as it was if memory ran out.
     fn new(
         alloc: Global,
         pool: &Arc<SharedPoolAllocator, Global>,
@@ -152,7 +152,7 @@ impl JoinedPool {
         let _ = self.party.number_of_cached();
     }
 
-    /// Returns whether the party has the bucket of this number in use. One that caches none asks the bucket's flag.
+    /// Returns whether the party has the bucket of this number in use. If the party caches no bucket, this loads the bucket's flag.
     fn is_out(&mut self, number: u32) -> bool
         requires { number < (geometry_of self.old).buckets }
         ensures value { IsTrue result ↔ IsOut self.old number }
@@ -165,7 +165,7 @@ impl JoinedPool {
         }
     }
 
-    /// Returns the number of the bucket at this place. Where no bucket begins there, none is out there.
+    /// Returns the number of the bucket at this place. If no bucket begins there, the party has none in use there.
     fn numbered(&self, place: usize) -> Option<u32>
         ensures below { IfSome result (λ number. number < (geometry_of self.now).buckets) }
         ensures there { IfSome result (λ number. place ≡ bucket_place (geometry_of self.now) number) }
@@ -177,7 +177,7 @@ impl JoinedPool {
         self.pool.number_at(place)
     }
 
-    /// Returns the number of the bucket at this place, if it is out.
+    /// Returns the number of the bucket at this place, if the party has it in use.
     pub(crate) fn held_at(&mut self, place: usize) -> Option<u32>
         ensures held { IfSome result (HoldsAt self.old place) }
         ensures none { IfNone result (¬ HoldsPlace self.old place) }
@@ -230,7 +230,7 @@ impl JoinedPool {
         self.in_use.fill(false);
     }
 
-    /// Counts the buckets that are out.
+    /// Counts the buckets that the party has in use.
     fn count_out(&mut self) -> usize
         ensures count { CountsOut self.old result }
         ensures unchanged { self.new ≡ self.old }
@@ -246,7 +246,7 @@ impl JoinedPool {
         count
     }
 
-    /// Gives back the bucket of this number where it is out, and returns whether it was.
+    /// Gives back the bucket of this number if the party has it in use, and returns whether it had.
     #[tactic(auto, unfolding(bb_memory_shared_pools::specs::SharedPoolCaching::IsOut))]
     fn give_back_if_out(&mut self, number: u32) -> bool
         requires { number < (geometry_of self.old).buckets }
@@ -293,7 +293,7 @@ impl Keeps for JoinedPool {
         self.held_at(place).is_some()
     }
 
-    // Inlined into both of its callers, as a single return is quicker so.
+    // Inlined into both of its callers, which makes a single return quicker.
     #[inline(always)]
     fn give_back(&mut self, place: usize) -> bool {
         match self.numbered(place) {
@@ -332,7 +332,7 @@ impl Bucketed for JoinedPool {
     }
 }
 
-/// A shared pool, and those of its parties that haven't joined. They hold nothing, but for one that was forgotten.
+/// A shared pool, and those of its parties that haven't joined. None of them holds a bucket, except one that was forgotten.
 #[derive(Drop)]
 pub struct PoolParties {
     pub(crate) pool: Arc<SharedPoolAllocator, Global>,
@@ -348,7 +348,7 @@ impl Model for PoolParties {
 }
 
 impl PoolParties {
-    /// Returns where the party of this number stands among those that haven't joined.
+    /// Returns the position of the party of this number among those that haven't joined.
     fn place_of(&self, number: u32) -> Option<usize>
         ensures there { IfSome result (λ at. IsNumberAt self.now.parties at number) }
         ensures none { IfNone result (¬ HasUnjoined self.now number) }
@@ -361,7 +361,7 @@ impl PoolParties {
         None
     }
 
-    /// Has the last party that hasn't joined and the one at this place change their places.
+    /// Swaps the last party that hasn't joined with the one at this position.
     fn swap_with_last(&mut self, at: usize)
         requires { at < length self.old.parties }
         ensures { self.new ≡ with_last self.old at }
@@ -387,7 +387,7 @@ impl PoolParties {
         }
     }
 
-    /// Takes the party back as it is, behind those that haven't joined.
+    /// Takes the party back as it is, after those that haven't joined.
     fn take_back_as_it_is(&mut self, joined: JoinedPool)
         requires { IsAt self.old joined }
         ensures { self.new ≡ with_unjoined self.old joined }
@@ -444,8 +444,9 @@ impl Ends for PoolParties {
     }
 }
 
-/// Makes a shared pool over the region of `size` bytes at `start`, behind a handle that has to be empty. The region is cut into
-/// buckets of `bucket_size` bytes at multiples of `bucket_align`, with room for one. Each party, at least one, can join.
+/// Makes a shared pool over the region of `size` bytes at `start`, in a handle that has to be empty. The region is cut into buckets
+/// of `bucket_size` bytes at multiples of `bucket_align`, and has to have room for one. There is at least one party, and each of
+/// them can join.
 #[unsafe(no_mangle)]
 pub extern "C" fn bb_shared_pool_init(
     alloc: Global,
@@ -475,8 +476,8 @@ pub extern "C" fn bb_shared_pool_init(
     call::keep(handle, alloc, PoolParties { pool, parties })
 }
 
-/// Frees a shared pool, whose handle is empty then. It is refused with `BB_PARTIES_JOINED` unless each party has left, and with
-/// `BB_BUCKET_DETACHED` if a bucket is detached.
+/// Frees a shared pool and empties its handle. Unless each party has left, it returns `BB_PARTIES_JOINED`; if a bucket is detached,
+/// `BB_BUCKET_DETACHED`. Nothing changes then.
 #[unsafe(no_mangle)]
 pub extern "C" fn bb_shared_pool_destroy(alloc: Global, handle: &mut SharedPoolHandle) -> u32
     ensures { AnswersDestroy handle.old.value handle.new.value result TellsDestroy }
@@ -484,7 +485,8 @@ pub extern "C" fn bb_shared_pool_destroy(alloc: Global, handle: &mut SharedPoolH
     call::destroy(handle, alloc)
 }
 
-/// Empties the handle of a shared pool, whatever its parties and buckets do. The pool stays as long as one of its parties does.
+/// Empties the handle of a shared pool without looking at its parties and buckets. The pool exists as long as one of its parties
+/// does.
 #[unsafe(no_mangle)]
 pub extern "C" fn bb_shared_pool_abandon(alloc: Global, handle: &mut SharedPoolHandle) -> u32
     ensures { AnswersFree handle.old.value handle.new.value result }
@@ -505,8 +507,8 @@ pub extern "C" fn bb_shared_pool_info(handle: &mut SharedPoolHandle, to: &mut Sh
     code::OK
 }
 
-/// Fills the struct with the flag of the bucket of this number, as one load found it: free, or held or detached, and by which
-/// party. Parties may call meanwhile.
+/// Fills the struct with the flag of the bucket of this number, as one load found it: whether the bucket is free, held or detached,
+/// and by which party. Parties may call meanwhile.
 #[unsafe(no_mangle)]
 pub extern "C" fn bb_shared_pool_holder(
     handle: &mut SharedPoolHandle,
@@ -526,7 +528,7 @@ pub extern "C" fn bb_shared_pool_holder(
     code::OK
 }
 
-/// Makes a party that hasn't joined join, behind a handle that has to be empty.
+/// Makes a party that hasn't joined join, in a handle that has to be empty.
 #[unsafe(no_mangle)]
 pub extern "C" fn bb_shared_pool_join(
     alloc: Global,
@@ -539,8 +541,8 @@ pub extern "C" fn bb_shared_pool_join(
     call::join(handle, alloc, party)
 }
 
-/// Makes the party of this number join, behind a handle that has to be empty. It is refused with `BB_NO_PARTY` where that party
-/// has joined, or there is none of that number.
+/// Makes the party of this number join, in a handle that has to be empty. Returns `BB_NO_PARTY` if that party has joined, or if no
+/// party has that number.
 #[unsafe(no_mangle)]
 pub extern "C" fn bb_shared_pool_join_number(
     alloc: Global,
@@ -564,9 +566,8 @@ pub extern "C" fn bb_shared_pool_join_number(
     code::OK
 }
 
-/// Forgets a party of this pool, whose handle is empty then. It steps on no flag: what the party holds stays held, and a party of
-/// its number may join again, which holds that then. The party of a pool that begins at another place is refused with
-/// `BB_OTHER_POOL`.
+/// Forgets a party of this pool and empties its handle. No flag changes: what the party holds stays held, and the next party that
+/// joins by its number holds that. If the party's pool begins at another place, it returns `BB_OTHER_POOL`.
 #[unsafe(no_mangle)]
 pub extern "C" fn bb_shared_pool_forget(
     alloc: Global,
@@ -590,8 +591,8 @@ pub extern "C" fn bb_shared_pool_forget(
     code::OK
 }
 
-/// Ends a party of this pool, whose handle is empty then: each bucket that it holds is given back. It may join again. The party
-/// of a pool that begins at another place is refused with `BB_OTHER_POOL`.
+/// Ends a party of this pool and empties its handle. Each bucket that the party holds is given back, and the party may join again.
+/// If the party's pool begins at another place, it returns `BB_OTHER_POOL`.
 #[unsafe(no_mangle)]
 pub extern "C" fn bb_shared_pool_leave(
     alloc: Global,
@@ -604,8 +605,8 @@ pub extern "C" fn bb_shared_pool_leave(
     call::leave(handle, alloc, party)
 }
 
-/// Frees a party that hasn't left, whose handle is empty then. It can't join again, what it holds stays held, and the pool can't be
-/// destroyed.
+/// Frees a party that hasn't left, and empties its handle. The party can't join again, what it holds stays held, and the pool can't
+/// be destroyed.
 #[unsafe(no_mangle)]
 pub extern "C" fn bb_pool_party_abandon(alloc: Global, handle: &mut PoolPartyHandle) -> u32
     ensures { AnswersFree handle.old.value handle.new.value result }
@@ -613,9 +614,9 @@ pub extern "C" fn bb_pool_party_abandon(alloc: Global, handle: &mut PoolPartyHan
     call::free(handle, alloc)
 }
 
-/// Has the party cache at most `most` of the buckets that it gives back, and at most as many as the pool has, for its next
-/// requests. What it caches already is given back first. A cached bucket stays held, so other parties are refused where each
-/// bucket is cached or out.
+/// Has the party cache at most `most` of the buckets that it gives back, and never more than the pool has, for its next requests.
+/// The buckets that it caches already are given back first. A cached bucket stays held, so other parties are refused if each bucket
+/// is cached or in use.
 #[unsafe(no_mangle)]
 pub extern "C" fn bb_pool_party_cache(alloc: Global, handle: &mut PoolPartyHandle, most: u32) -> u32
     ensures { Answers handle.old.value handle.new.value (result ≡ uninitialized)
@@ -631,7 +632,7 @@ pub extern "C" fn bb_pool_party_cache(alloc: Global, handle: &mut PoolPartyHandl
     }
 }
 
-/// Gives back what the party caches.
+/// Gives back the buckets that the party caches.
 #[unsafe(no_mangle)]
 pub extern "C" fn bb_pool_party_flush(handle: &mut PoolPartyHandle) -> u32
     ensures { Answers handle.old.value handle.new.value (result ≡ uninitialized)
@@ -644,7 +645,7 @@ pub extern "C" fn bb_pool_party_flush(handle: &mut PoolPartyHandle) -> u32
     code::OK
 }
 
-/// Gives back each bucket whose flag says that the party holds it, cached or not, as leaving does. The party stays.
+/// Gives back each bucket whose flag says that the party holds it, cached or not. The party stays.
 #[unsafe(no_mangle)]
 pub extern "C" fn bb_pool_party_give_all_back(handle: &mut PoolPartyHandle) -> u32
     ensures { Answers handle.old.value handle.new.value (result ≡ uninitialized)
@@ -657,7 +658,8 @@ pub extern "C" fn bb_pool_party_give_all_back(handle: &mut PoolPartyHandle) -> u
     code::OK
 }
 
-/// Asks for a chunk of `size` bytes at a multiple of `align`, in the bucket cached last, or else in one that a next fit finds.
+/// Allocates a chunk of `size` bytes at a multiple of `align`, in the bucket that the party cached last, otherwise in one that a
+/// next fit finds.
 #[unsafe(no_mangle)]
 pub extern "C" fn bb_pool_party_allocate(
     handle: &mut PoolPartyHandle,
@@ -669,7 +671,7 @@ pub extern "C" fn bb_pool_party_allocate(
     call::request_bucket(handle, size, align)
 }
 
-/// Takes a whole bucket: the one cached last, or else one that a next fit finds.
+/// Takes a whole bucket: the one that the party cached last, otherwise one that a next fit finds.
 #[unsafe(no_mangle)]
 pub extern "C" fn bb_pool_party_take(handle: &mut PoolPartyHandle) -> Answer
     ensures { AnswersTake handle.old.value handle.new.value result
@@ -678,7 +680,7 @@ pub extern "C" fn bb_pool_party_take(handle: &mut PoolPartyHandle) -> Answer
     call::take(handle)
 }
 
-/// Gives back the bucket at this place. A place of no bucket that this party holds is refused and changes nothing.
+/// Takes back the bucket at this place. If this party has no bucket in use there, it returns `BB_NOT_HELD`, and nothing changes.
 #[unsafe(no_mangle)]
 pub extern "C" fn bb_pool_party_deallocate(handle: &mut PoolPartyHandle, place: usize) -> u32
     ensures { AnswersReturn handle.old.value handle.new.value result
@@ -687,8 +689,8 @@ pub extern "C" fn bb_pool_party_deallocate(handle: &mut PoolPartyHandle, place: 
     call::give_back(handle, place)
 }
 
-/// Takes whole buckets, as that many calls of `bb_pool_party_take` do, until each slot has one's place or a taking is refused.
-/// Returns how many: their places are in the first slots.
+/// Takes whole buckets, as that many calls of `bb_pool_party_take` do, until each slot has a bucket's place or a call is refused.
+/// Returns how many buckets it took. Their places are in the first slots.
 #[unsafe(no_mangle)]
 pub extern "C" fn bb_pool_party_take_many(
     handle: &mut PoolPartyHandle,
@@ -700,8 +702,8 @@ pub extern "C" fn bb_pool_party_take_many(
     call::take_many(handle, slots)
 }
 
-/// Gives back the buckets at these places, as that many calls of `bb_pool_party_deallocate` do, up to the first that is refused.
-/// Returns how many.
+/// Takes back the buckets at these places, as that many calls of `bb_pool_party_deallocate` do, up to the first one that is refused.
+/// Returns how many it took back.
 #[unsafe(no_mangle)]
 pub extern "C" fn bb_pool_party_deallocate_many(
     handle: &mut PoolPartyHandle,
@@ -712,7 +714,7 @@ pub extern "C" fn bb_pool_party_deallocate_many(
     call::give_back_many(handle, places)
 }
 
-/// Tells whether this is the place of a bucket that this party holds: 1 or 0.
+/// Returns 1 if a bucket that this party has in use begins at this place, otherwise 0.
 #[unsafe(no_mangle)]
 pub extern "C" fn bb_pool_party_holds(handle: &mut PoolPartyHandle, place: usize) -> Figure
     ensures { AnswersWhether handle.old.value handle.new.value result (λ party. HoldsPlace party place) }
@@ -720,7 +722,7 @@ pub extern "C" fn bb_pool_party_holds(handle: &mut PoolPartyHandle, place: usize
     call::holds(handle, place)
 }
 
-/// Fills the struct with the pool's figures, and with how many buckets this party holds, without those that it caches.
+/// Fills the struct with the pool's figures, and with how many buckets this party has in use: holds, and doesn't cache.
 #[unsafe(no_mangle)]
 pub extern "C" fn bb_pool_party_info(handle: &mut PoolPartyHandle, to: &mut SharedPoolInfo) -> u32
     ensures { AnswersInfo handle.old.value handle.new.value to.old to.new result ShowsParty }
@@ -728,7 +730,7 @@ pub extern "C" fn bb_pool_party_info(handle: &mut PoolPartyHandle, to: &mut Shar
     call::info(handle, to)
 }
 
-/// Returns where the bucket of this number begins, held or not, or `BB_NOT_A_BUCKET` where there is no such bucket.
+/// Returns where the bucket of this number begins, held or not, or `BB_NOT_A_BUCKET` if there is no such bucket.
 #[unsafe(no_mangle)]
 pub extern "C" fn bb_pool_party_place_at(handle: &mut PoolPartyHandle, number: u32) -> Figure
     ensures { AnswersPlace handle.old.value handle.new.value result number geometry_of }
@@ -736,7 +738,7 @@ pub extern "C" fn bb_pool_party_place_at(handle: &mut PoolPartyHandle, number: u
     call::place(handle, number)
 }
 
-/// Returns the number of the bucket at this place, held or not, or `BB_NOT_A_BUCKET` where no bucket begins there.
+/// Returns the number of the bucket at this place, held or not, or `BB_NOT_A_BUCKET` if no bucket begins there.
 #[unsafe(no_mangle)]
 pub extern "C" fn bb_pool_party_number_at(handle: &mut PoolPartyHandle, place: usize) -> Figure
     ensures { AnswersNumber handle.old.value handle.new.value result place geometry_of }

@@ -1146,23 +1146,19 @@ static int says(bb_shared_pool *pool, uint32_t number, uint32_t state, uint32_t 
 }
 
 // A flag says who holds a bucket, cached or not, or has detached it. A detached bucket is given
-// back without attaching it, by its `bb_detached` or, if that is lost, by its number.
+// back without attaching it, by its `bb_detached`. If that is destroyed, the bucket stays detached.
 static void run_holders(void) {
     bb_shared_pool pool = BB_EMPTY;
     bb_shared_pool far = BB_EMPTY;
     bb_pool_party parties[2] = {BB_EMPTY, BB_EMPTY};
     bb_pool_party stranger = BB_EMPTY;
     bb_detached detached = BB_EMPTY;
-    bb_lost lost = BB_LOST;
-    bb_lost none = BB_EMPTY;
     bb_holder holder = {7, 7};
     EXPECT(bb_shared_pool_holder(&pool, 0, &holder) == BB_UNINITIALIZED);
     EXPECT(holder.state == 7);
     EXPECT(holder.party == 7);
     EXPECT(has_none(bb_pool_party_number(&parties[0]), BB_UNINITIALIZED));
     EXPECT(bb_pool_party_return_detached(&parties[0], &detached) == BB_UNINITIALIZED);
-    EXPECT(bb_pool_party_recover(&parties[0], 0, &lost) == BB_UNINITIALIZED);
-    EXPECT(lost.made);
     EXPECT(bb_shared_pool_init(&pool, 64, 8, 4096, 128, 2) == BB_OK);
     EXPECT(bb_shared_pool_init(&far, 64, 8, 8192, 128, 2) == BB_OK);
     EXPECT(bb_shared_pool_join(&pool, &parties[0]) == BB_OK);
@@ -1195,10 +1191,6 @@ static void run_holders(void) {
     EXPECT(bb_pool_party_deallocate(&parties[0], place) == BB_OK);
     EXPECT(says(&pool, number, BB_HELD, by));
     EXPECT(given(bb_pool_party_allocate(&parties[0], 48, 8), place));
-    EXPECT(bb_pool_party_recover(&parties[1], number, &none) == 8);
-    EXPECT(bb_pool_party_recover(&parties[1], number, &lost) == BB_NOT_HELD);
-    EXPECT(!lost.made);
-    EXPECT(lost.at == NULL);
     EXPECT(bb_pool_party_detach(&parties[0], place, 40, &detached) == BB_OK);
     EXPECT(says(&pool, number, BB_DETACHED, by));
     EXPECT(bb_pool_party_return_detached(&stranger, &detached) == BB_OTHER_POOL);
@@ -1215,8 +1207,8 @@ static void run_holders(void) {
     EXPECT(bb_shared_pool_leave(&pool, &parties[1]) == BB_OK);
     EXPECT(says(&pool, number, BB_FREE, 0));
     EXPECT(has_none(bb_pool_party_number(&parties[1]), BB_UNINITIALIZED));
-    // A bucket whose `bb_detached` is destroyed comes back by its number, also after its party has
-    // left.
+    // A bucket whose `bb_detached` is destroyed stays detached, also after its party has left. No
+    // number attaches it.
     place = bb_pool_party_allocate(&parties[0], 48, 8).place;
     number = (uint32_t)((place - 4096) / 64);
     EXPECT(bb_pool_party_detach(&parties[0], place, 40, &detached) == BB_OK);
@@ -1225,15 +1217,11 @@ static void run_holders(void) {
     EXPECT(says(&pool, number, BB_DETACHED, by));
     EXPECT(requests == 0);
     EXPECT(bb_shared_pool_join(&pool, &parties[1]) == BB_OK);
-    bb_lost past = BB_LOST;
-    bb_lost again = BB_LOST;
-    bb_lost found = BB_LOST;
-    EXPECT(bb_pool_party_recover(&parties[1], 2, &past) == BB_NOT_A_BUCKET);
-    EXPECT(bb_pool_party_recover(&parties[1], number, &found) == BB_OK);
-    EXPECT(says(&pool, number, BB_FREE, 0));
-    EXPECT(bb_pool_party_recover(&parties[1], number, &again) == BB_NOT_HELD);
+    EXPECT(refused(bb_pool_party_attach_number(&parties[1], number, by), BB_NOT_HELD));
+    EXPECT(says(&pool, number, BB_DETACHED, by));
     EXPECT(bb_shared_pool_leave(&pool, &parties[1]) == BB_OK);
-    EXPECT(bb_shared_pool_destroy(&pool) == BB_OK);
+    EXPECT(bb_shared_pool_destroy(&pool) == BB_BUCKET_DETACHED);
+    EXPECT(bb_shared_pool_abandon(&pool) == BB_OK);
     EXPECT(bb_shared_pool_leave(&far, &stranger) == BB_OK);
     EXPECT(bb_shared_pool_destroy(&far) == BB_OK);
 }
@@ -1324,7 +1312,6 @@ static void run_by_number(void) {
     bb_pool_party sender = BB_EMPTY;
     bb_pool_party receiver = BB_EMPTY;
     bb_detached detached = BB_EMPTY;
-    bb_lost lost = BB_LOST;
     EXPECT(has_none(bb_pool_party_detach_number(&sender, 4096), BB_UNINITIALIZED));
     EXPECT(refused(bb_pool_party_attach_number(&receiver, 0, 0), BB_UNINITIALIZED));
     EXPECT(bb_shared_pool_init(&pool, 64, 8, 4096, 64 * 4, 8) == BB_OK);
@@ -1352,7 +1339,6 @@ static void run_by_number(void) {
     }
     EXPECT(refused(bb_pool_party_attach_number(&receiver, bucket, UINT32_MAX), BB_NOT_HELD));
     EXPECT(refused(bb_pool_party_attach_number(&receiver, (bucket + 1) % 4, 3), BB_NOT_HELD));
-    EXPECT(bb_pool_party_recover(&receiver, bucket, &lost) == BB_NOT_HELD);
     EXPECT(says(&pool, bucket, BB_DETACHED, 3));
     EXPECT(given(bb_pool_party_attach_number(&receiver, bucket, 3), place));
     EXPECT(says(&pool, bucket, BB_HELD, 0));
@@ -1575,41 +1561,54 @@ static void run_attach_at_once(void) {
     EXPECT(bb_shared_pool_destroy(&pool) == BB_OK);
 }
 
-static size_t taken;
-static size_t resized;
-static size_t released;
+// What the functions of a host have done for one context.
+typedef struct memory_count {
+    size_t taken;
+    size_t released;
+} memory_count;
 
-static void *take(size_t size) {
-    taken++;
+static void *take(void *context, size_t size, size_t align) {
+    memory_count *count = (memory_count *)context;
+    count->taken++;
+    EXPECT(size > 0);
+    EXPECT(align == 16);
     return malloc(size);
 }
 
-static void *resize(void *at, size_t size) {
-    resized++;
-    return realloc(at, size);
-}
-
-static void release(void *at) {
-    if (at != NULL)
-        released++;
+static void release(void *context, void *at) {
+    memory_count *count = (memory_count *)context;
+    count->released++;
+    EXPECT(at != NULL);
     free(at);
 }
 
-// The library's memory comes from the functions that the host names.
+// The library's memory comes from the functions that the host names, and each of them gets the
+// context that the host named with them.
 static void run_use_memory(void) {
+    memory_count mine = {0, 0};
+    memory_count others = {0, 0};
     bb_shared_pool pool = BB_EMPTY;
     bb_pool_party party = BB_EMPTY;
-    bb_use_memory(take, resize, release);
+    bb_use_memory(take, release, &mine);
     requests = 0;
     EXPECT(bb_shared_pool_init(&pool, 64, 8, 4096, 128, 2) == BB_OK);
     EXPECT(bb_shared_pool_join(&pool, &party) == BB_OK);
-    EXPECT(taken > 0);
-    EXPECT(taken == requests);
-    EXPECT(released < taken);
+    EXPECT(mine.taken > 0);
+    EXPECT(mine.taken == requests);
+    EXPECT(mine.released < mine.taken);
     EXPECT(bb_shared_pool_leave(&pool, &party) == BB_OK);
     EXPECT(bb_shared_pool_destroy(&pool) == BB_OK);
-    EXPECT(released == taken);
-    bb_use_memory(malloc, realloc, free);
+    EXPECT(mine.released == mine.taken);
+
+    // Another context replaces the first.
+    const size_t taken = mine.taken;
+    bb_use_memory(take, release, &others);
+    EXPECT(bb_shared_pool_init(&pool, 64, 8, 4096, 128, 2) == BB_OK);
+    EXPECT(bb_shared_pool_destroy(&pool) == BB_OK);
+    EXPECT(others.taken > 0);
+    EXPECT(others.released == others.taken);
+    EXPECT(mine.taken == taken);
+    EXPECT(mine.released == taken);
 }
 
 // In a pool of one party nothing is detached, whatever the place.
@@ -1667,6 +1666,7 @@ int main(void) {
     run_join_number();
     run_join_number_refused();
     run_attach_at_once();
+    // The last one, since the library keeps calling its functions.
     run_use_memory();
     puts("calls: each is answered as it has to be");
     return 0;

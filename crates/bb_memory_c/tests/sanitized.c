@@ -125,13 +125,6 @@ static void right_parties(void) {
     EXPECT(bb_shared_pool_join_number(&shared, own, one) == BB_OK);
     touch(bucket);
     EXPECT(bb_pool_party_give_all_back(one) == BB_OK);
-    bb_chunk lost = bb_pool_party_allocate(one, 8, 8);
-    EXPECT(bb_pool_party_detach(one, lost.place, 8, &detached) == BB_OK);
-    uint32_t lost_number = (uint32_t)bb_pool_party_number_at(one, lost.place).number;
-    EXPECT(bb_detached_destroy(&detached) == BB_OK);
-    bb_lost word = BB_LOST;
-    EXPECT(bb_pool_party_recover(other, lost_number, &word) == BB_OK);
-    EXPECT(bb_detached_init(&detached) == BB_OK);
     end_shared();
 }
 

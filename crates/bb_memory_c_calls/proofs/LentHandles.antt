@@ -1,4 +1,4 @@
--- A handle is what is held, under a name of its own: where it lies, what is held is lent. Assumes `Logic`.
+-- A handle holds its contents under a name of its own: the contents are lent in their place. Assumes `Logic`.
 use Rattle.bb_memory_c_calls.proofs.Repr.{ !, Callee, Calls, Clauses, Closed, Ended, Env, Fn, GName, Goes-spent_ref, Held, Lft, Logic, Loops, Meets, Model, MutBor, MutRef, One, Part, RattleType, RefMutOf, Running, SProp, Share, Stays, Ty, Ura, Val, WpFn, [], addr, addr_of, after, alloc_all, ap, assign, at_ret, await, block, blocks, by, closing, copy, deref, done, drop, emp, ent, enter, env, erased, exec, fact, fact_i, first, fjoin, flft, follows, free_all, fsplit, fsplit3, fst∗, ftrue, get, group, join, keep, later, leaves, lends_Part, local, look_at, mem, move, mut, mut_Tells, mut_ref_to, mut_vals, named, no, nothing, of_opd, on_entry, owns, pass_all, pick, place, plain, proved, qed, raw, return, returns, rewrite, rv_opd, sem, sep, seq, sets, sets_last, some, split, split3, stay_dropped, stop, sym, tables, through, ty_ptr, ty_ref, use0, use1, value_local, via, vptr, walk_of, ‵, ℕ, ◌$◌, ◌∙◌, ◌∵◌, ◌∷◌, ◌≡◌, ◌⊛◌}
 use types.Mut.{open_ref}
 unfoldable pub use denote.Memory.{part_of}

@@ -5,7 +5,7 @@ use Rattle.bb_memory_traits.specs.declared.layout.Layout.{Layout}
 use Rattle.std.proofs.Common.{Err, None, Ok, Option, Result, ap, sym, ℕ, ◌↔◌, ◌∙◌, ◌≡◌, ◌≢◌}
 use Rattle.std.specs.Align.{IsLayout}
 
--- a number that is one of two is no third one
+-- a number that is one of two isn't a third one
 neither : {X : Type 0} {one two : ℕ} (code third : ℕ) → (code ≢ one → code ≡ two) → third ≢ one → third ≢ two →
     code ≡ third → X
 neither code third either not_one not_two is = absurd (not_two (sym is ∙ either (λ one. not_one (sym is ∙ one))))
@@ -27,7 +27,7 @@ module _ {X : Type 0} {old new : Option X} {size align : ℕ} {cutting : Cutting
     unchanged = λ _. still;
   }
 
-  -- by the cut it is made, or memory for it was refused
+  -- by the cut the pool is made, or memory for it ran out
   pub tried : (bucket : Layout) → cut ≡ Ok bucket → IsOf size align bucket → cutting.may bucket → cutting.room bucket → (code : ℕ)
       → (code ≡ ok → cutting.fresh bucket new) → (code ≢ ok → (code ≡ malloc_refused) × (new ≡ old))
       → AnswersPoolMake old new size align code cutting

@@ -1,4 +1,4 @@
--- A step at one more place, behind others.
+-- A step at one more place, after others.
 use Rattle.bb_memory_c_calls.specs.Calls.{AtEach}
 use Rattle.std.proofs.Common.{List, [], refl, subst, ℕ, ◌++◌, ◌∷◌}
 

@@ -1,4 +1,4 @@
--- Calls of one handle or two, where something is behind them.
+-- Calls of one handle or two that hold values.
 use Rattle.bb_memory_c_calls.specs.Answers.{TellsOfLayouts, ok}
 use Rattle.bb_memory_c_calls.specs.Calls.{Answers, AnswersLeave, AnswersOfBoth, IsOf, Sharing, TellsResize}
 use Rattle.bb_memory_c_calls.specs.declared.answer.Answer.{Answer}
@@ -17,11 +17,11 @@ told_of layouts {told} {tells} each none tell = record {
   no_layout = λ no. subst (λ l. TellsOfLayouts l told tells) (none no) tell;
 }
 
--- what holds of what is there
+-- a property of the value in a handle that holds one
 at_made : {X : Type 0} (P : X → Type 0) {old : Option X} {made : X} → old ≡ Some made → P made → IfSome old P
 at_made P is holds = subst (λ o. IfSome o P) (sym is) holds
 
--- what is answered where something is behind the handle
+-- the answer of a call whose handle holds a value
 pub answers : {X : Type 0} {old new : Option X} {refused : Type 0} {tells : X → X → Type 0} {made after : X} → old ≡ Some made
     → new ≡ Some after → tells made after → Answers old new refused tells
 answers {tells} {made} {after} is becomes told = record {
@@ -29,7 +29,7 @@ answers {tells} {made} {after} is becomes told = record {
   empty = λ none. absurd (cc);
 }
 
--- and where something is behind both of two handles
+-- the answer of a call whose two handles both hold a value
 pub answers_of_both : {X Y : Type 0} {old new : Option X} {old_other new_other : Option Y} {refused : Type 0}
     {tells : X → Y → X → Y → Type 0} {x after : X} {y other : Y} → old ≡ Some x → old_other ≡ Some y → new ≡ Some after
     → new_other ≡ Some other → tells x y after other → AnswersOfBoth old new old_other new_other refused tells

@@ -1,5 +1,5 @@
--- The machine values of a `Loose` and of what a handle holds, which is taken apart and put together again under another name.
--- Passes on what the walks use of the logic of machines. Assumes `Logic`.
+-- The machine values of a `Loose` and of the contents of a handle, which are taken apart and put together again under another
+-- name. Passes on what the walks use of the logic of machines. Assumes `Logic`.
 use Rattle.bb_memory_c_calls.specs.Handles.{heap, owns_if}
 use Rattle.bb_memory_c_calls.specs.contracts.held.Held as held_row
 use Rattle.bb_memory_c_calls.specs.contracts.held.Loose as loose
@@ -127,7 +127,7 @@ module _ (R : RattleType) where
         fpack t (Valss (RawPtr ∷ bool ∷ [])) (within (shape (held_row.the_type R)) (d.at, (d.made, tt)) (v ∷ []))
         (ptr_val d.at ∷ [], (vbool d.made ∷ [], tt)) $ fjoin t $ s)
 
-    -- it is nothing, or a box at its pointer
+    -- the contents are nothing, or a box at its pointer
     pub owns_either : K → (made : Bool) (at : Ptr) (value : Option R.Denot)
         → (made ≡ false → value ≡ None → Seq K 𝓛 Γ G)
         → ((b o : ℕ) (x : R.Denot) → at ≡ block_ptr b o → made ≡ true → value ≡ Some x

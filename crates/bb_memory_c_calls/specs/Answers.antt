@@ -1,4 +1,5 @@
--- Answers as C sees them. Passes on the codes of `src/code.rt`, under the names that clauses use.
+-- Answers in the form that C gets them. Passes on the codes of `src/code.rt`, under the names that
+-- clauses use.
 use Rattle.bb_memory_c_calls.specs.declared.answer.Answer.{Answer}
 use Rattle.bb_memory_c_calls.specs.declared.answer.Figure.{Figure}
 use Rattle.bb_memory_c_calls.specs.declared.answer.Holder.{Holder}
@@ -35,7 +36,7 @@ answer_by code (Err error) = refused (code error)
 abbrev pub answer_of : Result Chunk AllocationError → Answer
 answer_of = answer_by code_of
 
--- the number that C asked for
+-- the requested number
 abbrev pub figure_of : ℕ → Figure
 figure_of number = record { code = ok; number = number }
 
@@ -45,7 +46,7 @@ no_figure code = record { code = code; number = 0 }
 
 -- FLAGS
 
--- a bucket's flag as C sees it: its state, and the party that it names, or 0
+-- a bucket's flag in the form that C gets it: its state, and the party that it names, or 0
 abbrev pub shown_flag : Flag → Holder
 shown_flag Free = record { state = 0; party = 0 }
 shown_flag (HeldBy party) = record { state = 1; party = party }

@@ -89,12 +89,12 @@ abbrev pub AnswersWhether : {X : Type 0} → Option X → Option X → Figure �
 AnswersWhether old new told is =
     Answers old new (told ≡ no_figure uninitialized) (λ made after. Tells (is made) told × (after ≡ made))
 
--- C gets the place of the bucket of this number, or BB_NOT_A_BUCKET if there is no such bucket
+-- C gets the place of the bucket of this number, or BB_NOT_A_BUCKET if the pool has no bucket of this number
 pub record TellsPlaceOf (geometry : PoolGeometry) (number : ℕ) (told : Figure) : Type 0 where
   pub there : number < geometry.buckets → told ≡ figure_of (bucket_place geometry number)
   pub none : geometry.buckets ≤ number → told ≡ no_figure not_a_bucket
 
--- C asks for the place of a bucket by its number; the value doesn't change
+-- C requests the place of a bucket by its number; the value doesn't change
 abbrev pub AnswersPlace : {X : Type 0} → Option X → Option X → Figure → ℕ → (X → PoolGeometry) → Type 0
 AnswersPlace old new told number geometry =
     Answers old new (told ≡ no_figure uninitialized) (λ made after. TellsPlaceOf (geometry made) number told × (after ≡ made))
@@ -104,7 +104,7 @@ pub record TellsNumberOf (geometry : PoolGeometry) (place : ℕ) (told : Figure)
   pub there : (number : ℕ) → number < geometry.buckets → place ≡ bucket_place geometry number → told ≡ figure_of number
   pub none : ¬ IsPlaceOfBucket geometry place → told ≡ no_figure not_a_bucket
 
--- C asks for the number of a bucket by its place; the value doesn't change
+-- C requests the number of a bucket by its place; the value doesn't change
 abbrev pub AnswersNumber : {X : Type 0} → Option X → Option X → Figure → ℕ → (X → PoolGeometry) → Type 0
 AnswersNumber old new told place geometry =
     Answers old new (told ≡ no_figure uninitialized) (λ made after. TellsNumberOf (geometry made) place told × (after ≡ made))

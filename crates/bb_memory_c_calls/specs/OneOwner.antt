@@ -1,4 +1,4 @@
--- The allocators with one owner, in handles: their answers to requests, and the figures that C gets of them.
+-- The allocators with one owner, in handles: their answers to requests, and the figures that C gets.
 use Rattle.bb_memory_bump.specs.Bump.{Bump, Takes as TakesOfBump}
 use Rattle.bb_memory_c_calls.specs.Answers.{TellsResized, figure_of, grow_code, no_figure, not_held, shrink_code}
 use Rattle.bb_memory_c_calls.specs.Calls.{Cutting, HasRoom}
@@ -24,7 +24,7 @@ pub record BumpAllocates (bump : Bump) (layout : Layout) (answer : Result Chunk 
   -- the bump by its value
   pub value : TakesOfBump bump layout answer after
   pub region : after.region ≡ bump.region
-  -- the bump by its object, on each live list that it stands for
+  -- the bump as its object, for each live list that it represents
   pub object : (live : List Chunk) → StandsFor bump.region bump.used live → MayAllocate bump.region live layout answer
   pub appended : IfOk answer (λ chunk. (live : List Chunk) → StandsFor bump.region bump.used live
       → StandsFor after.region after.used (live ++ chunk ∷ []))

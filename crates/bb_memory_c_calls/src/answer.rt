@@ -1,4 +1,4 @@
-//! Answers as C sees them.
+//! Answers in the form that C gets them.
 ghost use Rattle.bb_memory_c_calls.specs.Answers.{answer_by, answer_of, figure_of, grow_code, no_figure, refused, shown_flag, shrink_code};
 ghost use Rattle.std.specs.Prelude.{◌≡◌};
 
@@ -7,7 +7,7 @@ use bb_memory_pool_machine::steps::Flag;
 use bb_memory_traits::allocator::{AllocationError, AllocationGrowError, AllocationShrinkError};
 use bb_memory_traits::layout::Chunk;
 
-/// A code, and with code 0 the place of the chunk that was given. With any other code it is 0. Both fields fit into registers.
+/// A code and, if the code is 0, the place of the chunk. With any other code the place is 0. Both fields fit into registers.
 #[repr(C)]
 #[derive(Clone, Copy)]
 pub struct Answer {
@@ -15,7 +15,7 @@ pub struct Answer {
     pub place: usize,
 }
 
-/// A code, and with code 0 the number that was asked for. With any other code it is 0.
+/// A code and, if the code is 0, the requested number. With any other code the number is 0.
 #[repr(C)]
 #[derive(Clone, Copy)]
 pub struct Figure {
@@ -42,7 +42,7 @@ pub struct OneChunkInfo {
     pub has_chunk_available: bool,
 }
 
-/// The figures of a pool with one owner, from bucket 0 on.
+/// The figures of a pool with one owner. The start address is the place of bucket 0.
 #[repr(C)]
 #[derive(Clone, Copy)]
 pub struct PoolInfo {
@@ -55,8 +55,8 @@ pub struct PoolInfo {
     pub greatest_held: usize,
 }
 
-/// The figures of a shared pool, from bucket 0 on, as they were read while parties may have called. For a party, held buckets are
-/// its own.
+/// The figures of a shared pool, as they were read while parties may have called. In the figures of a party, the held buckets
+/// are its own.
 #[repr(C)]
 #[derive(Clone, Copy)]
 pub struct SharedPoolInfo {
@@ -84,7 +84,7 @@ pub const HELD: u32 = 1;
 pub const DETACHED: u32 = 2;
 
 impl Holder {
-    /// Turns a flag into C's.
+    /// Converts a flag into C's.
     pub fn of(flag: Flag) -> Holder
         ensures { result ≡ shown_flag flag }
     {
@@ -98,14 +98,14 @@ impl Holder {
 }
 
 impl Answer {
-    /// Nothing was given, for the cause of this code.
+    /// Returns no chunk, for the reason of this code.
     pub fn refusal(code: u32) -> Answer
         ensures { result ≡ refused code }
     {
         Answer { code, place: 0 }
     }
 
-    /// Turns the answer to a request into C's.
+    /// Converts the answer to a request into C's.
     pub fn of(answer: Result<Chunk, AllocationError>) -> Answer
         ensures { result ≡ answer_of answer }
     {
@@ -121,7 +121,7 @@ impl Answer {
         }
     }
 
-    /// Turns the answer to a grow into C's.
+    /// Converts the answer to a grow into C's.
     pub fn of_grow(answer: Result<Chunk, AllocationGrowError>) -> Answer
         ensures { result ≡ answer_by grow_code answer }
     {
@@ -138,7 +138,7 @@ impl Answer {
         }
     }
 
-    /// Turns the answer to a shrink into C's.
+    /// Converts the answer to a shrink into C's.
     pub fn of_shrink(answer: Result<Chunk, AllocationShrinkError>) -> Answer
         ensures { result ≡ answer_by shrink_code answer }
     {
@@ -157,7 +157,7 @@ impl Answer {
 }
 
 impl Figure {
-    /// Returns the number that was asked for.
+    /// Returns the requested number, with code 0.
     pub fn of(number: usize) -> Figure
         ensures { result ≡ figure_of number }
     {
@@ -167,7 +167,7 @@ impl Figure {
         }
     }
 
-    /// No number, for the cause of this code.
+    /// Returns no number, for the reason of this code.
     pub fn refusal(code: u32) -> Figure
         ensures { result ≡ no_figure code }
     {

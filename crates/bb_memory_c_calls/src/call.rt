@@ -10,7 +10,7 @@ use crate::kind::{Bucketed, Ends, Gives, Keeps, Shares};
 use crate::layout::layout_of;
 use std::alloc::Global;
 
-/// Returns whether the handle holds a value. It doesn't change.
+/// Returns whether the handle holds a value. The handle doesn't change.
 pub fn is_made<M: Drop, H: Handle<M>>(handle: &mut H) -> bool
     ensures made { IsTrue result → H.made handle.old ≢ None }
     ensures empty { IsFalse result → H.made handle.old ≡ None }
@@ -22,7 +22,7 @@ pub fn is_made<M: Drop, H: Handle<M>>(handle: &mut H) -> bool
     }
 }
 
-/// Moves a value into memory of its own, which the handle, empty so far, then holds. If `malloc` fails, it returns
+/// Moves a value into memory of its own. The handle, which has to be empty, then holds it. If `malloc` fails, the call returns
 /// `BB_MALLOC_REFUSED`, and the handle stays empty.
 pub fn keep<M: Drop, H: Handle<M>>(handle: &mut H, alloc: Global, made: M) -> u32
     requires { H.made handle.old ≡ None }
@@ -36,7 +36,7 @@ pub fn keep<M: Drop, H: Handle<M>>(handle: &mut H, alloc: Global, made: M) -> u3
     code::OK
 }
 
-/// Frees the value that the handle holds. The handle is empty then.
+/// Frees the value that the handle holds. Afterwards the handle is empty.
 pub fn free<M: Drop, H: Handle<M>>(handle: &mut H, alloc: Global) -> u32
     ensures { AnswersFree (H.made handle.old) (H.made handle.new) result }
 {
@@ -47,7 +47,7 @@ pub fn free<M: Drop, H: Handle<M>>(handle: &mut H, alloc: Global) -> u32
     code::OK
 }
 
-/// Frees the value that the handle holds, if nothing of it is in use. The handle is empty then.
+/// Frees the value that the handle holds, if nothing of it is in use. Afterwards the handle is empty.
 pub fn destroy<M: Ends, H: Handle<M>>(handle: &mut H, alloc: Global) -> u32
     ensures { AnswersDestroy (H.made handle.old) (H.made handle.new) result M.ends }
 {
@@ -93,7 +93,7 @@ fn ask<I, M: Gives<I>>(made: &mut M, size: usize, align: usize) -> Answer
     }
 }
 
-/// Does what `ask` does, and is never inlined: a call that is answered quickly without it stays straight-line code.
+/// Does what `ask` does, and is never inlined, so that the fast path of its caller stays straight-line code.
 #[inline(never)]
 fn ask_apart<I, M: Gives<I>>(made: &mut M, size: usize, align: usize) -> Answer
     ensures { TellsRequest made.old made.new size align result M.may_give }
@@ -118,7 +118,8 @@ pub fn request_bucket<I, M: Gives<I> + Bucketed, H: Handle<M>>(
     }
 }
 
-/// Takes a whole bucket by a search, apart from the takings that need none, which are then straight-line code.
+/// Takes a whole bucket by a search. The function is never inlined, so that a taking that needs no search is straight-line
+/// code.
 #[inline(never)]
 fn search<M: Bucketed>(made: &mut M) -> Answer
     ensures { TellsTake made.old made.new result M.may_take }
@@ -155,7 +156,8 @@ pub fn give_back<M: Keeps, H: Handle<M>>(handle: &mut H, place: usize) -> u32
     }
 }
 
-/// Takes whole buckets, one after another, until each slot has the place of one or none is left, and returns how many.
+/// Takes whole buckets, one after another, until each slot has the place of one or none can be taken. Returns how many were
+/// taken.
 fn take_each<M: Bucketed>(made: &mut M, slots: &mut [usize]) -> usize
     ensures { TakesMany made.old made.new slots.old slots.new result M.may_take }
 {
@@ -170,7 +172,7 @@ fn take_each<M: Bucketed>(made: &mut M, slots: &mut [usize]) -> usize
     taken
 }
 
-/// Takes whole buckets, at most as many as there are slots, and writes their places into the first of these.
+/// Takes whole buckets, at most one for each slot, and writes their places into the first slots.
 pub fn take_many<M: Bucketed, H: Handle<M>>(handle: &mut H, slots: &mut [usize]) -> Figure
     ensures { AnswersTakings (H.made handle.old) (H.made handle.new) slots.old slots.new result M.may_take }
 {
@@ -180,7 +182,8 @@ pub fn take_many<M: Bucketed, H: Handle<M>>(handle: &mut H, slots: &mut [usize])
     }
 }
 
-/// Gives back the chunks at these places, one after another, up to the first place where none is held, and returns how many.
+/// Gives back the chunks at these places, one after another, up to the first place at which none is held. Returns how many were
+/// given back.
 fn give_back_each<M: Keeps>(made: &mut M, places: &[usize]) -> usize
     ensures { FreesMany made.old made.new places.now result M.holds M.frees }
 {
@@ -194,7 +197,7 @@ fn give_back_each<M: Keeps>(made: &mut M, places: &[usize]) -> usize
     returned
 }
 
-/// Gives back the chunks at these places, up to the first place where none is held.
+/// Gives back the chunks at these places, up to the first place at which none is held.
 pub fn give_back_many<M: Keeps, H: Handle<M>>(handle: &mut H, places: &[usize]) -> Figure
     ensures { AnswersReturns (H.made handle.old) (H.made handle.new) places.now result M.holds M.frees }
 {
@@ -240,7 +243,7 @@ pub fn number<M: Bucketed, H: Handle<M>>(handle: &mut H, place: usize) -> Figure
     }
 }
 
-/// Has the last party that hasn't joined join. Its handle has to be empty.
+/// Makes the last party that hasn't joined join. Its handle has to be empty.
 pub fn join<M: Shares<P>, P: Drop, H: Handle<M>, S: Handle<P>>(
     handle: &mut H,
     alloc: Global,
@@ -263,7 +266,7 @@ pub fn join<M: Shares<P>, P: Drop, H: Handle<M>, S: Handle<P>>(
     code::OK
 }
 
-/// Has a party leave, which may join again. Its handle is empty then.
+/// Makes a party leave. It may join again. Afterwards its handle is empty.
 pub fn leave<M: Shares<P>, P: Drop, H: Handle<M>, S: Handle<P>>(
     handle: &mut H,
     alloc: Global,

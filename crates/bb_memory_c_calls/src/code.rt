@@ -1,4 +1,5 @@
-//! The codes that the functions answer. 0 is for what was done, and each other number for one cause why nothing was.
+//! The codes that the functions return. 0 means that the call did what it is for. Each other number is one reason why nothing
+//! was done.
 
 pub const OK: u32 = 0;
 
@@ -13,21 +14,21 @@ pub const OUT_OF_MEMORY: u32 = 4;
 pub const GROW_WOULD_SHRINK: u32 = 5;
 
 pub const SHRINK_WOULD_GROW: u32 = 6;
-/// The size and the alignment make no layout.
+/// The size and the alignment don't make a layout.
 pub const INVALID_LAYOUT: u32 = 7;
 /// The handle is empty.
 pub const UNINITIALIZED: u32 = 8;
-/// The place isn't that of a held bucket, or of the chunk that is out.
+/// The place isn't that of a held bucket, or of the allocated chunk.
 pub const NOT_HELD: u32 = 9;
-/// The handle isn't empty, where one was to be made.
+/// The handle isn't empty, but has to be for an initialization.
 pub const ALREADY_INITIALIZED: u32 = 10;
-/// The numbers describe nothing that could be made.
+/// The numbers describe nothing that can be made.
 pub const INVALID_ARGUMENT: u32 = 11;
 /// Each party has joined.
 pub const NO_PARTY: u32 = 12;
 /// The chunk can't have the old layout: its place isn't a multiple of the alignment, or the size is more than is reserved.
 pub const LAYOUT_MISMATCH: u32 = 13;
-/// `malloc` refused.
+/// `malloc` failed.
 pub const MALLOC_REFUSED: u32 = 14;
 /// The new size is greater than what is reserved.
 pub const MORE_THAN_RESERVED: u32 = 15;
@@ -35,15 +36,15 @@ pub const MORE_THAN_RESERVED: u32 = 15;
 pub const NO_BUCKET: u32 = 16;
 /// A bucket of the pool is detached.
 pub const BUCKET_DETACHED: u32 = 17;
-/// Not each party has left.
+/// Some party hasn't left.
 pub const PARTIES_JOINED: u32 = 18;
 /// The pool has no other party.
 pub const ONE_PARTY: u32 = 19;
-/// A detached bucket is there already.
+/// A detached bucket is already there.
 pub const DETACHED_FULL: u32 = 20;
 /// No detached bucket is there.
 pub const DETACHED_EMPTY: u32 = 21;
 /// No bucket has the number, or begins at the place.
 pub const NOT_A_BUCKET: u32 = 22;
-/// The party, or the detached bucket, is another's.
+/// The party, or the detached bucket, belongs to another pool.
 pub const OTHER_POOL: u32 = 23;

@@ -1,4 +1,4 @@
-//! The pointer that a handle holds, and a box whose pointer is in sight.
+//! The pointer that a handle holds, and a box whose pointer is visible.
 ghost use Rattle.bb_memory_c_calls.specs.Handles.{owns_if};
 ghost use Rattle.std.specs.Box.Ownership.{box_owns};
 ghost use Rattle.std.specs.Prelude.{MatchOption, None, Option, Some, ◌≡◌};
@@ -7,7 +7,7 @@ use std::alloc::{Allocator, Global};
 use std::marker::Model;
 use std::ptr;
 
-/// Nothing, or the owner of what was made.
+/// Nothing, or the owner of a value.
 #[repr(C)]
 #[derive(Drop)]
 pub struct Held<T> {
@@ -21,7 +21,7 @@ impl<T> Model for Held<T> {
 }
 
 impl<T> Held<T> {
-    /// Nothing.
+    /// Returns the owner of nothing.
     pub fn nothing(_alloc: Global) -> Held<T>
         ensures { result.value ≡ None }
     {
@@ -39,7 +39,7 @@ impl<T> Held<T> {
         Held { at, made: true }
     }
 
-    /// Returns the value that it owns, if it owns one.
+    /// Returns the owned value, if there is one.
     pub fn into_loose(self, alloc: Global) -> Option<Loose<T, Global>>
         ensures { MatchOption result (self.value ≡ None) (λ loose. self.value ≡ Some loose.value) }
     {
@@ -52,7 +52,7 @@ impl<T> Held<T> {
     }
 }
 
-/// The parts of a box, which owns the value behind the pointer.
+/// The parts of a box, which owns the value at its pointer.
 pub struct Loose<T, A: Allocator> {
     pub at: *mut T,
     pub alloc: A,

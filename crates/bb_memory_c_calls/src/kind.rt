@@ -1,4 +1,4 @@
-//! Traits of the kinds of values in handles: what a call, which is written once for all kinds, asks of one.
+//! Traits of the kinds of values in handles: what a call, which is written once for all kinds, needs from a kind.
 ghost use Rattle.bb_memory_c_calls.specs.Calls.{Sharing, TakesParty};
 ghost use Rattle.bb_memory_traits.specs.Chunk.{Chunk};
 ghost use Rattle.bb_memory_traits.specs.Geometry.{TellsNumber, TellsPlace};
@@ -11,7 +11,7 @@ use bb_memory_traits::allocator::AllocationError;
 use bb_memory_traits::layout::{Chunk, Layout};
 use std::alloc::Global;
 
-/// Gives chunks, and fills a C struct of type `I` with its figures.
+/// A kind that gives chunks, and fills a C struct of type `I` with its figures.
 pub trait Gives<I>: Drop {
     /// The answers that a request may have, and the value after it.
     ghost may_give: { Self → Asked → Result Chunk AllocationError → Self → Type 0 };
@@ -19,7 +19,7 @@ pub trait Gives<I>: Drop {
     /// The figures that the struct may be filled with, and the value after that.
     ghost may_show: { Self → I → Self → Type 0 };
 
-    /// Asks for a chunk.
+    /// Requests a chunk.
     fn give(&mut self, layout: Layout) -> Result<Chunk, AllocationError>
         ensures { may_give self.old layout result self.new };
 
@@ -28,7 +28,7 @@ pub trait Gives<I>: Drop {
         ensures { may_show self.old result self.new };
 }
 
-/// Knows its chunks by their places.
+/// A kind that knows its chunks by their places.
 pub trait Keeps: Drop {
     /// A chunk is held at this place.
     ghost holds: { Self → ℕ → Type 0 };
@@ -41,14 +41,14 @@ pub trait Keeps: Drop {
         ensures value { IsTrue result ↔ holds self.old place }
         ensures unchanged { self.new ≡ self.old };
 
-    /// Gives back the chunk at this place, if one is held there, and returns whether one was. Otherwise it changes nothing.
+    /// Gives back the chunk at this place, if one is held there, and returns whether one was. Otherwise nothing changes.
     fn give_back(&mut self, place: usize) -> bool
         ensures held { IsTrue result ↔ holds self.old place }
         ensures freed { IsTrue result → frees self.old place self.new }
         ensures unchanged { IsFalse result → self.new ≡ self.old };
 }
 
-/// Is cut into buckets.
+/// A kind that is cut into buckets.
 pub trait Bucketed: Drop {
     /// How its region is cut.
     ghost geometry: { Self → PoolGeometry };
@@ -61,10 +61,10 @@ pub trait Bucketed: Drop {
         ensures may { may_take self.old result self.new }
         ensures refused { IfErr result (λ error. error ≡ AllocationError.OutOfMemory) };
 
-    /// Returns whether taking a whole bucket needs no search now. Any answer is right.
+    /// Returns whether taking a whole bucket needs no search now. Either answer is correct.
     fn is_short(&self) -> bool;
 
-    /// Returns a layout within which a request skips `layout_of`. Any answer is right.
+    /// Returns a layout within which a request skips `layout_of`. Any layout is correct.
     fn limit(&self) -> Layout;
 
     /// Returns where the bucket of this number begins, if there is one.
@@ -76,18 +76,18 @@ pub trait Bucketed: Drop {
         ensures { TellsNumber (geometry self.now) place result };
 }
 
-/// Is destroyed only if nothing of it is in use.
+/// A kind that is destroyed only if nothing of the value is in use.
 pub trait Ends: Drop {
     /// A destruction of the value may return this code.
     ghost ends: { Self → ℕ → Type 0 };
 
-    /// Returns the code of a destruction: `BB_OK`, or why it is refused.
+    /// Returns the code of a destruction: `BB_OK`, or the reason why it fails.
     fn end_code(&mut self) -> u32
         ensures value { ends self.old result }
         ensures unchanged { self.new ≡ self.old };
 }
 
-/// Is shared by threads: `S` is a party that has joined, and the others are here.
+/// A kind that threads share: `S` is a party that has joined, and the other parties are in the value.
 pub trait Shares<S: Drop>: Drop {
     /// How the kind describes its parties.
     ghost sharing: { Sharing Self S };
@@ -99,12 +99,12 @@ pub trait Shares<S: Drop>: Drop {
     fn join_last(&mut self, alloc: Global) -> Result<Box<S>, u32>
         ensures { TakesParty (λ joined. joined.value) self.old self.new result sharing };
 
-    /// Returns whether a party is one of its own that has joined.
+    /// Returns whether a party is one of this value's that has joined.
     fn has_joined(&self, party: &S) -> bool
         requires { knows self.now party.now }
         ensures { IsTrue result ↔ sharing.at self.now party.now };
 
-    /// Takes the party back, as the last of those that haven't joined.
+    /// Takes the party back. It is then the last of those that haven't joined.
     fn take_back(&mut self, joined: S)
         requires { sharing.at self.old joined }
         ensures { (after : S) × sharing.leaves joined after × (self.new ≡ sharing.with_party self.old after) };

@@ -1,4 +1,4 @@
-//! Layouts of two numbers that C passes.
+//! Layouts from two numbers that C passes.
 ghost use Rattle.bb_memory_c_calls.specs.Answers.{invalid_argument, invalid_layout, no_bucket};
 ghost use Rattle.bb_memory_c_calls.specs.Calls.{FailsOf, HasRoom, IsCuttable, IsOf, LacksRoomOf, MayBeShared};
 ghost use Rattle.bb_memory_traits.specs.Chunk.{region_at};

@@ -1,11 +1,12 @@
-//! The calls of C, each written once over any handle. What can be tested is tested here, so a wrong number is answered by a code.
+//! The calls of C, each written once over any handle. Whatever can be tested is tested here: for a wrong number the caller gets
+//! a code.
 //!
 //! The modules, in the order in which to read them:
 //!
-//! - `code`: what the functions answer. `answer`: a chunk, a figure or all figures, as C sees them.
-//! - `layout`: layouts of two numbers that C hands in.
-//! - `held`: what was made, or nothing. `handle`: what the host holds.
-//! - `kind`: what a call asks of a kind. `one_owner`: the allocators with one owner. `call`: each call.
+//! - `code`: the codes that the functions return. `answer`: a chunk, a figure or all figures, in the form that C gets them.
+//! - `layout`: layouts from two numbers that C passes.
+//! - `held`: a value, or nothing. `handle`: the handle in the host.
+//! - `kind`: what a call needs from a kind. `one_owner`: the allocators with one owner. `call`: each call.
 #![tactic(auto)]
 
 pub mod answer;

@@ -67,7 +67,8 @@ impl Keeps for OneChunkAllocator {
     }
 }
 
-/// A pool in a handle. Its type has no parameters, since those of `PoolAllocator` would be proved again at each call of a handle.
+/// A pool in a handle. Its type has no parameters, since the parameters of `PoolAllocator` would be proved again at each call
+/// of a handle.
 #[derive(Drop)]
 pub struct Pool {
     pub pool: PoolAllocator<Global>,

@@ -1,5 +1,5 @@
--- Heap blocks: bytes that the language's allocator gave. What the heap may answer, and when: nothing here foretells that
--- memory is refused. Alignments decide nothing.
+-- Heap blocks: bytes that the language's allocator gave. Which answers the heap may give, and when: nothing here predicts that
+-- memory runs out. Alignments decide nothing.
 use Rattle.bb_memory_traits.specs.declared.allocator.AllocationError.{AllocationError}
 use Rattle.bb_memory_traits.specs.declared.allocator.AllocationError.TheVariants.{OutOfMemory, SizeIsZero}
 use Rattle.bb_memory_traits.specs.declared.allocator.AllocationGrowError.{AllocationGrowError}
@@ -23,7 +23,7 @@ MayGrow block old new (Err (back, grow.GrowWouldShrink)) = (new.size ≤ old.siz
 MayGrow block old new (Err (back, grow.OutOfMemory)) = (old.size < new.size) × (back ≡ block)
 MayGrow block old new answer = ⊥
 
--- a shrunk block has the first bytes; a refusal hands the block back as it was
+-- a shrunk block has the first bytes; a refusal returns the block as it was
 abbrev pub MayShrink : List ℕ → Layout → Layout → Result (List ℕ) (List ℕ × AllocationShrinkError) → Type 0
 MayShrink block old new (Ok shrunk) = (0 < new.size) × (new.size < old.size) × (shrunk ≡ take new.size block)
 MayShrink block old new (Err (back, shrink.ShrinkWouldGrow)) = (old.size ≤ new.size) × (back ≡ block)

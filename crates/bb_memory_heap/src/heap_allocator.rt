@@ -42,7 +42,7 @@ impl HeapBlock {
         self.bytes.as_slice()
     }
 
-    /// Lends the bytes: what is written there is what the block then holds.
+    /// Lends the bytes: the block then has the bytes that are written there.
     #[inline]
     pub fn as_mut_slice(&mut self) -> &mut [u8]
         ensures* writes_back { sem 𝓛 (LendsBlock self.entry result) }
@@ -67,7 +67,7 @@ impl HeapAllocator {
         HeapAllocator { alloc }
     }
 
-    /// Allocates a block of `layout.size()` zero bytes. It fails, in this order, with `SizeIsZero` if the size is 0, and with
+    /// Allocates a block of `layout.size()` zero bytes. Fails, in this order, with `SizeIsZero` if the size is 0, and with
     /// `OutOfMemory` if memory ran out.
     #[inline]
     pub fn allocate(&self, layout: Layout) -> Result<HeapBlock, AllocationError>
@@ -82,7 +82,7 @@ impl HeapAllocator {
         }
     }
 
-    /// The same as `allocate`, whose blocks are all zero.
+    /// Does the same as `allocate`, whose blocks are all zero.
     #[inline]
     pub fn allocate_zeroed(&self, layout: Layout) -> Result<HeapBlock, AllocationError>
         ensures answer { MayAllocate layout result }
@@ -94,9 +94,9 @@ impl HeapAllocator {
     #[inline]
     pub fn deallocate(&self, _block: HeapBlock, _layout: Layout) {}
 
-    /// Returns the block with zero bytes after its own, up to the new size. The old size has to be the block's length. It
-    /// fails, in this order, with `GrowWouldShrink` if the new size isn't greater than the old one, and with `OutOfMemory` if
-    /// memory ran out. A refusal returns the block as it was.
+    /// Returns the block with zero bytes after its own, up to the new size. The old size has to be the block's length. Fails,
+    /// in this order, with `GrowWouldShrink` if the new size isn't greater than the old one, and with `OutOfMemory` if memory
+    /// ran out. A refusal returns the block as it was.
     #[inline]
     pub fn grow(
         &self,
@@ -111,7 +111,7 @@ impl HeapAllocator {
         if old.size() >= new.size() {
             return Err((block, AllocationGrowError::GrowWouldShrink));
         }
-        // This asks for as much memory as is wanted. Without it, `resize` would ask for more.
+        // Requests exactly as much memory as is needed. Without this, `resize` would request more.
         if block.bytes.reserve_exact(new.size() - old.size()).is_err() {
             return Err((block, AllocationGrowError::OutOfMemory));
         }
@@ -121,7 +121,7 @@ impl HeapAllocator {
         }
     }
 
-    /// The same as `grow`, which makes all bytes that it adds zero.
+    /// Does the same as `grow`, which makes all bytes that it adds zero.
     #[inline]
     pub fn grow_zeroed(
         &self,
@@ -135,9 +135,9 @@ impl HeapAllocator {
         self.grow(block, old, new)
     }
 
-    /// Returns the first bytes of the block, up to the new size. The old size has to be the block's length. It fails, in this
-    /// order, with `ShrinkWouldGrow` if the new size isn't smaller than the old one, and with `SizeIsZero` if the new size is 0.
-    /// A refusal returns the block as it was. The call allocates nothing.
+    /// Returns the first bytes of the block, up to the new size. The old size has to be the block's length. Fails, in this
+    /// order, with `ShrinkWouldGrow` if the new size isn't smaller than the old one, and with `SizeIsZero` if the new size is
+    /// 0. A refusal returns the block as it was. The call allocates nothing.
     #[inline]
     pub fn shrink(
         &self,
@@ -160,7 +160,7 @@ impl HeapAllocator {
     }
 }
 
-/// Says in plain words what [`HeapBlock::as_mut_slice`] promises about the bytes that it lends: bytes that were written there
+/// States in plain words what [`HeapBlock::as_mut_slice`] promises about the bytes that it lends: bytes that were written there
 /// are the block's afterwards, if they have the block's length. The function does nothing: its contract is the law.
 pub fn heap_law()
     ensures written { (block bytes : List ℕ) → length bytes ≡ length block

@@ -1,4 +1,4 @@
--- A set of numbers without the one that was freed last: its bit is set, and it is free.
+-- A set of numbers without the one that was freed last: the number's bit is set, and the number is free.
 use Rattle.bb_memory_index_set.proofs.NumberWords.{length-numbers_of, released}
 use Rattle.bb_memory_index_set.proofs.Tallies.{tally-released}
 use Rattle.bb_memory_index_set.specs.IndexSets.{AreIndexWords, Has, IsLastFreed, IsTally, Lacks, SetsBit, index_words, less_last_freed, numbers_of}
@@ -70,7 +70,7 @@ given numbers held last_freed is has =
           ∙ ap (λ (l : List Bool). set l last_freed true) is,
     )
 
--- a release: another number is freed last, and the bit of the one before it is cleared
+-- a release: another number is the one freed last, and the bit of the number before it is cleared
 pub swapped : (numbers held : List Bool) (last_freed number : ℕ) → less_last_freed numbers last_freed ≡ held → Has held number →
     less_last_freed (less_last_freed numbers number) last_freed ≡ less_last_freed held number
 swapped numbers held last_freed number is has = grind (arith, set_comm)

@@ -1,4 +1,4 @@
--- A listing of the numbers that are open, after one is open no more, or again.
+-- A listing of the numbers that are open, after one isn't open any more, or is open again.
 use Rattle.bb_memory_index_set.specs.IndexSets.{IsListing}
 use Rattle.std.proofs.Common.{List, ap, arith, eq-eqb, eqb, get_or, if◌then◌else◌, inl, inr, length, map, subst, sym, ℕ, ◌+◌, ◌-◌, ◌<◌, ◌∙◌, ◌≡◌, ◌≢◌, ◌≤◌}
 use Rattle.std.proofs.lemmas.Bool.{cases_eq, eqb-true, ne_eqb}

@@ -21,7 +21,7 @@ next_same (suc bit) n clear ones =
     bit_at-suc (n + 1) bit ∙ ap (λ m. bit_at m bit) (half_odd n odd)
     ∙ next_same bit (n / 2) (sym (bit_at-suc n bit) ∙ clear) (λ i h. sym (bit_at-suc n i) ∙ ones (suc i) (omega (arith, h)))
 
--- and the bits above it stay
+-- the bits above the lowest clear bit stay
 next_above : (bit n i : ℕ) → bit_at n bit ≡ 0 → ((i : ℕ) → i < bit → bit_at n i ≡ 1) → bit < i → bit_at (n + 1) i ≡ bit_at n i
 next_above bit n zero clear ones above = absurd (omega (arith, above))
 next_above zero n (suc i) clear ones above = grind (arith, bit_at-suc)
@@ -58,7 +58,7 @@ lowest_set words at word within read not_full =
     rw e at (change words (at * 64 + bit) (bit_or word (word + 1)) true (rw e within) changes) in
     (low, clear, sets)
 
--- A taking: the number of that bit wasn't in the set. With the bit set it is the set with the number.
+-- A taking: the number of that bit wasn't in the set. With the bit set, the words are the set with the number.
 pub taken : (bound : ℕ) (words : List ℕ) (at word : ℕ) → AreIndexWords bound words → at < length words →
     word ≡ get_or words at 0 → word + 1 < 2 ^ 64 →
     let number = at * 64 + trailing_ones w64 word in

@@ -32,11 +32,11 @@ module _ (room bound : ℕ) (held : List Bool) (free : List ℕ) (left : ℕ) (i
   pub all_held : left ≡ 0 → IsFull (take bound held)
   all_held none n below = grind (arith, length-flags, has_or_lacks, slice_get-take)
 
-  -- otherwise the last entry is a number that isn't in it
+  -- otherwise the last entry is a number that isn't in the set
   pub lacked : 0 < left → (get_or free (left - 1) 0 < bound) × Lacks (take bound held) (get_or free (left - 1) 0)
   lacked some = grind (arith, slice_get-take)
 
-  -- that number is taken off, and its flag is set
+  -- that number is removed from the entries, and its flag is set
   pub taken_off : 0 < left → AreFlags room bound (set held (get_or free (left - 1) 0) true) free (left - 1)
   taken_off some =
       let number = get_or free (left - 1) 0 in

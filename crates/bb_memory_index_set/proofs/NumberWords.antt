@@ -46,7 +46,7 @@ pub cleared : (words : List ℕ) (number : ℕ) → number / 64 < length words �
 cleared words number within =
     change words number _ false within (clear_bit (get_or words (number / 64) 0) (number % 64) (omega arith))
 
--- so the word isn't full
+-- a word with a cleared bit isn't full
 pub cleared_is_open : (word bit : ℕ) → bit < 64 → bit_and word (bit_not w64 (1 * 2 ^ bit % 2 ^ 64)) ≢ 2 ^ 64 - 1
 cleared_is_open word bit low full =
     false≢true (sym (clear_bit word bit low).0 ∙ ap (λ x. eqb (bit_at x bit) 1) full ∙ eq-eqb _ 1 (bit_at_ones 64 bit low))
@@ -69,7 +69,7 @@ module _ (bound : ℕ) (words new : List ℕ) (number : ℕ) (flag : Bool) (belo
             ∙ sym (get_or-set_other (numbers_of bound words) number n flag false other)
       ]))
 
-  -- they are words of the bound again
+  -- the changed words are words of the bound again
   pub AreIndexWords-set : AreIndexWords bound words → AreIndexWords bound new
   AreIndexWords-set are = record {
     count = sets.len ∙ are.count;
@@ -99,7 +99,7 @@ has_word bound words number are has =
     let below : number < bound = omega (arith, length-numbers_of bound words) in
     (below, omega (arith, are.count))
 
--- a release: with the number's bit clear it is the set without the number
+-- a release: with the number's bit clear, the words are the set without the number
 pub released : (bound : ℕ) (words new : List ℕ) (number : ℕ) → AreIndexWords bound words → Has (numbers_of bound words) number →
     SetsBit words number false new →
     AreIndexWords bound new × (numbers_of bound new ≡ set (numbers_of bound words) number false)
@@ -166,7 +166,7 @@ fresh_whole bound count is whole =
 abbrev pub last_word : ℕ → ℕ
 last_word bound = (2 ^ 64 - 1) * 2 ^ (bound % 64) % 2 ^ 64
 
--- words of zeros with that last word are the empty set if it isn't
+-- if the bound isn't a multiple of 64, words of zeros with that last word are the empty set
 pub fresh_part : (bound count : ℕ) → count ≡ index_words bound → bound % 64 ≢ 0 →
     let words = set (zeros count) (count - 1) (last_word bound) in
     AreIndexWords bound words × NoneIsFull words × (numbers_of bound words ≡ replicate bound false)

@@ -52,10 +52,10 @@ current_taken bound words listed current open_count word is some read low =
     let not_full : word ≢ 2 ^ 64 - 1 = λ full. it.1 (sym read ∙ full) in
     taken bound words current word is.are it.0 read (omega (arith, low, not_full))
 
--- what the search for the proof of a taking uses
+-- the lemmas that the search for the proof of a taking uses
 pub ruleset of_a_taking = (given, word_count, has_word, current_open)
 
--- the words beside it are open or full as they were
+-- the words beside the changed one are open or full as before
 stay_open : (words new : List ℕ) (at : ℕ) → PutsAt words at new → (other : ℕ) → other ≢ at →
     (IsOpen words other → IsOpen new other) × (IsOpen new other → IsOpen words other)
 stay_open words new at puts other apart =
@@ -84,7 +84,7 @@ set_left bound words listed current open_count left is are some not =
           (λ full. not (sym (get_or-set_same words current left 0 it.0) ∙ full)));
     }
 
--- the same, and it is full then: the word that is listed last is current, if one is listed
+-- a taking that fills the word: the word that is listed last is current, if one is listed
 pub set_filled : (bound : ℕ) (words listed : List ℕ) (current open_count left next : ℕ) →
     IsWordSet bound words listed current open_count →
     AreIndexWords bound (set words current left) → 0 < open_count → left ≡ 2 ^ 64 - 1 →

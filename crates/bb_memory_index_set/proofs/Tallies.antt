@@ -29,7 +29,7 @@ member_count-fresh zero = refl
 member_count-fresh (suc bound) =
     let rest = member_count-fresh bound in omega (arith, sum_by-cons weight false (replicate bound false))
 
--- if one is counted, it is a number of the set
+-- if one member is counted, the set has a number
 pub some_member : (numbers : List Bool) → 0 < member_count numbers → (i : ℕ) × Has numbers i
 some_member [] some = absurd (omega arith)
 some_member (true ∷ numbers) some = (zero, refl)
@@ -47,12 +47,12 @@ pub tally-room : (numbers : List Bool) (count most i : ℕ) → IsTally numbers 
 tally-room numbers count most i is lacks =
     let more = tally-taken numbers count most i is lacks in omega (arith, more.few, more.within, length-set numbers i true)
 
--- a number of it is given back
+-- a number of the set is given back
 pub tally-released : (numbers : List Bool) (count most i : ℕ) → IsTally numbers count most → Has numbers i →
     IsTally (set numbers i false) (count - 1) most
 tally-released numbers count most i is has = grind (arith, member_count-released, length-set)
 
--- if it has a member, that is counted
+-- if the set has a member, that member is counted
 pub tally-some : (numbers : List Bool) (count most i : ℕ) → IsTally numbers count most → Has numbers i → 1 ≤ count
 tally-some numbers count most i is has = omega (arith, is.members, member_count-released numbers i has)
 

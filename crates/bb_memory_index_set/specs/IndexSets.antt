@@ -44,8 +44,8 @@ pub record IsTally (set : List Bool) (count most : ℕ) : Type 0 where
 abbrev pub index_words : ℕ → ℕ
 index_words numbers = (numbers + 63) / 64
 
--- how many words of memory a set takes: its index words, and a list with room for all of them but
--- one
+-- how many words of memory a set takes: its index words, and a list with room for all of them
+-- except one
 abbrev pub words_with_list : ℕ → ℕ
 words_with_list numbers = index_words numbers + (index_words numbers - 1)
 
@@ -69,12 +69,12 @@ numbers_of bound words = map (has_bit words) (range_with_len 0 bound)
 abbrev pub less_last_freed : List Bool → ℕ → List Bool
 less_last_freed numbers last_freed = slice_set numbers last_freed false
 
--- The number that was freed last still has its bit set. If there is no such number, `last_freed` is
--- 2 ^ 64 - 1, which is above each bound.
+-- The number that was freed last still has its bit set. If no number was, `last_freed` is 2 ^ 64 -
+-- 1, which is above each bound.
 abbrev pub IsLastFreed : List Bool → ℕ → Type 0
 IsLastFreed numbers last_freed = last_freed ≢ 2 ^ 64 - 1 → Has numbers last_freed
 
--- there are just the words that the bound needs, and their bits from the bound on are set
+-- the words are exactly those that the bound needs, and their bits from the bound on are set
 pub record AreIndexWords (bound : ℕ) (words : List ℕ) : Type 0 where
   pub count : length words ≡ index_words bound
   pub past : (number : ℕ) → bound ≤ number → number < 64 * length words → has_bit words number ≡ true
@@ -88,7 +88,7 @@ pub record Slots : Type 0 where
 abbrev pub slots_of : ℕ → List ℕ → Slots
 slots_of count slots = record { words = take count slots; listed = drop count slots }
 
--- no word changes but the one at `at`
+-- no word changes except the one at `at`
 pub record PutsAt (words : List ℕ) (at : ℕ) (new : List ℕ) : Type 0 where
   pub len : length new ≡ length words
   pub others : (other : ℕ) → other ≢ at → slice_index new other ≡ slice_index words other

@@ -15,7 +15,7 @@ zeros (first ∷ sums) none =
     let here : 0 ≡ first = none zero in
     omega (arith, here, rest, sum_by-cons (λ n. n) first sums)
 
--- the sums with one of them less by so much
+-- the sums with one of them less by this much
 abbrev less : List ℕ → ℕ → ℕ → List ℕ
 less sums number by = set sums number (get_or sums number 0 - by)
 
@@ -38,7 +38,7 @@ less-sum sums number by le = ⊎_elim
     (cases_lt number (length sums))
 
 module _ {X : Type 0} (group measure : X → ℕ) where
-  -- what an item adds to the sum of a group
+  -- the summand of an item in the sum of a group
   abbrev share : ℕ → X → ℕ
   share number x = cond (group x == number) (measure x) 0
 

@@ -21,12 +21,12 @@ module _ {X : Type 0} where
   pub contains-none : (x : X) → Contains [] x → ⊥
   contains-none x has = absurd (omega (arith, has.1))
 
-  -- what holds for one item of the list holds for some item of it
+  -- a property of one item of the list holds for some item of the list
   pub any_contained : (P : X → Type 0) (xs : List X) (x : X) → Contains xs x → P x → Any P xs
   any_contained P xs x has holds = (has.0, x, has.1, has.2, holds)
 
 module _ {X : Type 0} (test : X → Bool) where
-  -- what passes the test is kept
+  -- an item that passes the test is kept
   pub contains-filter : (xs : List X) (y : X) → Contains xs y → test y ≡ true → Contains (filter test xs) y
   contains-filter [] y has passes = absurd (contains-none y has)
   contains-filter (x ∷ xs) y (zero, below, same) passes =

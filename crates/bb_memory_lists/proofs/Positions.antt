@@ -30,7 +30,7 @@ AllPairs-at R xs all i j x y before at_i at_j =
 
 -- A REMOVAL
 
--- an item of the list after a removal was in it before, at some position
+-- an item of the list after a removal was in the list before, at some position
 pub slice_get-removed : {X : Type 0} (xs : List X) (n i : ℕ) (x : X) → slice_get (remove xs n) i ≡ Some x →
     (j : ℕ) × (j ≢ n) × (slice_get xs j ≡ Some x)
 slice_get-removed [] zero i x at = absurd (cc)
@@ -41,7 +41,7 @@ slice_get-removed (y ∷ ys) (suc n) (suc i) x at =
     let was = slice_get-removed ys n i x at in
     (suc was.0, (λ same. was.1 (omega arith)), was.2)
 
--- what stood elsewhere is still there
+-- an item at another position is still in the list
 pub slice_get-unremoved : {X : Type 0} (xs : List X) (n j : ℕ) (x : X) → j ≢ n → slice_get xs j ≡ Some x →
     (i : ℕ) × (slice_get (remove xs n) i ≡ Some x)
 slice_get-unremoved [] n j x apart at = absurd (cc)

@@ -1,8 +1,8 @@
-//! Laws of lists, for a user whose contracts speak of what a vector has. Each is a function that does nothing: called in a
-//! body, it puts its clauses in reach there.
+//! Laws of lists, for a user whose contracts are about the contents of a vector. Each is a function that does nothing: a call
+//! in a body puts its clauses in reach there.
 ghost use Rattle.std.specs.Prelude.{Bool, IsSome, List, Some, [], if◌then◌else◌, length, map, position, remove, slice_get, slice_index_or, slice_set, sum, sum_by, true, ℕ, ◌++◌, ◌+◌, ◌-◌, ◌<◌, ◌==◌, ◌∷◌, ◌≡◌, ◌≤◌};
 
-/// One more item, after the others.
+/// States laws of appending one more item.
 pub fn append_law<T>()
     ensures last { (items : List T) (item : T)
         → slice_get (items ++ item ∷ []) (length items) ≡ Some item }
@@ -14,7 +14,7 @@ pub fn append_law<T>()
         → remove (items ++ item ∷ []) (length items) ≡ items }
 {}
 
-/// An item removed, so that those after it move up.
+/// States laws of removing an item: those after it move up.
 pub fn remove_law<T>()
     ensures before { (items : List T) (position other : ℕ) → other < position
         → slice_get (remove items position) other ≡ slice_get items other }
@@ -28,7 +28,7 @@ pub fn remove_law<T>()
         → length (remove items position) + 1 ≡ length items }
 {}
 
-/// The sum of a measure over the items: a size, or 1 for each that counts.
+/// States laws of the sum of a measure over the items: a size, or 1 for each item that counts.
 #[tactic(auto, using(std::proofs::lemmas::Grind::common_steps, std::proofs::lemmas::Option::gets))]
 pub fn sum_law<T>()
     ensures appended { (measure : T → ℕ) (items : List T) (item : T)
@@ -47,7 +47,7 @@ pub fn sum_law<T>()
         → slice_get items position ≡ Some item → measure item ≤ sum_by measure items }
 {}
 
-/// A list of what each item is mapped to, as a part of it.
+/// States laws of a list whose items are mapped to others.
 #[tactic(auto, using(crate::specs::Hints::parts_of_lists))]
 pub fn map_law<T, U>()
     ensures appended { (of : T → U) (items : List T) (item : T)
@@ -71,7 +71,7 @@ pub trait Grouped {
     ghost measure: { Self → ℕ };
 }
 
-/// Says that the measures of all items sum up to the sums of the groups together, and to no more than their bounds together.
+/// States that the measures of all items sum up to the sums of the groups together, and to at most their bounds together.
 pub fn group_law<T: Grouped>()
     ensures together { (items : List T) (sums : List ℕ)
         → ((number : ℕ) → (sum_by (λ item. if T.group item == number then T.measure item else 0) items
@@ -81,7 +81,7 @@ pub fn group_law<T: Grouped>()
         ≤ slice_index_or bounds number 0) → sum_by T.measure items ≤ sum bounds }
 {}
 
-/// The first position of an item that passes a test.
+/// States laws of the first position of an item that passes a test.
 pub fn position_law<T>()
     ensures there { (test : T → Bool) (items : List T) (index : ℕ) (item : T)
         → slice_get items index ≡ Some item → test item ≡ true → IsSome (position test items) }

@@ -27,11 +27,11 @@ StandsFor-one : (region : Region) (chunk : Chunk) → IsInside region chunk →
     StandsFor (one_of region (Some chunk.place)) (chunk ∷ [])
 StandsFor-one region chunk inside = grind arith
 
--- what there is from a place inside on lies inside
+-- the rest from a place inside the region is inside the region
 rest-inside : (region : Region) (place : ℕ) → HasByteAt region place → IsInside region (rest_from region place)
 rest-inside region place byte = record { above = byte.above; below = omega (arith, byte.below) }
 
--- each one chunk stands for some list: the empty one, or all of the region from the place that is kept
+-- each one-chunk allocator stands for some list: the empty one, or all of the region from the place that is kept
 some_list : (region : Region) (kept : Option ℕ) → ForSome kept (HasByteAt region) →
     (live : List Chunk) × StandsFor (one_of region kept) live
 some_list region None within = ([], StandsFor-empty region)
@@ -63,7 +63,7 @@ gives_or_refuses region live layout chunk given (inl out) = out given.0
 gives_or_refuses region live layout chunk given (inr (inl behind)) = let begins = given.1.begins in omega arith
 gives_or_refuses region live layout chunk given (inr (inr far)) = let ends = given.1.ends in omega arith
 
--- there is no other answer to it
+-- each request has at most one answer
 pub one_answer : (region : Region) (live : List Chunk) (layout : Layout) (one other : Result Chunk AllocationError) →
     MayAllocate region live layout one → MayAllocate region live layout other → one ≡ other
 one_answer region live layout (Ok c) (Ok d) first second = ap Ok (first.2 ∙ sym second.2)
@@ -78,12 +78,12 @@ answer-aligned region live layout chunk told =
     ap (λ (k : Chunk). k.place % layout.align) told.2
     ∙ least_place-multiple region.start layout.align layout.valid.positive
 
--- it begins inside the region
+-- the answered chunk begins inside the region
 answer-byte : (region : Region) (live : List Chunk) (layout : Layout) (chunk : Chunk) →
     MayAllocate region live layout (Ok chunk) → HasByteAt region chunk.place
 answer-byte region live layout chunk told = grind (arith, common_steps, least_place-is)
 
--- it isn't empty, and ends at the region's end
+-- the answered chunk isn't empty, and ends at the region's end
 pub answer-whole : (region : Region) (live : List Chunk) (layout : Layout) (chunk : Chunk) →
     MayAllocate region live layout (Ok chunk) → (0 < chunk.len) × (chunk_end chunk ≡ region_end region)
 answer-whole region live layout chunk told = grind arith
@@ -92,7 +92,7 @@ pub answer-inside : (region : Region) (live : List Chunk) (layout : Layout) (chu
     MayAllocate region live layout (Ok chunk) → IsInside region chunk
 answer-inside region live layout chunk told = grind (arith, common_steps, answer-byte, answer-whole)
 
--- it has at least the requested size
+-- the answered chunk has at least the requested size
 pub answer-long : (region : Region) (live : List Chunk) (layout : Layout) (chunk : Chunk) →
     MayAllocate region live layout (Ok chunk) → layout.size ≤ chunk.len
 answer-long region live layout chunk told =
@@ -101,7 +101,7 @@ answer-long region live layout chunk told =
 
 -- RUNS
 
--- some one chunk over the region stands for this list
+-- some one-chunk allocator over the region stands for this list
 record IsOneChunkList (region : Region) (live : List Chunk) : Type 0 where
   kept : Option ℕ
   within : ForSome kept (HasByteAt region)
@@ -131,7 +131,7 @@ removed : (kept : Option ℕ) (live : List Chunk) (position : ℕ) → IsKept ke
 removed None live position empty within = absurd (let none = ap length empty in omega arith)
 removed (Some place) live position (one, is, same) within = grind arith
 
--- each step leads from such a list to such a list
+-- each step leads from a list that a one-chunk allocator stands for to another such list
 kept_lists : (region : Region) → kept_runs.IsKept (one_chunk_object region) (IsOneChunkList region)
 kept_lists region = record {
   given = λ live layout chunk is told.
@@ -148,7 +148,7 @@ kept_lists region = record {
       (λ byte. omega (arith, byte.below, may.within, told.0, ap (λ (k : Chunk). chunk_end k) told.2));
 }
 
--- each run from a list that a one chunk stands for leads to such a list, with resizes or without
+-- each run from a list that a one-chunk allocator stands for leads to another such list, with resizes or without
 module _ (one : OneChunk) (live new : List Chunk) (commands : List Command) (replies : List Reply) (is : IsOneChunk one)
     (stands : StandsFor one live) where
   from : IsOneChunkList one.region live

@@ -29,7 +29,7 @@ record SomeFree (geometry : PoolGeometry) (live : List Chunk) (n : ℕ) : Type 0
   below : number < n
   free : ¬ IsHeld geometry live number
 
--- of the buckets below n one isn't held, or all are
+-- of the buckets below n, one isn't held or all are
 some_free : (geometry : PoolGeometry) (live : List Chunk) (n : ℕ) →
     SomeFree geometry live n ⊎ ((i : ℕ) → i < n → IsHeld geometry live i)
 some_free geometry live zero = inr (λ i below. absurd (omega arith))

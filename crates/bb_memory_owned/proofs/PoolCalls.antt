@@ -67,7 +67,7 @@ Takes-given pool layout (Ok chunk) new (i, within, lacks, given, after) =
     (ap (λ (c : Chunk). c.place) given))
 Takes-given pool layout (Err error) new takes = tt
 
--- a refusal changes nothing, and comes only where the layout is too much for a bucket, or each is held
+-- a refusal changes nothing, and comes only if the layout is too large for a bucket or each bucket is held
 refused : (pool : Pool) (layout : Layout) (error : AllocationError) (new : Pool) → IsPool pool →
     Takes pool layout (Err error) new →
     (new ≡ pool) × (IsWithin pool.geometry.bucket layout → (i : ℕ) → ¬ Lacks pool.held i)
@@ -92,7 +92,7 @@ few_if false words = omega arith
 pub reads_few : (bucket : Layout) (words : ℕ) (layout : Layout) → reads_of bucket words layout ≤ words
 reads_few bucket words layout = few_if _ words
 
--- and one, where it is within a bucket and there are words
+-- a request reads one word if its layout is within a bucket and there are words
 reads_one : (bucket : Layout) (words : ℕ) (layout : Layout) → IsWithin bucket layout → 0 < words →
     reads_of bucket words layout ≡ 1
 reads_one bucket words layout within some =
@@ -100,7 +100,7 @@ reads_one bucket words layout within some =
     ∙ ap (λ b. cond b (min words 1) 0) (le-leb layout.align bucket.align within.align)
     ∙ omega (arith, some)
 
--- all that a request says by the value
+-- all promises of a request that are about values
 pub TakesBucket-is : (old : CountedPool) (layout : Layout) (answer : Result Chunk AllocationError) (new : CountedPool)
     (words : ℕ) → IsPool old.pool → old.reads ≤ words → held_count old.pool ≤ old.greatest →
     Takes old.pool layout answer new.pool → new.reads ≡ reads_of old.pool.geometry.bucket words layout →
@@ -158,7 +158,7 @@ TakesBucket-is old layout (Err error) new words is most at_least takes reads gre
 
 -- RELEASES
 
--- the number of a held bucket's place, as it is computed, is that of the bucket
+-- the computed number of a held bucket's place is that of the bucket
 pub number-held : (pool : Pool) (place first number : ℕ) → HoldsPlace pool place →
     first ≡ first_place pool.geometry.region pool.geometry.bucket →
     ((place - first) % stride pool.geometry.bucket ≡ 0 → number ≡ (place - first) / stride pool.geometry.bucket) →
@@ -168,7 +168,7 @@ number-held pool place first number holds begins divided some =
     let same = number-counted pool.geometry i place (place - first) number (ap (λ n. place - n) begins) divided some there in
     (subst (Has pool.held) same has, there ∙ ap (bucket_place pool.geometry) same)
 
--- of bucket i, which is held and begins at the place
+-- bucket i, which is held and begins at the place
 module _ (pool : Pool) (place i : ℕ) (is : IsPool pool) (has : Has pool.held i)
     (there : place ≡ bucket_place pool.geometry i) where
   others_kept : (other : ℕ) → HoldsPlace pool other → other ≢ place → HoldsPlace (with_flag pool i false) other
@@ -193,7 +193,7 @@ module _ (pool : Pool) (place i : ℕ) (is : IsPool pool) (has : Has pool.held i
       let (j, still, at) = bucket_held_at (with_flag pool i false) place holds in
       absurd (no_more j still (one_bucket pool.geometry is.geometry j i (sym at ∙ there)))
 
-  -- all that a release says by the value
+  -- all promises of a release that are about values
   pub FreesBucket-is : (reads greatest : ℕ) →
       FreesBucket (counted pool reads greatest) place (counted (with_flag pool i false) reads greatest)
   FreesBucket-is reads greatest = record {
@@ -207,7 +207,7 @@ module _ (pool : Pool) (place i : ℕ) (is : IsPool pool) (has : Has pool.held i
     greatest = refl;
   }
 
-  -- the chunk at the place is out of each list that the pool stands for
+  -- the chunk at the place is removed from each list that the pool stands for
   pub released-stands : (live : List Chunk) (position : ℕ) (chunk : Chunk) → StandsFor pool live →
       slice_get live position ≡ Some chunk → chunk.place ≡ place → StandsFor (with_flag pool i false) (remove live position)
   released-stands live position chunk stands at same =
@@ -218,7 +218,7 @@ module _ (pool : Pool) (place i : ℕ) (is : IsPool pool) (has : Has pool.held i
 
 -- RESIZES
 
--- a chunk that a resize gives is at the place, has at least the asked size, and no more than a bucket
+-- a chunk that a resize gives is at the place, and has at least the requested size and at most that of a bucket
 abbrev pub FitsBucket : {E : Type 0} → Layout → ℕ → ℕ → Result Chunk E → Type 0
 FitsBucket bucket place size answer = IfOk answer (λ resized. resized.place ≡ place)
     × IfOk answer (λ resized. size ≤ resized.len) × IfOk answer (λ resized. resized.len ≤ bucket.size)

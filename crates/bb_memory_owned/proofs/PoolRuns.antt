@@ -1,4 +1,4 @@
--- The live lists that a pool stands for: where their chunks are, and what releases and runs of the pool object lead to.
+-- The live lists that a pool stands for: where their chunks are, and the results of releases and runs of the pool object.
 use Rattle.bb_memory_index_set.proofs.NumberSets.{has_or_lacks}
 use Rattle.bb_memory_index_set.specs.IndexSets.{Lacks}
 use Rattle.bb_memory_lists.proofs.Positions.{All-from_positions, AllPairs-at, AllPairs-from_positions}
@@ -110,7 +110,7 @@ resized_list geometry live position chunk resized list at place short = record {
   stands = stands-resized (pool_of geometry list.held) live position chunk resized list.is list.stands at place short;
 }
 
--- each step leads from such a list to such a list
+-- each step leads from a list that a pool stands for to another such list
 kept_lists : (geometry : PoolGeometry) → IsKept (pool_object geometry) (IsPoolList geometry)
 kept_lists geometry = record {
   given = λ live layout chunk list (i, may, given).
@@ -132,7 +132,7 @@ kept_lists geometry = record {
       omega (arith, told.0, reserved, ap (λ (c : Chunk). c.len) told.2));
 }
 
--- each run from a list that a pool stands for leads to such a list, with resizes or without
+-- each run from a list that a pool stands for leads to another such list, with resizes or without
 module _ (pool : Pool) (live new : List Chunk) (commands : List Command) (replies : List Reply) (is : IsPool pool)
     (stands : StandsFor pool live) where
   from : IsPoolList pool.geometry live

@@ -114,7 +114,7 @@ counted pool reads greatest = record { pool = pool; reads = reads; greatest = gr
 -- read.
 pub record TakesBucket (old : CountedPool) (layout : Layout) (answer : Result Chunk AllocationError)
     (new : CountedPool) (words : ℕ) : Type 0 where
-  -- the bucket that is held then, or the cause of the refusal; there is no other cause
+  -- the bucket that is held then, or the reason for the refusal; there is no other reason
   pub taken : Takes old.pool layout answer new.pool
   pub accepted : IsOk answer ↔ (IsWithin old.pool.geometry.bucket layout × ((i : ℕ) × Lacks old.pool.held i))
   pub pool_unchanged : OnErr answer (new.pool ≡ old.pool)

@@ -16,7 +16,7 @@ pub use bb_memory_traits::layout::Layout;
 use bb_memory_traits::region;
 use std::marker::Model;
 
-/// Gives one chunk at a time: all of the region from the first suitable place on. It can be resized in place.
+/// Gives one chunk at a time: all of the region from the first suitable place on. The chunk can be resized in place.
 ///
 /// Example: `comments::one_chunk` of `crates/examples`.
 #[derive(Debug, Drop)]
@@ -35,7 +35,7 @@ impl Model for OneChunkAllocator {
 }
 
 impl OneChunkAllocator {
-    /// Makes an allocator over the region of `size` bytes at `start`, with nothing given. The start has to be greater than 0,
+    /// Makes an allocator over the region of `size` bytes at `start`. No chunk is given. The start has to be greater than 0,
     /// and start plus size at most `usize::MAX`; [`OneChunkAllocator::can_make`] tests both.
     #[inline]
     pub fn new(start: usize, size: usize) -> Self
@@ -50,7 +50,7 @@ impl OneChunkAllocator {
         }
     }
 
-    /// Tests that `new` may be called with these.
+    /// Returns whether `new` may be called with these arguments.
     pub fn can_make(start: usize, size: usize) -> bool
         ensures { IsTrue result ↔ IsRegion (region_at start size) }
     {
@@ -125,9 +125,9 @@ impl BaseAllocator for OneChunkAllocator {
 
     ghost frees = { λ one _ _ new. Frees one new };
 
-    /// Allocates a chunk at the least multiple of `layout.align()` from the region's start on, up to the region's end. It fails,
+    /// Allocates a chunk at the least multiple of `layout.align()` from the region's start on, up to the region's end. Fails,
     /// with `OutOfMemory`, exactly if a chunk is in use, if that place is at or after the region's end, or if less than
-    /// `layout.size()` bytes are left there. A refusal leaves the allocator as it was.
+    /// `layout.size()` bytes are left there. A refusal leaves the allocator unchanged.
     #[inline(always)]
     fn allocate(&mut self, layout: Layout) -> Result<Chunk, AllocationError> {
         if self.kept_place.is_some() {
@@ -191,10 +191,13 @@ impl Allocator for OneChunkAllocator {
         end - place
     }
 
-    /// Gives the chunk all that is reserved for it. It fails, in this order, with `GrowWouldShrink` if the new size isn't greater
-    /// than the old one, with `AlignmentFailure` if the new alignment is greater than the old one, and with `OutOfMemory` if
-    /// less than the new size is reserved. The allocator doesn't change. The place has to be that of the chunk in use and a
-    /// multiple of the old alignment.
+    /// Gives the chunk all that is reserved for it. Fails with the first of these errors that applies:
+    ///
+    /// - `GrowWouldShrink` if the new size isn't greater than the old one.
+    /// - `AlignmentFailure` if the new alignment is greater than the old one.
+    /// - `OutOfMemory` if less than the new size is reserved.
+    ///
+    /// The allocator doesn't change. The place has to be that of the chunk in use and a multiple of the old alignment.
     #[inline]
     fn grow(
         &mut self,
@@ -215,7 +218,7 @@ impl Allocator for OneChunkAllocator {
         Ok(chunk_between(place, end))
     }
 
-    /// Gives the chunk exactly the new size. It fails, in this order, with `ShrinkWouldGrow` if the new size isn't smaller than
+    /// Gives the chunk exactly the new size. Fails, in this order, with `ShrinkWouldGrow` if the new size isn't smaller than
     /// the old one, and with `AlignmentFailure` if the new alignment is greater than the old one. The allocator doesn't change.
     /// The place has to be that of the chunk in use and a multiple of the old alignment, and the old size at most what is
     /// reserved.
@@ -248,10 +251,11 @@ impl Allocator for OneChunkAllocator {
         kept_is_live one.kept live place stands.keeps out };
 }
 
-/// Says what the definition of the one-chunk object means for every region and every list of commands. There is exactly one
+/// States what the definition of the one-chunk object means for every region and every list of commands. There is exactly one
 /// answer to each request, and to each resize. A chunk that is given begins at a multiple of the requested alignment, has at
-/// least the requested size, isn't empty, and ends at the region's end. Each run from a live list that a one chunk stands for,
-/// with resizes or without, leads to such a list again, which is sound. The function does nothing: its contract is the law.
+/// least the requested size, isn't empty, and ends at the region's end. Each run from a live list that a one-chunk allocator
+/// stands for, with resizes or without, leads to another such list, which is sound. The function does nothing: its contract is
+/// the law.
 pub fn one_chunk_object_law()
     ensures some_answer { (region : Region) → AnswersAll (one_chunk_object region).base }
     ensures one_answer { (region : Region) → AnswersOnce (one_chunk_object region).base }
@@ -287,7 +291,7 @@ pub fn one_chunk_object_law()
         → (left : OneChunk) × IsOneChunk left × (left.region ≡ one.region) × StandsFor left new }
 {}
 
-/// Returns the chunk from a place to an end. The place isn't 0, and the end isn't below it.
+/// Returns the chunk from a place to an end. The place must not be 0, and the end must not be below it.
 #[inline(always)]
 fn chunk_between(place: usize, end: usize) -> Chunk
     requires place { 0 < place }

@@ -44,8 +44,8 @@ impl Model for UninitPoolAllocator {
 }
 
 impl UninitPoolAllocator {
-    /// Allocates memory for the index words, and makes a pool with no bucket held. Its only error is `OutOfMemory`, if memory
-    /// ran out, and then it returns the uninitialized pool unchanged.
+    /// Allocates memory for the index words, and makes a pool with no bucket held. Fails only with `OutOfMemory`, if memory ran
+    /// out, and then returns the uninitialized pool unchanged.
     pub fn init<A: LanguageAllocator>(
         self,
         alloc: A,
@@ -65,7 +65,7 @@ impl UninitPoolAllocator {
     }
 }
 
-/// Gives buckets of one layout. Which buckets are held is kept in words of 64 bits, which take memory once, in
+/// Gives buckets of one layout. Words of 64 bits record which buckets are held. Memory for them is allocated once, in
 /// [`UninitPoolAllocator::init`].
 ///
 /// Example: `comments::pool` of `crates/examples`.
@@ -74,9 +74,9 @@ pub type PoolAllocator<A> = BucketPool<Words<A>>;
 // Functions that don't involve index words belong to one instance, so that callers name only the type.
 impl PoolAllocator<Global> {
     /// Makes a pool over the region of `size` bytes at `start`, cut into buckets of this layout, whose index words
-    /// [`UninitPoolAllocator::init`] makes. The start has to be greater than 0; start plus size, and the start rounded up to
-    /// the bucket's alignment, at most `usize::MAX`; the bucket's size greater than 0; and the buckets fewer than
-    /// `u32::MAX`. [`PoolAllocator::can_make`] tests all of it.
+    /// [`UninitPoolAllocator::init`] makes. The start and the bucket's size have to be greater than 0. The start plus the size,
+    /// and the start rounded up to the bucket's alignment, have to be at most `usize::MAX`. There have to be fewer than
+    /// `u32::MAX` buckets. [`PoolAllocator::can_make`] tests all of it.
     pub fn new_uninit(bucket_layout: Layout, start: usize, size: usize) -> UninitPoolAllocator
         requires { MayBeCut (region_at start size) bucket_layout }
         ensures { IsCut (region_at start size) bucket_layout result }
@@ -86,7 +86,7 @@ impl PoolAllocator<Global> {
         }
     }
 
-    /// Tests that `new_uninit` may be called with these.
+    /// Returns whether `new_uninit` may be called with these arguments.
     pub fn can_make(bucket_layout: Layout, start: usize, size: usize) -> bool
         ensures { IsTrue result ↔ MayBeCut (region_at start size) bucket_layout }
     {
@@ -102,9 +102,9 @@ impl PoolAllocator<Global> {
         end.saturating_sub(first) / stride(bucket_layout) < u32::MAX as usize
     }
 
-    /// Returns the bytes that are enough for the index words of a pool over a region of `size` bytes, wherever it starts, and
-    /// for their list: eight for each time that the bucket's size goes into the region's. The bucket's size has to be greater
-    /// than 0, and that quotient at most `u32::MAX`.
+    /// Returns a number of bytes that is enough for the index words of a pool over a region of `size` bytes, wherever it
+    /// starts, and for their list: eight bytes for each time that the bucket's size goes into the region's. The bucket's size
+    /// has to be greater than 0, and that quotient at most `u32::MAX`.
     pub fn memory_size(bucket_layout: Layout, size: usize) -> usize
         requires filled { 0 < bucket_layout.size }
         requires quotient { size / bucket_layout.size < 2 ^ 32 }
@@ -126,9 +126,10 @@ impl<A: LanguageAllocator> PoolAllocator<A> {
         self.geometry.first()
     }
 
-    /// Returns how many index words the last `allocate` or `allocate_zeroed` read: one if it looked for a free bucket in a pool
-    /// that has a bucket, and 0 before the first call, and if the size or the alignment was refused. It is never more than an
-    /// eighth of [`PoolAllocator::memory_size`], nor than the number of buckets divided by 64, rounded up.
+    /// Returns how many index words the last `allocate` or `allocate_zeroed` read: one if it searched for a free bucket in a
+    /// pool that has a bucket, and 0 if it was refused because of the size or the alignment. Before the first call the result
+    /// is 0. The number is at most an eighth of [`PoolAllocator::memory_size`], and at most the number of buckets divided by
+    /// 64, rounded up.
     #[inline]
     pub fn last_reads(&self) -> u32
         ensures value { result ≡ self.now.reads }
@@ -137,7 +138,7 @@ impl<A: LanguageAllocator> PoolAllocator<A> {
         self.last_search.count()
     }
 
-    /// Gives back the bucket at this place, which has to be held. It does what `deallocate` does there.
+    /// Gives back the bucket at this place, which has to be held, as `deallocate` does.
     ///
     /// Example: `pools::counted_by_bucket` of `crates/examples`.
     #[inline(always)]

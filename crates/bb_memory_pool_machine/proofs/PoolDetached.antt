@@ -94,7 +94,7 @@ none_detached_alone scene steps bucket one =
 
 -- WHO DETACHED IT
 
--- what a party has detached was so before, or the party has detached it by one of the steps
+-- a bucket that a party has detached was detached before, or the party has detached it by one of the steps
 detached_steps : (state : PoolState) (steps : List PoolStep) (bucket sender : ℕ) →
     IsFlag (pool_after state steps) bucket (DetachedBy sender) →
     IsFlag state bucket (DetachedBy sender) ⊎ Contains (pool_history state steps) (detaching_entry sender bucket)
@@ -136,7 +136,7 @@ in_log scene steps bucket sender there =
     (contains-filter (λ (e : PoolEntry). is_by sender e.step) (history_of scene steps) (detaching_entry sender bucket) there
     (test_same sender sender refl))
 
--- the log of the party that has detached a bucket says so
+-- the log of the party that has detached a bucket has that step
 pub was_detached_by : (scene : PoolScene) (steps : List PoolStep) (bucket sender : ℕ) →
     IsFlag (left_by scene steps) bucket (DetachedBy sender) → WasDetached (log_of scene steps sender) bucket
 was_detached_by scene steps bucket sender now = in_log scene steps bucket sender (detaching_there scene steps bucket sender now)
@@ -148,7 +148,7 @@ detached_at_attach : (state : PoolState) (step : PoolStep) (move : PoolMove) (pa
 detached_at_attach state step move party bucket from (attaches_from other at sender idle detached) same is = grind arith
 detached_at_attach state step move party bucket from _ same is = absurd (cc)
 
--- a bucket that is attached from a party is then detached by this party, whose log says so
+-- a bucket that is attached from a party is then detached by this party, as its log shows
 pub attached_from_sender : (scene : PoolScene) (steps : List PoolStep) (party bucket from k : ℕ) →
     AttachesFromAt (history_of scene steps) party bucket from k →
     IsFlag (left_by scene (take k steps)) bucket (DetachedBy from) × WasDetached (log_of scene (take k steps) from) bucket
@@ -159,7 +159,7 @@ attached_from_sender scene steps party bucket from k attached =
     (entry_step (opening_state scene) steps k step (Attaches bucket) attached) in
     (flag, was_detached_by scene (take k steps) bucket from flag)
 
--- what a party's log has is in the history
+-- each entry of a party's log is in the history
 kept_there : (own : Bool) (first entry : PoolEntry) (kept rest : PoolLog) → (Contains kept entry → Contains rest entry) →
     Contains (if own then first ∷ kept else kept) entry → Contains (first ∷ rest) entry
 kept_there false first entry kept rest there has = contains-behind first entry rest (there has)

@@ -22,7 +22,7 @@ module _ (state : PoolState) (flags : List Bool) (bucket : ℕ) (same : map is_t
   pub taken_from_flag : slice_get flags bucket ≡ Some true → IsTaken state bucket
   taken_from_flag taken = taken_from_shown (slice_get state.flags bucket) (shown_at ∙ taken)
 
-  -- and the other way round
+  -- a taken bucket's flag is set in the list
   pub flag_from_taken : IsTaken state bucket → slice_get flags bucket ≡ Some true
   flag_from_taken taken = grind (arith, shown_at)
 
@@ -46,7 +46,7 @@ there_is : (state : PoolState) (party : ℕ) (pass : Option ℕ) → slice_get s
     party < length state.calls
 there_is state party pass at = slice_get_within state.calls party pass at
 
--- so is each party that a flag names
+-- each party that a flag names after a step is one of the machine's
 named_step : (state : PoolState) (step : PoolStep) (move : PoolMove) → StepKind state step move → AllNameMade state →
     (bucket : ℕ) (flag : Flag) → slice_get move.state.flags bucket ≡ Some flag → NamesMade (length state.calls) flag
 named_step state step move (takes party bucket next free) named =

@@ -14,7 +14,7 @@ abbrev pub is_holder : ℕ → Option Flag → Bool
 is_holder party (Some (HeldBy holder)) = holder == party
 is_holder party _ = false
 
--- whether a party holds a bucket after entries of its log, by whether it held it before them
+-- whether a party holds a bucket after entries of its log, given whether it held the bucket before them
 abbrev pub held_through : ℕ → Bool → PoolLog → Bool
 held_through bucket held log = fold (λ held entry. held_after bucket held entry.outcome) held log
 
@@ -43,11 +43,11 @@ when_returned : (mine held : Bool) → held ≡ mine → (if mine then false els
 when_returned true held e = refl
 when_returned false held e = e
 
--- whether a party holds a bucket after any step, by whether it held it before
+-- whether a party holds a bucket after any step, given whether it held the bucket before
 abbrev held_by : ℕ → ℕ → Bool → PoolStep → PoolOutcome → Bool
 held_by party bucket held step outcome = if is_by party step then held_after bucket held outcome else held
 
--- that changes as the flag does
+-- the holding changes as the flag does
 pub step_holds : (state : PoolState) (step : PoolStep) (move : PoolMove) (party bucket : ℕ) (held : Bool) →
     StepKind state step move → held ≡ is_holder party (slice_get state.flags bucket) →
     held_by party bucket held step move.outcome ≡ is_holder party (slice_get move.state.flags bucket)
@@ -67,7 +67,7 @@ step_holds state step move party bucket held (gives_detached other at idle (send
     held_set state at bucket party other held false (DetachedBy sender) Free detached (when_unheld (other == party) held)
 step_holds state step move party bucket held _ = λ before. either_way (is_by party step) held ∙ before
 
--- a figure that each step changes only by the entry of its own party is, after steps, what that party's log makes of it
+-- a figure that each step changes only by the entry of its own party is, after steps, the fold of that party's log
 pub steps_fold : {F : Type 0} (Is : PoolState → F → Type 0) (after : F → PoolEntry → F) (party : ℕ) →
     ((state : PoolState) (step : PoolStep) (now : F) → Is state now → let move = pool_step state step in
     Is move.state (if is_by party step then after now (entry_of step move.outcome) else now)) →

@@ -1,4 +1,4 @@
--- A party's log says where its pass is, and a step of the party adds only to that log.
+-- A party's log determines where its pass is, and a step of the party adds only to that log.
 use Rattle.bb_memory_lists.proofs.Logs.{logs-push}
 use Rattle.bb_memory_lists.proofs.SliceGets.{slice_get-replicate, slice_get-set_apart, slice_get-set_at}
 use Rattle.bb_memory_pool_machine.proofs.PoolHolders.{either_way, steps_fold}
@@ -21,7 +21,7 @@ pass-set state other party bucket before after next there =
 abbrev pass_by : ℕ → Option ℕ → PoolStep → PoolOutcome → Option ℕ
 pass_by party pass step outcome = if is_by party step then pass_after pass outcome else pass
 
--- that is where the machine has it
+-- the machine has the party's pass at the same place
 step_pass : (state : PoolState) (step : PoolStep) (move : PoolMove) (party : ℕ) (pass : Option ℕ) →
     StepKind state step move → slice_get state.calls party ≡ Some pass →
     slice_get move.state.calls party ≡ Some (pass_by party pass step move.outcome)
@@ -34,7 +34,7 @@ step_pass state step move party pass (takes_at other bucket idle free) there =
     pass-set state other party 0 pass None (next_of_idle state other idle) there
 step_pass state step move party pass _ there = there ∙ ap Some (sym (either_way (is_by party step) pass))
 
--- the log of a party that was made says where its pass is
+-- the log of a party that was made determines where its pass is
 pub log_pass : (scene : PoolScene) (steps : List PoolStep) (party : ℕ) → party < scene.parties →
     slice_get (left_by scene steps).calls party ≡ Some (pass_in (log_of scene steps party))
 log_pass scene steps party made =

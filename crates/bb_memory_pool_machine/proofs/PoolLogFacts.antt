@@ -15,7 +15,7 @@ use Rattle.std.specs.Prelude.{if◌then◌else◌, slice_get, ◌==◌, ◌⊎�
 
 -- WHO TAKES STEPS
 
--- the machine has no such party, and it holds nothing
+-- the machine doesn't have the party, which holds nothing
 record IsAbsent (state : PoolState) (party : ℕ) : Type 0 where
   nowhere : length state.calls ≤ party
   holds : (bucket : ℕ) → is_holder party (slice_get state.flags bucket) ≡ false
@@ -200,7 +200,7 @@ pub interleaved_log : (scene : PoolScene) (flags : List Flag) (logs : List PoolL
 interleaved_log scene flags logs party log agree at =
     record { steps = agree.steps; allowed = agree.allowed; logged = agree.each party log at }
 
--- and for two parties
+-- the logs of two parties, which are interleaved
 pub interleaved_logs : (scene : PoolScene) (flags : List Flag) (logs : List PoolLog) (party : ℕ) (log : PoolLog)
     (other : ℕ) (other_log : PoolLog) → LogsAgree scene flags logs → HasLog logs party log →
     HasLog logs other other_log → CommonInterleaving scene party log other other_log

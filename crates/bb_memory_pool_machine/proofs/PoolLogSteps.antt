@@ -29,7 +29,7 @@ module _ (scene : PoolScene) (flags : List Flag) (logs : List PoolLog) (party : 
 
   -- STEPS OF AN IDLE PARTY, OR OF ONE IN A PASS
 
-  -- the party tries the bucket that its log says, or one bucket if it is idle
+  -- the party tries the bucket that its log determines, or one bucket if the party is idle
   tries : next_bucket log ≡ bucket → (flag : Flag) → slice_get flags bucket ≡ Some flag →
       pool_step state (Try party) ≡ try_flag state party bucket (Some flag)
   tries next flag is =
@@ -102,7 +102,7 @@ module _ (scene : PoolScene) (flags : List Flag) (logs : List PoolLog) (party : 
       ∙ ap (attach_flag state party bucket) (there (DetachedBy sender) detached))
       tt (slice_set flags bucket (HeldBy party)) (becomes (HeldBy party))
 
-  -- from the party that has detached it
+  -- an attach from the party that has detached the bucket
   pub attach_from_agrees : (from : ℕ) → pass_in log ≡ None → slice_get flags bucket ≡ Some (DetachedBy from) →
       LogsAgree scene (slice_set flags bucket (HeldBy party))
       (with_entry logs party log (entry_of (AttachFrom party bucket from) (Attaches bucket)))

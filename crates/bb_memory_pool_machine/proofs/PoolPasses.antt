@@ -45,7 +45,7 @@ over : (state : PoolState) (other party bucket next : ℕ) → IsNext state othe
     bucket < progress_of (slice_get (slice_set state.calls other None) party) → bucket < progress_of (slice_get state.calls party)
 over state other party bucket at next less = grind (arith, cases_eq, slice_get-set_at, slice_get-set_apart)
 
--- what a pass has lost after a step was lost before the step, or is lost at it
+-- a bucket that a pass has lost after a step was lost before the step, or is lost at it
 at_progress : (state : PoolState) (step : PoolStep) (move : PoolMove) (party bucket : ℕ) →
     StepKind state step move → bucket < progress_of (slice_get move.state.calls party) →
     (bucket < progress_of (slice_get state.calls party)) ⊎ ((step ≡ Try party) × IsLossAt bucket move.outcome)
@@ -59,7 +59,7 @@ at_progress state step move party bucket (loses other lost next taken more) less
     grind (arith, slice_get-set_at, progress_next, below_or_at, slice_get-set_apart)
 at_progress state step move party bucket _ less = inl less
 
--- what is lost is taken
+-- a bucket that is lost is taken
 taken_at_loss : (state : PoolState) (step : PoolStep) (move : PoolMove) (bucket : ℕ) → StepKind state step move →
     IsLossAt bucket move.outcome → IsTaken state bucket
 taken_at_loss state step move bucket (loses other at next taken more) lost = subst (IsTaken state) lost taken
@@ -186,7 +186,7 @@ refused_found_held scene steps party last bucket is refused below =
 
 -- MISSES
 
--- what is missed is taken
+-- a bucket that is missed is taken
 taken_at_miss : (state : PoolState) (step : PoolStep) (move : PoolMove) (bucket : ℕ) → StepKind state step move →
     move.outcome ≡ Misses bucket → IsTaken state bucket
 taken_at_miss state step move bucket (misses other at idle taken) is =

@@ -58,7 +58,7 @@ module _ (geometry : PoolGeometry) (is : IsPoolGeometry geometry) where
       matches.each bucket below ∙ weight_of_taken state bucket taken in
       at_from_count (bucket_place geometry bucket) live (omega arith)
 
-  -- a flag is set; its bucket then has the number of chunks that the flag says, and each other bucket has its old number
+  -- a flag is set; its bucket then has the number of chunks that the flag determines, and each other bucket has its old number
   flag_set : (flags : List Flag) (live new : List Chunk) (bucket : ℕ) (before after : Flag) → Matches geometry flags live →
       slice_get flags bucket ≡ Some before → (count_at (bucket_place geometry bucket) live ≡ taken_weight (Some before) →
       count_at (bucket_place geometry bucket) new ≡ taken_weight (Some after)) →
@@ -109,7 +109,7 @@ module _ (geometry : PoolGeometry) (is : IsPoolGeometry geometry) where
 
   -- ONE STEP
 
-  -- what a step does is a call of the object, for each layout that it may ask for
+  -- each step makes a call of the object, for each layout that it may request
   step_calls : (old : PoolState) (live : List Chunk) (layout : Layout) (step : PoolStep) (move : PoolMove) →
       StepKind old step move → Matches geometry old.flags live → IsWithin geometry.bucket layout →
       (new : List Chunk) × PoolCall geometry live layout move.outcome new
@@ -129,7 +129,7 @@ module _ (geometry : PoolGeometry) (is : IsPoolGeometry geometry) where
       (remove live there.0, (there.0, there.1, record { within = within_live; leaves = refl }))
   step_calls old live layout step move _ matches within = (live, refl)
 
-  -- whichever such call it is, the list has again a chunk in each bucket that is taken
+  -- after each such call, the list again has a chunk in each bucket that is taken
   step_matches : (old : PoolState) (live new : List Chunk) (layout : Layout) (step : PoolStep)
       (move : PoolMove) → StepKind old step move → Matches geometry old.flags live →
       PoolCall geometry live layout move.outcome new → Matches geometry move.state.flags new

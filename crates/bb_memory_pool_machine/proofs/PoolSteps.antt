@@ -15,7 +15,7 @@ pub record IsNext (state : PoolState) (party bucket : ℕ) : Type 0 where
 abbrev pub IsIdle : PoolState → ℕ → Type 0
 IsIdle state party = slice_get state.calls party ≡ Some None
 
--- a pass of it would begin at bucket 0
+-- a pass of an idle party would begin at bucket 0
 pub next_of_idle : (state : PoolState) (party : ℕ) → IsIdle state party → IsNext state party 0
 next_of_idle state party idle = record { pass = None; there = idle; at = refl }
 

@@ -1,4 +1,4 @@
--- The pool machine's histories, its parties' logs, and the calls of the pool object that its steps are.
+-- The pool machine's histories, its parties' logs, and the calls of the pool object that its steps make.
 use Rattle.bb_memory_pool_machine.specs.PoolMachine.{Attach, AttachFrom, Attaches, Detach, DetachedBy, Detaches, Flag, Free, GiveBack, GiveBackDetached, Gives, IsFlag, IsInCall, Loses, Misses, NamesMade, Passed, PoolOutcome, PoolScene, PoolState, PoolStep, RefusedAtLoss, Takes, Try, TryAt, left_by, opening_state, pool_step}
 use Rattle.bb_memory_traits.specs.Chunk.{Chunk}
 use Rattle.bb_memory_traits.specs.Object.{Allocates, IsRun, Releases}
@@ -111,7 +111,7 @@ IsAllowed _ = Unit {0}
 abbrev pub AllAllowed : PoolLog → Type 0
 AllAllowed history = All (λ entry. IsAllowed entry.outcome) history
 
--- there is such a party among `logs`, and its log is this one
+-- the party of this number is among `logs`, and its log is this one
 abbrev pub HasLog : List PoolLog → ℕ → PoolLog → Type 0
 HasLog logs party log = slice_get logs party ≡ Some log
 
@@ -135,7 +135,7 @@ pub record MayBeFound (scene : PoolScene) (bucket : ℕ) (flag : Flag) : Type 0 
 abbrev pub IsDetachedIn : List Flag → ℕ → Type 0
 IsDetachedIn flags bucket = (sender : ℕ) × (slice_get flags bucket ≡ Some (DetachedBy sender))
 
--- the logs in which this party's log has one entry more
+-- the logs in which this party's log has one more entry
 abbrev pub with_entry : List PoolLog → ℕ → PoolLog → PoolEntry → List PoolLog
 with_entry logs party log entry = slice_set logs party (log ++ entry ∷ [])
 
@@ -163,7 +163,7 @@ PoolCall geometry old layout (Takes bucket) new =
 -- a return is the release of the chunk at the bucket's place
 PoolCall geometry old layout (Gives bucket) new =
     (position : ℕ) × IsAt old position (bucket_place geometry bucket) × Releases (pool_object geometry).base old position new
--- any other step is no call
+-- any other step isn't a call
 PoolCall geometry old layout _ new = new ≡ old
 
 -- a layout for each step, within the bucket's size and alignment. A taking requests its layout

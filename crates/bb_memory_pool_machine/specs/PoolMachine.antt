@@ -30,7 +30,7 @@ all_free buckets parties = record { flags = replicate buckets Free; calls = repl
 abbrev pub opening_state : PoolScene → PoolState
 opening_state scene = all_free scene.geometry.buckets scene.parties
 
--- there is such a bucket, and its flag is this one
+-- the machine has this bucket, and its flag is this one
 abbrev pub IsFlag : PoolState → ℕ → Flag → Type 0
 IsFlag state bucket flag = slice_get state.flags bucket ≡ Some flag
 
@@ -57,7 +57,7 @@ abbrev pub holder_in : Flag → Option ℕ
 holder_in (HeldBy party) = Some party
 holder_in _ = None
 
--- the party that holds a bucket, or None if nobody does or there is no such bucket
+-- the party that holds a bucket, or None if nobody does or the machine doesn't have the bucket
 abbrev pub holder_of : PoolState → ℕ → Option ℕ
 holder_of state bucket = holder_in (unwrap_or (slice_get state.flags bucket) Free)
 

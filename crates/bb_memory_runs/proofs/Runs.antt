@@ -24,13 +24,13 @@ IsRun-listed Steps takes frees old new (c ∷ commands) (r ∷ replies) (then, f
 IsRun-listed Steps takes frees old new [] (r ∷ replies) none = absurd none
 IsRun-listed Steps takes frees old new (c ∷ commands) [] none = absurd none
 
--- what a run makes of a note, of one command more
+-- the note after a run with one more command
 pub note-push : {Note : Type 0} (after : Layout → Note → Note) (old : Note) (commands : List Command) (mid new : Note)
     (command : Command) → mid ≡ note_after_run after old commands → new ≡ note_after_command after mid command →
     new ≡ note_after_run after old (commands ++ command ∷ [])
 note-push after old commands mid new command so_far last = grind (arith, fold_push)
 
--- what is said of each chunk that was given, of one command more
+-- the property of each chunk that was given, with one more command
 pub EachGiven-push : (Suits : Layout → Chunk → Type 0) (commands : List Command) (replies : List Reply)
     (command : Command) (answer : Reply) → length commands ≡ length replies → EachGiven Suits commands replies →
     ((layout : Layout) (chunk : Chunk) → command ≡ Allocate layout → answer ≡ reply.Chunk chunk → Suits layout chunk) →

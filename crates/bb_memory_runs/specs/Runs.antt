@@ -1,4 +1,4 @@
--- Runs of an allocator with the chunks that it has out: a step of each command, and what all of a list leave.
+-- Runs of an allocator and of its live list: the step of each command, and the result of a list of commands.
 use Rattle.bb_memory_traits.specs.Chunk.{Chunk, Fits, IsSound}
 use Rattle.bb_memory_traits.specs.Object.{IsRun, note_after_command}
 use Rattle.bb_memory_traits.specs.declared.allocator.AllocationError.{AllocationError}
@@ -16,8 +16,8 @@ EachGiven Suits commands replies =
     (i : ℕ) (layout : Layout) (chunk : Chunk) → slice_get commands i ≡ Some (Allocate layout) →
     slice_get replies i ≡ Some (reply.Chunk chunk) → Suits layout chunk
 
--- The value of an allocator after a command on this live list. A request leaves what `takes` says for its answer. A release
--- leaves what `frees` says for the chunk's place, with some layout. Every other command leaves the value as it was.
+-- The value of an allocator after a command on this live list. `takes` determines it after a request, by the answer. `frees`
+-- determines it after a release, by the chunk's place and some layout. Every other command leaves the value unchanged.
 abbrev pub ValueStep : {Allocator : Type 0} → (Allocator → Layout → Result Chunk AllocationError → Allocator → Type 0) →
     (Allocator → ℕ → Layout → Allocator → Type 0) → List Chunk → Command → Reply → Allocator → Allocator → Type 0
 ValueStep takes frees live (Allocate layout) (reply.Chunk chunk) old new = takes old layout (Ok chunk) new
@@ -48,7 +48,7 @@ pub record Applies {Allocator Alloc : Type 0} (words : BaseWords Allocator)
   pub len : vec_len left ≤ vec_len live + 1
   pub capacity : vec_capacity live ≤ vec_capacity left
 
--- The replies of an allocator to a list of commands, and what they leave. If memory ran out, no command was applied.
+-- The replies of an allocator to a list of commands, and the state afterwards. If memory ran out, no command was applied.
 pub record AnswersRun {Allocator Alloc Error : Type 0} (words : BaseWords Allocator)
     (Steps : List Chunk → Command → Reply → List Chunk → Type 0) (commands : List Command)
     (answer : Result (Vec Reply Alloc) Error) (old new : Allocator) (live left : List Chunk) : Type 0 where

@@ -13,13 +13,14 @@ use bb_memory_traits::allocator::{Allocator, BaseAllocator, Command, Reply};
 use bb_memory_traits::layout::{Chunk, Layout};
 use std::alloc::AllocError;
 
-/// Applies the commands in order, and returns one reply for each. `live` has the chunks that are in use. A new chunk is appended
-/// to it. A release takes its chunk out and closes up, or empties the list if `RELEASE_EMPTIES` is true. A command that names no
-/// position of `live` is passed over, and so is every resize. Each command does to the allocator what the call itself does.
+/// Applies the commands in order, and returns one reply for each. `live` has the chunks that are in use. A new chunk is
+/// appended to it. A release removes its chunk and closes up, or empties the list if `RELEASE_EMPTIES` is true. A command that
+/// names no position of `live` is passed over, and so is every resize. Each command does to the allocator what the call itself
+/// does.
 ///
 /// The allocator has to stand for the live list. Memory for the replies and for `live` is reserved first, from `live`'s
-/// allocator. `AllocError` comes only because memory ran out. Then no command is applied, and the allocator and the list are as
-/// before.
+/// allocator. Fails with `AllocError` only because memory ran out. Then no command is applied, and the allocator and the list
+/// are as before.
 ///
 /// Example: `comments::run_of_a_bump` of `crates/examples`.
 pub fn run_base<A: BaseAllocator>(
@@ -37,12 +38,12 @@ pub fn run_base<A: BaseAllocator>(
     run::<A, Base>(allocator, live, commands)
 }
 
-/// Applies the commands in order, resizes too, and returns one reply for each, as [`run_base`] does. A resize replaces its
-/// chunk's length in `live`. It is passed over if `live` has no such position, if the chunk's place is no multiple of the old
-/// alignment, and, to shrink, if the old size exceeds what is reserved for the chunk.
+/// Applies the commands in order, including resizes, and returns one reply for each, as [`run_base`] does. A resize replaces
+/// its chunk's length in `live`. It is passed over if `live` doesn't have the position, if the chunk's place isn't a multiple
+/// of the old alignment, and, for a shrink, if the old size exceeds what is reserved for the chunk.
 ///
-/// The allocator has to stand for the live list. `AllocError` comes only because memory ran out. Then the allocator and the list
-/// are as before.
+/// The allocator has to stand for the live list. Fails with `AllocError` only because memory ran out. Then the allocator and
+/// the list are as before.
 ///
 /// Example: `comments::run_of_one_chunk` of `crates/examples`.
 pub fn run_full<A: Allocator>(
@@ -95,7 +96,7 @@ trait Applier<A: BaseAllocator> {
         ensures { Applies A.BaseAllocator (Steps allocator.old)
             command result allocator.old allocator.new live.old live.new };
 
-    /// Allocators of one geometry answer by one object.
+    /// Allocators of one geometry answer by the same object.
     ghost fixed: { (one other : A) → A.geometry one ≡ A.geometry other
         → (live left : List Chunk) (command : Command) (reply : Reply)
         → Steps one live command reply left → Steps other live command reply left };

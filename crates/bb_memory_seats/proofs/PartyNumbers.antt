@@ -1,5 +1,5 @@
--- The numbers of the parties in one list: if no number that was made is in it twice, they are different ones, and if the list has
--- the number of parties that were made, it has each number.
+-- The numbers of the parties in one list. If no number that was made is in the list twice, they are different ones. If the list
+-- has as many parties as were made, it has each number.
 use Rattle.bb_memory_lists.proofs.ListEntries.{HasOne, contains-behind, contains-first, one_of_figure}
 use Rattle.bb_memory_seats.proofs.Seatings.{one_apart, one_same}
 use Rattle.bb_memory_seats.specs.Seats.{HaveLogs, Numbered, times_in}
@@ -81,7 +81,7 @@ module _ {P E : Type 0} (of : P → Numbered E) where
   abbrev number : P → ℕ
   number party = (of party).number
 
-  -- a party is in the list, and two at different positions with the same number are in it twice
+  -- a party is in the list once, and two parties at different positions with the same number count twice
   stands_once : (items : List P) (i : ℕ) (one : P) → slice_get items i ≡ Some one → 1 ≤ times_in (number one) (map of items)
   stands_once [] i one at = absurd (cc)
   stands_once (party ∷ items) zero one at =
@@ -112,7 +112,7 @@ module _ {P E : Type 0} (of : P → Numbered E) where
       let twice = stands_twice items i j one other at at_other apart same in
       let most = once (number one) (was_made made logs items i one have at) in omega (arith, twice, most)
 
-  -- each party's log is the one that there is for it
+  -- each party's log is the one that the logs have for it
   pub logs_had : (made : ℕ) (logs : List (List E)) (items : List P) → HaveLogs made logs (map of items) →
       AllByRecursion (λ party. slice_get logs (number party) ≡ Some (of party).log) items
   logs_had made logs [] have = tt

@@ -22,7 +22,7 @@ module _ {V : Type 0} (figure : V → ℕ) where
   total-push [] view = omega arith
   total-push (first ∷ views) view = let rest = total-push views view in omega arith
 
-  -- a view has no more than all, nor have two
+  -- the figure of one view is at most the total, and so is that of two views
   pub total-at : (views : List V) (seat : ℕ) (view : V) → get_elem? views seat ≡ some view → figure view ≤ total figure views
   total-at [] seat view at = absurd (some-ne-none view (sym at))
   total-at (first ∷ views) zero view at = let same = ap figure (some-injective first view at) in omega arith
@@ -64,7 +64,7 @@ two_parties one other parties most same = grind arith
 
 -- LOGS
 
--- what another party's log becomes changes nothing for those of a view
+-- a change of another party's log changes nothing for the parties of a view
 others_keep : {E : Type 0} (made : ℕ) (logs : List (List E)) (log : List E) (number : ℕ) (parties : List (Numbered E)) →
     times_in number parties ≡ 0 → HaveLogs made logs parties → HaveLogs made (slice_set logs number log) parties
 others_keep made logs log number [] none_of have = tt

@@ -16,9 +16,8 @@ pub record Numbered (E : Type 0) : Type 0 where
 abbrev pub numbered : {E : Type 0} → ℕ → List E → Numbered E
 numbered number log = record { number = number; log = log }
 
--- The view of a seat: the parties that the seat stands for, with their logs, and the numbers of the
--- items that are detached at it, on their way from one party to another. A seat stands for more
--- than one party only while parties are made or meet.
+-- The view of a seat: the parties that the seat stands for, with their logs, and the numbers of the items that are detached at
+-- it, in transit from one party to another. A seat stands for more than one party only while parties are made or meet.
 pub record View (S E : Type 0) : Type 0 where
   pub scene : S
   pub parties : List (Numbered E)
@@ -126,7 +125,7 @@ tail_of (first ∷ others) = others
 abbrev pub first_of : {S E : Type 0} → View S E → View S E
 first_of view = standing_for view.scene (head_of view.parties)
 
--- the view of all parties of a view but the first
+-- the view of all parties of a view except the first
 abbrev pub others_of : {S E : Type 0} → View S E → View S E
 others_of view = standing_for view.scene (tail_of view.parties)
 

@@ -1,3 +1,3 @@
-//! Seats of a table that threads share. This crate has no code: `specs/Seats` says which parties a seat stands for, with their
-//! logs, and `proofs` has what a split and a join of seats keep, for the shared bump and the shared pools.
+//! Seats of a table that threads share. This crate has no code. `specs/Seats` defines which parties a seat stands for, with
+//! their logs. `proofs` has the results about splits and joins of seats, for the shared bump and the shared pools.
 #![tactic(auto)]

@@ -1,4 +1,4 @@
--- Each bucket of a shared pool has a word of its own, which says its mark. What a step on that word makes of the marks.
+-- Each bucket of a shared pool has a word of its own, which encodes its mark. The effect of a step on that word on the marks.
 use Rattle.atomic_table.specs.Table.{Allows, Me, State}
 use Rattle.bb_memory_pool_machine.specs.PoolLogs.{IsDetachedIn, LogsAgree, PoolLog, is_taken}
 use Rattle.bb_memory_pool_machine.specs.PoolMachine.{NamesMade, PoolScene}
@@ -44,7 +44,7 @@ held_mark Free party same = same
 held_mark (HeldBy holder) party same = same
 held_mark (DetachedBy sender) party same = absurd (cc)
 
--- the number of a party fits into 32 bits, and so the mark of a bucket with a token is none without one
+-- the number of a party fits into 32 bits, so the mark of a bucket with a token isn't one without a token
 pub flag_named : (party : ℕ) → party < 4294967296 → flag_in (DetachedBy party) ≡ DetachedBy party
 flag_named party small = let same : party % 4294967296 ≡ party = omega arith in ap DetachedBy same
 
@@ -58,7 +58,7 @@ no_token marks bucket party small there (sender, is) =
 
 -- WORDS AND MARKS
 
--- what is found in the word of a bucket with this mark
+-- the value that is found in the word of a bucket with this mark
 pub found_in : (words : List ℕ) (marks : List Flag) (bucket : ℕ) (mark : Flag) → words ≡ words_of marks →
     slice_get marks bucket ≡ Some mark → get_or words (word_of bucket) 0 ≡ as_word mark
 found_in words marks bucket mark have at =
@@ -67,7 +67,7 @@ found_in words marks bucket mark have at =
     ∙ get_or-map as_word marks bucket Free 0 (slice_get_within marks bucket mark at)
     ∙ ap as_word (get_or_from_slice_get marks bucket mark Free at)
 
--- a write after the words in front
+-- a write after the words before the flags
 set-append-add : (front words : List ℕ) (i word : ℕ) → set (front ++ words) (length front + i) word ≡ front ++ set words i word
 set-append-add [] words i word = let none : 0 + i ≡ i = omega arith in ap (λ (k : ℕ). set words k word) none
 set-append-add (first ∷ front) words i word =
@@ -132,7 +132,7 @@ names_within parties most (DetachedBy party) at_most made = omega arith
 abbrev pub exchanged : ℕ → ℕ → ℕ
 exchanged word found = either (eqb found 0) word found
 
--- it leaves the word of a taken bucket
+-- such an exchange leaves the word of a taken bucket
 pub exchange_leaves : (word : ℕ) (mark : Flag) → is_taken mark ≡ true → exchanged word (as_word mark) ≡ as_word mark
 exchange_leaves word mark taken =
     ap (λ b. either b word (as_word mark)) (ne_eqb (as_word mark) 0 (taken_word mark taken))

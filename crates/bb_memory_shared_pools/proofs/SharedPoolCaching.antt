@@ -1,4 +1,5 @@
--- Lists of cached buckets, which lose their last one or get one more; what a request answers then; and what is out.
+-- Lists of cached buckets, which lose their last one or get one more; how requests are answered then; and which buckets are
+-- out.
 use Rattle.bb_memory_pool_machine.specs.PoolLogs.{IsHeldAfter, PoolLog}
 use Rattle.bb_memory_shared_pools.proofs.SharedPoolLaws.{held_below}
 use Rattle.bb_memory_shared_pools.proofs.SharedPoolRequests.{not_within, refused_unasked, unasked}
@@ -37,7 +38,7 @@ pub has_either : (cached before : List ℕ) (last other : ℕ) → cached ≡ be
 has_either cached before last other is at =
     Contains-push_cases before last other (subst (λ (xs : List ℕ). Contains xs other) is at)
 
--- one more
+-- one more cached bucket
 pub cached_more : (party : PoolParty) (cached : List ℕ) (bucket : ℕ) → AreCached party cached → IsHeldAfter party.log bucket →
     ¬ Contains cached bucket → AreCached party (cached ++ bucket ∷ [])
 cached_more party cached bucket are held uncached = record {
@@ -46,7 +47,7 @@ cached_more party cached bucket are held uncached = record {
       (λ k d below same. uncached (k, below, get_or_default cached k bucket d below ∙ same));
 }
 
--- none but the last
+-- one cached bucket less, the last
 pub cached_less : (party : PoolParty) (cached before : List ℕ) (last : ℕ) → cached ≡ before ++ last ∷ [] →
     AreCached party cached → AreCached party before
 cached_less party cached before last is are =
@@ -76,7 +77,7 @@ last_apart party cached before last is are at =
     (subst (AreCached party) is are).differ at.0 (length before) last at.1 (omega arith)
     (get_or_append_left before (last ∷ []) last at.0 at.1 ∙ at.2 ∙ sym (get_or_push before last last (length before) refl))
 
--- buckets stay cached while the party gives back one that is out
+-- buckets stay cached while the party gives back one that is in use
 pub cached_while : (old new : PoolParty) (cached : List ℕ) (bucket : ℕ) → AreCached old cached → ¬ Contains cached bucket →
     ((other : ℕ) → other ≢ bucket → IsHeldAfter old.log other → IsHeldAfter new.log other) → AreCached new cached
 cached_while old new cached bucket are uncached still = record {
@@ -175,7 +176,7 @@ searches old new layout (Err error) none answer serves unchanged = record {
   within = tt;
 }
 
--- the returns of all but the last come behind that of the last
+-- the returns of all but the last come after that of the last
 pub returns_push : (party : ℕ) (before : List ℕ) (last : ℕ) →
     returns_of party (before ++ last ∷ []) ≡ return_entry party last ++ returns_of party before
 returns_push party [] last = refl
@@ -183,7 +184,7 @@ returns_push party (bucket ∷ others) last =
     ap (λ (log : PoolLog). log ++ return_entry party bucket) (returns_push party others last)
     ∙ append_assoc (return_entry party last) (returns_of party others) (return_entry party bucket)
 
--- a return of the last, and of the others behind it, is a return of all
+-- a return of the last, and of the others after it, is a return of all
 pub returns_last : (party new : PoolParty) (cached before : List ℕ) (last bucket : ℕ) → cached ≡ before ++ last ∷ [] →
     bucket ≡ last → new ≡ with_entries party (return_entry party.number bucket) →
     with_entries new (returns_of new.number before) ≡ with_entries party (returns_of party.number cached)
@@ -200,7 +201,7 @@ returns_last party new cached before last bucket is same then =
 
 -- WHAT IS OUT
 
--- a bucket that is out goes to the cache
+-- a bucket that is in use goes to the cache
 pub out_cached : (old : CachingParty) (party : PoolParty) (cached now : List ℕ) (most bucket number : ℕ) →
     record { party = party; cached = cached; most = most } ≡ old → number ≡ bucket → AreCached party cached →
     IsOut old bucket → now ≡ cached ++ number ∷ [] → AreCached party now
@@ -209,7 +210,7 @@ out_cached old party cached now most bucket number own same are out is =
     let its = subst (λ (p : CachingParty). IsOut p bucket) (sym own) out in
     subst (AreCached party) (sym (is ∙ ap (λ (n : ℕ). cached ++ n ∷ []) same)) (cached_more party cached bucket are its.0 its.1)
 
--- a bucket that is out goes to the pool
+-- a bucket that is in use goes to the pool
 pub out_returned : (old : CachingParty) (party new : PoolParty) (cached : List ℕ) (most bucket : ℕ) →
     record { party = party; cached = cached; most = most } ≡ old → AreCached party cached → IsOut old bucket →
     ((other : ℕ) → other ≢ bucket → IsHeldAfter party.log other → IsHeldAfter new.log other) → AreCached new cached
@@ -217,7 +218,7 @@ unfolding IsOut
 out_returned old party new cached most bucket own are out still =
     cached_while party new cached bucket are (subst (λ (p : CachingParty). IsOut p bucket) (sym own) out).1 still
 
--- the last one's token is of a bucket that is out once it is cached no more
+-- the token of the last is that of a bucket that is in use once it isn't cached any more
 pub last_out : (party : PoolParty) (cached before : List ℕ) (most last len : ℕ) (pool : SharedPool) (token : TakenBucket) →
     AreCached party cached → cached ≡ before ++ last ∷ [] → token ≡ taken_bucket pool last len →
     IsOut (record { party = party; cached = before; most = most }) token.number
@@ -228,7 +229,7 @@ last_out party cached before most last len pool token are is its =
       λ at. last_apart party cached before last is are (subst (λ (n : ℕ). Contains before n) same at),
     )
 
--- no bucket that was out is the last
+-- no bucket that was in use is the last
 pub last_fresh : (old : CachingParty) (cached before : List ℕ) (last len : ℕ) (pool : SharedPool) (token : TakenBucket)
     (other : ℕ) → cached ≡ old.cached → cached ≡ before ++ last ∷ [] → token ≡ taken_bucket pool last len →
     IsOut old other → other ≢ token.number
@@ -236,7 +237,7 @@ unfolding IsOut
 last_fresh old cached before last len pool token other own is its out same =
     out.1 (has_last old.cached before last other (sym own ∙ is) (same ∙ number_of pool token last len its))
 
--- the bucket that was cached last isn't out, so not all are
+-- the bucket that was cached last isn't in use, so not all are
 pub last_not_all : (old : CachingParty) (cached before : List ℕ) (last : ℕ) → IsParty old.party →
     AreCached old.party old.cached → cached ≡ old.cached → cached ≡ before ++ last ∷ [] → ¬ AreAllOut old
 unfolding IsOut
@@ -245,7 +246,7 @@ last_not_all old cached before last is are own cut all =
     let held = last_held old.party old.cached before last its are in
     (all last (held_below old.party is last held)).1 (has_last old.cached before last last its refl)
 
--- what is out stays out where another bucket is cached
+-- a bucket that is in use stays in use if another bucket is cached
 pub out_more : (old new : CachingParty) (bucket other : ℕ) → new.party ≡ old.party → new.cached ≡ old.cached ++ bucket ∷ [] →
     other ≢ bucket → IsOut old other → IsOut new other
 unfolding IsOut
@@ -254,7 +255,7 @@ out_more old new bucket other own is apart out = (
   λ at. ⊎_elim out.1 (λ same. apart (sym same)) (has_either new.cached old.cached bucket other is at),
 )
 
--- what is out stays out where one bucket less is cached
+-- a bucket that is in use stays in use if one bucket less is cached
 pub out_less : (old new : CachingParty) (bucket other : ℕ) → new.party ≡ old.party → old.cached ≡ new.cached ++ bucket ∷ [] →
     IsOut old other → IsOut new other
 unfolding IsOut
@@ -263,7 +264,7 @@ out_less old new bucket other own is out = (
   λ at. out.1 (has_others old.cached new.cached bucket other is at),
 )
 
--- what is out behind a search of the pool
+-- the buckets that are in use after a search of the pool
 module _ (old new : CachingParty) (layout : Layout) (none : old.cached ≡ []) (none_now : new.cached ≡ []) where
   uncached : (cached : List ℕ) (other : ℕ) → cached ≡ [] → ¬ Contains cached other
   uncached cached other is at = let within = (subst (λ (xs : List ℕ). Contains xs other) is at).1 in absurd (omega arith)

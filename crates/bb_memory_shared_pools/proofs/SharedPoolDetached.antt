@@ -1,4 +1,4 @@
--- Detached buckets: which stand in the views of seats, and how they stay detached while parties step.
+-- Detached buckets: which of them are in the views of seats, and how they stay detached while parties step.
 use Rattle.bb_memory_lists.proofs.SliceGets.{slice_get-set_apart, slice_get-set_at}
 use Rattle.bb_memory_pool_machine.specs.declared.steps.pool.Flag.{Flag}
 use Rattle.bb_memory_pool_machine.specs.declared.steps.pool.Flag.TheVariants.{Free}
@@ -35,7 +35,7 @@ times_of-other item other apart = let none = one_apart other item apart in omega
 
 -- WHAT STAYS SO
 
--- views in which each bucket stands as often as before, or less
+-- views in which each bucket occurs as often as before, or less often
 fewer_detached : (marks : List Flag) (views new : List SeatView) → AreDetached marks views →
     ((bucket : ℕ) → times_detached bucket new ≤ times_detached bucket views) → AreDetached marks new
 fewer_detached marks views new are fewer = record {
@@ -70,7 +70,7 @@ pub both_parts : (guest view : List ℕ) (bucket : ℕ) →
     times_of bucket (guest ++ view) ≤ times_of bucket guest + times_of bucket view
 both_parts guest view bucket = let same = times_of-append bucket guest view in omega arith
 
--- with a seat more, at which nothing is detached
+-- with another seat, at which nothing is detached
 pub detached_entered : (marks : List Flag) (views : List SeatView) (view : SeatView) → view.detached ≡ [] →
     AreDetached marks views → AreDetached marks (views ++ view ∷ [])
 detached_entered marks views view none are = fewer_detached marks views (views ++ view ∷ []) are (λ bucket.

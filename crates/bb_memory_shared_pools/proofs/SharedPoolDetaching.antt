@@ -10,20 +10,19 @@ use Rattle.bb_memory_pool_machine.specs.declared.steps.pool.Flag.TheVariants.{De
 use Rattle.bb_memory_pool_machine.specs.declared.steps.pool.PoolOutcome.TheVariants.{Attaches, Detaches, Gives}
 use Rattle.bb_memory_pool_machine.specs.declared.steps.pool.PoolStep.TheVariants.{Attach, Detach, GiveBackDetached}
 use Rattle.bb_memory_seats.proofs.Seatings.{seated_with}
-use Rattle.bb_memory_seats.specs.Seats.{alone, alone_with, carrying, number_of, view_log}
-use Rattle.bb_memory_shared_pools.proofs.FlagWords.{at_word, changed, found_in, held_mark, marked, token_detached, token_named}
+use Rattle.bb_memory_seats.specs.Seats.{alone, alone_with, number_of, view_log}
+use Rattle.bb_memory_shared_pools.proofs.FlagWords.{at_word, changed, held_mark, marked, token_detached, token_named}
 use Rattle.bb_memory_shared_pools.proofs.SharedPoolDetached.{detached_of_seat, fewer_detached_one, more_detached}
-use Rattle.bb_memory_shared_pools.proofs.SharedPoolMeetings.{unchanged}
 use Rattle.bb_memory_shared_pools.proofs.SharedPoolTries.{idle_after_one}
 use Rattle.bb_memory_shared_pools.specs.FlagWords.{HasToken, as_word, bucket_of, flag_in, flags_in, with_token, word_of}
 use Rattle.bb_memory_shared_pools.specs.SharedPool.{attach_entry, return_detached_entry}
-use Rattle.bb_memory_shared_pools.specs.SharedPoolRule.{AfterDetach, AfterGain, SeatView, WordsAndLogsAgree, attaches, detaches, returns_detached, sees_detached}
+use Rattle.bb_memory_shared_pools.specs.SharedPoolRule.{AfterDetach, AfterGain, SeatView, WordsAndLogsAgree, attaches, detaches, returns_detached}
 use Rattle.std.proofs.Common.{List, None, Some, [], ap, refl, subst, suc, sym, zero, ℕ, ◌++◌, ◌<◌, ◌∙◌, ◌∷◌, ◌≡◌}
 use Rattle.std.proofs.lemmas.Option.{same_Some}
 use Rattle.std.specs.Prelude.{slice_get, slice_set}
 use mathlib.Core.Option.{none}
 
--- what a longer log is interleaved with
+-- the interleavings of a longer log
 longer_interleaved : (scene : PoolScene) (flags : List Flag) (logs : List PoolLog) (party : ℕ) (log : PoolLog)
     (entry : PoolEntry) → HasLog logs party log → LogsAgree scene flags (with_entry logs party log entry) →
     Interleaving scene party (log ++ entry ∷ [])
@@ -103,29 +102,6 @@ detaches_as scene slots seat word party bucket new log me there is named small o
     stores_as scene slots seat word bucket (as_word (with_token party)) new (alone scene party log, []) me
     (λ m b. AfterDetach m.0.scene (number_of m.0) (view_log m.0) b) there is named
     (detaches_one scene slots seat party bucket log small others held)
-
--- a load at a seat at which the bucket is detached
-sees_one : (scene : PoolScene) (slots seat bucket : ℕ) →
-    Allows (WordsAndLogsAgree scene) slots seat (carrying scene bucket, []) (word_of bucket) (λ found. found)
-    (sees_detached (step slots (word_of bucket) 0 0 none) (carrying scene bucket, []))
-sees_one scene slots seat bucket state rule homes at fits =
-    let view : SeatView = carrying scene bucket in
-    let moving = detached_of_seat rule.marks state.views seat bucket view refl at rule.detached in (
-      view,
-      keeps,
-      tt,
-      unchanged scene state seat (word_of bucket) view at rule,
-      (refl, (moving.0, found_in state.words rule.marks bucket (with_token moving.0) rule.words moving.1)),
-    )
-
-pub sees_detached_as : (scene : PoolScene) (slots seat word bucket : ℕ) (me : Me ℕ SeatView) → word ≡ word_of bucket →
-    me ≡ (carrying scene bucket, []) →
-    Allows (WordsAndLogsAgree scene) slots seat me word (λ found. found) (sees_detached (step slots word 0 0 none) me)
-sees_detached_as scene slots seat word bucket me there is =
-    subst (λ (w : ℕ). Allows (WordsAndLogsAgree scene) slots seat me w (λ found. found)
-    (sees_detached (step slots w 0 0 none) me)) (sym there)
-    (subst (λ (m : Me ℕ SeatView). Allows (WordsAndLogsAgree scene) slots seat m (word_of bucket) (λ found. found)
-    (sees_detached (step slots (word_of bucket) 0 0 none) m)) (sym is) (sees_one scene slots seat bucket))
 
 -- ATTACHING, AND GIVING BACK
 

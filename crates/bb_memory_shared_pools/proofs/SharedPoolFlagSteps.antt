@@ -56,7 +56,7 @@ entered scene state rule seat party log entry words marks at agree are keep =
           rule.detached keep;
     }
 
--- its effect: the log is longer, and interleaved with others'
+-- the effect of such a step: the log is longer, and interleaved with others'
 pub told : (scene : PoolScene) (flags : List Flag) (logs : List PoolLog) (party : ℕ) (log : PoolLog) (entry : PoolEntry) →
     HasLog logs party log → LogsAgree scene flags (with_entry logs party log entry) →
     IsSeatOf scene party (log ++ entry ∷ []) (alone scene party (log ++ entry ∷ []), [])
@@ -68,7 +68,7 @@ told scene flags logs party log entry at agree = record {
 
 -- STEPS AT A FLAG
 
--- what a step may do that found a word, which then becomes another
+-- the effects that a step may have that found a word, which then becomes another
 abbrev pub Allowed : (ℕ → ℕ) → StepEffect → PoolScene → State ℕ SeatView → ℕ → ℕ → Me ℕ SeatView → ℕ → Type 0
 Allowed becomes tells scene state seat bucket me found = (new : SeatView) × (act : Act ℕ) × Valid state.homes me.1 act
     × WordsAndLogsAgree scene (stepped state (word_of bucket) (becomes found) seat me.1 new act)
@@ -164,7 +164,7 @@ module _ (tells : StepEffect) (scene : PoolScene) (seat party bucket : ℕ) (log
   either_flag becomes free taken (HeldBy holder) = taken (HeldBy holder) refl
   either_flag becomes free taken (DetachedBy sender) = taken (DetachedBy sender) refl
 
--- A step that is allowed whatever mark the bucket has is allowed at each bucket of the pool.
+-- A step that is allowed for each mark of the bucket is allowed at each bucket of the pool.
 module _ (becomes : ℕ → ℕ) (tells : StepEffect) (scene : PoolScene) (slots seat word party bucket : ℕ) (log : PoolLog)
     (me : Me ℕ SeatView) (there : word ≡ word_of bucket) (is : me ≡ (alone scene party log, []))
     (below : bucket < scene.geometry.buckets)

@@ -87,7 +87,7 @@ module _ (scene : PoolScene) (slots seat word party bucket : ℕ) (log : PoolLog
       tries_at_as idle = subst (λ (w : ℕ). Allows (WordsAndLogsAgree scene) slots seat me word (exchanged w)
           (effect_of AfterTryAt me (bucket_of word))) (sym named) (tries_at idle)
 
-    -- and look at it before
+    -- an idle party may look at a bucket before it tries it
     pub looks_at_as : pass_in log ≡ None →
         Allows (WordsAndLogsAgree scene) slots seat me word (λ found. found) (at_flag AfterLook (step slots word 0 0 none) me)
     looks_at_as idle = steps_as (λ found. found) AfterLook scene slots seat word party bucket log me there is below

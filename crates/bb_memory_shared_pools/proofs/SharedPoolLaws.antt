@@ -59,13 +59,13 @@ history_held party is layouts live bucket run held =
 
 -- REFUSED PASSES
 
--- `last` stands in the list at some place, up to which just this is kept of the list, and then `last`
+-- `last` is in the list at some place, up to which exactly `kept` is kept of the list, and then `last`
 pub record IsKeptAfter {X : Type 0} (test : X → Bool) (list kept : List X) (last : X) : Type 0 where
   pub place : ℕ
   pub there : slice_get list place ≡ Some last
   pub up_to : filter test (take (suc place) list) ≡ kept ++ last ∷ []
 
--- what is kept of a list whose first is tested, and of what follows it
+-- the elements that are kept of a list whose first is tested, and of the rest
 abbrev kept_with : {X : Type 0} → X → List X → Bool → List X
 kept_with first rest passes = if passes then first ∷ rest else rest
 

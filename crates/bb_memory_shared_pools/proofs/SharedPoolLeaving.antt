@@ -82,7 +82,7 @@ none-returned party number not_held =
     sym (append-nil party.log)
     ∙ ap (λ (b : Bool). party.log ++ (if b then return_entry party.number number else [])) (sym free))
 
--- the next bucket is held after the returns of those in front of it exactly as before them
+-- the next bucket is held after the returns of those before it exactly if it was held before these returns
 pub next-held : (party : PoolParty) (number : ℕ) →
     holds_bucket (with_entries party (returns_of party number)) number ≡ holds_bucket party number
 next-held party number = held-append number false party.log (returns_of party number)

@@ -1,4 +1,4 @@
--- Loads of flags by a seat of several parties, and what they say of detached buckets.
+-- Loads of flags by a seat of several parties, and what they show about detached buckets.
 use Rattle.atomic_table.specs.Table.{Allows, Me, keeps, step}
 use Rattle.bb_memory_pool_machine.specs.PoolMachine.{PoolScene}
 use Rattle.bb_memory_pool_machine.specs.declared.steps.pool.Flag.{Flag}
@@ -16,7 +16,7 @@ use mathlib.Core.Option.{none}
 
 -- A LOAD
 
--- what a load of a bucket's flag leaves of the seat, and what it finds
+-- the effect of a load of a bucket's flag on the seat, and what the load finds
 abbrev looks : Me ℕ SeatView → ℕ → ℕ → Me ℕ SeatView → Type 0
 looks old bucket found new = (new ≡ old) × AfterMeetingLook old.0.scene old.0.parties bucket found
 
@@ -48,13 +48,13 @@ looks_as scene slots seat word bucket parties me there is below =
 
 -- WHAT A WORD SAYS
 
--- a word that is even and not 0 says that its bucket is detached
+-- a word that is even and not 0 encodes that its bucket is detached
 even_word : (mark : Flag) → as_word mark ≢ 0 → as_word mark % 2 ≡ 0 → (sender : ℕ) × (flag_in mark ≡ DetachedBy sender)
 even_word Free some even = absurd (some refl)
 even_word (HeldBy party) some even = absurd (omega arith)
 even_word (DetachedBy sender) some even = (sender % 4294967296, refl)
 
--- and no other word does
+-- each word of a detached bucket is even and not 0
 word_is_even : (mark : Flag) (sender : ℕ) → flag_in mark ≡ DetachedBy sender → (as_word mark ≢ 0) × (as_word mark % 2 ≡ 0)
 word_is_even Free sender same = absurd (cc)
 word_is_even (HeldBy party) sender same = absurd (cc)

@@ -1,4 +1,4 @@
--- A load by a seat of several parties: how they agree with the flags, and what two of them have of one another.
+-- A load by a seat of several parties: how they agree with the flags, and what two of them know of each other.
 use Rattle.atomic_table.proofs.Lists.{set_again}
 use Rattle.atomic_table.specs.Table.{Allows, Me, State, keeps, step}
 use Rattle.bb_memory_pool_machine.proofs.PoolLogFacts.{interleaved_logs, logs_apart}
@@ -68,7 +68,7 @@ meets_as scene slots seat word parties me is =
     subst (λ (m : Me ℕ SeatView). Allows (WordsAndLogsAgree scene) slots seat m word (λ found. found)
     (meets (step slots word 0 0 none) m)) (sym is) (meets_at scene slots seat word parties)
 
--- what a meeting of two has found
+-- the result of a meeting of two parties
 pub two_met : (scene : PoolScene) (number : ℕ) (log : PoolLog) (other : ℕ) (other_log : PoolLog) →
     AfterMeetingLoad scene (numbered other other_log ∷ numbered number log ∷ []) → AfterMeeting scene number log other other_log
 two_met scene number log other other_log told =

@@ -1,4 +1,4 @@
--- Parties that come to one seat, and what their meeting says of their logs.
+-- Parties that come to one seat, and what their meeting shows about their logs.
 use Rattle.atomic_table.specs.Seated.{TableId}
 use Rattle.atomic_table.specs.Table.{Me}
 use Rattle.bb_memory_lists.proofs.ListEntries.{any_contained}
@@ -23,7 +23,7 @@ use Rattle.std.specs.Prelude.{All, Contains, map, slice_get}
 
 -- GATHERING
 
--- a party's seat stands for it alone
+-- a party's seat stands only for that party
 pub parties_of : (table : TableId) (number : ℕ) (hint : Hint) (me : Me ℕ SeatView) (party : PoolParty) →
     IsPartySeat number hint me → party_in table number me.0 ≡ party → me.0.parties ≡ numbered_of party ∷ []
 parties_of table number hint me party fields view_is =
@@ -49,7 +49,7 @@ module _ (scene : PoolScene) (items : List PoolParty) (told : AfterMeetingLoad s
   its_own : (one : PoolParty) → Contains items one → HasLog told.logs one.number one.log
   its_own one there = All-contains (λ (p : PoolParty). HasLog told.logs p.number p.log) items one had there
 
-  -- a number that stands in the list has the log of its party there, and what is held after it, one of them holds
+  -- a number in the list has the log of its party there. A bucket that is held after that log is held by one of the parties
   its_log : (number : ℕ) → 1 ≤ times_in number (map numbered_of items) → (log : PoolLog) × HasLog told.logs number log
   its_log number some =
       let one = owner numbered_of items number some in
@@ -73,7 +73,7 @@ module _ (scene : PoolScene) (items : List PoolParty) (told : AfterMeetingLoad s
   same_flags : map is_taken state.flags ≡ taken_flags
   same_flags = ap (λ (flags : List Flag). map is_taken flags) told.agree.leaves
 
-  -- what one of them holds is taken
+  -- a bucket that one of them holds is taken
   one_taken : (bucket : ℕ) (one : IsHeldByOne items bucket) → slice_get taken_flags bucket ≡ Some true
   one_taken bucket one =
       let own = subst (λ (p : PoolParty). HasLog told.logs p.number p.log) one.3 (had one.0 one.1 one.2) in
@@ -151,7 +151,7 @@ pub met_party : (table was : TableId) (number : ℕ) (me new : Me ℕ SeatView) 
     party_in was number me.0 ≡ party → table ≡ was → new ≡ me → party_in table number new.0 ≡ party
 met_party table was number me new party view_is same is = (λ i. party_in (same i) number (is i).0) ∙ view_is
 
--- its seat is as it was where it stands for that party alone again
+-- the party's seat is as it was if it stands only for that party again
 pub same_seat : (pool : SharedPool) (table : TableId) (number : ℕ) (hint : Hint) (me new : Me ℕ SeatView) (party : PoolParty) →
     IsPartySeat number hint me → party_in table number me.0 ≡ party → party.allocator ≡ pool →
     new ≡ (standing_for pool.scene (numbered_of party ∷ []), []) → new ≡ me

@@ -18,7 +18,7 @@ use borrow.Author.Count.{below_more}
 
 -- PROBES
 
--- where a search begins
+-- a search begins at a bucket of the pool
 pub start_here : (buckets first : ℕ) → first < buckets → start_of buckets first ≡ first
 start_here buckets first below = ap (λ (b : Bool). if b then first else 0) (test_below first buckets below)
 
@@ -49,7 +49,7 @@ pub record Probe (buckets first bucket : ℕ) : Type 0 where
   pub before_end : probe < buckets
   pub there : probed buckets first probe ≡ bucket
 
--- it has one at each
+-- a search has one probe at each bucket
 pub probe_at : (buckets first bucket : ℕ) → bucket < buckets → Probe buckets first bucket
 probe_at buckets first bucket below =
     let start : ℕ = start_of buckets first in
@@ -102,7 +102,7 @@ held-taking_at : (party taken bucket : ℕ) (log : PoolLog) → held_through buc
     ≡ (if taken == bucket then true else held_through bucket false log)
 held-taking_at party taken bucket log = held-append bucket false log (taking_at party taken)
 
--- nor of a hint
+-- misses don't change a hint
 pub hint-misses : (buckets party first probe : ℕ) (hint : Hint) → hint ≡ hint_through hint (misses buckets party first probe)
 hint-misses buckets party first zero hint = refl
 hint-misses buckets party first (suc probe) hint = hint-misses buckets party first probe hint
@@ -148,7 +148,7 @@ module _ (scene : PoolScene) (number : ℕ) (log : PoolLog) (first : ℕ) where
     abbrev before : PoolLog
     before = misses scene.geometry.buckets number first probe
 
-    -- one more miss. Where the party is the only one, the bucket is held after its log, as all before
+    -- one more miss. If the party is the only one, the bucket is held after its log, as all before
     pub search_goes_on : (bucket : ℕ) → bucket ≡ tried → AfterMiss scene (number_of me.0) (view_log me.0) bucket new →
         IsInSearch scene number log first (probe + 1) new
     search_goes_on bucket is tells =

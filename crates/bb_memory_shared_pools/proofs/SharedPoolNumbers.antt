@@ -138,7 +138,7 @@ module _ (scene : PoolScene) (slots seat word party bucket from : ℕ) (log : Po
       | inr apart ↦ loses mark apart
     ]
 
-    -- it attaches the bucket exactly where it finds that `from` has detached it without a token
+    -- the exchange attaches the bucket exactly if it finds that `from` has detached the bucket without a token
     pub attaches_number_as : (old new : ℕ) → old ≡ as_word (DetachedBy from) → new ≡ as_word (HeldBy party) →
         Allows (WordsAndLogsAgree scene) slots seat me word (swapped old new)
         (attaches_number (step slots word old new none) me)

@@ -53,7 +53,7 @@ module _ (pool : SharedPool) (table : TableId) (me : Me ℕ SeatView) (number : 
       (is.next_fit ∙ ap (λ (s : PoolScene). hint_in s number (view_log me.0)) own_scene)
       ∙ sym (hint-append (first_hint pool.scene number) (view_log me.0) added))
 
--- what holds of every party
+-- the facts about every party
 pub is_party : (table : TableId) (number : ℕ) (hint : Hint) (me : Me ℕ SeatView) → IsPartySeat number hint me →
     IsParty (party_in table number me.0)
 is_party table number hint me is = record {

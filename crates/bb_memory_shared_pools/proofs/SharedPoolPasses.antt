@@ -12,12 +12,12 @@ use Rattle.bb_memory_shared_pools.specs.SharedPoolRule.{AfterPassWin, AfterRefus
 use Rattle.std.proofs.Common.{None, Some, [], add-one, ap, append-nil, append_assoc, arith, subst, sym, ℕ, ◌++◌, ◌+◌, ◌<◌, ◌∙◌, ◌∷◌, ◌≡◌}
 use borrow.Author.Count.{below_more}
 
--- a pass under way: since it began, the seat's party has lost at the buckets below this one
+-- a pass in progress: since it began, the seat's party has lost at the buckets below this one
 pub record IsPassing (scene : PoolScene) (number : ℕ) (log : PoolLog) (bucket : ℕ) (me : Me ℕ SeatView) : Type 0 where
   pub seat : IsSeatOf scene number (log ++ losses scene.geometry.buckets number bucket) me
   pub held : scene.parties ≡ 1 → AreAllHeldAfter log bucket
 
--- an entry behind more of them
+-- an entry after more of them
 seat_after : (scene : PoolScene) (number : ℕ) (log more : PoolLog) (entry : PoolEntry) (new : Me ℕ SeatView) →
     IsSeatOf scene number ((log ++ more) ++ entry ∷ []) new → IsSeatOf scene number (log ++ (more ++ entry ∷ [])) new
 seat_after scene number log more entry new seat =
@@ -31,7 +31,7 @@ module _ (scene : PoolScene) (number : ℕ) (log : PoolLog) where
   }
 
   module _ (me new : Me ℕ SeatView) (bucket : ℕ) (passing : IsPassing scene number log bucket me) where
-    -- one more loss. Where the party is the only one, the bucket is held after its log, as all before
+    -- one more loss. If the party is the only one, the bucket is held after its log, as all before
     pub goes_on : AfterTryLoss scene (number_of me.0) (view_log me.0) bucket new → IsPassing scene number log (bucket + 1) new
     goes_on tells =
         let buckets : ℕ = scene.geometry.buckets in

@@ -21,7 +21,7 @@ use Rattle.std.proofs.Common.{Bool, None, Option, Some, ap, arith, false, refl, 
 use Rattle.std.proofs.lemmas.Bool.Decides.{nat_tests}
 use Rattle.std.specs.Prelude.{Err, MatchOption, Ok, if◌then◌else◌, ◌%◌, ◌==◌}
 
--- whether a bucket is held behind tries that took this one, or none
+-- whether a bucket is held after tries that took this one, or none
 abbrev pub held_with : Option ℕ → ℕ → Bool → Bool
 held_with (Some taken) bucket held = if taken == bucket then true else held
 held_with None bucket held = held
@@ -40,7 +40,7 @@ other_with None bucket held apart is = is
 other_with (Some taken) bucket held apart is =
     sym (ap (λ (b : Bool). if b then true else held) (test_apart taken bucket (λ same. apart (sym same)))) ∙ is
 
--- tries that have ended: what they add to the log, what is held then, and what they found
+-- tries that have ended: their entries in the log, the buckets that are held then, and their result
 pub record HasAsked (scene : PoolScene) (number : ℕ) (log added : PoolLog) (result : Option ℕ) (new : Me ℕ SeatView)
     : Type 0 where
   pub ended : AfterCall scene number log added new
@@ -48,7 +48,7 @@ pub record HasAsked (scene : PoolScene) (number : ℕ) (log added : PoolLog) (re
   pub found : MatchOption result (scene.parties ≡ 1 → AreAllHeldAfter log scene.geometry.buckets)
       (λ bucket. (bucket < scene.geometry.buckets) × (¬ IsHeldAfter log bucket))
 
--- a party of this pool, before its tries and behind them
+-- a party of this pool, before its tries and after them
 module _ (pool : SharedPool) (table new_table : TableId) (me new : Me ℕ SeatView) (number : ℕ) (hint next : Hint)
     (added : PoolLog) (party : PoolParty) (layout : Layout) (is : IsPartySeat number hint me) (now : IsPartySeat number next new)
     (view_is : party_in table number me.0 ≡ party) (own : party.allocator ≡ pool) where
@@ -126,14 +126,14 @@ module _ (pool : SharedPool) (table new_table : TableId) (me new : Me ℕ SeatVi
     );
   }
 
--- what isn't admitted isn't within the bucket's size and alignment
+-- a layout that isn't admitted isn't within the bucket's size and alignment
 pub not_within : (bucket layout : Layout) (error : AllocationError) → Admits bucket layout (Err error) → ¬ IsWithin bucket layout
 not_within bucket layout SizeTooLarge large within = absurd (omega (arith, large, within.size))
 not_within bucket layout AlignmentFailure large within = absurd (omega (arith, large.1, within.align))
 not_within bucket layout SizeIsZero refused within = absurd refused
 not_within bucket layout OutOfMemory refused within = absurd refused
 
--- it is refused so before a pass and before a search
+-- such a request is refused before a pass and before a search
 pub refused_unasked : (party : PoolParty) (entries : PoolLog) (layout : Layout) (error : AllocationError) →
     Admits party.allocator.scene.geometry.bucket layout (Err error) → MayRefuse party entries layout error party
 refused_unasked party entries layout SizeTooLarge large = (large, refl)

@@ -45,7 +45,7 @@ merges scene seat other view guest state rule at apart there = reseated scene st
     (detached_joined rule.marks state.views seat other view guest (both_of view guest) nobody refl
     (λ bucket. omega arith) rule.detached at there)
 
--- what is detached goes to a seat of its own, and to the seat of another
+-- a detached bucket goes to a seat of its own, and to the seat of another
 pub gives_detached : (scene : PoolScene) (seat : ℕ) (view : SeatView) →
     Splits (WordsAndLogsAgree scene) seat view (others_detached view) (first_detached view)
 gives_detached scene seat view state rule at = reseated scene state rule _

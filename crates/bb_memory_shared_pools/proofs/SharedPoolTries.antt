@@ -43,7 +43,7 @@ held-losses buckets party (suc lost) bucket held =
     ∙ held-loss bucket lost (held_through bucket held (losses buckets party lost)) (nat_lt (lost + 1) buckets)
     ∙ held-losses buckets party lost bucket held
 
--- nor of a hint
+-- losses don't change a hint
 hint-loss : (lost : ℕ) (hint : Hint) (more : Bool) → hint_after hint (if more then Loses lost else RefusedAtLoss lost) ≡ hint
 hint-loss lost hint true = refl
 hint-loss lost hint false = refl
@@ -61,7 +61,7 @@ pub hint-taking : (buckets party taken : ℕ) (hint : Hint) →
 hint-taking buckets party taken hint = ap (λ (h : Hint). hint_after h (Takes taken)) (hint-losses buckets party taken hint)
     ∙ sym (hint-append hint (losses buckets party taken) (entry_of (Try party) (Takes taken) ∷ []))
 
--- so a log holds what it held before them
+-- so a log holds what it held before the losses
 pub same_held : (buckets party lost bucket : ℕ) (log : PoolLog) →
     held_through bucket false (log ++ losses buckets party lost) ≡ held_through bucket false log
 same_held buckets party lost bucket log = held-append bucket false log (losses buckets party lost)
@@ -75,7 +75,7 @@ test_not_below m n least = grind (arith, nat_tests)
 
 -- WHOLE PASSES
 
--- with all lost, a pass is over
+-- after a loss at each bucket, a pass is over
 idle-losses : (buckets party : ℕ) → pass_through None (losses buckets party buckets) ≡ None
 idle-losses zero party = refl
 idle-losses (suc buckets) party =

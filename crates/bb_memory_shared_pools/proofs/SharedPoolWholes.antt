@@ -65,7 +65,7 @@ module _ (scene : PoolScene) (parties : List PoolParty) (met : HaveMet scene par
       (logs_apart scene met.1.named met.1.logs one.number one.log other.number other.log bucket met.1.agree its its_other held
       other_held)
 
-  -- an entry whose step is that of a number stands in the log of the party with this number
+  -- an entry whose step is that of a number is in the log of the party with this number
   numbered : (entry : PoolEntry) (number : ℕ) → length parties ≡ scene.parties → Contains history entry →
       is_by number entry.step ≡ true → Any (λ party. Contains party.log entry) parties
   numbered entry number all there by =
@@ -85,7 +85,7 @@ module _ (scene : PoolScene) (parties : List PoolParty) (met : HaveMet scene par
 
   -- DETACHED BUCKETS
 
-  -- none of them holds it
+  -- none of them holds a detached bucket
   pub met_detached : (bucket : ℕ) → IsDetached (left_by scene steps) bucket → ¬ IsHeldByOne parties bucket
   met_detached bucket detached one =
       let logged = All-contains (λ (party : PoolParty). log_of scene steps party.number ≡ party.log) parties one.1
@@ -93,7 +93,7 @@ module _ (scene : PoolScene) (parties : List PoolParty) (met : HaveMet scene par
       detached_unheld scene steps one.1.number bucket detached
       (subst (λ (l : PoolLog). IsHeldAfter l bucket) (sym logged) one.4)
 
-  -- and where all have met, one of them has detached it
+  -- if all parties met, one of them has detached it
   pub met_was_detached : (bucket : ℕ) → length parties ≡ scene.parties → IsDetached (left_by scene steps) bucket →
       WasDetachedByOne parties bucket
   met_was_detached bucket all detached =
@@ -110,7 +110,7 @@ module _ (scene : PoolScene) (parties : List PoolParty) (met : HaveMet scene par
   log_there : (party : PoolParty) → Contains parties party → log_of scene steps party.number ≡ party.log
   log_there party = All-contains (λ (p : PoolParty). log_of scene steps p.number ≡ p.log) parties party met_logged
 
-  -- one of them attached a bucket from another one only if this one detached it
+  -- one of them attached a bucket from another one only if the other one detached it
   pub met_sent : (receiver sender : PoolParty) (bucket : ℕ) → Contains parties receiver → Contains parties sender →
       WasAttachedFrom receiver.log bucket sender.number → WasDetached sender.log bucket
   met_sent receiver sender bucket there sender_there attached =
@@ -120,7 +120,7 @@ module _ (scene : PoolScene) (parties : List PoolParty) (met : HaveMet scene par
 
 -- WHO TOOK A BUCKET
 
--- one that has this entry, which took a bucket, took one
+-- a party that has this entry, which took a bucket, has taken one
 took_by_entry : (scene : PoolScene) (parties : List PoolParty) (met : HaveMet scene parties) (entry : PoolEntry) →
     IsTaking entry.outcome → Any (λ party. Contains party.log entry) parties → HasTaker scene parties
 took_by_entry scene parties met entry takes one =
@@ -162,7 +162,7 @@ took_by_steps : (scene : PoolScene) (parties : List PoolParty) (met : HaveMet sc
 took_by_steps scene parties met one [] is all there made = absurd (made (no_steps scene parties met one is there))
 took_by_steps scene parties met one (step ∷ steps) is all there made = first_took scene parties met step steps is all
 
--- where one has made a step, one has taken a bucket
+-- if one has made a step, one has taken a bucket
 pub one_took : (scene : PoolScene) (parties : List PoolParty) (one : PoolParty) → HaveMet scene parties →
     length parties ≡ scene.parties → Contains parties one → one.log ≢ [] → HasTaker scene parties
 one_took scene parties one met all there made = took_by_steps scene parties met one met.1.agree.steps refl all there made

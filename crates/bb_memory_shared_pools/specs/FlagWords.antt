@@ -1,4 +1,4 @@
--- The words of a shared pool's flags, and the marks that the words say.
+-- The words of a shared pool's flags, and the mark that each word encodes.
 use Rattle.bb_memory_pool_machine.specs.declared.steps.pool.Flag.{Flag}
 use Rattle.bb_memory_pool_machine.specs.declared.steps.pool.Flag.TheVariants.{DetachedBy, Free, HeldBy}
 use Rattle.std.specs.Prelude.{List, Some, map, replicate, slice_get, ℕ, ◌%◌, ◌*◌, ◌++◌, ◌+◌, ◌-◌, ◌/◌, ◌≡◌}
@@ -17,7 +17,7 @@ bucket_of word = word - 8
 abbrev pub words_for : ℕ → ℕ
 words_for buckets = 8 + buckets
 
--- the number in a word that says this mark, which names the holder, or the party that has detached the bucket
+-- the word that encodes this mark, which names the holder, or the party that has detached the bucket
 abbrev pub as_word : Flag → ℕ
 as_word Free = 0
 as_word (HeldBy party) = 2 * party + 1
@@ -29,7 +29,7 @@ words_of marks = replicate 8 0 ++ map as_word marks
 
 -- MARKS
 
--- A mark says of a bucket what its word says: the bucket's flag, and if the bucket is detached, also whether it has a token.
+-- A mark is what a bucket's word encodes: the bucket's flag and, if the bucket is detached, whether it has a token.
 
 -- The mark of a bucket that this party detached with a token. The number in it is 2^32 more than the party's, and no party has
 -- it.
@@ -50,6 +50,6 @@ flags_in marks = map flag_in marks
 abbrev pub HasToken : List Flag → ℕ → Type 0
 HasToken marks bucket = (sender : ℕ) × (slice_get marks bucket ≡ Some (with_token sender))
 
--- the party that this word of a bucket names, which was detached without a token
+-- the party that this word names, if it is the word of a bucket that was detached without a token
 abbrev pub sender_in : ℕ → ℕ
 sender_in word = (word - 2) / 2

@@ -193,8 +193,8 @@ pub record IsResizedTo {E : Type 0} (pool : SharedPool) (old : TakenBucket) (ans
   pub inside : IfOk answer (IsInside pool.scene.geometry.region)
   pub kept : OnErr answer (new ≡ old)
 
--- The pass with which this beginning of the party's log ends was refused, and has found each bucket held in the run, each at a
--- step of its own. After the pass's last step the party's entries are that beginning.
+-- The given beginning of the party's log ends with a refused pass, which found each bucket held in the run, each at a step of its
+-- own. After the pass's last step the party's entries are that beginning.
 pub record HasFoundAllHeld (party : PoolParty) (is : IsParty party) (beginning : PoolLog) : Type 0 where
   pub last : ℕ
   pub its_last : let history = history_of party.allocator.scene is.interleaved.steps in

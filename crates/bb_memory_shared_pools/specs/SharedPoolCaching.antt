@@ -1,4 +1,4 @@
--- Parties of a shared pool that cache buckets: which buckets they cache for their next requests, and which are out.
+-- Parties of a shared pool that cache buckets: which buckets they cache for their next requests, and which are in use.
 use Rattle.bb_memory_pool_machine.specs.PoolLogs.{IsHeldAfter, PoolLog}
 use Rattle.bb_memory_shared_pools.specs.SharedPool.{HasAttachedFrom, PoolParty, Serves, ServesAlone, TakenBucket, attach_from_entry, return_entry, taken_bucket, with_entries}
 use Rattle.bb_memory_shared_pools.specs.SharedPoolNextFit.{MayTakeFrom, hint_of}
@@ -15,11 +15,11 @@ pub record CachingParty : Type 0 where
   pub cached : List ℕ
   pub most : ℕ
 
--- the bucket is out: the party holds the bucket, and doesn't cache it
+-- the bucket is in use: the party holds the bucket, and doesn't cache it
 unfoldable pub IsOut : CachingParty → ℕ → Type 0
 IsOut caching bucket = IsHeldAfter caching.party.log bucket × (¬ Contains caching.cached bucket)
 
--- each bucket of the party's pool is out
+-- each bucket of the party's pool is in use
 abbrev pub AreAllOut : CachingParty → Type 0
 AreAllOut caching = (bucket : ℕ) → bucket < caching.party.allocator.scene.geometry.buckets → IsOut caching bucket
 
@@ -35,7 +35,7 @@ pub record SearchesPool (old : CachingParty) (layout : Layout) (result : Result 
   pub serves : ServesAlone old.party.allocator old.party layout result new.party
   pub unchanged : new ≡ record old { party = new.party }
 
--- a refused request: a search of the pool refused it, and if with OutOfMemory, no bucket was cached
+-- a refused request: a search of the pool refused it. If the error is OutOfMemory, no bucket was cached
 pub record RefusesCaching (old : CachingParty) (layout : Layout) (error : AllocationError) (new : CachingParty) : Type 0 where
   pub answer : MayTakeFrom (hint_of old.party) old.party layout (Err error) new.party
   pub unchanged : new ≡ record old { party = new.party }
@@ -52,9 +52,9 @@ pub record TakesCaching (old : CachingParty) (layout : Layout) (result : Result 
   pub refused : IfErr result (λ error. RefusesCaching old layout error new)
   pub within : IfOk result (λ bucket. IsWithin old.party.allocator.scene.geometry.bucket layout)
 
--- All promises of a caching party's request. The bucket that it takes is out then, and wasn't before; each other bucket is out if
--- it was before. In a pool with one party, a request within the bucket's size and alignment is refused exactly if each bucket is
--- out.
+-- All promises of a caching party's request. The bucket that it takes is in use then, and wasn't before; each other bucket is
+-- in use if it was before. In a pool with one party, a request within the bucket's size and alignment is refused exactly if
+-- each bucket is in use.
 pub record ServesCaching (old : CachingParty) (layout : Layout) (result : Result TakenBucket AllocationError) (new : CachingParty)
     : Type 0 where
   pub answer : TakesCaching old layout result new
@@ -74,8 +74,8 @@ pub record ReturnsCaching (old : CachingParty) (number : ℕ) (new : CachingPart
   pub returned : old.most ≤ length old.cached
       → new ≡ record old { party = with_entries old.party (return_entry old.party.number number) }
 
--- The party has attached the bucket of this number from the party `from`, as its log says. The bucket is out then, and wasn't
--- before; each other bucket is out if it was before.
+-- The party has attached the bucket of this number from the party `from`, as its log says. The bucket is in use then, and
+-- wasn't before; each other bucket is in use if it was before.
 pub record AttachesCaching (old : CachingParty) (number from : ℕ) (new : CachingParty) : Type 0 where
   pub logged : new ≡ record old { party = with_entries old.party (attach_from_entry old.party.number number from) }
   pub party : HasAttachedFrom old.party.allocator old.party number from new.party

@@ -1,5 +1,5 @@
--- Next fit: requests of a shared pool's party that probe each bucket from the party's hint on, what they add to the party's log,
--- and what they may be answered.
+-- Next fit: requests of a shared pool's party that probe each bucket from the party's hint on, what they add to the party's
+-- log, and which answers they may have.
 use Rattle.bb_memory_pool_machine.specs.PoolLogs.{IsHeldInRun, MissesAt, PoolLog, entries_by, entry_of, history_of}
 use Rattle.bb_memory_pool_machine.specs.PoolMachine.{PoolScene}
 use Rattle.bb_memory_pool_machine.specs.declared.steps.pool.PoolOutcome.{PoolOutcome}
@@ -9,7 +9,7 @@ use Rattle.bb_memory_shared_pools.specs.SharedPool.{IsParty, MayRefuse, MayTakeB
 use Rattle.bb_memory_shared_pools.specs.declared.shared_pool.party.Hint.{Hint}
 use Rattle.bb_memory_traits.specs.declared.allocator.AllocationError.{AllocationError}
 use Rattle.bb_memory_traits.specs.declared.layout.Layout.{Layout}
-use Rattle.std.specs.Prelude.{Err, Ok, Result, [], fold, if◌then◌else◌, nat_lt, not, suc, take, zero, ℕ, ◌%◌, ◌&&◌, ◌*◌, ◌++◌, ◌+◌, ◌/◌, ◌<◌, ◌==◌, ◌||◌, ◌∷◌, ◌≡◌}
+use Rattle.std.specs.Prelude.{Bool, Err, Ok, Result, [], fold, if◌then◌else◌, nat_lt, not, suc, take, zero, ℕ, ◌%◌, ◌&&◌, ◌*◌, ◌++◌, ◌+◌, ◌/◌, ◌<◌, ◌==◌, ◌||◌, ◌∷◌, ◌≡◌}
 
 -- WHERE A SEARCH BEGINS
 
@@ -27,10 +27,19 @@ rover_on hint bucket = if bucket == hint.bucket && not (bucket == hint.rover) th
 abbrev pub rover_back : Hint → ℕ
 rover_back hint = if nat_lt hint.bucket hint.rover || nat_lt (hint.rover + 128) hint.bucket then hint.bucket else hint.rover
 
--- the hint after one more step: at the bucket that the party gave back, and after a taking at the rover
+-- The next search begins where it would have begun, even after a return of this bucket: at a bucket at most 128 before this one
+-- that came back since the party's last taking. It did if it is before the rover.
+abbrev pub stays_at : Hint → ℕ → Bool
+stays_at hint bucket =
+    nat_lt hint.bucket hint.rover && nat_lt hint.bucket bucket && not (nat_lt (hint.bucket + 128) bucket)
+
+-- The hint after one more step: after a return at the bucket that came back, unless it stays as above, and then a rover after
+-- that bucket moves to it; after a taking at the rover.
 abbrev pub hint_after : Hint → PoolOutcome → Hint
 hint_after hint (Takes bucket) = record { bucket = rover_on hint bucket; rover = rover_on hint bucket }
-hint_after hint (Gives bucket) = record { bucket = bucket; rover = rover_back hint }
+hint_after hint (Gives bucket) = if stays_at hint bucket
+    then record { bucket = hint.bucket; rover = if nat_lt bucket hint.rover then bucket else hint.rover }
+    else record { bucket = bucket; rover = rover_back hint }
 hint_after hint _ = hint
 
 -- the hint of a party that has made no step: the first bucket of its own part
@@ -55,7 +64,7 @@ taking_at party bucket = entry_of (TryAt party bucket) (Takes bucket) ∷ []
 abbrev pub miss_at : ℕ → ℕ → PoolLog
 miss_at party bucket = entry_of (TryAt party bucket) (Misses bucket) ∷ []
 
--- where a search over `buckets` buckets begins: at bucket `first`, or at bucket 0 if there is no such bucket
+-- where a search over `buckets` buckets begins: at bucket `first`, or at bucket 0 if the pool has no bucket `first`
 abbrev pub start_of : ℕ → ℕ → ℕ
 start_of buckets first = if nat_lt first buckets then first else 0
 

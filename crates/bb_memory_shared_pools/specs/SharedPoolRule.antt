@@ -1,5 +1,5 @@
--- The rule of a shared pool's words, what its seats and fields stand for, and what each step on a word leaves of the seat that
--- makes it.
+-- The rule of a shared pool's words, the meaning of its seats and fields, and the effect of each step on a word on the seat
+-- that makes it.
 use Rattle.atomic_table.specs.Seated.{TableId}
 use Rattle.atomic_table.specs.Table.{Me, State, Step}
 use Rattle.bb_memory_pool_machine.specs.PoolLogs.{CommonInterleaving, Interleaving, IsDetachedIn, IsHeldAfter, LogsAgree, MayBeFound, PoolEntry, PoolLog, entry_of, loss_at, pass_in}
@@ -9,14 +9,14 @@ use Rattle.bb_memory_pool_machine.specs.declared.steps.pool.Flag.TheVariants.{De
 use Rattle.bb_memory_pool_machine.specs.declared.steps.pool.PoolOutcome.TheVariants.{Takes}
 use Rattle.bb_memory_pool_machine.specs.declared.steps.pool.PoolStep.TheVariants.{Try}
 use Rattle.bb_memory_seats.specs.Seats.{AreSeated, HaveLogs, IsAt, Numbered, View, alone, alone_with, carrying, fresh_from, number_of, numbered, standing_for, times_detached, times_in, view_log}
-use Rattle.bb_memory_shared_pools.specs.FlagWords.{HasToken, as_word, bucket_of, flag_in, flags_in, sender_in, with_token, words_for, words_of}
+use Rattle.bb_memory_shared_pools.specs.FlagWords.{HasToken, as_word, bucket_of, flag_in, flags_in, sender_in, words_for, words_of}
 use Rattle.bb_memory_shared_pools.specs.SharedPool.{AreAllHeldAfter, IsSharedScene, PoolParty, SharedPool, attach_entry, attach_from_entry, detach_entry, return_detached_entry, return_entry, scene_at, taking_pass}
 use Rattle.bb_memory_shared_pools.specs.SharedPoolNextFit.{hint_in, miss_at, misses, probed, taking_at, taking_search}
 use Rattle.bb_memory_shared_pools.specs.declared.shared_pool.party.Hint.{Hint}
 use Rattle.bb_memory_traits.specs.Chunk.{IsRegion, region_at}
 use Rattle.bb_memory_traits.specs.PoolObject.{pool_geometry}
 use Rattle.bb_memory_traits.specs.declared.layout.Layout.{Layout}
-use Rattle.std.specs.Prelude.{Bool, IsFalse, IsTrue, List, MatchBool, None, Some, [], get_or, length, slice_get, ℕ, ◌++◌, ◌<◌, ◌↔◌, ◌∷◌, ◌≡◌, ◌≢◌, ◌≤◌}
+use Rattle.std.specs.Prelude.{Bool, IsFalse, IsTrue, List, MatchBool, None, Some, [], length, slice_get, ℕ, ◌++◌, ◌<◌, ◌↔◌, ◌∷◌, ◌≡◌, ◌≢◌, ◌≤◌}
 use mathlib.Core.Path.{refl}
 use native.Mathlib.Nat.{zero-lt-suc}
 
@@ -64,10 +64,6 @@ pub record IsPartySeat (number : ℕ) (hint : Hint) (me : Me ℕ SeatView) : Typ
   pub shared : IsSharedScene me.0.scene
   pub next_fit : hint ≡ hint_in me.0.scene number (view_log me.0)
 
--- the first bucket that is detached at a seat
-abbrev pub carried : Me ℕ SeatView → ℕ
-carried me = get_or me.0.detached 0 0
-
 -- the seat stands for no party, and this bucket is detached there, with a chunk of `len` bytes
 pub record IsDetachedSeat (bucket len : ℕ) (me : Me ℕ SeatView) : Type 0 where
   pub is : me ≡ (carrying me.0.scene bucket, [])
@@ -104,8 +100,9 @@ pub record AreDetached (marks : List Flag) (views : List SeatView) : Type 0 wher
   pub each : (bucket : ℕ) → 0 < times_detached bucket views → HasToken marks bucket
   pub once : (bucket : ℕ) → times_detached bucket views ≤ 1
 
--- The rule: there is a log for each party, and these logs agree with the flags that the words say. No word says anything else.
--- Each party is in exactly one view, with its log. The view of a dropped party stays, and so does that of a detached bucket.
+-- The rule: there is a log for each party, and these logs agree with the flags that the words encode. No word encodes anything
+-- else. Each party is in exactly one view, with its log. The view of a dropped party stays, and so does that of a detached
+-- bucket.
 pub record WordsAndLogsAgree (scene : PoolScene) (state : State ℕ SeatView) : Type 0 where
   pub marks : List Flag
   pub logs : List PoolLog
@@ -142,7 +139,7 @@ no_bytes = record {
   };
 }
 
--- a view that stands for no party, of a scene without buckets: what a seat leaves that joined another one
+-- a view that stands for no party, of a scene without buckets: the view of a seat after it joined another one
 abbrev pub nobody : SeatView
 nobody = standing_for (scene_at (pool_geometry (region_at 0 0) no_bytes 0) 0) []
 
@@ -231,8 +228,8 @@ FoundDetached scene parties bucket = (met : AfterMeetingLoad scene parties) × I
 abbrev pub FoundOther : PoolScene → List NumberedLog → ℕ → Type 0
 FoundOther scene parties bucket = (met : AfterMeetingLoad scene parties) × (¬ IsDetachedIn met.flags bucket)
 
--- A load of the flag of this bucket by a seat that stands for these parties, which found this word. Of the flags that agree with
--- the parties' logs, the bucket's is the one that the word says.
+-- A load of the flag of this bucket by a seat that stands for these parties, which found this word. Among the flags that agree
+-- with the parties' logs, the bucket's is the one that the word encodes.
 pub record AfterMeetingLook (scene : PoolScene) (parties : List NumberedLog) (bucket found : ℕ) : Type 0 where
   pub met : AfterMeetingLoad scene parties
   pub mark : Flag
@@ -286,10 +283,6 @@ looks_met step old found new = (new ≡ old) × AfterMeetingLook old.0.scene old
 abbrev pub finds : Step ℕ → Me ℕ SeatView → ℕ → Me ℕ SeatView → Type 0
 finds step old found new =
     (mark : Flag) × (found ≡ as_word mark) × MayBeFound old.0.scene (bucket_of step.word) (flag_in mark)
-
--- a load, which changes nothing, of the flag of a bucket detached at the seat: some party has detached the bucket with a token
-abbrev pub sees_detached : Step ℕ → Me ℕ SeatView → ℕ → Me ℕ SeatView → Type 0
-sees_detached step old found new = (new ≡ old) × ((sender : ℕ) × (found ≡ as_word (with_token sender)))
 
 -- a store by the party that detaches a bucket with a token
 abbrev pub detaches : Step ℕ → Me ℕ SeatView → ℕ → Me ℕ SeatView → Type 0

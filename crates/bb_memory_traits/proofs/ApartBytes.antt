@@ -30,7 +30,7 @@ same-whole : (xs ys : List ℕ) (i m : ℕ) → take m ys ≡ take m xs → drop
 same-whole xs ys i m before behind =
     sym (take-append-drop m ys) ∙ (ap (λ l. l ++ drop m ys) before ∙ (ap (λ l. take m xs ++ l) behind ∙ take-append-drop m xs))
 
--- of two chunks that share no number, one is empty, or one ends at or before the other
+-- if two chunks share no number, one is empty, or one ends at or before the other
 either : (one other : Chunk) → AreApart one other →
     (one.len ≡ 0) ⊎ ((other.len ≡ 0) ⊎ ((chunk_end other ≤ one.place) ⊎ (chunk_end one ≤ other.place)))
 either one other apart =

@@ -24,7 +24,7 @@ some_answer region live layout =
       | inr none ↦ (Err SizeIsZero, omega arith)
     ]
 
--- there is no other answer to it
+-- each request has at most one answer
 pub one_answer : (region : Region) (live : List Chunk) (layout : Layout) (one other : Result Chunk AllocationError) →
     MayAllocate region live layout one → MayAllocate region live layout other → one ≡ other
 one_answer region live layout (Ok c) (Ok d) (_, _, first) (_, _, second) = ap Ok (first ∙ sym second)
@@ -48,22 +48,22 @@ pub answer-after : (region : Region) (live : List Chunk) (layout : Layout) (chun
     MayAllocate region live layout (Ok chunk) → end_of_last region.start live ≤ chunk.place
 answer-after region live layout chunk told = grind (arith, least_place-is)
 
--- it begins at a multiple of the alignment
+-- the answered chunk begins at a multiple of the alignment
 pub answer-aligned : (region : Region) (live : List Chunk) (layout : Layout) (chunk : Chunk) →
     MayAllocate region live layout (Ok chunk) → chunk.place % layout.align ≡ 0
 answer-aligned region live layout chunk told = grind (arith, least_place-multiple)
 
--- it has the requested size
+-- the answered chunk has the requested size
 pub answer-len : (region : Region) (live : List Chunk) (layout : Layout) (chunk : Chunk) →
     MayAllocate region live layout (Ok chunk) → chunk.len ≡ layout.size
 answer-len region live layout chunk told = ap (λ (k : Chunk). k.len) told.2
 
--- it is inside the region, if the list is in order
+-- the answered chunk is inside the region, if the list is in order
 pub answer-inside : (region : Region) (live : List Chunk) (layout : Layout) (chunk : Chunk) →
     IsInOrder region.start live → MayAllocate region live layout (Ok chunk) → IsInside region chunk
 answer-inside region live layout chunk ordered told = grind (arith, answer-after, end_of_last-above)
 
--- it begins at or after the end of each chunk of a list in order
+-- the answered chunk begins at or after the end of each chunk of a list in order
 pub answer-after_all : (region : Region) (live : List Chunk) (layout : Layout) (chunk : Chunk) →
     IsInOrder region.start live → MayAllocate region live layout (Ok chunk) → All (λ other. chunk_end other ≤ chunk.place) live
 answer-after_all region live layout chunk ordered told =
@@ -77,7 +77,7 @@ IsBumpList region live = (position : ℕ) × StandsFor region position live
 same_list : (region : Region) (old new : List Chunk) → new ≡ old → IsBumpList region old → IsBumpList region new
 same_list region old new same stands = subst (IsBumpList region) (sym same) stands
 
--- each step from such a list leads to such a list
+-- each step from a list that a bump stands for leads to another such list
 step-keeps : (region : Region) (old new : List Chunk) (command : Command) (answer : Reply) →
     IsBumpList region old → Step (bump_object region) old command answer new → IsBumpList region new
 step-keeps region old new (Allocate layout) (reply.Chunk chunk) stands step =
@@ -92,7 +92,7 @@ step-keeps region old new (Grow position from to) reply.Passed stands step = sam
 step-keeps region old new (Shrink position from to) reply.Passed stands step = same_list region old new step stands
 step-keeps region old new command other stands step = absurd step
 
--- each run from a list that a bump stands for leads to such a list
+-- each run from a list that a bump stands for leads to another such list
 pub run-keeps : (region : Region) (position : ℕ) (live new : List Chunk) (commands : List Command) (replies : List Reply) →
     StandsFor region position live → IsRun (Step (bump_object region)) live commands replies new →
     (left : ℕ) × StandsFor region left new

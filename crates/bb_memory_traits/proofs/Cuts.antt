@@ -38,7 +38,7 @@ buckets-fit geometry region is = elim (cases_lt 0 geometry.buckets) [
 abbrev pub room_for : Region → Layout → ℕ
 room_for region bucket = (region_end region - first_place region bucket) / stride bucket
 
--- a region has room for one number of buckets alone
+-- a region has room for only one number of buckets
 pub fills-once : (region : Region) (bucket : Layout) (one other : ℕ) → FillsRegion (pool_geometry region bucket one) →
     FillsRegion (pool_geometry region bucket other) → one ≡ other
 fills-once region bucket one other fills_one fills_other =
@@ -50,14 +50,14 @@ fills-once region bucket one other fills_one fills_other =
       ]
     ]
 
--- what is cut from a region by a layout fills that region by that layout
+-- a cut of a region by a layout fills that region by that layout
 pub cut-fills : (region : Region) (bucket : Layout) (geometry : PoolGeometry) → IsCut region bucket geometry →
     FillsRegion (pool_geometry region bucket geometry.buckets)
 cut-fills region bucket geometry cut =
     subst (λ (r : Region). FillsRegion (pool_geometry r bucket geometry.buckets)) cut.region
     (subst (λ (b : Layout). FillsRegion (pool_geometry geometry.region b geometry.buckets)) cut.bucket cut.filled)
 
--- a cut has as many buckets as the region has room for
+-- the buckets of a cut are exactly those that the region has room for
 pub cut-room : (region : Region) (bucket : Layout) (geometry : PoolGeometry) → 0 < bucket.size →
     IsCut region bucket geometry → geometry.buckets ≡ room_for region bucket
 cut-room region bucket geometry filled cut =
@@ -82,7 +82,7 @@ pub may-be-cut-few : (region : Region) (bucket : Layout) → MayBeCut region buc
 may-be-cut-few region bucket may =
     may.few (pool_geometry region bucket (room_for region bucket)) (room-cut region bucket may.filled)
 
--- a cut has no more buckets than the bucket's size goes into the region's
+-- a cut has at most as many buckets as the bucket's size goes into the region's
 pub cut-most : (region : Region) (bucket : Layout) (geometry : PoolGeometry) → 0 < bucket.size →
     IsCut region bucket geometry → geometry.buckets ≤ region.size / bucket.size
 cut-most region bucket geometry filled cut =
@@ -106,7 +106,7 @@ number-at geometry i place some at =
     let past : place - first_place geometry.region geometry.bucket ≡ i * stride geometry.bucket = omega (arith, at) in
     ap (λ n. n / stride geometry.bucket) past ∙ mul-div_cancel i some
 
--- the distance of a place from the first bucket is a multiple of the stride where a bucket is there
+-- the distance of a place from the first bucket is a multiple of the stride if a bucket is there
 whole-at : (geometry : PoolGeometry) (i place : ℕ) → place ≡ bucket_place geometry i →
     (place - first_place geometry.region geometry.bucket) % stride geometry.bucket ≡ 0
 whole-at geometry i place at =

@@ -34,7 +34,7 @@ odd-part n some small =
 
 -- INVERSES
 
--- one step towards an inverse: the product and the rest are 1 together, and so they stay
+-- one step towards an inverse: the product plus the rest is 1, and stays 1
 pub inverse-step : (odd inverse rest : ℕ) → (odd * inverse + rest) % 2 ^ 64 ≡ 1 →
     (odd * (inverse * ((rest + 1) % 2 ^ 64) % 2 ^ 64) + rest * rest % 2 ^ 64) % 2 ^ 64 ≡ 1
 inverse-step odd inverse rest one =
@@ -81,7 +81,7 @@ undone n odd inverse inverted =
 or-same : (n : ℕ) → bit_or n n ≡ n
 or-same n = same_from_bits (bit_or n n) n (λ i. bit_at_or n n i ∙ search rules)
 
--- what a rotation brings to the top is the rest of the division by this power of two
+-- the number that a rotation brings to the top is the rest of the division by this power of two
 rest-at-top : (n k : ℕ) → 0 < k → k < 64 → n * 2 ^ ((64 - k % 64) % 64) % 2 ^ 64 ≡ n % 2 ^ k * 2 ^ (64 - k)
 rest-at-top n k some below =
     let own : k % 64 ≡ k = mod-eq_of_lt below in
@@ -134,7 +134,7 @@ module _ (step shift inverse : ℕ) (is : IsFactored step shift inverse) where
         absurd (omega (arith, is.inverted, zero))
   ]
 
-  -- as many strides, by the factors
+  -- the same number of strides, by the factors
   strides : (n : ℕ) → n * step ≡ n * 2 ^ shift * is.odd
   strides n =
       ap (λ m. n * m) (is.factors ∙ mul_comm is.odd (2 ^ shift)) ∙ sym (mul_assoc n (2 ^ shift) is.odd)
@@ -152,7 +152,7 @@ module _ (step shift inverse : ℕ) (is : IsFactored step shift inverse) where
       ∙ rotated-whole count shift is.short low (mul-mod_left q (2 ^ shift))
       ∙ mul-div_cancel q (pow_pos shift)
 
-  -- what is divided to fewer strides than fit below 2 ^ 64 is a multiple of the stride
+  -- a number is a multiple of the stride if it divides to fewer strides than fit below 2 ^ 64
   pub divided-part : (n buckets : ℕ) → n < 2 ^ 64 → buckets * step < 2 ^ 64 →
       rotate_right w64 (n * inverse % 2 ^ 64) shift < buckets → n % step ≡ 0
   divided-part n buckets small fit below =

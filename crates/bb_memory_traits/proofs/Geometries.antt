@@ -1,4 +1,4 @@
--- Cuts of a region: there is one, and a pool can be over it or a part of it.
+-- Cuts of a region: each region has one, and a pool can be over a cut or a part of it.
 use Rattle.bb_memory_traits.proofs.Cuts.{cut-fills, fills-once, room-cut, room_for}
 use Rattle.bb_memory_traits.specs.Chunk.{Region}
 use Rattle.bb_memory_traits.specs.PoolObject.{IsCut, IsPoolGeometry, PoolGeometry, at_most, pool_geometry}
@@ -36,7 +36,7 @@ cut-geometry region bucket geometry filled cut = record {
   room = λ i below. (cut.filled i).0 below;
 }
 
--- so has a part of it
+-- a part of a geometry is a geometry
 pub at_most-geometry : (geometry : PoolGeometry) (constant : ℕ) → IsPoolGeometry geometry →
     IsPoolGeometry (at_most constant geometry)
 at_most-geometry geometry constant is = record {

@@ -12,7 +12,7 @@ use Rattle.std.specs.Align.{IsLayout}
 use Rattle.std.specs.Int.{IsPowerOfTwo, is_power_of_two}
 use mathlib.Core.HLevel.{is_prop→PathP}
 
--- a layout is a power of two, and a size that is small enough once it is rounded up to that
+-- a layout is a power of two, and a size that is small enough when it is rounded up to that
 pub layout-plain : (size align : ℕ) → IsLayout size align ↔ (IsPowerOfTwo align × (least_place size align < 2 ^ 63))
 unfolding least_place
 layout-plain size align = (
@@ -24,7 +24,7 @@ layout-plain size align = (
   },
 )
 
--- of two powers of two the lower one divides the higher one
+-- of two powers of two, the lower one divides the higher one
 power-divides : (low high : ℕ) → IsPowerOfTwo low → IsPowerOfTwo high → low ≤ high → (k : ℕ) × (high ≡ k * low)
 power-divides low high p q le = elim (cases_lt q.0 p.0) [
   | inl below ↦ absurd (omega (arith, p.1, q.1, pow_pos q.0, pow-suc 2 q.0, pow_mono {i = suc q.0} {j = p.0} (omega arith)))

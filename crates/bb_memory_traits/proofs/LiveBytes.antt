@@ -59,7 +59,7 @@ others_kept old new live i k chunk other bytes sound at changes differ there =
     (inside_at region live k other sound there)
     (apart_at region live i k chunk other sound at there differ)
 
--- so of the list's contents one is set
+-- so one item of the list's contents is set
 pub contents_set : (old new : HeldBytes) (live : List Chunk) (i : ℕ) (chunk : Chunk) (bytes : List ℕ) →
     IsSound (held_region old) live → slice_get live i ≡ Some chunk → ChangesOnly old new chunk bytes →
     map (bytes_in new) live ≡ slice_set (map (bytes_in old) live) i bytes
@@ -72,7 +72,7 @@ last_at : (live : List Chunk) (chunk : Chunk) → slice_get (live ++ chunk ∷ [
 last_at live chunk = slice_get_read (live ++ chunk ∷ []) (length live + 1) (length live) chunk (sym (length_push live chunk))
     (omega arith) (sym (get_or_push live chunk chunk (length live) refl))
 
--- is apart from each one before it
+-- the given chunk is apart from each one before it
 pub given_apart : (region : Region) (live : List Chunk) (chunk : Chunk) →
     IsSound region (live ++ chunk ∷ []) → All (AreApart chunk) live
 given_apart region live chunk sound = λ k d within.
@@ -88,7 +88,7 @@ last_two_apart region live one other sound = λ shared.
     let each = given_apart region (live ++ one ∷ []) other sound (length live) one (omega (arith, length_push live one)) in
     subst (AreApart other) (get_or_push live one one (length live) refl) each (shared.0, shared.2, shared.1)
 
--- so what is written in it comes after the contents of the others
+-- so the bytes that are written in the given chunk come after the contents of the others
 pub contents_given : (old new : HeldBytes) (live : List Chunk) (chunk : Chunk) (bytes : List ℕ) →
     IsSound (held_region old) (live ++ chunk ∷ []) → ChangesOnly old new chunk bytes →
     map (bytes_in new) (live ++ chunk ∷ []) ≡ map (bytes_in old) live ++ bytes ∷ []

@@ -87,7 +87,7 @@ end_of_last-within : (region : Region) (v : ℕ) (live : List Chunk) → v ≤ r
 end_of_last-within region v [] within inside = within
 end_of_last-within region v (chunk ∷ live) within (here, rest) = end_of_last-within region (chunk_end chunk) live here.below rest
 
--- no more is used than there is
+-- at most all of the region is used
 pub StandsFor-within : (region : Region) (position : ℕ) (live : List Chunk) →
     StandsFor region position live → position ≤ region.size
 StandsFor-within region position live stands =

@@ -15,7 +15,7 @@ use Rattle.std.specs.Int.{IsPowerOfTwo}
 abbrev pub chunk_at : PoolGeometry → ℕ → ℕ → Chunk
 chunk_at geometry i len = record { place = bucket_place geometry i; len = len }
 
--- they lie in the region
+-- the buckets are inside the region
 pub bucket-inside : (geometry : PoolGeometry) (i len : ℕ) → IsPoolGeometry geometry → i < geometry.buckets →
     len ≤ geometry.bucket.size → IsInside geometry.region (chunk_at geometry i len)
 bucket-inside geometry i len is below short =
@@ -25,7 +25,7 @@ bucket-inside geometry i len is below short =
       below = omega (arith, room, stride-above geometry.bucket);
     }
 
--- a geometry with the numbers that are kept of it
+-- a geometry with the numbers that are stored for it
 module _ (geometry : PoolGeometry) (first step shift inverse : ℕ) (measured : IsMeasured geometry first step shift inverse) where
   -- the first bytes at the place of a bucket are a chunk, and lie in the region
   pub placed : (place len : ℕ) → IsPlaceOfBucket geometry place → len ≤ geometry.bucket.size →
@@ -37,13 +37,13 @@ module _ (geometry : PoolGeometry) (first step shift inverse : ℕ) (measured : 
         record { above = omega (arith, inside.above, at); below = omega (arith, inside.below, at) },
       )
 
-  -- a bucket's place as it is computed
+  -- a bucket's place, in the form in which it is computed
   pub measured-place : (i : ℕ) → first + i * step ≡ bucket_place geometry i
   measured-place i = cc (measured.begins, measured.strides)
 
 -- POWERS OF TWO
 
--- of two powers of two the lower one divides the higher one
+-- of two powers of two, the lower one divides the higher one
 power-divides : (low high : ℕ) → IsPowerOfTwo low → IsPowerOfTwo high → low ≤ high → (k : ℕ) × (high ≡ k * low)
 power-divides low high p q le =
     elim (cases_lt q.0 p.0) [
@@ -53,7 +53,7 @@ power-divides low high p q le =
           (2 ^ (q.0 - p.0), q.1 ∙ ap (λ j. 2 ^ j) parts ∙ pow-add 2 (q.0 - p.0) p.0 ∙ ap (λ m. 2 ^ (q.0 - p.0) * m) (sym p.1))
     ]
 
--- a multiple of a number is one of what divides it
+-- a multiple of a number is a multiple of each of its divisors
 multiple-divides : (n low high k : ℕ) → 0 < low → high ≡ k * low → n % high ≡ 0 → n % low ≡ 0
 multiple-divides n low high k positive divides multiple =
     let whole : n ≡ n / high * k * low + 0 =

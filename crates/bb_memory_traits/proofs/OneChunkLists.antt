@@ -1,4 +1,4 @@
--- Laws of the live lists that a one chunk stands for.
+-- Laws of the live lists that a one-chunk allocator stands for.
 use Rattle.bb_memory_traits.specs.Chunk.{Chunk, IsInside}
 use Rattle.bb_memory_traits.specs.Object.{PlacesDiffer}
 use Rattle.bb_memory_traits.specs.OneChunkObject.{IsKept, OneChunk, StandsFor, reserved_at}
@@ -6,7 +6,7 @@ use Rattle.std.proofs.Common.{ap, arith, refl, subst, ◌∙◌}
 use Rattle.std.proofs.lemmas.Option.{get_or_from_slice_get, slice_get_within}
 use Rattle.std.specs.Prelude.{List, None, Option, Some, [], length, slice_get, suc, zero, ℕ, ◌∷◌, ◌≡◌, ◌≤◌}
 
--- a chunk at a position of the list is all of it, and has the place that is kept
+-- a chunk at a position of the list is the only one, and has the place that is kept
 pub only_chunk : (kept : Option ℕ) (live : List Chunk) (position : ℕ) (chunk : Chunk) →
     IsKept kept live → slice_get live position ≡ Some chunk → (live ≡ chunk ∷ []) × (position ≡ 0) × (kept ≡ Some chunk.place)
 only_chunk None live position chunk empty at =
@@ -26,7 +26,7 @@ places_differ None live empty = λ i j d before within.
 places_differ (Some place) live (one, is, same) = λ i j d before within.
     absurd (let single = ap length is in omega arith)
 
--- a live chunk is no longer than what is reserved for it
+-- a live chunk is at most as long as what is reserved for it
 pub covered : (one : OneChunk) (live : List Chunk) (position : ℕ) (chunk : Chunk) →
     StandsFor one live → slice_get live position ≡ Some chunk → chunk.len ≤ reserved_at one.region chunk.place
 covered one live position chunk stands at =
@@ -34,7 +34,7 @@ covered one live position chunk stands at =
     (stands.sound.inside position chunk (slice_get_within live position chunk at)) in
     omega (arith, inside.below)
 
--- the place that is kept is that of a chunk of it
+-- the place that is kept is that of a chunk of the list
 pub kept_is_live : (kept : Option ℕ) (live : List Chunk) (place : ℕ) →
     IsKept kept live → kept ≡ Some place → (position : ℕ) × (chunk : Chunk)
     × (slice_get live position ≡ Some chunk) × (chunk.place ≡ place)

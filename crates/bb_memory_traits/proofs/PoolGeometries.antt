@@ -15,7 +15,7 @@ stride-above bucket = (least_place-is bucket.size bucket.align bucket.valid.posi
 pub first_place-above : (region : Region) (bucket : Layout) → region.start ≤ first_place region bucket
 first_place-above region bucket = (least_place-is region.start bucket.align bucket.valid.positive).above
 
--- of two buckets the lower one ends before the higher one begins
+-- of two buckets, the lower one ends before the higher one begins
 pub bucket_place-after : (geometry : PoolGeometry) (i j : ℕ) → i < j →
     bucket_place geometry i + stride geometry.bucket ≤ bucket_place geometry j
 bucket_place-after geometry i j below = omega (arith, mul-le-mul_right {m = i + 1} {n = j} (stride geometry.bucket) (omega arith))
@@ -30,7 +30,7 @@ pub room-quotient : (region : Region) (bucket : Layout) → 0 < bucket.size →
     FillsRegion (pool_geometry region bucket ((region_end region - first_place region bucket) / stride bucket))
 room-quotient region bucket filled i = grind (arith, stride-above, mul-le-mul_right, div-add-mod', le-div)
 
--- each region has a geometry with just the buckets that it has room for
+-- each region has a geometry with exactly the buckets that it has room for
 pub some_geometry : (region : Region) (bucket : Layout) → 0 < bucket.size →
     (buckets : ℕ) × FillsRegion (pool_geometry region bucket buckets)
 some_geometry region bucket filled =

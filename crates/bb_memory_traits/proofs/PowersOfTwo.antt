@@ -16,7 +16,7 @@ one_bit (suc limit) n small one =
           (suc half.0, omega (arith, pow-suc 2 half.0, half.1))
     ]
 
--- what passes the test is a power of two
+-- a number that passes the test is a power of two
 pub power_of_two-from_test : (n : ℕ) → IsTrue (is_power_of_two n) → IsPowerOfTwo n
 power_of_two-from_test n test = one_bit n n (omega arith) (eqb-true (count_ones n) 1 test)
 

@@ -13,7 +13,7 @@ IsRun-push step old mid new (c ∷ commands) (r ∷ replies) command reply (then
 IsRun-push step old mid new [] (r ∷ replies) command reply none next = absurd none
 IsRun-push step old mid new (c ∷ commands) [] command reply none next = absurd none
 
--- what each step keeps holds after the run if it held before
+-- a property that each step keeps holds after the run if it held before
 pub IsRun-keeps : {S C R : Type 0} (step : S → C → R → S → Type 0) (P : S → Type 0) →
     ((old new : S) (command : C) (reply : R) → P old → step old command reply new → P new) →
     (old new : S) (commands : List C) (replies : List R) → P old → IsRun step old commands replies new → P new

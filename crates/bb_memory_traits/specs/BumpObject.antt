@@ -24,7 +24,7 @@ MayAllocate region live layout (Ok chunk) =
 MayAllocate region live layout (Err SizeIsZero) = layout.size ≡ 0
 MayAllocate region live layout (Err OutOfMemory) =
     (0 < layout.size) × (region_end region < chunk_end (next_chunk region live layout))
--- no request is refused so
+-- no request fails with this error
 MayAllocate region live layout (Err SizeTooLarge) = ⊥
 MayAllocate region live layout (Err AlignmentFailure) = ⊥
 

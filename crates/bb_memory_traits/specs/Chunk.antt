@@ -1,4 +1,4 @@
--- Regions, chunks and lists of live chunks. Passed on with them are layouts and the causes of a refused request.
+-- Regions, chunks and lists of live chunks. Passed on with them are layouts and the errors of requests.
 use Rattle.bb_memory_traits.specs.LeastPlace.{least_place}
 pub use Rattle.bb_memory_traits.specs.declared.allocator.AllocationError.{AllocationError}
 pub use Rattle.bb_memory_traits.specs.declared.allocator.AllocationError.TheVariants.{AlignmentFailure, OutOfMemory, SizeIsZero, SizeTooLarge}

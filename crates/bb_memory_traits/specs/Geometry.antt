@@ -51,19 +51,19 @@ pub record IsMeasured (geometry : PoolGeometry) (first step shift inverse : ℕ)
 abbrev pub IsPlaceOfBucket : PoolGeometry → ℕ → Type 0
 IsPlaceOfBucket geometry place = (i : ℕ) × (i < geometry.buckets) × (place ≡ bucket_place geometry i)
 
--- the number of the bucket that begins at the place, or none where no bucket does
+-- the number of the bucket that begins at the place, or none if no bucket begins there
 pub record TellsNumber (geometry : PoolGeometry) (place : ℕ) (told : Option ℕ) : Type 0 where
   pub below : IfSome told (λ number. number < geometry.buckets)
   pub there : IfSome told (λ number. place ≡ bucket_place geometry number)
   pub one : IfSome told (λ number. (other : ℕ) → place ≡ bucket_place geometry other → other ≡ number)
   pub none : IfNone told (¬ IsPlaceOfBucket geometry place)
 
--- the place at which the bucket of this number begins, or none where there is no such bucket
+-- the place at which the bucket of this number begins, or none if there is no bucket of this number
 pub record TellsPlace (geometry : PoolGeometry) (number : ℕ) (told : Option ℕ) : Type 0 where
   pub below : IfSome told (λ place. number < geometry.buckets)
   pub there : IfSome told (λ place. place ≡ bucket_place geometry number)
   pub none : IfNone told (geometry.buckets ≤ number)
 
--- two places, one of them at least a stride behind the other
+-- two places, one of them at least a stride after the other
 abbrev pub AreAStrideApart : Layout → ℕ → ℕ → Type 0
 AreAStrideApart bucket one other = (one + stride bucket ≤ other) ⊎ (other + stride bucket ≤ one)

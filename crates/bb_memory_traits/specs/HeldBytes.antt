@@ -39,7 +39,7 @@ ZeroesOnly old new chunk = ChangesOnly old new chunk (replicate chunk.len 0)
 abbrev pub first_part : ℕ → Chunk → Chunk
 first_part size chunk = record { place = chunk.place; len = size }
 
--- exactly this part of the answered chunk is zeroed; a refusal leaves every byte
+-- exactly this part of the returned chunk is zeroed; a refusal leaves every byte unchanged
 pub record ZeroesAnswered {Error : Type 0} (part : Chunk → Chunk) (old new : HeldBytes)
     (answer : Result Chunk Error) : Type 0 where
   pub zeroed : IfOk answer (λ chunk. ZeroesOnly old new (part chunk))

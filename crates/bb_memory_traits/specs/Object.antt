@@ -26,12 +26,12 @@ abbrev pub appended : List Chunk → Result Chunk AllocationError → List Chunk
 appended live (Ok chunk) = live ++ chunk ∷ []
 appended live (Err error) = live
 
--- the list after a release: all is given back at once, or that chunk is taken out and the list closes up
+-- the list after a release: all chunks are given back at once, or the chunk at the position is removed and the list closes up
 abbrev pub released : Bool → List Chunk → ℕ → List Chunk
 released true live position = []
 released false live position = remove live position
 
--- from `old` the object may answer a request so, and goes on to `new`
+-- from `old` the object may give this answer to the request, and goes on to `new`
 pub record Allocates (object : Object) (old : List Chunk) (layout : Layout)
     (answer : Result Chunk AllocationError) (new : List Chunk) : Type 0 where
   pub answers : object.may_allocate old layout answer
@@ -49,12 +49,12 @@ abbrev pub AnswersAll : Object → Type 0
 AnswersAll object = (live : List Chunk) (layout : Layout) → (answer : Result Chunk AllocationError)
     × object.may_allocate live layout answer
 
--- there is no more than one
+-- each request has at most one answer
 abbrev pub AnswersOnce : Object → Type 0
 AnswersOnce object = (live : List Chunk) (layout : Layout) (one other : Result Chunk AllocationError) →
     object.may_allocate live layout one → object.may_allocate live layout other → one ≡ other
 
--- each chunk that it may give has this relation to the requested layout
+-- each chunk that the object may give has this relation to the requested layout
 abbrev pub GivesOnly : Object → (Layout → Chunk → Type 0) → Type 0
 GivesOnly object Suits = (live : List Chunk) (layout : Layout) (chunk : Chunk) →
     object.may_allocate live layout (Ok chunk) → Suits layout chunk
@@ -117,7 +117,7 @@ resizable_object_of may_allocate reserved may_grow may_shrink = record {
   may_shrink = may_shrink;
 }
 
--- Answers if a chunk is to grow at its place, from an old layout to a new one, and when. `reserved` bytes are reserved for the
+-- Answers to a grow of the chunk at its place, from an old layout to a new one, and when. `reserved` bytes are reserved for the
 -- chunk, the greatest alignment is `most`, and a chunk that grows has `len` bytes then.
 abbrev pub MayGrowAt : (reserved most len place : ℕ) → Layout → Layout → Result Chunk AllocationGrowError → Type 0
 MayGrowAt reserved most len place old new (Ok grown) =
@@ -127,13 +127,13 @@ MayGrowAt reserved most len place old new (Err grow.AlignmentFailure) = (old.siz
 MayGrowAt reserved most len place old new (Err grow.OutOfMemory) =
     (old.size < new.size) × (new.align ≤ most) × (reserved < new.size)
 
--- Answers if a chunk is to shrink at its place, and when: it has exactly the new size then.
+-- Answers to a shrink of the chunk at its place, and when: the chunk has exactly the new size then.
 abbrev pub MayShrinkAt : (most place : ℕ) → Layout → Layout → Result Chunk AllocationShrinkError → Type 0
 MayShrinkAt most place old new (Ok shrunk) =
     (new.size < old.size) × (new.align ≤ most) × (shrunk ≡ record { place = place; len = new.size })
 MayShrinkAt most place old new (Err shrink.ShrinkWouldGrow) = old.size ≤ new.size
 MayShrinkAt most place old new (Err shrink.AlignmentFailure) = (new.size < old.size) × (most < new.align)
--- no call is refused so
+-- no call fails with this error
 MayShrinkAt most place old new (Err shrink.SizeIsZero) = ⊥
 
 -- the chunk at the position may be grown from this layout: its place is a multiple of the old alignment
@@ -141,7 +141,7 @@ pub record MayBeGrown (live : List Chunk) (position : ℕ) (old : Layout) (chunk
   pub at : slice_get live position ≡ Some chunk
   pub aligned : chunk.place % old.align ≡ 0
 
--- to shrink it, the old size is within what is reserved for it, too
+-- the chunk at the position may be shrunk from this layout: the old size is also at most what is reserved for the chunk
 pub record MayBeShrunk (reserved : ℕ → ℕ) (live : List Chunk) (position : ℕ) (old : Layout) (chunk : Chunk) : Type 0 where
   pub grown : MayBeGrown live position old chunk
   pub within : old.size ≤ reserved chunk.place

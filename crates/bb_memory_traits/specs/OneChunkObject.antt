@@ -4,7 +4,7 @@ use Rattle.bb_memory_traits.specs.Object.{AllocationGrowError, AllocationShrinkE
 use Rattle.std.specs.Option.{ForSome}
 use Rattle.std.specs.Prelude.{Err, List, None, Ok, Option, Result, Some, [], ℕ, ◌+◌, ◌-◌, ◌<◌, ◌∷◌, ◌≡◌, ◌≢◌, ◌≤◌, ◌⊎◌}
 
--- how much there is from a place to the region's end
+-- how many bytes there are from a place to the region's end
 abbrev pub reserved_at : Region → ℕ → ℕ
 reserved_at region place = region_end region - place
 
@@ -12,7 +12,7 @@ reserved_at region place = region_end region - place
 abbrev pub rest_from : Region → ℕ → Chunk
 rest_from region place = record { place = place; len = reserved_at region place }
 
--- there is something at the layout's place, and its size ends inside the region; an exact fit is room enough
+-- there is a byte at the layout's place, and the layout's size ends inside the region; an exact fit is room enough
 pub record HasRoom (region : Region) (layout : Layout) : Type 0 where
   pub begins : first_place region layout < region_end region
   pub ends : first_place region layout + layout.size ≤ region_end region
@@ -27,12 +27,12 @@ abbrev pub MayAllocate : Region → List Chunk → Layout → Result Chunk Alloc
 MayAllocate region live layout (Ok chunk) =
     (live ≡ []) × HasRoom region layout × (chunk ≡ rest_from region (first_place region layout))
 MayAllocate region live layout (Err OutOfMemory) = (live ≢ []) ⊎ LacksRoom region layout
--- no call is refused so
+-- no call fails with this error
 MayAllocate region live layout (Err SizeIsZero) = ⊥
 MayAllocate region live layout (Err SizeTooLarge) = ⊥
 MayAllocate region live layout (Err AlignmentFailure) = ⊥
 
--- All that is reserved is given to a chunk that grows. No resize makes the alignment greater.
+-- A chunk that grows gets all that is reserved. No resize makes the alignment greater.
 abbrev pub MayGrow : Region → ℕ → Layout → Layout → Result Chunk AllocationGrowError → Type 0
 MayGrow region place old = MayGrowAt (reserved_at region place) old.align (reserved_at region place) place old
 
@@ -61,7 +61,7 @@ pub record HasByteAt (region : Region) (place : ℕ) : Type 0 where
   pub above : region.start ≤ place
   pub below : place < region_end region
 
--- a place that is kept lies inside
+-- a place that is kept is inside the region
 pub record IsOneChunk (one : OneChunk) : Type 0 where
   pub region : IsRegion one.region
   pub kept : ForSome one.kept (HasByteAt one.region)
@@ -71,7 +71,7 @@ abbrev pub IsKept : Option ℕ → List Chunk → Type 0
 IsKept None live = live ≡ []
 IsKept (Some place) live = (chunk : Chunk) × (live ≡ chunk ∷ []) × (chunk.place ≡ place)
 
--- the live list may be what the one chunk has out
+-- the live list may be that of the one chunk's allocated chunks
 pub record StandsFor (one : OneChunk) (live : List Chunk) : Type 0 where
   pub sound : IsSound one.region live
   pub keeps : IsKept one.kept live

@@ -4,7 +4,7 @@ use Rattle.bb_memory_traits.specs.LeastPlace.{least_place}
 use Rattle.bb_memory_traits.specs.Object.{AllocationGrowError, AllocationShrinkError, MayGrowAt, MayShrinkAt, ResizableObject, resizable_object_of}
 use Rattle.std.specs.Prelude.{Err, List, Ok, Result, Some, min, slice_get, ℕ, ◌*◌, ◌+◌, ◌<◌, ◌↔◌, ◌≡◌, ◌≤◌}
 
--- Where the buckets of a region lie. Buckets are numbered from 0.
+-- Where the buckets of a region are. Buckets are numbered from 0.
 
 -- the region that is cut, the layout of each bucket, and how many buckets there are
 pub record PoolGeometry : Type 0 where
@@ -20,7 +20,7 @@ pool_geometry region bucket buckets = record { region = region; bucket = bucket;
 abbrev pub stride : Layout → ℕ
 stride bucket = least_place bucket.size bucket.align
 
--- the place of bucket i: the first place for bucket 0, and a stride more for each further one
+-- the place of bucket i: the first place for bucket 0, and one more stride for each further bucket
 abbrev pub bucket_place : PoolGeometry → ℕ → ℕ
 bucket_place geometry i = first_place geometry.region geometry.bucket + i * stride geometry.bucket
 
@@ -28,11 +28,11 @@ bucket_place geometry i = first_place geometry.region geometry.bucket + i * stri
 abbrev pub HasBucket : Region → Layout → ℕ → Type 0
 HasBucket region bucket i = first_place region bucket + (i + 1) * stride bucket ≤ region_end region
 
--- the buckets are just those that the region has room for
+-- the buckets are exactly those that the region has room for
 abbrev pub FillsRegion : PoolGeometry → Type 0
 FillsRegion geometry = (i : ℕ) → (i < geometry.buckets) ↔ HasBucket geometry.region geometry.bucket i
 
--- the region is cut into all of these buckets that it has room for
+-- the region is cut into all the buckets of this layout that it has room for
 pub record IsCut (whole : Region) (layout : Layout) (geometry : PoolGeometry) : Type 0 where
   pub region : geometry.region ≡ whole
   pub bucket : geometry.bucket ≡ layout
@@ -81,7 +81,7 @@ MayAllocate geometry live layout (Err AlignmentFailure) =
     (layout.size ≤ geometry.bucket.size) × (geometry.bucket.align < layout.align)
 MayAllocate geometry live layout (Err OutOfMemory) =
     IsWithin geometry.bucket layout × ((i : ℕ) → i < geometry.buckets → IsHeld geometry live i)
--- no call is refused so
+-- no call fails with this error
 MayAllocate geometry live layout (Err SizeIsZero) = ⊥
 
 -- a chunk that grows has exactly the new size, and no alignment is greater than the bucket's
@@ -92,7 +92,7 @@ MayGrow bucket place old new = MayGrowAt bucket.size bucket.align new.size place
 abbrev pub MayShrink : Layout → ℕ → Layout → Layout → Result Chunk AllocationShrinkError → Type 0
 MayShrink bucket = MayShrinkAt bucket.align
 
--- A bucket is reserved for its chunk, whole. The list decides nothing for a resize, and a release closes up.
+-- Each bucket is reserved for its chunk as a whole. The list decides nothing for a resize, and a release closes up.
 abbrev pub pool_object : PoolGeometry → ResizableObject
 pool_object geometry =
     resizable_object_of (MayAllocate geometry) (λ place. geometry.bucket.size)

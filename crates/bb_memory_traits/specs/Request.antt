@@ -1,4 +1,4 @@
--- Promises of calls that ask for a chunk or for a longer one: all that `allocate` and `grow` say.
+-- Promises of calls that request a chunk or a longer one: all that `allocate` and `grow` promise.
 use Rattle.bb_memory_traits.specs.Chunk.{AllocationError, Chunk, Fits, IsInside, Layout, Region}
 use Rattle.bb_memory_traits.specs.Object.{AllocationGrowError}
 use Rattle.std.specs.Prelude.{IfOk, List, OnErr, Result, Some, [], slice_get, slice_set, ℕ, ◌%◌, ◌++◌, ◌<◌, ◌∷◌, ◌≡◌, ◌≤◌}
@@ -13,7 +13,7 @@ pub record RequestWords (Allocator Geometry Note : Type 0) : Type 1 where
   pub region_of : Geometry → Region
   -- answers on a live list
   pub may_allocate : Geometry → List Chunk → Layout → Result Chunk AllocationError → Type 0
-  -- the note that an allocator keeps, and what a request makes of it
+  -- the note that an allocator keeps, and the note after a request
   pub note : Allocator → Note
   pub note_after : Geometry → Layout → Note → Note
   -- the promise by the value
@@ -46,7 +46,7 @@ pub record GrowWords (Allocator : Type 0) : Type 1 where
   -- the promise by the value
   pub grows : Allocator → ℕ → Layout → Layout → Result Chunk AllocationGrowError → Allocator → Type 0
 
--- The chunk at the place is to grow from one layout to another: `old` gave this answer, and is `new` afterwards.
+-- A grow of the chunk at the place from one layout to another: `old` gave this answer, and is `new` afterwards.
 pub record Grown {Allocator : Type 0} (words : GrowWords Allocator) (old : Allocator) (place : ℕ) (from to : Layout)
     (result : Result Chunk AllocationGrowError) (new : Allocator) : Type 0 where
   -- each live list that `old` stood for, with a chunk at the place

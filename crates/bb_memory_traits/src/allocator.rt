@@ -9,7 +9,7 @@ use crate::layout::{Chunk, Layout};
 use crate::region::Region;
 use thiserror::Error;
 
-/// Why a request was refused.
+/// The reason why a request failed.
 #[derive(Debug, Clone, Copy, PartialEq, Eq, Error)]
 pub enum AllocationError {
     /// The size is 0: only for a bump or the heap.
@@ -28,27 +28,27 @@ pub enum AllocationError {
     OutOfMemory,
 }
 
-/// Why a chunk wasn't grown.
+/// The reason why a chunk wasn't grown.
 #[derive(Debug, Clone, Copy, PartialEq, Eq, Error)]
 pub enum AllocationGrowError {
     /// The new size isn't greater than the old one.
     #[error("the new size is not greater than the old size")]
     GrowWouldShrink,
-    /// The new alignment is greater than the bucket's, of a pool, or than the old one, of the one chunk.
+    /// The new alignment is greater than the bucket's, for a pool, or than the old one, for the one chunk.
     #[error("the requested alignment is not supported")]
     AlignmentFailure,
-    /// The new size is greater than what is reserved for the chunk. Of the heap: memory was refused.
+    /// The new size is greater than what is reserved for the chunk. For the heap: memory ran out.
     #[error("there is not enough memory available")]
     OutOfMemory,
 }
 
-/// Why a chunk wasn't shrunk.
+/// The reason why a chunk wasn't shrunk.
 #[derive(Debug, Clone, Copy, PartialEq, Eq, Error)]
 pub enum AllocationShrinkError {
     /// The new size isn't smaller than the old one.
     #[error("the new size is not smaller than the old size")]
     ShrinkWouldGrow,
-    /// The new alignment is greater than the bucket's, of a pool, or than the old one, of the one chunk.
+    /// The new alignment is greater than the bucket's, for a pool, or than the old one, for the one chunk.
     #[error("the requested alignment is not supported")]
     AlignmentFailure,
     /// The new size is 0: only for the heap.
@@ -59,7 +59,7 @@ pub enum AllocationShrinkError {
 /// A command to an allocator. The number is a position in the live list, from 0.
 #[derive(Debug, Clone, Copy, PartialEq, Eq)]
 pub enum Command {
-    /// Asks for a chunk.
+    /// Requests a chunk.
     Allocate(Layout),
     /// Gives back the chunk at a position.
     Release(usize),
@@ -76,7 +76,7 @@ pub enum Reply {
     Chunk(Chunk),
     /// The chunk at the position was given back, or all chunks if a release gives back all at once.
     Released,
-    /// The command was passed over: the live list has no such position, or the run makes no such resize.
+    /// The command was passed over: the live list doesn't have the position, or the run makes no resize of this kind.
     Passed,
     /// The request was refused: no chunk was given.
     Refused(AllocationError),
@@ -88,11 +88,11 @@ pub enum Reply {
 
 /// An allocator over one region, with one owner.
 ///
-/// Its contract speaks of live lists: the chunks in use, in the order in which they were given. An allocator *stands for* a
-/// live list if its state may be the result of having given exactly those chunks. Every clause holds for each list that the
+/// Its contract is about live lists: the chunks in use, in the order in which they were given. An allocator *stands for* a live
+/// list if its state may be the result of having given exactly those chunks. Every clause holds for each list that the
 /// allocator stands for, and each allocator stands for at least one.
 ///
-/// The answers that it may give are stated by an object that holds only live chunks (`geometry`, `may_allocate`), so that a
+/// An object that holds only live chunks states the answers that the allocator may give (`geometry`, `may_allocate`). So a
 /// crate may bring an allocator with an object of its own.
 pub trait BaseAllocator {
     /// True if a release gives back all chunks at once.
@@ -100,7 +100,7 @@ pub trait BaseAllocator {
 
     ghost RELEASE_EMPTIES: { Bool };
 
-    /// The facts that are fixed when an allocator is made: its region, and whatever else its answers depend on.
+    /// The facts that are fixed when an allocator is made: its region, and everything else on which its answers depend.
     ghost Geometry: { Type 0 };
 
     ghost geometry: { Self → Geometry };
@@ -116,22 +116,22 @@ pub trait BaseAllocator {
     /// The chunk at this place may be given back.
     ghost may_release: { Self → ℕ → Type 0 };
 
-    /// The note that an allocator keeps about past requests, besides the chunks in use. An allocator that promises nothing of
-    /// the kind has `Unit {0}` here.
+    /// The note that an allocator keeps about past requests, besides the chunks in use. An allocator without a note has `Unit
+    /// {0}` here.
     ghost Note: { Type 0 };
 
     ghost note: { Self → Note };
 
-    /// The note after a request for a layout, whatever is answered to it.
+    /// The note after a request for a layout, whatever the answer is.
     ghost note_after: { Geometry → Layout → Note → Note };
 
-    /// The promise of a request that is only by the value: about the allocator as it was, the layout, the answer, and the
-    /// allocator as it is then. An allocator that leaves it out says no more than the clauses below.
+    /// The promise of a request that is only about values: the allocator before the request, the layout, the answer, and the
+    /// allocator afterwards. An allocator that leaves it out promises only the clauses below.
     ghost takes: { Self → Layout → Result Chunk AllocationError → Self
         → Type 0 } = { λ old layout result new. Unit {0} };
 
-    /// The promise of a release that is only by the value: about the allocator as it was, the place, the layout, and the
-    /// allocator as it is then.
+    /// The promise of a release that is only about values: the allocator before the release, the place, the layout, and the
+    /// allocator afterwards.
     ghost frees: { Self → ℕ → Layout → Self → Type 0 } = { λ old place layout new. Unit {0} };
 
     /// Allocates a chunk of at least `layout.size()` bytes, at a place that is a multiple of `layout.align()`. After a refusal
@@ -162,8 +162,9 @@ pub trait BaseAllocator {
         ensures note { note self.new ≡ note self.old }
         ensures value { frees self.old place layout self.new };
 
-    /// Asks for a chunk as `allocate` does, with all that it promises (`Requested`), and makes its bytes zero. Every other byte
-    /// of the region stays, and after a refusal all do. The region's start and size have to be those of the allocator's maker.
+    /// Allocates a chunk as `allocate` does, with all its promises (`Requested`), and makes the chunk's bytes zero. Every other
+    /// byte of the region is unchanged, and after a refusal all bytes are. The region's start and size have to be those with
+    /// which the allocator was made.
     fn allocate_zeroed(
         &mut self,
         layout: Layout,
@@ -187,12 +188,12 @@ pub trait BaseAllocator {
         Ok(chunk)
     }
 
-    /// Does nothing. It is the proof that each value stands for some live list, so that no clause is empty.
+    /// Does nothing: its contract is the proof that each value stands for some live list, so that no clause is empty.
     fn stands_for_some_list(&self)
         ensures { (live : List Chunk) × stands_for self.now live };
 
-    /// Does nothing. It is the proof that each chunk that a request may get is inside the region, at a multiple of the
-    /// requested alignment, and at least as long as requested.
+    /// Does nothing: its contract is the proof that each chunk that a request may get is inside the region, at a multiple of
+    /// the requested alignment, and at least as long as requested.
     fn answers_fit(&self)
         ensures inside { (live : List Chunk) (layout : Layout) (chunk : Chunk)
             → stands_for self.now live → may_allocate (geometry self.now) live layout (Ok chunk)
@@ -204,19 +205,19 @@ pub trait BaseAllocator {
             → stands_for self.now live → may_allocate (geometry self.now) live layout (Ok chunk)
             → layout.size ≤ chunk.len };
 
-    /// The chunk at a position of such a list may be given back.
+    /// The chunk at a position of a list that the allocator stands for may be given back.
     ghost releases: { (allocator : Self) (live : List Chunk) (position : ℕ) (chunk : Chunk)
         → stands_for allocator live → slice_get live position ≡ Some chunk
         → may_release allocator chunk.place };
 
-    /// Each such list is sound.
+    /// Each list that the allocator stands for is sound.
     ghost sound: { (allocator : Self) (live : List Chunk) → stands_for allocator live
         → IsSound (region_of (geometry allocator)) live };
 }
 
-/// An allocator whose chunks can be resized in place. A release removes only its chunk from the list, and no two chunks of
-/// a list that it stands for have the same place. A resize never changes the allocator: only the answer says how much of
-/// the part that is reserved for a chunk may be used.
+/// An allocator whose chunks can be resized in place. A release removes only its chunk from the list, and no two chunks of a
+/// list that the allocator stands for have the same place. A resize never changes the allocator: only the answer determines how
+/// much of the bytes reserved for a chunk may be used.
 pub trait Allocator: BaseAllocator {
     /// The facts on which the answers to resizes depend. The geometry fixes them, by the law `fixed`.
     ghost ResizeKey: { Type 0 };
@@ -234,12 +235,12 @@ pub trait Allocator: BaseAllocator {
     ghost may_shrink: { ResizeKey → List Chunk → ℕ → Layout → Layout
         → Result Chunk AllocationShrinkError → Type 0 };
 
-    /// The promise of `grow` that is only by the value: about the allocator as it was, the place, the old layout and the new
-    /// one, the answer, and the allocator as it is then. An allocator that leaves it out says no more than the clauses below.
+    /// The promise of `grow` that is only about values: the allocator before the call, the place, the old layout and the new
+    /// one, the answer, and the allocator afterwards. An allocator that leaves it out promises only the clauses below.
     ghost grows: { Self → ℕ → Layout → Layout → Result Chunk AllocationGrowError → Self
         → Type 0 } = { λ one place old new result after. Unit {0} };
 
-    /// The same of `shrink`.
+    /// The same for `shrink`.
     ghost shrinks: { Self → ℕ → Layout → Layout → Result Chunk AllocationShrinkError → Self
         → Type 0 } = { λ one place old new result after. Unit {0} };
 
@@ -293,9 +294,9 @@ pub trait Allocator: BaseAllocator {
         ensures unchanged { self.new ≡ self.old }
         ensures value { shrinks self.old place old new result self.new };
 
-    /// Grows a chunk as `grow` does, with all that it promises (`Grown`), and zeroes the bytes after its old size, up to the end
-    /// of the answered chunk. Every other byte of the region is unchanged, and after a refusal all are. The region's start and
-    /// size have to be those of the allocator's maker.
+    /// Grows a chunk as `grow` does, with all its promises (`Grown`), and zeroes the bytes after its old size, up to the end of
+    /// the returned chunk. Every other byte of the region is unchanged, and after a refusal all bytes are. The region's start
+    /// and size have to be those with which the allocator was made.
     fn grow_zeroed(
         &mut self,
         place: usize,
@@ -327,16 +328,16 @@ pub trait Allocator: BaseAllocator {
     /// A release removes only the chunk at its place.
     ghost closes_up: { Self.RELEASE_EMPTIES ≡ false };
 
-    /// No two chunks of a list that it stands for have the same place.
+    /// No two chunks of a list that the allocator stands for have the same place.
     ghost distinct: { (allocator : Self) (live : List Chunk) → Self.stands_for allocator live
         → PlacesDiffer live };
 
-    /// No chunk of such a list is longer than what is reserved for it.
+    /// No chunk of a list that the allocator stands for is longer than what is reserved for it.
     ghost covered: { (allocator : Self) (live : List Chunk) (position : ℕ) (chunk : Chunk)
         → Self.stands_for allocator live → slice_get live position ≡ Some chunk
         → chunk.len ≤ reserved_at (resize_key allocator) chunk.place };
 
-    /// A chunk that may be given back is in each such list.
+    /// A chunk that may be given back is in each list that the allocator stands for.
     ghost only_live: { (allocator : Self) (live : List Chunk) (place : ℕ)
         → Self.stands_for allocator live → Self.may_release allocator place
         → (position : ℕ) × (chunk : Chunk)

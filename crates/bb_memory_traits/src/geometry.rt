@@ -8,14 +8,14 @@ use crate::allocator::{AllocationError, AllocationGrowError, AllocationShrinkErr
 use crate::layout::{Chunk, Layout, round_up};
 use std::marker::Model;
 
-/// Returns the bytes from each bucket's beginning to the next one's.
+/// Returns the number of bytes from the beginning of each bucket to that of the next one.
 pub fn stride(bucket_layout: Layout) -> usize
     ensures { result ≡ stride bucket_layout }
 {
     round_up(bucket_layout.size(), bucket_layout.align()).unwrap()
 }
 
-/// Returns the inverse of an odd number modulo 2^64: the product of both, wrapped, is 1.
+/// Returns the inverse of an odd number modulo 2^64: the wrapped product of the two is 1.
 fn inverse_of(odd: usize) -> usize
     requires { odd % 2 ≡ 1 }
     ensures { odd * result % 2 ^ 64 ≡ 1 }
@@ -31,7 +31,7 @@ fn inverse_of(odd: usize) -> usize
 }
 
 /// A region cut into buckets of one layout: all that it has room for, or the first of them. The stride is an odd number times
-/// two to the power of `shift`, and `inverse` is the odd number's modulo 2^64.
+/// two to the power of `shift`, and `inverse` is the inverse of the odd number modulo 2^64.
 #[derive(Debug, Drop)]
 pub struct Geometry {
     region_start: usize,
@@ -124,7 +124,7 @@ impl Geometry {
         self.first
     }
 
-    /// Refuses a request by its size or else its alignment, where one of them is greater than the bucket's.
+    /// Refuses a request if its size is greater than the bucket's or, otherwise, if its alignment is.
     #[inline(always)]
     pub fn admit(&self, layout: Layout) -> Result<(), AllocationError>
         ensures { Admits self.now.bucket layout result }
@@ -138,9 +138,9 @@ impl Geometry {
         Ok(())
     }
 
-    /// Returns the number of strides in a distance that is a multiple of the stride, and otherwise a number that no bucket has.
-    /// The product with the inverse divides by the stride's odd factor, and the rotation by its power of two. Both can be undone
-    /// modulo 2^64, so no two distances have the same result.
+    /// Returns the number of strides in a distance, if that is a multiple of the stride, and otherwise a number that no bucket
+    /// has. The product with the inverse divides by the stride's odd factor, and the rotation by its power of two. Both can be
+    /// undone modulo 2^64, so no two distances have the same result.
     #[inline(always)]
     pub fn whole_strides(&self, distance: usize) -> usize
         ensures whole { distance % stride self.now.bucket ≡ 0
@@ -151,7 +151,7 @@ impl Geometry {
         distance.wrapping_mul(self.inverse).rotate_right(self.shift)
     }
 
-    /// Returns the number of the bucket at this place, or `None` where no bucket begins there.
+    /// Returns the number of the bucket at this place, or `None` if no bucket begins there.
     #[inline(always)]
     pub fn number_at(&self, place: usize) -> Option<u32>
         ensures below { IfSome result (λ number. number < self.now.buckets) }
@@ -168,7 +168,7 @@ impl Geometry {
         Some(number as u32)
     }
 
-    /// Returns the place of the bucket of this number, or `None` where there is no such bucket.
+    /// Returns the place of the bucket of this number, or `None` if there is no bucket of this number.
     pub fn place_at(&self, number: u32) -> Option<usize>
         ensures { TellsPlace self.now number result }
     {

@@ -1,4 +1,4 @@
-//! Layouts, which are requested, and chunks, which are given. Sizes and lengths are in bytes.
+//! Layouts, which callers request, and chunks, which allocators give. Sizes and lengths are in bytes.
 ghost use Rattle.bb_memory_traits.specs.LeastPlace.{IsLeastPlace, IsUsual, least_place};
 ghost use Rattle.std.specs.Align.{IsLayout};
 ghost use Rattle.std.specs.Int.{IsPowerOfTwo};
@@ -10,8 +10,8 @@ mod chunk;
 pub use chunk::{Chunk, given_law, parts_law};
 use thiserror::Error;
 
-/// A size in bytes and an alignment, as `core::alloc::Layout` has them: the alignment is a power of two, and the size
-/// rounded up to a multiple of it is at most `isize::MAX`.
+/// A size in bytes and an alignment, as in `core::alloc::Layout`: the alignment is a power of two, and the size rounded up to a
+/// multiple of it is at most `isize::MAX`.
 ///
 /// Example: `comments::layout` of `crates/examples`.
 #[derive(Debug, Clone, Copy, PartialEq, Eq)]
@@ -21,13 +21,13 @@ pub struct Layout {
     pub ghost valid: { IsLayout size align },
 }
 
-/// The alignment is no power of two, or the size rounded up to it is too large.
+/// The alignment isn't a power of two, or the size rounded up to it is too large.
 #[derive(Debug, Clone, Copy, PartialEq, Eq, Error)]
 #[error("the alignment is no power of two or the rounded size is too large")]
 pub struct LayoutError {}
 
 impl Layout {
-    /// Returns the layout of this size and alignment. It fails exactly if the alignment isn't a power of two, or the size rounded
+    /// Returns the layout of this size and alignment. Fails exactly if the alignment isn't a power of two, or the size rounded
     /// up to a multiple of the alignment exceeds `isize::MAX`.
     #[inline]
     pub fn from_size_align(size: usize, align: usize) -> Result<Layout, LayoutError>
@@ -44,8 +44,8 @@ impl Layout {
         Ok(Layout { size, align })
     }
 
-    /// Returns the layout of this size and alignment if both are at most this layout's. Then only the alignment has to be tested
-    /// to be a power of two. Returns `None` if it isn't, or if one of the two numbers is greater.
+    /// Returns the layout of this size and alignment if both are at most this layout's. Then the only test is whether the
+    /// alignment is a power of two. Returns `None` if it isn't, or if one of the two numbers is greater.
     #[inline(always)]
     pub fn within(self, size: usize, align: usize) -> Option<Layout>
         ensures some { IsSome result
@@ -88,9 +88,9 @@ impl Layout {
     }
 }
 
-/// Which layouts there are, in plain words: the alignment is a power of two, and the size rounded up to a multiple of it
-/// is at most `isize::MAX`. A multiple of an alignment is one of each smaller alignment. The function does nothing: its contract
-/// is the law.
+/// States which layouts there are, in plain words: the alignment is a power of two, and the size rounded up to a multiple of it
+/// is at most `isize::MAX`. A multiple of an alignment is a multiple of each smaller alignment. The function does nothing: its
+/// contract is the law.
 pub fn layout_law()
     ensures valid { (size align : ℕ)
         → IsLayout size align ↔ (IsPowerOfTwo align × (least_place size align < 2 ^ 63)) }
@@ -98,8 +98,8 @@ pub fn layout_law()
         → place % wider.align ≡ 0 → place % layout.align ≡ 0 }
 {}
 
-/// Returns the least multiple of `align` that is at least `v`, or `None` if that exceeds `usize::MAX`. The alignment has to be a
-/// power of two, as that of a [`Layout`] is.
+/// Returns the least multiple of `align` that is at least `v`, or `None` if that exceeds `usize::MAX`. The alignment has to be
+/// a power of two, like that of a [`Layout`].
 ///
 /// Example: `comments::rounding` of `crates/examples`.
 #[inline(always)]
@@ -113,8 +113,8 @@ pub fn round_up(v: usize, align: usize) -> Option<usize>
     Some(v.checked_add(mask)? & !mask)
 }
 
-/// The least place is what its name says: the least multiple of the alignment that is at least the number, and there is only
-/// one. The function does nothing: its contract is the law.
+/// States that the least place is what its name says: the least multiple of the alignment that is at least the number. There is
+/// only one. The function does nothing: its contract is the law.
 pub fn least_place_law()
     ensures is_least { (v align : ℕ) → 0 < align → IsLeastPlace v align (least_place v align) }
     ensures one { (v align place : ℕ) → 0 < align → IsLeastPlace v align place

@@ -8,7 +8,7 @@ ghost use Rattle.std.specs.Prelude.{IsTrue, List, Some, [], length, map, slice_g
 use crate::layout::Chunk;
 use std::marker::Model;
 
-/// The memory that an allocator hands out: bytes at places from a start on. It serves one owner.
+/// The memory that an allocator gives out: bytes at places from a start on. It has one owner.
 ///
 /// Example: `comments::region` of `crates/examples`.
 #[derive(Drop)]
@@ -30,8 +30,8 @@ impl Model for Region {
 }
 
 impl Region {
-    /// These bytes, from `start` on. The start has to be greater than 0, and start plus length at most `usize::MAX`;
-    /// [`Region::can_make`] tests both.
+    /// Makes a region of these bytes, from `start` on. The start has to be greater than 0, and start plus length at most
+    /// `usize::MAX`; [`Region::can_make`] tests both.
     pub fn new(start: usize, bytes: Vec<u8>) -> Region
         requires { IsRegion (region_at start (vec_len bytes)) }
         ensures { result ≡ record { start = start; bytes = bytes.items } }
@@ -39,8 +39,8 @@ impl Region {
         Region { start, bytes }
     }
 
-    /// Tests that there is a region of `len` bytes from `start` on: the start is greater than 0, and start plus length at most
-    /// `usize::MAX`.
+    /// Returns whether there is a region of `len` bytes from `start` on: the start is greater than 0, and start plus length is
+    /// at most `usize::MAX`.
     pub fn can_make(start: usize, len: usize) -> bool
         ensures { IsTrue result ↔ IsRegion (region_at start len) }
     {
@@ -72,7 +72,7 @@ impl Region {
         self.bytes.as_slice()
     }
 
-    /// Returns the bytes of a chunk, which has to lie inside.
+    /// Returns the bytes of a chunk, which has to be inside the region.
     #[inline]
     pub fn chunk(&self, c: Chunk) -> &[u8]
         requires { IsInside (held_region self.now) c }
@@ -82,8 +82,8 @@ impl Region {
         &self.bytes.as_slice()[from..from + c.len()]
     }
 
-    /// Lends the bytes of a chunk, which has to lie inside: what is written there is what the region then holds there,
-    /// and every other byte stays.
+    /// Lends the bytes of a chunk, which has to be inside the region. The region then has the bytes that are written there, and
+    /// every other byte is unchanged.
     #[inline]
     pub fn chunk_mut(&mut self, c: Chunk) -> &mut [u8]
         requires { IsInside (held_region self.old) c }
@@ -95,8 +95,8 @@ impl Region {
         self.bytes.slice_mut(from..from + c.len())
     }
 
-    /// Writes a chunk whole, which has to lie inside and to be as long as the bytes. Every other byte stays, and so do the
-    /// bytes of every chunk that is apart from it.
+    /// Writes a whole chunk, which has to be inside the region and as long as the bytes. Every other byte is unchanged, and so
+    /// are the bytes of every chunk that is apart from this one.
     pub fn write(&mut self, c: Chunk, bytes: &[u8])
         requires inside { IsInside (held_region self.old) c }
         requires len { length bytes.now ≡ c.len }
@@ -122,8 +122,8 @@ impl Region {
         self.chunk_mut(c).copy_from_slice(bytes);
     }
 
-    /// Makes the bytes of a chunk zero, which has to lie inside. Every other byte stays, and so do the bytes of every chunk that is
-    /// apart from it.
+    /// Makes the bytes of a chunk zero, which has to be inside the region. Every other byte is unchanged, and so are the bytes
+    /// of every chunk that is apart from this one.
     #[inline]
     pub fn zero(&mut self, c: Chunk)
         requires { IsInside (held_region self.old) c }
@@ -140,9 +140,9 @@ impl Region {
     }
 }
 
-/// Says in plain words what [`Region::chunk_mut`] promises about the bytes that it lends: if bytes of the chunk's length are
-/// written there, the chunk has these, and every other byte is as it was, so each chunk inside that is apart from it keeps its
-/// bytes. The function does nothing: its contract is the law.
+/// States in plain words what [`Region::chunk_mut`] promises about the bytes that it lends. If bytes of the chunk's length are
+/// written there, the chunk has these, and every other byte is as it was. So each chunk inside the region that is apart from it
+/// keeps its bytes. The function does nothing: its contract is the law.
 pub fn region_law()
     ensures written { (held : HeldBytes) (chunk : Chunk) (bytes : List ℕ)
         → IsInside (held_region held) chunk → length bytes ≡ chunk.len
@@ -153,8 +153,8 @@ pub fn region_law()
         → bytes_in new other ≡ bytes_in old other }
 {}
 
-/// Says what the chunks of a sound list hold, while one of them is written: its contents are set, and those of the others stay.
-/// It does nothing: its contract is the law.
+/// States what the chunks of a sound list hold while one of them is written: its contents are set, and those of the others are
+/// unchanged. The function does nothing: its contract is the law.
 pub fn live_bytes_law()
     ensures inside { (held : HeldBytes) (live : List Chunk) (i : ℕ) (chunk : Chunk)
         → IsSound (held_region held) live → slice_get live i ≡ Some chunk
@@ -175,7 +175,7 @@ pub fn live_bytes_law()
         → map (bytes_in new) live ≡ slice_set (map (bytes_in old) live) i bytes }
 {}
 
-/// A chunk's bytes are those of its parts, one after the other. The function does nothing: its contract is the law.
+/// States that a chunk's bytes are those of its parts, one after the other. The function does nothing: its contract is the law.
 pub fn split_bytes_law()
     ensures { (held : HeldBytes) (place n m : ℕ) → held.start ≤ place
         → bytes_in held (record { place = place; len = n + m })

@@ -12,7 +12,7 @@ pub fn forty_eight() -> Layout
     Layout::from_size_align(48, 4).unwrap()
 }
 
-/// Size 0 is refused, and a release gives all of the region back.
+/// Size 0 is refused, and a release frees the whole region.
 pub fn refused_and_released() -> Result<(), AllocationError> {
     let mut bump = BumpAllocator::new(4096, 1024);
     let refused = bump.allocate(Layout::empty());

@@ -171,7 +171,8 @@ pub fn shared_pool(alloc: Global) -> Result<(), AllocationError> {
     Ok(())
 }
 
-/// Gives back a bucket that a caller holds, and takes another one. The caller has to show what `deallocate_bucket` asks for.
+/// Gives back a bucket that a caller holds, and takes another one. The caller has to meet the conditions of
+/// `deallocate_bucket`.
 pub fn shared_pool_exchanged<'p>(
     pool: &'p SharedPoolAllocator,
     party: &mut PoolParty,

@@ -35,7 +35,7 @@ pub fn room_told(pool: &mut FixedSizePoolAllocator<16>) {
     }
 }
 
-/// A place about which nothing is known is given back if it is a held bucket's, and once.
+/// An arbitrary place is given back if it is a held bucket's, and only once.
 pub fn back_if_held(pool: &mut FixedSizePoolAllocator<16>) -> Result<(), AllocationError> {
     let chunk = pool.allocate(Layout::empty())?;
     let given_back = pool.deallocate_if_held(chunk.place());
@@ -45,7 +45,7 @@ pub fn back_if_held(pool: &mut FixedSizePoolAllocator<16>) -> Result<(), Allocat
     Ok(())
 }
 
-/// A bucket that is given back leaves the greatest number of held buckets as it was.
+/// A return doesn't change the greatest number of held buckets.
 pub fn greatest_kept(pool: &mut FixedSizePoolAllocator<16>) -> Result<(), AllocationError> {
     let chunk = pool.allocate(Layout::empty())?;
     let greatest = pool.greatest_held();
@@ -79,7 +79,7 @@ pub fn counted_by_bucket(
     Ok(())
 }
 
-/// A return of one bucket leaves each other place free at which no bucket was held.
+/// After a return of one bucket, every other place at which no bucket was held is still free.
 pub fn free_stays_free(
     pool: &mut PoolAllocator<Global>,
     layout: Layout,
@@ -93,7 +93,7 @@ pub fn free_stays_free(
     Ok(())
 }
 
-/// Takes one more bucket. The place `out` is still held then, and the new chunk has another one.
+/// Takes one more bucket. The place `out` is still held then, and the new chunk has another place.
 fn one_more(
     pool: &mut FixedSizePoolAllocator<16>,
     layout: Layout,

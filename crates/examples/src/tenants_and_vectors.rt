@@ -14,7 +14,7 @@ use layers::byte_vector::{ByteVec, PushError};
 use layers::tenants::{AdmitError, Tenants};
 use std::alloc::{AllocError, Global};
 
-/// Two tenants share a pool. The first gets 48 of its 100 bytes, and is refused 101 more, which the pool has.
+/// Two tenants share a pool. The first gets 48 of its 100 bytes, and is refused 101 more, although the pool has them.
 pub fn two_tenants(alloc: Global) -> Result<(), AdmitError> {
     let pool = FixedSizePoolAllocator::<8>::new(bucket_128(), 4096, 1024);
     let mut tenants = Tenants::new(alloc, pool, 1024);

@@ -9,17 +9,17 @@ use Rattle.layers.specs.declared.byte_vector.PushError.TheVariants.{Full, TooLon
 use Rattle.std.specs.Align.{IsLayout}
 use Rattle.std.specs.Prelude.{Err, IfErr, IsOk, List, Ok, OnOk, Result, Some, [], length, slice_get, ℕ, ◌++◌, ◌+◌, ◌<◌, ◌∷◌, ◌≡◌, ◌≤◌, ◌⊎◌}
 
--- how far after the region's start it begins, how many bytes it has room for, and how many it has
+-- how far after the region's start the vector begins, how many bytes it has room for, and how many it has
 pub record ByteVector : Type 0 where
   pub offset : ℕ
   pub capacity : ℕ
   pub len : ℕ
 
--- a vector's bytes in a region, wherever that starts
+-- a vector's bytes in a region, wherever the region starts
 abbrev pub contents : HeldBytes → ByteVector → List ℕ
 contents held vector = bytes_in held (record { place = held.start + vector.offset; len = vector.len })
 
--- the vector lies in a live chunk of the allocator whose region this is, and which may release this
+-- the vector is in a live chunk of the allocator whose region this is, and which may release the chunk
 pub record LivesIn (region : Region) (may_release : ℕ → Type 0) (held : HeldBytes) (vector : ByteVector) : Type 0 where
   pub same_region : held_region held ≡ region
   pub live : may_release (held.start + vector.offset)
@@ -30,18 +30,18 @@ pub record IsPushed (here there : HeldBytes) (old : ByteVector) (byte : ℕ) (ne
   pub behind : contents there new ≡ contents here old ++ byte ∷ []
   pub region : held_region there ≡ held_region here
 
--- every byte of the region but the one after the vector's last is unchanged
+-- every byte of the region except the one after the vector's last is unchanged
 abbrev pub KeepsOthers : HeldBytes → ByteVector → HeldBytes → Type 0
 KeepsOthers here vector there = (another : Chunk) → IsInside (held_region here) another
     → AreApart (record { place = here.start + vector.offset + vector.len; len = 1 }) another
     → bytes_in there another ≡ bytes_in here another
 
--- the answer may be given if a chunk is to grow by one byte: not every two layouts rule it out
+-- the answer may be given to a grow by one byte: not every two layouts rule it out
 pub record MayGrowByOne (may_grow : Layout → Layout → Result Chunk AllocationGrowError → Type 0)
     (size : ℕ) (answer : Result Chunk AllocationGrowError) : Type 0 where
   pub may : ¬ ((old new : Layout) → IsOfBytes old size → IsOfBytes new (size + 1) → ¬ may_grow old new answer)
 
--- why such a chunk wasn't grown
+-- the reason why a chunk wasn't grown by one byte
 abbrev pub PushFails : (Layout → Layout → Result Chunk AllocationGrowError → Type 0) → ℕ → PushError → Type 0
 -- there is no layout of this many bytes, or of one more
 PushFails may_grow size (TooLong cause) = (¬ IsLayout size 1) ⊎ (¬ IsLayout (size + 1) 1)
@@ -53,8 +53,8 @@ pub record IsGrown (may_grow : Layout → Layout → Result Chunk AllocationGrow
   pub longer : old_size < new_size
   pub grown : MayGrowByOne may_grow old_size (Ok (record { place = place; len = new_size }))
 
--- Room is made for one more byte, in a region that starts here: at once if there is room, and otherwise as the allocator may
--- grow the chunk on each live list for which it stands. A refusal has its cause.
+-- Room is made for one more byte, in a region that starts here: without a request if there is room, and otherwise as the
+-- allocator may grow the chunk on each live list for which it stands. A refusal has its reason.
 pub record MakesRoom (stands_for : List Chunk → Type 0)
     (may_grow : List Chunk → ℕ → Layout → Layout → Result Chunk AllocationGrowError → Type 0) (start : ℕ)
     (old : ByteVector) (result : Result (Unit {0}) PushError) (new : ByteVector) : Type 0 where

@@ -8,7 +8,7 @@ use Rattle.layers.specs.declared.slab.InsertError.TheVariants as insert
 use Rattle.std.specs.Align.{IsLayout}
 use Rattle.std.specs.Prelude.{Err, IfErr, List, Ok, OnErr, OnOk, Result, [], length, map, ℕ, ◌++◌, ◌+◌, ◌<◌, ◌∷◌, ◌≡◌}
 
--- answers that a request may have
+-- the answers that a request may have
 abbrev pub Answers : Type 1
 Answers = Layout → Result Chunk AllocationError → Type 0
 
@@ -21,7 +21,7 @@ pub record IsOfBytes (layout : Layout) (size : ℕ) : Type 0 where
 pub record MayAnswer (may_answer : Answers) (size : ℕ) (answer : Result Chunk AllocationError) : Type 0 where
   pub may : ¬ ((layout : Layout) → IsOfBytes layout size → ¬ may_answer layout answer)
 
--- There is a layout of `size` bytes, and a single request for it, whichever it is, made this note of the one before.
+-- There is a layout of `size` bytes, and a single request for it, for any alignment, made this note of the one before.
 pub record IsAskedOnce {Note : Type 0} (note_after : Layout → Note → Note) (size : ℕ) (old new : Note) : Type 0 where
   pub some : IsLayout size 1
   pub once : (layout : Layout) → IsOfBytes layout size → new ≡ note_after layout old
@@ -30,11 +30,11 @@ pub record IsAskedOnce {Note : Type 0} (note_after : Layout → Note → Note) (
 pub record MayGiveLonger (may_answer : Answers) (size : ℕ) : Type 0 where
   pub may : ¬ ((layout : Layout) (chunk : Chunk) → IsOfBytes layout size → size < chunk.len → ¬ may_answer layout (Ok chunk))
 
--- why a record of `size` bytes wasn't stored
+-- the reason why a record of `size` bytes wasn't stored
 abbrev pub InsertFails : Answers → ℕ → InsertError → Type 0
 -- no layout has this size
 InsertFails may_answer size (insert.Layout error) = ¬ IsLayout size 1
--- the memory for the list was refused, which nothing here foretells
+-- memory for the list ran out, which nothing here predicts
 InsertFails may_answer size (insert.List error) = IsLayout size 1
 InsertFails may_answer size (insert.Refused error) = MayAnswer may_answer size (Err error)
 InsertFails may_answer size insert.NoExactChunk = MayGiveLonger may_answer size
@@ -45,7 +45,7 @@ IsUnasked (insert.Layout error) = Unit {0}
 IsUnasked (insert.List error) = Unit {0}
 IsUnasked _ = ⊥
 
--- the allocator's note after an answer: it gets one request, and none if the refusal is the layer's own
+-- the allocator's note after an answer: it gets one request, or none if the refusal is the layer's own
 abbrev pub NotesRequest : {Note : Type 0} → (Layout → Note → Note) → ℕ → Result (Unit {0}) InsertError → Note → Note → Type 0
 NotesRequest note_after size (Err (insert.Layout error)) old new = new ≡ old
 NotesRequest note_after size (Err (insert.List error)) old new = new ≡ old
@@ -75,8 +75,8 @@ pub record Records (A : Type 0) : Type 0 where
   pub chunks : List Chunk
   pub records : List (List ℕ)
 
--- A request to store these bytes: of the records before it, its answer, and the records then. The words of the
--- allocator below are its geometry and what it may answer.
+-- A request to store these bytes: the records before it, its answer, and the records then. The words of the allocator below are
+-- its geometry and the answers that it may give.
 pub record Stores {A G : Type 0} (geometry_of : A → G) (may_allocate : G → List Chunk → Answers)
     (old : Records A) (bytes : List ℕ) (result : Result (Unit {0}) InsertError) (new : Records A) : Type 0 where
   pub appended : OnOk result (new.records ≡ old.records ++ bytes ∷ [])

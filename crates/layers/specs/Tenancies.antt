@@ -9,8 +9,8 @@ use Rattle.layers.specs.declared.tenants.LeaseError.{LeaseError}
 use Rattle.layers.specs.declared.tenants.LeaseError.TheVariants as lease
 use Rattle.std.specs.Prelude.{Err, List, Ok, Option, if◌then◌else◌, length, map, nat_eq, position, remove, slice_index_or, sum, sum_by, ℕ, ◌&&◌, ◌+◌, ◌<◌, ◌==◌, ◌≤◌}
 
--- the allocator below, how many bytes all limits may be together, the limit of each tenant by its number, and the leases that are
--- out, in the order in which they were given
+-- the allocator below, how many bytes all limits may be together, the limit of each tenant by its number, and the leases, in
+-- the order in which they were given
 pub record Tenancy (A : Type 0) : Type 0 where
   pub allocator : A
   pub whole : ℕ
@@ -33,7 +33,7 @@ bytes_for tenant lease = if lease.tenant == tenant then lease.chunk.len else 0
 abbrev pub used_by : ℕ → List Lease → ℕ
 used_by tenant leases = sum_by (bytes_for tenant) leases
 
--- a tenant's limit, and 0 of a number that is no tenant's
+-- a tenant's limit, or 0 for a number that isn't a tenant's
 abbrev pub limit_of : List ℕ → ℕ → ℕ
 limit_of limits tenant = slice_index_or limits tenant 0
 
@@ -41,14 +41,14 @@ limit_of limits tenant = slice_index_or limits tenant 0
 abbrev pub lease_at : ℕ → ℕ → List Lease → Option ℕ
 lease_at tenant place leases = position (λ lease. nat_eq lease.tenant tenant && nat_eq lease.chunk.place place) leases
 
--- a lease less, with the allocator that took the chunk back
+-- one lease less, with the allocator that took the chunk back
 abbrev pub without_lease : {A : Type 0} → Tenancy A → A → ℕ → Tenancy A
 without_lease old allocator position = record old { allocator = allocator; leases = remove old.leases position }
 
--- why a tenant with this limit wasn't admitted
+-- the reason why a tenant with this limit wasn't admitted
 abbrev pub AdmitFails : {A : Type 0} → Tenancy A → ℕ → AdmitError → Type 0
 AdmitFails old limit admit.OverWhole = old.whole < sum old.limits + limit
--- the memory for the limits was refused, which nothing here foretells
+-- memory for the limits ran out, which nothing here predicts
 AdmitFails old limit (admit.List error) = sum old.limits + limit ≤ old.whole
 
 -- a tenant has this number, and this many bytes are left of its limit
@@ -56,12 +56,12 @@ pub record HasLeft {A : Type 0} (old : Tenancy A) (tenant size : ℕ) : Type 0 w
   pub known : tenant < length old.limits
   pub within : used_by tenant old.leases + size ≤ limit_of old.limits tenant
 
--- why a tenant wasn't given a chunk, if an allocator may answer so
+-- the reason why a tenant wasn't given a chunk, if an allocator may give this answer
 abbrev pub LeaseFails : {A : Type 0} → Answers → Tenancy A → ℕ → Layout → LeaseError → Type 0
 LeaseFails may_answer old tenant layout lease.NoTenant = length old.limits ≤ tenant
 LeaseFails may_answer old tenant layout lease.OverLimit =
     (tenant < length old.limits) × (limit_of old.limits tenant < used_by tenant old.leases + layout.size)
--- the memory for the list was refused, which nothing here foretells
+-- memory for the list ran out, which nothing here predicts
 LeaseFails may_answer old tenant layout (lease.List error) = HasLeft old tenant layout.size
 LeaseFails may_answer old tenant layout (lease.Refused error) = HasLeft old tenant layout.size × may_answer layout (Err error)
 LeaseFails may_answer old tenant layout lease.TooLong =

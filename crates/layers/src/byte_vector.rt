@@ -13,7 +13,7 @@ use bb_memory_traits::region::Region;
 use std::marker::Model;
 use thiserror::Error;
 
-/// Refusals of `push`, by their cause.
+/// The reasons why `push` fails.
 #[derive(Debug, Clone, Copy, Error)]
 pub enum PushError {
     #[error("too long: {0}")]
@@ -22,7 +22,8 @@ pub enum PushError {
     Full(AllocationGrowError),
 }
 
-/// A vector of bytes at an offset of a region. Its place moves with the region that it is copied to, and it grows in its chunk.
+/// A vector of bytes at an offset of a region. Its place moves with the region to which it is copied, and it grows in its
+/// chunk.
 ///
 /// Example: `tenants_and_vectors::moved_vector` of `crates/examples`.
 #[derive(Clone, Copy)]
@@ -75,8 +76,8 @@ impl ByteVec {
         region.bytes()[self.offset + at]
     }
 
-    /// Makes room for another byte, if there is none, by growing the chunk in place. It fails only if there is no room: with
-    /// `TooLong` if no layout has one more byte, otherwise as the allocator refuses to grow the chunk.
+    /// Makes room for another byte, if there is none, by growing the chunk in place. Fails only if there is no room: with
+    /// `TooLong` if no layout has one more byte, otherwise with the error of the allocator's grow.
     pub fn reserve<A: Allocator>(
         &mut self,
         allocator: &mut A,
@@ -101,8 +102,8 @@ impl ByteVec {
         Ok(())
     }
 
-    /// Appends a byte, for which a full chunk is grown. It fails only if the chunk is full, with the errors of `reserve`.
-    /// A refusal changes nothing.
+    /// Appends a byte, and grows a full chunk first. Fails only if the chunk is full, with the errors of `reserve`. A refusal
+    /// changes nothing.
     pub fn push<A: Allocator>(
         &mut self,
         allocator: &mut A,
@@ -141,8 +142,8 @@ impl ByteVec {
         region.write(behind, &[byte]);
     }
 
-    /// Copies the vector to a chunk of another region, which has to have room for its bytes. The copy has the chunk's room. All
-    /// that lies there outside the chunk stays.
+    /// Copies the vector to a chunk of another region, which has to have room for its bytes. The copy has the chunk's room. The
+    /// bytes of the other region outside the chunk are unchanged.
     pub fn copy_to(&self, region: &Region, other: &mut Region, chunk: Chunk) -> ByteVec
         requires inside { self.now.offset + self.now.capacity ≤ length region.now.bytes }
         requires there { IsInside (held_region other.old) chunk }

@@ -6,7 +6,7 @@ use bb_memory_traits::allocator::{
 use bb_memory_traits::layout::{Chunk, Layout};
 use std::marker::Model;
 
-/// An allocator that has at most `budget` chunks out. It is an allocator itself, so budgets nest.
+/// An allocator with at most `budget` chunks in use. It is an allocator itself, so budgets nest.
 #[derive(Drop)]
 pub struct ChunkBudget<A: BaseAllocator + Drop> {
     inner: A,
@@ -31,7 +31,7 @@ impl<A: BaseAllocator + Drop> ChunkBudget<A> {
     ghost use Rattle.bb_memory_traits.specs.Chunk.{Chunk};
     ghost use Rattle.std.specs.Prelude.{List, [], length, ◌≡◌, ◌≤◌};
 
-    /// Makes a budget of chunks, over an allocator that has nothing out.
+    /// Makes a budget of chunks, over an allocator with no chunk in use.
     pub fn new(inner: A, budget: usize) -> Self
         requires { A.stands_for inner [] }
         ensures value { result ≡ record { inner = inner; budget = budget; out = 0 } }
@@ -44,7 +44,8 @@ impl<A: BaseAllocator + Drop> ChunkBudget<A> {
         }
     }
 
-    /// Returns the number of chunks that are in use: the length of each live list that it stands for, and at most the budget.
+    /// Returns the number of chunks that are in use: the length of each live list that the allocator stands for, and at most
+    /// the budget.
     pub fn out(&self) -> usize
         ensures value { result ≡ self.now.out }
         ensures within { result ≤ self.now.budget }
@@ -72,7 +73,7 @@ impl<A: BaseAllocator + Drop> BaseAllocator for ChunkBudget<A> {
 
     ghost region_of = { λ g. A.region_of g.inner };
 
-    // If fewer chunks are in use than the budget, it answers as the allocator below; otherwise it refuses.
+    // If fewer chunks are in use than the budget, the answer is that of the allocator below; otherwise the request is refused.
     ghost may_allocate = { λ g live layout answer.
         ((length live < g.budget) × A.may_allocate g.inner live layout answer)
         ⊎ ((g.budget ≤ length live) × (answer ≡ Err OutOfMemory)) };
@@ -93,7 +94,7 @@ impl<A: BaseAllocator + Drop> BaseAllocator for ChunkBudget<A> {
 
     ghost frees = { λ old place layout new. A.frees old.inner place layout new.inner };
 
-    /// Allocates from the allocator below. It fails with `OutOfMemory` if the budget is spent, and then makes no request.
+    /// Allocates from the allocator below. Fails with `OutOfMemory` if the budget is spent, and then makes no request.
     fn allocate(&mut self, layout: Layout) -> Result<Chunk, AllocationError> {
         if self.out == self.budget {
             return Err(AllocationError::OutOfMemory);

@@ -13,7 +13,7 @@ use std::alloc::{AllocError, Global};
 use std::marker::Model;
 use thiserror::Error;
 
-/// Refusals of `insert`, by their cause.
+/// The reasons why `insert` fails.
 #[derive(Debug, Drop, Error)]
 pub enum InsertError {
     #[error("no memory for the list of records")]
@@ -39,7 +39,7 @@ impl<A: Allocator + Drop> Model for Slab<A> {
     ghost use Rattle.layers.specs.Slabs.{Records, records_in};
     ghost use Rattle.std.specs.Prelude.{◌≡◌};
 
-    // A slab is its records, with their allocator and the chunks in which they lie.
+    // A slab is its records, with their allocator and the chunks in which they are.
     ghost Value = { Records A };
 
     ghost view = { λ s. record {
@@ -53,7 +53,7 @@ impl<A: Allocator + Drop> Model for Slab<A> {
 }
 
 impl<A: Allocator + Drop> Slab<A> {
-    /// Makes an empty slab. The allocator has nothing out, and the region is the allocator's.
+    /// Makes an empty slab. The allocator must have no chunk in use, and the region has to be the allocator's.
     pub fn new(alloc: Global, allocator: A, region: Region) -> Self
         requires fresh { A.stands_for allocator [] }
         requires same_region { held_region region ≡ A.region_of (A.geometry allocator) }
@@ -75,9 +75,9 @@ impl<A: Allocator + Drop> Slab<A> {
         self.chunks.len()
     }
 
-    /// Stores one more record, after the others. It fails, in this order, with `Layout` if no layout has this many bytes, with
-    /// `List` if memory ran out, with `Refused` if the allocator refuses, and with `NoExactChunk` if it gives a longer chunk.
-    /// A refusal changes nothing. The allocator gets one request, and only after the first two tests.
+    /// Stores one more record, after the others. Fails, in this order, with `Layout` if no layout has this many bytes, with
+    /// `List` if memory ran out, with `Refused` if the allocator refuses, and with `NoExactChunk` if it gives a longer chunk. A
+    /// refusal changes nothing. The allocator gets one request, and only after the first two tests.
     #[tactic(auto, using(bb_memory_traits::proofs::Layouts::same_layout))]
     pub fn insert(&mut self, bytes: &[u8]) -> Result<(), InsertError>
         ensures stores { Stores A.geometry A.may_allocate self.old bytes.now result self.new }
@@ -108,7 +108,7 @@ impl<A: Allocator + Drop> Slab<A> {
         self.region.chunk(chunk_at(&self.chunks, position))
     }
 
-    /// Writes a whole record, with bytes of the record's length. The other records keep theirs.
+    /// Writes a whole record, with bytes of the record's length. The other records are unchanged.
     pub fn write(&mut self, position: usize, bytes: &[u8])
         requires { (old : List ℕ) × (slice_get self.old.records position ≡ Some old)
             × (length bytes.now ≡ length old) }
@@ -193,8 +193,8 @@ pub(crate) fn give_back<A: Allocator>(inner: &mut A, chunk: Chunk)
     inner.deallocate(chunk.place(), Layout::empty());
 }
 
-/// An allocator that may give a longer chunk for a layout may give one for the layout's size, and taking a chunk out of a list
-/// takes its record out. It does nothing: its contract is the law.
+/// States two laws. An allocator that may give a longer chunk for a layout may give one for the layout's size. Removing a chunk
+/// from a list removes its record. The function does nothing: its contract is the law.
 #[tactic(auto, using(bb_memory_lists::specs::Hints::parts_of_lists))]
 fn records_law<A: Allocator>()
     ensures longer { (geometry : A.Geometry) (live : List Chunk) (size : ℕ) (layout : Layout)

@@ -12,7 +12,7 @@ use std::alloc::{AllocError, Global};
 use std::marker::Model;
 use thiserror::Error;
 
-/// Refusals of `admit`, by their cause.
+/// The reasons why `admit` fails.
 #[derive(Debug, Drop, Error)]
 pub enum AdmitError {
     #[error("the limits would exceed the whole")]
@@ -21,7 +21,7 @@ pub enum AdmitError {
     List(AllocError),
 }
 
-/// Refusals of `allocate`, by their cause.
+/// The reasons why `allocate` fails.
 #[derive(Debug, Drop, Error)]
 pub enum LeaseError {
     #[error("no tenant has this number")]
@@ -36,7 +36,7 @@ pub enum LeaseError {
     TooLong,
 }
 
-/// Refusal of `deallocate`: the tenant holds no chunk at the place.
+/// The reason why `deallocate` fails: the tenant holds no chunk at the place.
 #[derive(Debug, Drop, Error)]
 #[error("the tenant holds no chunk at this place")]
 pub struct NotHeld {}
@@ -55,7 +55,7 @@ impl Grouped for Lease {
 }
 
 impl Lease {
-    /// Returns how many of its bytes are this tenant's: all or none.
+    /// Returns how many of the lease's bytes are this tenant's: all or none.
     fn bytes_for(&self, tenant: usize) -> usize
         ensures { result ≡ bytes_for tenant self.now }
     {
@@ -68,7 +68,7 @@ impl Lease {
 }
 
 /// Tenants that share an allocator. Each is named by its number, from 0 in the order of their admission, and has a limit in
-/// bytes, within which its chunks stay. The limits together are at most a whole that the maker fixed.
+/// bytes, which the sum of its chunks never exceeds. The limits together are at most a whole that the maker fixed.
 ///
 /// Example: `tenants_and_vectors::two_tenants` of `crates/examples`.
 #[derive(Drop)]
@@ -100,7 +100,8 @@ impl<A: Allocator + Drop> Model for Tenants<A> {
 }
 
 impl<A: Allocator + Drop> Tenants<A> {
-    /// Makes no tenants yet. The allocator has nothing out, and all limits together will be at most `whole` bytes.
+    /// Makes a tenancy without tenants. The allocator must have no chunk in use, and all limits together will be at most
+    /// `whole` bytes.
     pub fn new(alloc: Global, allocator: A, whole: usize) -> Self
         requires fresh { A.stands_for allocator [] }
         ensures empty { result
@@ -115,7 +116,7 @@ impl<A: Allocator + Drop> Tenants<A> {
         }
     }
 
-    /// Admits a tenant with a limit in bytes, and returns its number. It fails with `OverWhole` exactly if all limits together
+    /// Admits a tenant with a limit in bytes, and returns its number. Fails with `OverWhole` exactly if all limits together
     /// would exceed the whole, and otherwise with `List` if memory ran out.
     pub fn admit(&mut self, limit: usize) -> Result<usize, AdmitError>
         ensures number { IfOk result (λ number. number ≡ length self.old.limits) }
@@ -145,7 +146,7 @@ impl<A: Allocator + Drop> Tenants<A> {
         self.whole
     }
 
-    /// Returns a tenant's limit in bytes, and 0 of a number that is no tenant's.
+    /// Returns a tenant's limit in bytes, or 0 for a number that isn't a tenant's.
     pub fn limit(&self, tenant: usize) -> usize
         ensures { result ≡ limit_of self.now.limits tenant }
     {
@@ -165,8 +166,8 @@ impl<A: Allocator + Drop> Tenants<A> {
             .sum()
     }
 
-    /// Returns how many bytes are in use: those of all chunks that the allocator has given. It is the sum of what each tenant
-    /// uses, and at most the whole.
+    /// Returns how many bytes are in use: those of all chunks that the allocator has given. The number is the sum of what each
+    /// tenant uses, and at most the whole.
     pub fn out(&self) -> usize
         ensures value { result ≡ bytes_out self.now.leases }
         ensures within { result ≤ self.now.whole }
@@ -178,17 +179,23 @@ impl<A: Allocator + Drop> Tenants<A> {
         out_within(&self.leases, self.promised)
     }
 
-    /// Tests whether a tenant holds the chunk at a place.
+    /// Returns whether a tenant holds the chunk at a place.
     pub fn holds(&self, tenant: usize, place: usize) -> bool
         ensures { IsTrue result ↔ IsSome (lease_at tenant place self.now.leases) }
     {
         lease_of(&self.leases, tenant, place).is_some()
     }
 
-    /// Requests a chunk for a tenant. It fails, in this order, with `NoTenant` if no tenant has the number, with `OverLimit`
-    /// exactly if the requested bytes would exceed the tenant's limit, with `List` if memory ran out, with `Refused` if the
-    /// allocator refuses the layout, and with `TooLong` if it gives a chunk so much longer that the limit would be exceeded,
-    /// which then goes back. A refusal changes nothing. The allocator gets one request, and only after the first three tests.
+    /// Requests a chunk for a tenant. Fails with the first of these errors that applies:
+    ///
+    /// - `NoTenant` if no tenant has the number.
+    /// - `OverLimit` exactly if the requested bytes would exceed the tenant's limit.
+    /// - `List` if memory ran out.
+    /// - `Refused` if the allocator refuses the layout.
+    /// - `TooLong` if the allocator gives a chunk so much longer that the limit would be exceeded. The chunk is then given
+    ///   back.
+    ///
+    /// A refusal changes nothing. The allocator gets one request, and only after the first three tests.
     pub fn allocate(&mut self, tenant: usize, layout: Layout) -> Result<Chunk, LeaseError>
         ensures given { IfOk result (λ chunk. A.may_allocate (A.geometry self.old.allocator)
             (chunks_of self.old.leases) layout (Ok chunk)) }
@@ -246,7 +253,7 @@ impl<A: Allocator + Drop> Tenants<A> {
         Ok(left)
     }
 
-    /// Gives back the chunk at a place, if the tenant holds it. Otherwise it is refused, and changes nothing. The allocator
+    /// Gives back the chunk at a place, if the tenant holds it. Otherwise the call fails, and nothing changes. The allocator
     /// gets no request.
     pub fn deallocate(&mut self, tenant: usize, place: usize) -> Result<(), NotHeld>
         ensures held { IsOk result ↔ IsSome (lease_at tenant place self.old.leases) }
@@ -276,8 +283,8 @@ impl<A: Allocator + Drop> Tenants<A> {
         self.leases.remove(position);
     }
 
-    /// Does nothing. It is the proof that the allocator stands for exactly the chunks that the tenants hold, which therefore
-    /// lie inside its region and are apart.
+    /// Does nothing: its contract is the proof that the allocator stands for exactly the chunks that the tenants hold. So these
+    /// are inside its region and apart.
     pub fn law(&self)
         ensures stands { A.stands_for self.now.allocator (chunks_of self.now.leases) }
         ensures sound { IsSound (A.region_of (A.geometry self.now.allocator))

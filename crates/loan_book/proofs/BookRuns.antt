@@ -84,7 +84,7 @@ module _ (old : Book) (is : IsBook old) (id : ℕ) where
   change-gone (last_one other i sample at last) own gone =
       let same : other ≡ id = grind (arith, nat_tests) in absurd (gone.0 (i, sample, subst (λ k. IsAt old k i sample) same at))
 
-  -- a published sample waits for one return less after each return of it
+  -- a published sample waits for one return less after each of its returns
   change-waits : {new : Book} {made : LoanCall} {told : LoanReply} (n : ℕ) (own : Bool) → is_return_of id made ≡ own →
       Change old made told new → HasOrIsGone old id (after n) → HasOrIsGone new id (after (n - once own))
   change-waits {new} n false apart change kept =

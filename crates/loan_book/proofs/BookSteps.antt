@@ -1,4 +1,4 @@
--- A book after a step, and one sample of it.
+-- A book after a step, and one of its samples.
 use Rattle.bb_memory_lists.proofs.Positions.{slice_get-removed, slice_get-unremoved}
 use Rattle.bb_memory_lists.proofs.SliceGets.{slice_get-last, slice_get-push, slice_get-pushed, slice_get-set, slice_get-set_other, slice_get-set_same}
 use Rattle.bb_memory_traits.specs.Chunk.{Chunk}
@@ -17,7 +17,7 @@ not_before book id i j one other is here there before =
     let below : one.id < other.id = rw (first, second) at rises in
     omega (arith, here.has_id, there.has_id)
 
--- so it is at only one position
+-- so the sample is at only one position
 pub one_position : (book : Book) (id i j : ℕ) (one other : Sample) → IsBook book → IsAt book id i one → IsAt book id j other →
     i ≡ j
 one_position book id i j one other is here there =
@@ -52,7 +52,7 @@ loaned_before_now book id position sample is here =
     let given : sample.id < book.loaned = rw read at below in
     omega (arith, here.has_id)
 
--- the sample of this id is in use with such returns to come; if there are none such, it is gone, and its id was used up
+-- the sample of this id is in use with these returns to come; if `returns` is None, the sample is gone, and its id was used up
 abbrev pub HasOrIsGone : Book → ℕ → Option (Option ℕ) → Type 0
 HasOrIsGone book id None = (¬ IsOut book id) × (id < book.loaned)
 HasOrIsGone book id (Some returns) = HasReturns book id returns
@@ -104,7 +104,7 @@ removed-is-gone book id position sample is here (k, found, there) =
     let before = slice_get-removed book.out position k found there.at in
     before.1 (one_position book id before.0 position found sample is (record { at = before.2; has_id = there.has_id }) here)
 
--- so it is gone
+-- so the sample is gone
 pub own-remove : (book : Book) (id position : ℕ) (sample : Sample) → IsBook book → IsAt book id position sample →
     HasOrIsGone (without book position) id None
 own-remove book id position sample is here =

@@ -23,7 +23,7 @@ chunks-push samples sample = simp map-append
 pub chunks-remove : (samples : List Sample) (i : ℕ) → chunks_of (remove samples i) ≡ remove (chunks_of samples) i
 chunks-remove samples i = simp (map-append, take-map, drop-map)
 
--- a set sample keeps what it has of the old one
+-- a replaced sample keeps this property of the old one
 pub map-kept : {X : Type 0} (f : Sample → X) (samples : List Sample) (i : ℕ) (old new : Sample) →
     slice_get samples i ≡ Some old → f new ≡ f old → map f (slice_set samples i new) ≡ map f samples
 map-kept f samples i old new at same =

@@ -16,7 +16,7 @@ module _ (book : Book) (id : ℕ) where
       let read = get_or_from_slice_get book.out position sample sample at in
       record { at = at; has_id = rw read at (ranked _ id _ (sym (equal sample))) }
 
-  -- the comparisons with the id rise along the samples, as a binary search asks
+  -- the comparisons with the id rise along the samples, as a binary search requires
   comparisons_rise : IsBook book → IsNonDecreasingBy (λ (sample : Sample). ordering_index (nat_cmp sample.id id)) book.out
   comparisons_rise is i j d le within =
       let ids : (get_or book.out i d).id ≤ (get_or book.out j d).id =

@@ -7,7 +7,7 @@ use Rattle.loan_book.specs.declared.error.LoanError.TheVariants.{Allocation}
 use Rattle.std.specs.Option.{ForSome}
 use Rattle.std.specs.Prelude.{All, AllPairs, List, None, Option, Some, map, slice_get, ℕ, ◌<◌, ◌^◌, ◌≡◌}
 
--- a sample: its id, its chunk, and how many of its returns are to come, or None if it isn't
+-- a sample: its id, its chunk, and how many returns of it are to come, or None if it isn't
 -- published
 abbrev pub Sample : Type 0
 Sample = declared.Sample
@@ -18,7 +18,7 @@ returns_to_come None = 1
 returns_to_come (Some returns) = returns
 
 -- how many samples were loaned so far, which is also the next sample's id, and the samples that are
--- out, in the order of their ids
+-- in use, in the order of their ids
 pub record Book : Type 0 where
   pub loaned : ℕ
   pub out : List Sample
@@ -31,8 +31,8 @@ chunks_of samples = map (λ sample. sample.chunk) samples
 abbrev pub chunks_out : Book → List Chunk
 chunks_out book = chunks_of book.out
 
--- The invariant of a book: ids rise, so each is there once, and each is that of a sample that was
--- loaned and waits for a return.
+-- The invariant of a book: ids rise, so each is in the book once, and each is that of a sample that
+-- was loaned and waits for a return.
 pub record IsBook (book : Book) : Type 0 where
   pub rising : AllPairs (λ one other. one.id < other.id) book.out
   pub loaned : All (λ sample. sample.id < book.loaned) book.out

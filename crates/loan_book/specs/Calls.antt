@@ -1,4 +1,4 @@
--- The answers that a loan book may give to each call, and the book after it. A refusal names the first cause that applies.
+-- The answers that a loan book may give to each call, and the book after it. A refusal names the first reason that applies.
 use Rattle.bb_memory_traits.specs.Chunk.{Chunk}
 use Rattle.bb_memory_traits.specs.declared.allocator.AllocationError.{AllocationError}
 use Rattle.bb_memory_traits.specs.declared.layout.Layout.{Layout}
@@ -64,7 +64,7 @@ GivesBack old id (Ok false) new =
 GivesBack old id (Err refused.UnknownSample) new = (¬ IsOut old id) × (new ≡ old)
 GivesBack old id answer new = ⊥
 
--- A book over such an allocator may give this reply to the call, and becomes `new`.
+-- A book over this allocator may give this reply to the call, and becomes `new`.
 abbrev pub BookStep : Answers → Book → LoanCall → LoanReply → Book → Type 0
 BookStep may_allocate old (call.Loan size) (Loaned id chunk) new = Loans may_allocate old size (Ok (id, chunk)) new
 BookStep may_allocate old (call.Loan size) (Refused error) new = Loans may_allocate old size (Err error) new

@@ -44,7 +44,8 @@ impl<A: Allocator> Model for LoanBook<A> {
 }
 
 impl<A: Allocator> LoanBook<A> {
-    /// Makes a book over this allocator, of which no chunk may be out. The records of samples take their memory from `alloc`.
+    /// Makes a book over this allocator, which must have no chunk in use. The records of samples take their memory from
+    /// `alloc`.
     pub fn new(alloc: Global, allocator: A) -> Self
         requires { A.stands_for allocator [] }
         ensures allocator { result.allocator ≡ allocator }
@@ -58,12 +59,17 @@ impl<A: Allocator> LoanBook<A> {
         }
     }
 
-    /// Loans a chunk of at least `size` bytes, at any place, and returns the sample's id and its chunk. Ids count up from 0
-    /// in the order of the loans, and the id of a refused loan isn't used up.
+    /// Loans a chunk of at least `size` bytes, at any place, and returns the sample's id and its chunk. Ids count up from 0 in
+    /// the order of the loans, and a failed loan uses up no id.
     ///
-    /// It fails, in this order, with `Size` if `size` exceeds `isize::MAX`, with `IdsExhausted` if the greatest id was loaned
-    /// before, with `Memory` if memory for the sample's record ran out, and with `Allocation` if the allocator refused. A
-    /// refusal leaves the book as it was. The allocator gets one request, and only after the first three tests.
+    /// Fails with the first of these errors that applies:
+    ///
+    /// - `Size` if `size` exceeds `isize::MAX`.
+    /// - `IdsExhausted` if the greatest id was loaned before.
+    /// - `Memory` if memory for the sample's record ran out.
+    /// - `Allocation` if the allocator refused.
+    ///
+    /// A refusal leaves the book unchanged. The allocator gets one request, and only after the first three tests.
     pub fn loan(&mut self, size: usize) -> Result<(u64, Chunk), LoanError>
         ensures answer { Loans (A.may_allocate (A.geometry self.old.allocator))
             self.old.book size result self.new.book }
@@ -113,8 +119,8 @@ impl<A: Allocator> LoanBook<A> {
 
     /// Publishes a sample that is in use: it then waits for one return of each of its readers.
     ///
-    /// It fails, in this order, with `UnknownSample` if no sample of this id is in use, with `AlreadyPublished` if it was
-    /// published before, and with `NoReaders` if `readers` is 0. A refusal leaves everything as it was.
+    /// Fails, in this order, with `UnknownSample` if no sample of this id is in use, with `AlreadyPublished` if it was
+    /// published before, and with `NoReaders` if `readers` is 0. A refusal leaves everything unchanged.
     pub fn publish(&mut self, id: u64, readers: u32) -> Result<(), LoanError>
         ensures answer { Publishes self.old.book id readers result self.new.book }
         ensures unknown_sample { (result ≡ Err LoanError.UnknownSample)
@@ -145,7 +151,7 @@ impl<A: Allocator> LoanBook<A> {
     /// Returns a sample once. If that was the last return that it waited for, its chunk goes back to the allocator, and the
     /// result is true. A sample that was never published waits for one return. The allocator gets no request.
     ///
-    /// It fails, with `UnknownSample`, exactly if no sample of this id is in use. A refusal leaves everything as it was.
+    /// Fails, with `UnknownSample`, exactly if no sample of this id is in use. A refusal leaves everything unchanged.
     pub fn give_back(&mut self, id: u64) -> Result<bool, LoanError>
         ensures answer { GivesBack self.old.book id result self.new.book }
         ensures unknown_sample { (result ≡ Err LoanError.UnknownSample)
@@ -180,8 +186,8 @@ impl<A: Allocator> LoanBook<A> {
         self.find(id).is_some()
     }
 
-    /// Does nothing. It is the proof of what holds for every loan book: the allocator stands for exactly the chunks of the
-    /// samples that are in use, these are sound (each lies inside the allocator's region, and no two overlap), the ids of
+    /// Does nothing: its contract is the proof of what holds for every loan book. The allocator stands for exactly the chunks
+    /// of the samples that are in use. These are sound: each is inside the allocator's region, and no two overlap. The ids of
     /// the samples rise, and each sample waits for a return. Each answer that a loan may have leads to one book.
     pub fn law(&self)
         ensures stands { A.stands_for self.now.allocator (chunks_out self.now.book) }
@@ -212,7 +218,7 @@ impl<A: Allocator> LoanBook<A> {
         Some((position, self.out[position].returns))
     }
 
-    /// Has the sample at a position wait for this number of returns.
+    /// Makes the sample at a position wait for this number of returns.
     fn wait_for(&mut self, position: usize, returns: u32)
         requires there { position < length self.old.book.out }
         requires some { 0 < returns }
@@ -224,7 +230,7 @@ impl<A: Allocator> LoanBook<A> {
         self.out[position].returns = Some(returns);
     }
 
-    /// Takes out the sample at a position, and gives its chunk back. The layout of a return decides nothing.
+    /// Removes the sample at a position, and gives its chunk back. The layout of a return decides nothing.
     fn take_out(&mut self, position: usize)
         requires { position < length self.old.book.out }
         ensures book { self.new.book ≡ without self.old.book position }

@@ -1,8 +1,8 @@
-//! Why a loan book refuses.
+//! The reasons why a loan book refuses.
 use bb_memory_traits::allocator::AllocationError;
 use thiserror::Error;
 
-/// Why a call of a loan book was refused.
+/// The reason why a call of a loan book was refused.
 #[derive(Debug, Clone, Copy, PartialEq, Eq, Error)]
 pub enum LoanError {
     /// The size is greater than `isize::MAX`.
@@ -11,7 +11,7 @@ pub enum LoanError {
     /// The greatest id was loaned before.
     #[error("there are no more sample numbers")]
     IdsExhausted,
-    /// Memory for the sample's record was refused.
+    /// Memory for the sample's record ran out.
     #[error("the record of the sample found no memory")]
     Memory,
     /// The allocator refused, with this error.

@@ -23,7 +23,7 @@ pub enum LoanCall {
     Publish(u64, u32),
     /// The sample of this id is returned once.
     GiveBack(u64),
-    /// Asks whether the sample of this id is in use.
+    /// Requests whether the sample of this id is in use.
     IsOut(u64),
 }
 
@@ -40,7 +40,7 @@ pub enum LoanReply {
     Kept,
     /// True if the sample is in use.
     Out(bool),
-    /// The call was refused, and the book is as it was.
+    /// The call was refused, and the book is unchanged.
     Refused(LoanError),
 }
 
@@ -71,12 +71,11 @@ fn apply<A: Allocator>(book: &mut LoanBook<A>, call: LoanCall) -> LoanReply
     }
 }
 
-/// Makes the calls in order, and returns one reply for each call. Afterwards the allocator stands for exactly the chunks of
-/// the samples that are in use. The allocator gets one request for each loan that it answers, and none from any other call.
-/// The ids that are given count up from the number of samples that were loaned before. A published sample that waited for
-/// returns is still in use exactly if fewer of the calls return it. So a sample that a call publishes for r readers goes
-/// back at the r-th return after that call, and not before. A sample that a call loans, and none publishes, goes back at its
-/// first return.
+/// Makes the calls in order, and returns one reply for each call. Afterwards the allocator stands for exactly the chunks of the
+/// samples that are in use. The allocator gets one request for each loan that it answers, and none from any other call. The ids
+/// that are given count up from the number of samples that were loaned before. A published sample that waited for returns is
+/// still in use exactly if fewer of the calls return it. So a sample that a call publishes for r readers goes back at the r-th
+/// return after that call, and not before. A sample that a call loans, and none publishes, goes back at its first return.
 ///
 /// Memory for the replies is reserved first, from `alloc`. If it runs out, no call is made, and everything is as before.
 pub fn run_loans<A: Allocator>(

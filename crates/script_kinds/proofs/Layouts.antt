@@ -11,7 +11,7 @@ use Rattle.std.proofs.Common.{List, None, Option, Some, ap, codes, ℕ, ◌∙�
 use Rattle.std.proofs.lemmas.Option.{none-some, same_Some}
 use Rattle.std.specs.Option.{option_map}
 
--- what is made of two numbers is each layout of these numbers
+-- the result of making a layout from two numbers is each layout of these numbers
 abbrev pub Makes : Option Layout → ℕ → ℕ → Type 0
 Makes made size align = (layout : Layout) → layout.size ≡ size → layout.align ≡ align → made ≡ Some layout
 
@@ -53,7 +53,7 @@ reads_grow position a b size align old new name (Grow other before after) olds n
     λ i. Some (Grow (place i) (first i) (second i))
 reads_grow position a b size align old new name command olds news is same e = absurd (cc)
 
--- or a `shrink`
+-- the line of a `shrink` is read
 pub reads_shrink : (position a b size align : ℕ) (old new : Layout) (name : List ℕ) (command : Command)
     → Makes (Some old) a b → Makes (Some new) size align → name ≡ codes "shrink" → name ≡ (command_words command).name
     → Five position a b size align ≡ (command_words command).numbers → Some (Shrink position old new) ≡ Some command

@@ -1,4 +1,4 @@
-//! Allocators that a script drives: what all of them share, a bump, and a one chunk.
+//! Allocators that a script drives: the parts common to all of them, a bump, and a one-chunk allocator.
 ghost use Rattle.bb_memory_owned.specs.OneChunk.{StandsFor as OneChunkStandsFor};
 ghost use Rattle.bb_memory_traits.specs.BumpObject.{StandsFor as BumpStandsFor};
 ghost use Rattle.bb_memory_traits.specs.Chunk.{Chunk};
@@ -18,12 +18,12 @@ use std::alloc::{AllocError, Global};
 use std::io::Write;
 use std::marker::Model;
 
-/// An allocator that a script drives: how it is made by a header, run, and shown.
+/// An allocator that a script drives: how it is made from a header, run, and shown.
 pub trait ScriptedAllocator: Drop {
     /// The value that a header names.
     type Header: Drop;
 
-    /// The rules of its scripts, but for what all allocators share.
+    /// The rules of its scripts, except for what all allocators share.
     ghost rules: { AllocatorRules Self Self.Header };
 
     /// The allocator stands for this live list.
@@ -53,7 +53,7 @@ pub trait ScriptedAllocator: Drop {
         ensures { OnOk result (line.new.items ≡ line.old.items ++ rules.state_text self.now live) };
 }
 
-/// An allocator, and the chunks that it has out.
+/// An allocator, and its chunks in use.
 #[derive(Drop)]
 pub struct WithLiveList<A: ScriptedAllocator> {
     allocator: A,

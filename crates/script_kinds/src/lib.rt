@@ -1,5 +1,5 @@
-//! Runs a script: reads it to its end, drives an allocator, a machine of steps or a loan book by it, and writes a line for each
-//! reply. `docs/script-format.md` defines scripts and the replies to them; `specs` does so for the clauses.
+//! Runs a script: reads it to its end, drives an allocator, a machine of steps or a loan book with it, and writes a line for
+//! each reply. `docs/script-format.md` defines scripts and their replies; `specs` does so for the clauses.
 //!
 //! The files, in the order in which to read them:
 //!

@@ -19,7 +19,7 @@ pub struct PoolPlan {
     bucket: Layout,
 }
 
-/// Reads `KIND START SIZE BUCKET ALIGN`.
+/// Parses `KIND START SIZE BUCKET ALIGN`.
 pub fn pool_plan(kind: &[u8], name: &[u8], numbers: Numbers) -> Option<PoolPlan>
     ensures written { IfSome result (λ plan. IsPoolPlan plan
         × (name.now ≡ kind.now) × (numbers ≡ pool_numbers plan)) }

@@ -17,7 +17,7 @@ use scripts::status::Status;
 use std::alloc::Global;
 use std::io::{ErrorKind, Read, Write};
 
-/// The kinds of scripts, in the order in which a header is tried: each, and those after it.
+/// The kinds of scripts, in the order in which a header is tried.
 type AllKinds = (
     WithLiveList<BumpAllocator>,
     (
@@ -32,9 +32,9 @@ type AllKinds = (
     ),
 );
 
-/// Reads a script to its end, checks every line of it, and then runs it: makes what it drives, gives it the commands in order,
-/// and writes a line for each reply to the writer, which is then flushed. `docs/script-format.md` defines the lines of a
-/// script, the reply to each, and when each [`Status`] is returned; its scripts are examples.
+/// Reads a script to its end, checks every line of it, and then runs it: makes the value that it drives, gives it the commands
+/// in order, and writes a line for each reply to the writer, which is then flushed. `docs/script-format.md` defines the lines
+/// of a script, the reply to each, and when each [`Status`] is returned; its scripts are examples.
 pub fn run<R: Read + Drop, W: Write>(alloc: Global, mut reader: R, writer: &mut W) -> Status
     ensures done { result ≡ Status.Done → (input : List ℕ) × (text : List ℕ)
         × IsLeft input (R.remaining reader) × IsAnswered kinds input text

@@ -6,7 +6,7 @@ use Rattle.std.proofs.lemmas.Bool.{false≢true}
 use Rattle.std.specs.Align.{IsLayout}
 use Rattle.std.specs.Result.{result_ok}
 
--- what is made of the numbers of a layout is that layout
+-- the layout that is made from the numbers of a layout is that layout
 pub result_ok-layout : {E : Type 0} (r : Result Layout E) (size align : ℕ) (layout : Layout)
     → (IsOk r ↔ IsLayout size align) → IfOk r (λ l. (l.size ≡ size) × (l.align ≡ align))
     → size ≡ layout.size → align ≡ layout.align → result_ok r ≡ Some layout

@@ -120,7 +120,7 @@ pub at_most_five : (ns : Numbers) → 5 < length (list_of ns) → ⊥
 at_most_five Zero h = omega (arith, h)
 at_most_five ns h = omega (arith, h)
 
--- a rest with a byte is a space and what follows it
+-- a nonempty rest is a space and the text after it
 pub space_first : (rest front after : List ℕ) → StartsWith 32 rest → false ≡ (length rest == 0)
     → take (length rest - 1) (drop 1 rest) ≡ front ++ after → rest ≡ 32 ∷ (front ++ after)
 space_first [] front after s some e = absurd (cc)
@@ -132,7 +132,7 @@ numbers_push : (ns : List ℕ) (n : ℕ) (after : List ℕ)
 numbers_push [] n after = ap (λ l. 32 ∷ (l ++ after)) (sym (append-nil (decimal n)))
 numbers_push (m ∷ ns) n after = grind (arith, numbers_push ns n after, append_assoc)
 
--- and may be written
+-- the numbers with one more may be written
 AreNumbers-push : (ns : List ℕ) (n : ℕ) → AreNumbers ns → n < 2 ^ 64 → AreNumbers (ns ++ n ∷ [])
 AreNumbers-push [] n h small = (small, tt)
 AreNumbers-push (m ∷ ns) n h small = (h.0, AreNumbers-push ns n h.1 small)

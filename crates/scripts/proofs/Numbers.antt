@@ -8,7 +8,7 @@ use Rattle.std.specs.Result.{result_ok}
 use Rattle.std.specs.Str.{IsUtf8}
 use Rattle.std.specs.Str.Parse.{AllDigits, ParsesUnsigned, digits_value}
 
--- the field has something, no sign, and no leading zero unless that is all of it
+-- the field isn't empty, and has no sign, and no leading zero unless it is only that
 abbrev pub IsPlain : List ℕ → Type 0
 IsPlain field = (0 < length field) × (slice_index field 0 ≢ 43) × (slice_index field 0 ≡ 48 → length field ≡ 1)
 
@@ -24,12 +24,12 @@ read_writes {E} field (Ok n) plain parses =
     rw is (fits, sym (decimal-digits_value own field digits some plain.2 fits))
 read_writes field (Err e) plain parses = tt
 
--- a field that writes a number is read as it
+-- a field that writes a number is read as that number
 pub read_gives : {E : Type 0} (field : List ℕ) (read : Result ℕ E) (n : ℕ) → ParsesUnsigned 64 10 field read
     → n < 2 ^ 64 → field ≡ decimal n → result_ok read ≡ Some n
 read_gives field read n parses small e = ap result_ok (parse-decimal 64 n field read small small e parses)
 
--- it is text
+-- a decimal field is text
 pub decimal_text : (field : List ℕ) (n : ℕ) → n < 2 ^ 64 → field ≡ decimal n → IsUtf8 field
 decimal_text field n small e = rw e (IsUtf8-from_ascii (decimal n) (IsAscii-decimal n small))
 
@@ -40,6 +40,6 @@ IsPlain-decimal (suc n) small =
     let f = first_decimal (suc n) (omega arith) small in
     (decimal_nonempty (suc n) small, λ e. omega (arith, e, f), λ e. absurd (omega (arith, e, f)))
 
--- so is a field that writes a number
+-- a field that writes a number is plain
 pub IsPlain-writes : (field : List ℕ) (n : ℕ) → n < 2 ^ 64 → field ≡ decimal n → IsPlain field
 IsPlain-writes field n small e = rw e (IsPlain-decimal n small)

@@ -37,14 +37,14 @@ pub keeps_same : (known : Option (List ℕ)) → Keeps known known
 keeps_same None = tt
 keeps_same (Some a) = refl
 
--- or no byte is
+-- nothing changes if no byte is appended
 pub kept_by_none : (old new : Option (List ℕ)) (left : List ℕ) (count : ℕ) → count ≡ 0 → Appends old new (take count left)
     → Keeps old new
 kept_by_none None new left count none wrote = tt
 kept_by_none (Some a) None left count none wrote = absurd wrote
 kept_by_none (Some a) (Some b) left count none wrote = (rw none at wrote) ∙ append-nil a
 
--- what isn't left of a text is written
+-- the part of a text that isn't left is written
 abbrev pub Sent : List ℕ → List ℕ → Option (List ℕ) → Option (List ℕ) → Type 0
 Sent text left old new = (sent : List ℕ) × (text ≡ sent ++ left) × Appends old new sent
 
@@ -97,7 +97,7 @@ ends_unreadable input old new number ends unread (inl (is, wrote)) = rw is (reco
 ends_unreadable input old new number ends unread (inr (is, part)) =
     rw is (ends_failed input old new (unreadable_text number) part (inr (number, unread, refl)))
 
--- memory is refused before anything is written
+-- memory runs out before anything is written
 pub ends_refused : {table : List Kind} (input : List ℕ) (old : Option (List ℕ)) → Ends table input old old OutOfMemory
 ends_refused input old = record {
   done = λ is. absurd (cc);

@@ -15,13 +15,13 @@ use Rattle.std.specs.Str.{bytes_eq}
 abbrev pub HasHeaderOf : List (List ℕ) → Kind → Type 0
 HasHeaderOf lines kind = (header : kind.Header) × (rest : List (List ℕ)) × HasHeader kind lines header rest
 
--- what holds of some kind, in other words
+-- a weaker property holds for some kind, too
 some-map : (table : List Kind) (P Q : Kind → Type 0) → ((one : Kind) → P one → Q one) → SomeOf table P → SomeOf table Q
 some-map [] P Q f h = h
 some-map (one ∷ others) P Q f (inl p) = inl (f one p)
 some-map (one ∷ others) P Q f (inr later) = inr (some-map others P Q f later)
 
--- what holds of no kind holds of none of a table
+-- a property that holds for no kind holds for none of a table
 some-none : (table : List Kind) (P : Kind → Type 0) → ((one : Kind) → P one → ⊥) → SomeOf table P → ⊥
 some-none [] P f h = h
 some-none (one ∷ others) P f (inl p) = f one p
@@ -49,7 +49,7 @@ unreadable_first table first rest none =
     let opened = some-map table (IsScriptOf (take 1 (first ∷ rest))) (HasHeaderOf (first ∷ rest)) (script_header first rest 1) in
     (inl refl, λ readable. none (opened readable))
 
--- if there is no line, it is the first too
+-- if there is no line, the first line is unreadable
 pub unreadable_empty : (table : List Kind) → IsUnreadableAt table [] 1
 unreadable_empty table = (
   inl refl,
@@ -76,7 +76,7 @@ unreadable_later one others first rest number no_header (inr read, unread) = (
   ],
 )
 
--- a line that isn't words is of no kind
+-- a line that isn't words belongs to no kind
 pub no_words : (table : List Kind) (first : List ℕ) (rest : List (List ℕ))
     → ((words : Words) → AreWords words first → ⊥) → SomeOf table (HasHeaderOf (first ∷ rest)) → ⊥
 no_words table first rest none =
@@ -93,7 +93,7 @@ header_same one first rest header after stand starts =
     words_same first (header_words one.rules header) (words_text first) (record { stand = stand; text = refl })
     (record { stand = starts.stand; text = head })
 
--- a first line whose name is no kind's is of none
+-- a first line whose name is no kind's belongs to no kind
 new_no_header : (table : List Kind) (first : Words) (rest : List (List ℕ)) → MayStand first
     → is_new first.name table ≡ true → SomeOf table (HasHeaderOf (words_text first ∷ rest)) → ⊥
 new_no_header [] first rest stand test h = h
@@ -166,7 +166,7 @@ no_header rules first rest stand each (header, after, starts) =
     let same = header_same (kind rules) first rest header after stand starts in
     none-some header (each header starts.allowed same.0 same.1)
 
--- the text that is played answers the lines of the header and the script
+-- the text of the played script answers the lines of the header and the script
 pub answered_here : {S O C R : Type 0} (rules : Rules S O C R) (header : O) (rest : List (List ℕ)) (script : List (Line C))
     (text : List ℕ) → rules.is_header header → MayStand (header_words rules header) → AreScript rules rest script
     → (first : S) × (last : S) × rules.starts header first × IsPlayed rules first script text last

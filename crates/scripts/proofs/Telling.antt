@@ -48,7 +48,7 @@ told_more rules start mid end waiting before left (one ∷ lines) line front add
   ap (λ t. t ++ added) e ∙ append_assoc first rest added,
 )
 
--- what follows at success
+-- a consequence at success
 pub on_ok : {A E P Q : Type 0} (result : Result A E) → (P → Q) → OnOk result P → OnOk result Q
 on_ok (Ok value) more p = more p
 on_ok (Err error) more p = tt

@@ -1,4 +1,4 @@
--- The lines of an input, and that it has no others.
+-- The lines of an input, and the proof that it has no others.
 use Rattle.scripts.specs.Words.{AreLines, EndsInText, StartsWith, ended, lines_of}
 use Rattle.std.proofs.Common.{All, Bool, Contains, List, Some, [], ap, append-nil, append_assoc, arith, drop, eqb, false, inl, inr, length, length-append, refl, subst, suc, sym, take, take_all, tests, true, zero, ℕ, ◌++◌, ◌-◌, ◌<◌, ◌==◌, ◌∙◌, ◌∷◌, ◌≡◌, ◌≢◌, ◌⊎◌}
 use Rattle.std.proofs.lemmas.List.{append_cancel_right, flat_map_more}
@@ -17,11 +17,11 @@ HasNoFeed line = ¬ Contains line 10
 abbrev Whole : List ℕ → List (List ℕ) → Type 0
 Whole input lines = (ended lines ≡ input) ⊎ ((ended lines ≡ input ++ 10 ∷ []) × EndsInText lines)
 
--- nor of an empty one
+-- the empty line has no line feed
 no_feed-nil : HasNoFeed []
 no_feed-nil (k, below, at) = absurd (omega (arith, below))
 
--- nor of one that is another byte longer
+-- a line that is longer by another byte has no line feed
 no_feed-cons : (byte : ℕ) (line : List ℕ) → byte ≢ 10 → HasNoFeed line → HasNoFeed (byte ∷ line)
 no_feed-cons byte line other none (zero, below, at) = other at
 no_feed-cons byte line other none (suc k, below, at) = none (k, omega (arith, below), at)
@@ -30,11 +30,11 @@ no_feed-cons byte line other none (suc k, below, at) = none (k, omega (arith, be
 no_feed-all : (line : List ℕ) → All (λ byte. byte ≢ 10) line → HasNoFeed line
 no_feed-all line all has = All-contains (λ b. b ≢ 10) line 10 all has refl
 
--- what isn't tested to be a line feed is none
+-- a byte that fails the test isn't a line feed
 other_byte : (byte : ℕ) → feed byte ≡ false → byte ≢ 10
 other_byte byte e same = grind (arith, tests)
 
--- what is tested to be one is one
+-- a byte that passes the test is a line feed
 feed_byte : (byte : ℕ) → feed byte ≡ true → byte ≡ 10
 feed_byte byte e = grind (arith, tests)
 
@@ -45,7 +45,7 @@ no_feed-onto byte (line ∷ lines) other all =
     All-cons HasNoFeed (byte ∷ line) lines (no_feed-cons byte line other (All-head HasNoFeed line lines all))
     (All-tail HasNoFeed line lines all)
 
--- a last line with a byte keeps it if the first line grows
+-- if the last line has a byte, it still has one when the first line grows
 text-onto : (byte : ℕ) (line : List ℕ) (lines : List (List ℕ)) → EndsInText (line ∷ lines) → EndsInText ((byte ∷ line) ∷ lines)
 text-onto byte line lines ([], last, same, some) =
     let none : lines ≡ [] = cc in
@@ -96,7 +96,7 @@ line_by : (is : Bool) (byte : ℕ) (line rest : List ℕ) → feed byte ≡ is �
 line_by true byte line rest e none later = absurd (none (0, omega arith, feed_byte byte e))
 line_by false byte line rest e none later = rw e (ap (onto_first byte) later)
 
--- what follows a byte of such a line is such a line
+-- the rest of a line without a line feed is another one
 no_feed-tail : (byte : ℕ) (line : List ℕ) → HasNoFeed (byte ∷ line) → HasNoFeed line
 no_feed-tail byte line none (k, below, at) = none (suc k, omega (arith, below), at)
 
@@ -118,7 +118,7 @@ lines_last : (line : List ℕ) → HasNoFeed line → line ≢ [] → lines_of l
 lines_last [] none some = absurd (some refl)
 lines_last (byte ∷ line) none some = last_by (feed byte) byte line refl none (lines_last line (no_feed-tail byte line none))
 
--- so comes a text before a line feed
+-- the text before a line feed is the first line
 pub lines_split : (input line rest : List ℕ) → input ≡ line ++ rest → All (λ byte. byte ≢ 10) line → StartsWith 10 rest
     → false ≡ (length rest == 0) → lines_of input ≡ line ∷ lines_of (take (length rest - 1) (drop 1 rest))
 lines_split input line [] e clear start some = absurd (cc)
@@ -126,7 +126,7 @@ lines_split input line (byte ∷ rest) e clear start some =
     rw (take_all (length (byte ∷ rest) - 1) rest (omega arith))
     (ap lines_of (e ∙ ap (λ b. line ++ b ∷ rest) start) ∙ lines_line line rest (no_feed-all line clear))
 
--- and one before no more
+-- the text before the end of the input is the last line
 pub lines_whole_text : (input line rest : List ℕ) → input ≡ line ++ rest → All (λ byte. byte ≢ 10) line
     → false ≡ (length input == 0) → true ≡ (length rest == 0) → lines_of input ≡ line ∷ lines_of rest
 lines_whole_text [] line rest e clear some none = absurd (cc)
@@ -143,7 +143,7 @@ shorter_split input line [] e some = absurd (cc)
 shorter_split input line (byte ∷ rest) e some =
     rw (take_all (length (byte ∷ rest) - 1) rest (omega arith)) (omega (arith, ap length e, length-append line (byte ∷ rest)))
 
--- so is nothing
+-- an empty rest is shorter than the input
 pub shorter_whole : (input rest : List ℕ) → false ≡ (length input == 0) → true ≡ (length rest == 0)
     → length rest < length input
 shorter_whole [] rest some none = absurd (cc)

@@ -110,7 +110,7 @@ IsStep {S} {O} {C} {R} rules old waiting Show text new left =
     (replies : List R) × rules.runs old waiting replies new × (left ≡ [])
     × (text ≡ flat_map rules.reply_text replies ++ rules.state_text new)
 
--- lines, one after another, write this text
+-- these lines, one after another, write this text
 abbrev pub IsTold : {S O C R : Type 0} → Rules S O C R → S → List C → List (Line C) → List ℕ → S → List C → Type 0
 IsTold rules old waiting [] text new left = (new ≡ old) × (left ≡ waiting) × (text ≡ [])
 IsTold {S} {O} {C} {R} rules old waiting (line ∷ lines) text new left =
@@ -166,8 +166,8 @@ abbrev pub IsUnreadableAt : List Kind → List (List ℕ) → ℕ → Type 0
 IsUnreadableAt table lines number =
     ((number ≡ 1) ⊎ AreReadable table (take (number - 1) lines)) × ¬ AreReadable table (take number lines)
 
--- The outcome for these lines: the transcript of the script that they are, the number of the first
--- unreadable line, or that memory ran out.
+-- The outcome for these lines: the transcript of their script, the number of the first unreadable
+-- line, or that memory ran out.
 abbrev pub IsOutcome : List Kind → List (List ℕ) → Outcome → Type 0
 IsOutcome table lines (outcome.Answered text) = SomeOf table (IsAnsweredBy lines text.items)
 IsOutcome table lines (outcome.Unreadable number) = IsUnreadableAt table lines number
@@ -181,7 +181,8 @@ IsAnswered table input text = SomeOf table (IsAnsweredBy (lines_of input) text)
 abbrev pub IsUnreadable : List Kind → List ℕ → ℕ → Type 0
 IsUnreadable table input number = IsUnreadableAt table (lines_of input) number
 
--- the text is what is written for the input: a transcript, or the line on the first unreadable line
+-- the text is what is written for the input: a transcript, or the line about the first unreadable
+-- line
 abbrev pub IsOutput : List Kind → List ℕ → List ℕ → Type 0
 IsOutput table input text =
     IsAnswered table input text ⊎ ((number : ℕ) × IsUnreadable table input number × (text ≡ unreadable_text number))
@@ -190,7 +191,7 @@ IsOutput table input text =
 abbrev pub BeginsOutput : List Kind → List ℕ → List ℕ → Type 0
 BeginsOutput table input sent = (text : List ℕ) × IsOutput table input text × Begins sent text
 
--- how a run on an input ends, and what it writes
+-- how a run on an input ends, and its output
 pub record Ends (table : List Kind) (input : List ℕ) (old new : Option (List ℕ)) (status : Status) : Type 0 where
   pub done : status ≡ Done → (text : List ℕ) × IsAnswered table input text × Appends old new text
   pub unreadable : status ≡ Unreadable → (number : ℕ) × IsUnreadable table input number × Appends old new (unreadable_text number)

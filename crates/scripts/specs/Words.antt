@@ -69,7 +69,7 @@ abbrev pub labelled_then : List Labelled → List ℕ → List ℕ
 labelled_then [] text = text
 labelled_then (figure ∷ figures) text = figure.0.now ++ (decimal figure.1 ++ labelled_then figures text)
 
--- the line that says which line is the first unreadable one
+-- the line about the first unreadable line
 abbrev pub unreadable_text : ℕ → List ℕ
 unreadable_text number = words_then (codes "line") (One number) (codes ": refused\n")
 

@@ -22,7 +22,7 @@ pub trait ScriptKind {
     /// The rules of its scripts.
     ghost rules: { Rules Self.State Self.Header Self.Command Self.Reply };
 
-    /// Says that a script may show the state.
+    /// Returns whether a script may show the state.
     fn can_show() -> bool
         ensures { result ≡ rules.can_show };
 
@@ -70,15 +70,15 @@ pub enum Line<C> {
 /// The end of a script that was read.
 #[derive(Drop)]
 pub enum Outcome {
-    /// The text to write: a line for each reply, and what each `show` writes.
+    /// The text to write: a line for each reply, and the text of each `show`.
     Answered(Vec<u8>),
     /// The number of the first unreadable line.
     Unreadable(usize),
-    /// Memory was refused.
+    /// Memory ran out.
     OutOfMemory,
 }
 
-/// Checks every line after the header, and then makes what the script drives and runs it.
+/// Checks every line after the header, and then makes the value that the script drives and runs it.
 pub fn run_script<K: ScriptKind>(alloc: Global, header: K::Header, rest: &[u8]) -> Outcome
     requires header { K.rules.is_header header }
     requires stand { MayStand (header_words K.rules header) }
@@ -132,7 +132,7 @@ fn read_line<K: ScriptKind>(text: &[u8]) -> Option<Line<K::Command>>
     Some(Line::Command(K::read(name, numbers)?))
 }
 
-/// Makes what the script drives, and runs the script on it. Returns the text to write.
+/// Makes the value that the script drives, and runs the script on it. Returns the text to write.
 fn run_lines<K: ScriptKind>(
     alloc: Global,
     header: K::Header,
@@ -152,7 +152,7 @@ fn run_lines<K: ScriptKind>(
     Ok(text)
 }
 
-/// Takes a line: a command waits, and a `show` has what waits run, and then the state written.
+/// Takes a line: a command waits, and a `show` runs the waiting commands and then writes the state.
 fn run_line<K: ScriptKind>(
     alloc: Global,
     state: &mut K::State,

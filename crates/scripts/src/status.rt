@@ -5,15 +5,15 @@ ghost use Rattle.std.specs.Prelude.{MatchOption, None, Some, ◌≡◌};
 /// The end of a run, and what was written.
 #[derive(Debug, Clone, Copy, PartialEq, Eq)]
 pub enum Status {
-    /// The script was run to its end: a line for each reply, and what each `show` writes.
+    /// The script was run to its end. The output is a line for each reply, and the text of each `show`.
     Done,
     /// Some line is unreadable: the number of the first one.
     Unreadable,
-    /// Reading the input failed: nothing was written.
+    /// Reading the input failed. Nothing was written.
     InputFailed,
-    /// Writing failed: nothing, or a beginning of what the input calls for.
+    /// Writing failed. The output is nothing, or a beginning of the right one.
     OutputFailed,
-    /// Memory was refused: nothing was written.
+    /// Memory ran out. Nothing was written.
     OutOfMemory,
 }
 
@@ -30,7 +30,7 @@ impl Status {
         }
     }
 
-    /// Returns what a program writes on standard error, after its own name.
+    /// Returns the text that a program writes to standard error, after its own name.
     pub fn message(self) -> Option<&'static str>
         ensures { MatchOption result (message_of self ≡ None)
             (λ text. message_of self ≡ Some text.now) }

@@ -121,7 +121,7 @@ fn number(field: &[u8]) -> Option<usize>
     }
 }
 
-/// Tests that there is a byte, no sign, and no leading zero.
+/// Returns whether a field has a byte, no sign, and no leading zero.
 fn is_plain(field: &[u8]) -> bool
     ensures { IsTrue result ↔ ((0 < length field.now) × (slice_index field.now 0 ≢ 43)
         × (slice_index field.now 0 ≡ 48 → length field.now ≡ 1)) }
@@ -230,7 +230,7 @@ pub struct Bounds {
     pub size: usize,
 }
 
-/// Reads `KIND START SIZE`.
+/// Parses `KIND START SIZE`.
 pub fn region(kind: &[u8], name: &[u8], numbers: Numbers) -> Option<Bounds>
     ensures written { IfSome result (λ bounds. IsRegion (region_of bounds)
         × (name.now ≡ kind.now) × (numbers ≡ bounds_numbers bounds)) }
@@ -245,7 +245,7 @@ pub fn region(kind: &[u8], name: &[u8], numbers: Numbers) -> Option<Bounds>
     }
 }
 
-/// Returns the number of a party in scripts of steps, if there is such a party.
+/// Returns the number of a party in scripts of steps, if they have the party.
 pub fn party_of(number: usize) -> Option<u32>
     ensures { SomeIff result (IsParty number) number }
 {

@@ -12,13 +12,13 @@ use Rattle.std.proofs.lemmas.List.Elements.{All-contains, All-get_or}
 use Rattle.std.proofs.lemmas.Option.{gets}
 use Rattle.std.specs.Prelude.{All, List, Ok, Result, [], length, ℕ, ◌%◌, ◌+◌, ◌≡◌, ◌≤◌}
 
--- WORKERS, each of which hands its party back
+-- WORKERS, each of which returns its party
 
 -- the party still holds each bucket that it held
 abbrev pub KeepsBuckets : PoolParty → PoolParty → Type 0
 KeepsBuckets old new = (bucket : ℕ) → IsHeldAfter old.log bucket → IsHeldAfter new.log bucket
 
--- A party, of a bump or of a pool, has made one request for this layout. Such a request may have this answer, and leave this
+-- A party, of a bump or of a pool, has made one request for this layout. The request may have this answer, and leave this
 -- party.
 pub record Asks {P A : Type 0} (may_take : P → Layout → A → P → Type 0) (layout : Layout) (old new : P) : Type 0 where
   pub answer : A
@@ -74,13 +74,14 @@ having_received bucket receiver =
 
 -- ARENAS, each a bump over a chunk of a shared bump
 
--- the thread's party, its chunk, and how much of that is used
+-- the thread's party, its chunk, and how many of the chunk's bytes are used
 pub record Arena : Type 0 where
   pub party : BumpParty
   pub whole : Chunk
   pub used : ℕ
 
--- a chunk of the arena was given for this layout: it lies in the arena's chunk, at the first suitable place after what was used
+-- a chunk of the arena was given for this layout: it is inside the arena's chunk, at the first suitable place after what was
+-- used
 pub record Serves (old : Arena) (layout : Layout) (new : Arena) (chunk : Chunk) : Type 0 where
   pub begins : chunk.place ≡ least_place (old.whole.place + old.used) layout.align
   pub part : IsPart chunk old.whole
@@ -94,5 +95,5 @@ pub record Serves (old : Arena) (layout : Layout) (new : Arena) (chunk : Chunk) 
 unfoldable pub HaveNothingShared : Chunk → Chunk → Type 0
 HaveNothingShared one other = AreApart one other
 
--- lemmas of std by one name, for the attribute `using`, which takes no name with a dash
+-- lemmas of std under one name, for the attribute `using`, which takes no name with a dash
 pub ruleset contained = (All-contains, All-get_or, common_steps, gets)

@@ -1,4 +1,4 @@
-//! Threads that carve one bump up, and the bump that one owner then has again.
+//! Threads that carve up one bump, and the bump that one owner has afterwards.
 ghost use Rattle.bb_memory_bump.specs.SharedBump.{BumpParty, MayTake, scene_at};
 ghost use Rattle.std.specs.Prelude.{All, IfOk, [], length, ◌≡◌};
 ghost use Rattle.thread_layers.specs.Threads.{Asks, HasAsked, IsCarved};
@@ -10,7 +10,7 @@ use std::alloc::{AllocError, Global};
 use std::thread;
 use std::thread::Threads;
 
-/// Asks for a chunk, and hands the party back.
+/// Requests a chunk, and returns the party.
 pub fn carve(shared: &SharedBumpAllocator, party: BumpParty, layout: Layout) -> BumpParty
     requires { party.allocator ≡ shared.now }
     ensures party { result.allocator ≡ shared.entry.now }
@@ -23,8 +23,8 @@ pub fn carve(shared: &SharedBumpAllocator, party: BumpParty, layout: Layout) -> 
     party
 }
 
-/// Runs four workers, which request one chunk each of a bump, all at once. Then it is one owner's again, and what is used of it
-/// is exactly the greatest position that one of the four has seen. It fails only if memory ran out.
+/// Runs four workers at the same time, each of which requests one chunk of a bump. Afterwards the bump has one owner again, and
+/// its used part is exactly the greatest position that one of the four has seen. Fails only if memory ran out.
 pub fn carved_by_four<R: Threads + Sync>(
     rt: &R,
     alloc: Global,
@@ -39,7 +39,7 @@ pub fn carved_by_four<R: Threads + Sync>(
     Ok(shared.into_owner_all(back))
 }
 
-/// Shares the bump among four parties, which have made no step. It fails only if memory ran out.
+/// Shares the bump among four parties, which have made no step. Fails only if memory ran out.
 fn shared_by_four(
     alloc: Global,
     bump: BumpAllocator,

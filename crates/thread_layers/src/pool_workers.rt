@@ -1,4 +1,4 @@
-//! Threads that take buckets of one pool, and what is known once all of them are back.
+//! Threads that take buckets of one pool, and what is known once all of them have returned.
 ghost use Rattle.bb_memory_shared_pools.specs.SharedPool.{AreFresh, PoolParty};
 ghost use Rattle.bb_memory_shared_pools.specs.SharedPoolMeetings.{HaveMet, HoldApart};
 ghost use Rattle.bb_memory_traits.specs.Chunk.{region_at};
@@ -28,7 +28,7 @@ pub fn take_one(pool: &SharedPoolAllocator, party: PoolParty, layout: Layout) ->
     party
 }
 
-/// Asks for a bucket by next fit.
+/// Requests a bucket by next fit.
 fn ask_next_fit(pool: &SharedPoolAllocator, worker: &mut PoolParty, layout: Layout)
     requires { worker.old.allocator ≡ pool.now }
     ensures party { worker.new.allocator ≡ pool.now }
@@ -39,9 +39,9 @@ fn ask_next_fit(pool: &SharedPoolAllocator, worker: &mut PoolParty, layout: Layo
     let _ = pool.allocate_next_fit(worker, layout);
 }
 
-/// Runs four workers at once, which request one bucket each. They meet when they are back: one list of steps has all their logs
-/// and nothing more, and a flag is taken exactly if one of them holds the bucket, or it is detached. It fails only if memory ran
-/// out.
+/// Runs four workers at the same time, each of which requests one bucket. They meet when they have returned: one list of steps
+/// has all their logs and nothing else, and a flag is taken exactly if one of them holds the bucket, or it is detached. Fails
+/// only if memory ran out.
 pub fn four_workers<R: Threads + Sync>(
     rt: &R,
     alloc: Global,
@@ -75,8 +75,7 @@ fn take_one_each<R: Threads + Sync>(
     thread::map_vec(rt, parties, &|party| take_one(pool, party, layout))
 }
 
-/// Makes a pool of eight buckets for four parties. It fails only if memory ran out, since this region and this bucket make a
-/// pool.
+/// Makes a pool of eight buckets for four parties. Fails only if memory ran out, since this region and this bucket make a pool.
 #[tactic(auto, unfolding(bb_memory_traits::specs::LeastPlace::least_place))]
 fn pool_of_four(alloc: Global) -> Result<(SharedPoolAllocator, Vec<PoolParty>), AllocError>
     ensures parties { IfOk result (λ made. AreFresh made.0 4 made.1.items) }

@@ -35,7 +35,7 @@ impl Model for ThreadArena {
 }
 
 impl ThreadArena {
-    /// Takes a chunk of this layout for the party's thread. The refusals are the shared bump's, and hand the party back.
+    /// Takes a chunk of this layout for the party's thread. The errors are those of the shared bump, and return the party.
     pub fn new(
         shared: &SharedBumpAllocator,
         party: BumpParty,
@@ -61,14 +61,14 @@ impl ThreadArena {
         }
     }
 
-    /// Returns the chunk in which all chunks of this arena lie.
+    /// Returns the chunk that contains all chunks of this arena.
     pub fn whole(&self) -> Chunk
         ensures { result ≡ self.now.whole }
     {
         self.whole
     }
 
-    /// Requests a chunk of the arena. It fails, in this order, with `SizeIsZero` if the size is 0, and with `OutOfMemory` if the
+    /// Requests a chunk of the arena. Fails, in this order, with `SizeIsZero` if the size is 0, and with `OutOfMemory` if the
     /// chunk would end after the arena's. A refusal changes nothing.
     pub fn allocate(&mut self, layout: Layout) -> Result<Chunk, AllocationError>
         ensures served { IfOk result (Serves self.old layout self.new) }
@@ -99,7 +99,7 @@ impl ThreadArena {
     }
 }
 
-/// Two arenas of one shared bump meet: their chunks are apart, so each chunk of the one is apart from each of the other.
+/// Makes two arenas of one shared bump meet: their chunks are apart, so each chunk of one is apart from each of the other.
 pub fn meet(shared: &SharedBumpAllocator, one: &mut ThreadArena, other: &mut ThreadArena)
     requires one { one.old.party.allocator ≡ shared.now }
     requires other { other.old.party.allocator ≡ shared.now }
@@ -116,7 +116,8 @@ pub fn meet(shared: &SharedBumpAllocator, one: &mut ThreadArena, other: &mut Thr
     shared.meet(&mut one.party, &mut other.party);
 }
 
-/// One chunk that was won in each of two logs whose chunks are apart. It does nothing: its contract is the law.
+/// States that two chunks, one of each of two logs whose chunks are apart, are apart. The function does nothing: its contract
+/// is the law.
 #[tactic(auto, unfolding(crate::specs::Threads::HaveNothingShared))]
 fn won_apart_law()
     ensures { (log its_log : BumpLog) (i j : ℕ) (chunk its : Chunk)
@@ -127,7 +128,8 @@ fn won_apart_law()
     contained_law();
 }
 
-/// It does nothing: its contract is the law.
+/// States that two chunks, one of each of two logs whose chunks are apart, share nothing. The function does nothing: its contract
+/// is the law.
 #[tactic(auto, using(crate::specs::Threads::contained))]
 fn contained_law()
     ensures { (log its_log : BumpLog) (i j : ℕ) (chunk its : Chunk)
@@ -138,7 +140,7 @@ fn contained_law()
     index_law();
 }
 
-/// It does nothing: its contract is the law.
+/// States the same for the chunks at two indices of the logs. The function does nothing: its contract is the law.
 #[tactic(auto, unfolding(crate::specs::Threads::HaveNothingShared))]
 fn index_law()
     ensures { (log its_log : BumpLog) (i j : ℕ) (d e : Chunk) → HaveChunksApart log its_log

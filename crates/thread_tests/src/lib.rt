@@ -1,4 +1,4 @@
-//! Tests of what threads share: what the calls answer, with memory and without.
+//! Tests of values that threads share: the results of their calls, with ample memory and after failed requests for memory.
 #![tactic(auto)]
 
 #[cfg(test)]

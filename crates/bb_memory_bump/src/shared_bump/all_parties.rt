@@ -6,12 +6,12 @@ ghost use Rattle.bb_memory_traits.specs.BumpObject.{StandsFor};
 ghost use Rattle.bb_memory_traits.specs.Chunk.{Chunk};
 ghost use Rattle.std.specs.Prelude.{All, Any, Contains, List, Some, length, slice_get, ℕ, ◌++◌, ◌≡◌, ◌≢◌};
 
-/// Says what follows for parties of a shared bump that met ([`meet_all`](super::SharedBumpAllocator::meet_all)), and above all of
-/// all its parties, whatever the threads did. It does nothing: its contract is the law.
+/// States what holds for parties of a shared bump that met ([`meet_all`](super::SharedBumpAllocator::meet_all)), above all if
+/// these are all its parties, whatever the threads did. The function does nothing: its contract is the law.
 ///
-/// A meeting has one list of steps from the opening, each of which the machine allows (`agree.steps`), in which the steps of each
-/// party that met are exactly its log, and which leaves the position that the meeting found. If all the bump's parties met, it
-/// has no other steps. A list that the opening stands for is one that was live before the bump was shared.
+/// A meeting has one list of steps from the opening, each of which the machine allows (`agree.steps`). In it, the steps of each
+/// party that met are exactly its log, and the list leaves the position that the meeting found. If all the bump's parties met,
+/// it has no other steps. A list that the opening stands for is one that was live before the bump was shared.
 pub fn shared_bump_meeting_law()
     // The calls at their deciding steps are a run of the bump object, from the list that was live
     // before the bump was shared to the one that the position found stands for.
@@ -23,18 +23,18 @@ pub fn shared_bump_meeting_law()
         (live : List Chunk) (met : AgreeAt scene position parties) → OpensWith scene live
         → StandsFor scene.region position (live_after scene live met.agree.steps) }
 
-    // That is the older list followed by the chunks that were won since.
+    // The final list is the older list followed by the chunks that were won since.
     ensures since { (scene : BumpScene) (position : ℕ) (parties : List BumpParty)
         (live : List Chunk) (met : AgreeAt scene position parties) → let steps = met.agree.steps in
         live_after scene live steps ≡ live ++ chunks_won (history_of scene steps) }
 
-    // It has each chunk of each party that met.
+    // The final list has each chunk of each party that met.
     ensures held { (scene : BumpScene) (position : ℕ) (parties : List BumpParty)
         (live : List Chunk) (met : AgreeAt scene position parties)
         → let held = Contains (live_after scene live met.agree.steps) in
         All (λ party. All held (chunks_won party.log)) parties }
 
-    // Each party's steps in the list of steps are its log.
+    // The steps of each party in the list of steps are its log.
     ensures logged { (scene : BumpScene) (position : ℕ) (parties : List BumpParty)
         (met : AgreeAt scene position parties)
         → All (λ party. log_of scene met.agree.steps party.number ≡ party.log) parties }
@@ -45,7 +45,7 @@ pub fn shared_bump_meeting_law()
         → IsSharedScene scene → slice_get parties i ≡ Some one → slice_get parties j ≡ Some other
         → i ≢ j → HaveChunksApart one.log other.log }
 
-    // If all have met, each step is in the log of one of them: it was nobody else's.
+    // If all parties met, each step is in the log of one of them: nobody else made a step.
     ensures nobody_else { (scene : BumpScene) (position : ℕ) (parties : List BumpParty)
         (met : AgreeAt scene position parties) → length parties ≡ scene.parties
         → All (λ entry. Any (λ party. Contains party.log entry) parties)

@@ -9,7 +9,7 @@ use super::{BumpParty, SharedBumpAllocator};
 use atomic_table::Seat;
 
 impl SharedBumpAllocator {
-    /// These parties meet those of the seat, and go back to their own.
+    /// Makes these parties meet those of the seat, and go back to their own seats.
     pub(super) fn meet_rest(&self, seat: &mut Seat<u8, View>, rest: &mut Vec<BumpParty>) -> usize
         requires seat { StandsAt self.now seat.old.table_id seat.old.me }
         requires rest { All (λ party. party.allocator ≡ self.now) rest.old.items }
@@ -34,7 +34,7 @@ impl SharedBumpAllocator {
         found
     }
 
-    /// These parties go to the seat, before its own.
+    /// Moves these parties to the seat, before its own.
     pub(super) fn merge_rest(&self, seat: &mut Seat<u8, View>, mut rest: Vec<BumpParty>)
         requires seat { StandsAt self.now seat.old.table_id seat.old.me }
         requires rest { All (λ party. party.allocator ≡ self.now) rest.items }

@@ -7,8 +7,8 @@ use super::rule::View;
 use atomic_table::Seat;
 use std::marker::Model;
 
-/// One user of a shared bump. It goes with its thread, and each call that steps on the position takes it. The list of its
-/// steps, its log, is known only to contracts. A dropped party doesn't meet any more, so no later meeting is of all parties.
+/// One user of a shared bump. A party moves with its thread, and each call that steps on the position takes it. Only contracts
+/// know the list of its steps, its log. A dropped party doesn't meet any more, so no later meeting is of all parties.
 #[derive(Drop)]
 pub struct BumpParty {
     pub(super) number: u32,
@@ -24,7 +24,7 @@ impl Model for BumpParty {
 }
 
 impl BumpParty {
-    /// Returns the party's number, from 0 and below how many parties there are.
+    /// Returns the party's number, from 0 and less than the number of parties.
     pub fn number(&self) -> u32
         ensures value { result ≡ self.now.number }
 

@@ -1,8 +1,8 @@
 //! The position that threads share: its word, and the only calls that touch it.
 //!
 //! `read`, `exchange` and `load` make one atomic step each, by the seat of the party whose step it is. That party's log then
-//! ends with the step and what it found. `split_first`, `merge`, `load_for_meeting` and `meet` only load the word, and are in no
-//! log; `open` and `close` are before and after all sharing.
+//! ends with the step and what it found. `split_first`, `merge`, `load_for_meeting` and `meet` only load the word, and are in
+//! no log. `open` runs before anything is shared, and `close` afterwards.
 ghost use Rattle.bb_memory_bump.specs.Bump.{Layout};
 ghost use Rattle.bb_memory_bump.specs.SharedBump.{SharedBump};
 ghost use Rattle.bb_memory_bump.specs.SharedBumpRule.{AfterExchange, AfterLoad, AfterMeeting, AfterMeetingLoad, AfterRead, HasOneWord, IsIdleAt, IsSeatAt, MayAsk, StandsAt, all_parties, exchanges, loads, meeting_of, meets, merged, met_by, nobody, reads, scene_of};
@@ -35,28 +35,28 @@ impl<L: Asked> Play<u8, View> for Reads<L> {
     ghost then = { reads L.layout };
 }
 
-/// The exchange of a request that is under way.
+/// The exchange of a request in progress.
 struct Exchanges;
 
 impl Play<u8, View> for Exchanges {
     ghost then = { exchanges };
 }
 
-/// A load that asks how much is used.
+/// A load that finds how much is used.
 struct Loads;
 
 impl Play<u8, View> for Loads {
     ghost then = { loads };
 }
 
-/// A load by a seat that stands for any number of parties.
+/// A load by a seat that represents any number of parties.
 struct Meets;
 
 impl Play<u8, View> for Meets {
     ghost then = { meets };
 }
 
-/// The first party goes to the new seat.
+/// Moves the first party to the new seat.
 struct GiveFirst;
 
 impl Split<View> for GiveFirst {
@@ -65,7 +65,7 @@ impl Split<View> for GiveFirst {
     ghost right = { first_of };
 }
 
-/// One seat stands for the parties of two.
+/// Makes one seat represent the parties of two.
 struct Merge;
 
 impl Join<View> for Merge {
@@ -74,7 +74,7 @@ impl Join<View> for Merge {
     ghost spent = { nobody };
 }
 
-/// The word that has the position.
+/// The word of the position.
 #[derive(Drop)]
 pub(super) struct Position {
     table: Table<u8, View, Scene, Agreement, Global>,
@@ -89,7 +89,7 @@ impl Model for Position {
 }
 
 impl Position {
-    /// Makes the position at a scene's opening, and a seat that stands for all its parties.
+    /// Makes the position at a scene's opening, and a seat that represents all its parties.
     pub(super) fn open(
         alloc: Global,
         scene: Scene,
@@ -103,7 +103,7 @@ impl Position {
         Ok((Position { table }, seat))
     }
 
-    /// Returns a seat of its own for the first party that a seat stands for.
+    /// Returns a seat of its own for the first party that a seat represents.
     pub(super) fn split_first(&self, rest: &mut Seat<u8, View>) -> Seat<u8, View>
         requires { rest.old.table_id ≡ self.now.table }
         ensures { IsSplit rest.old.table_id rest.old.me rest.new.table_id rest.new.me
@@ -112,7 +112,7 @@ impl Position {
         self.table.shared.split_seat::<GiveFirst>(rest)
     }
 
-    /// The read that begins a request. For which layout it is, the step says by its type.
+    /// Makes the read that begins a request. The type of the step has the layout of the request.
     pub(super) fn read<L: Asked>(&self, seat: &mut Seat<u8, View>, _layout: Layout) -> usize
         requires { MayAsk self.now seat.old.table_id seat.old.me L.layout _layout }
         ensures { Stays seat.old.table_id seat.new.table_id (AfterRead self.now.scene
@@ -122,7 +122,7 @@ impl Position {
         self.table.shared.load::<Reads<L>>(seat, 0) as usize
     }
 
-    /// An exchange of the request that the seat's party is in: `behind` is the end of its chunk at `seen`.
+    /// Makes an exchange of the request that the seat's party is in: `behind` is the end of its chunk at `seen`.
     pub(super) fn exchange(
         &self,
         seat: &mut Seat<u8, View>,
@@ -144,7 +144,7 @@ impl Position {
         found as usize
     }
 
-    /// A load that asks how much is used.
+    /// Makes a load that finds how much is used.
     pub(super) fn load(&self, seat: &mut Seat<u8, View>) -> usize
         requires { IsIdleAt self.now seat.old.table_id seat.old.me }
         ensures { Stays seat.old.table_id seat.new.table_id (AfterLoad self.now.scene
@@ -154,7 +154,7 @@ impl Position {
         self.table.shared.load::<Loads>(seat, 0) as usize
     }
 
-    /// A guest's parties go to this seat, before its own.
+    /// Moves a guest's parties to this seat, before its own.
     pub(super) fn merge(&self, seat: &mut Seat<u8, View>, guest: Seat<u8, View>)
         requires { MayMerge self.now.table seat.old.table_id guest.table_id guest.me }
         ensures { Stays seat.old.table_id seat.new.table_id
@@ -163,7 +163,7 @@ impl Position {
         self.table.shared.join_seat::<Merge>(seat, guest);
     }
 
-    /// A load that finds the position at which the parties of one seat have met.
+    /// Makes a load that finds the position at which the parties of one seat have met.
     pub(super) fn load_for_meeting(&self, seat: &mut Seat<u8, View>) -> usize
         requires { StandsAt self.now seat.old.table_id seat.old.me }
         ensures table { seat.new.table_id ≡ seat.old.table_id }
@@ -173,7 +173,7 @@ impl Position {
         self.table.shared.load::<Meets>(seat, 0) as usize
     }
 
-    /// Two parties meet at one seat, load the position there, and go back to their own.
+    /// Makes two parties meet at one seat, load the position there, and go back to their own seats.
     pub(super) fn meet(&self, a: &mut Seat<u8, View>, b: &mut Seat<u8, View>) -> usize
         requires a { IsSeatAt self.now a.old.table_id a.old.me }
         requires b { IsSeatAt self.now b.old.table_id b.old.me }

@@ -12,7 +12,7 @@ use atomic_table::Seat;
 use bb_memory_traits::layout::{Chunk, Layout};
 
 impl SharedBumpAllocator {
-    /// Asks until it wins a chunk or is refused. The layout isn't of size 0.
+    /// Tries until an exchange wins a chunk or the layout doesn't fit. The layout's size isn't 0.
     pub(super) fn claim<L: Asked>(&self, seat: &mut Seat<u8, View>, layout: Layout) -> Option<Chunk>
         requires { MayAsk self.now seat.old.table_id seat.old.me L.layout layout }
         ensures call { Stays seat.old.table_id seat.new.table_id (MatchOption result
@@ -23,7 +23,7 @@ impl SharedBumpAllocator {
         ensures aligned { IfSome result (λ chunk. chunk.place % layout.align ≡ 0) }
         ensures inside { IfSome result (IsInside self.now.scene.region) }
     {
-        // In locals: the compiler would load the fields of `self` again after each exchange.
+        // Kept in locals, since the compiler would load the fields of `self` again after each exchange.
         let (start, size) = (self.start, self.size);
         let mut seen = self.position.read::<L>(seat, layout);
         let mut chunk = match place(start, size, seen, layout) {

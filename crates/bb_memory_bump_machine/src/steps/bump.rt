@@ -1,4 +1,4 @@
-//! The bump machine's steps, and what holds of every list of them.
+//! The bump machine's steps, and the theorem about every list of them.
 ghost use Rattle.bb_memory_bump_machine.specs.BumpLogs.{HasNoClear, IsCallRun, IsLossAt, OpensWith, calls_after, calls_begun_in, calls_of, chunks_won, entries_by, history_of, live_after, losses_in, outcome_after, stretch_after};
 ghost use Rattle.bb_memory_bump_machine.specs.BumpMachine.{BumpScene, BumpStep, Exchange, IsIdle, IsInCall, Layout, Load, Loaded, OngoingCall, Read, left_by};
 ghost use Rattle.bb_memory_traits.specs.BumpObject.{StandsFor, used_space};
@@ -7,16 +7,16 @@ ghost use Rattle.std.specs.Prelude.{List, ℕ, ◌++◌, ◌+◌, ◌<◌, ◌�
 
 use bb_memory_traits::layout::{Chunk, Layout};
 
-/// One atomic step over the bump's position. A party goes by its number, from 0.
+/// One atomic step on the bump's position. A party is named by its number, from 0.
 #[derive(Debug, Clone, Copy, PartialEq, Eq)]
 pub enum BumpStep {
-    /// An idle party begins a call: it reads the position. It isn't allowed with size 0.
+    /// An idle party begins a call: it reads the position. The step isn't allowed with size 0.
     Read { party: u32, layout: Layout },
     /// A party in a call replaces the position by the end of its chunk, if the position is still what it has seen.
     Exchange { party: u32 },
     /// An idle party reads how much is used.
     Load { party: u32 },
-    /// All chunks are given back at once, by nobody in particular.
+    /// All chunks are given back in one step, by no particular party.
     Clear,
 }
 
@@ -31,23 +31,23 @@ pub enum BumpOutcome {
     Wins(Chunk),
     /// An exchange that found another position, at which the layout fits. The party has now seen that one.
     Loses(usize),
-    /// An exchange that found another position, at which the layout doesn't fit. The call is refused, and the party is
-    /// idle again.
+    /// An exchange that found another position, at which the layout doesn't fit. The call is refused, and the party is idle
+    /// again.
     RefusedAtLoss(usize),
     /// A load, which found how much is used.
     Loaded(usize),
     /// A clear. The position is now 0.
     Cleared,
-    /// The step isn't allowed, or there is no such party. Nothing changed.
+    /// The step isn't allowed, or the machine has no party of this number. Nothing changed.
     Passed,
 }
 
-/// Says what holds for every list of steps, by any number of parties, from whichever position the machine opens at, with clears
-/// anywhere. It does nothing: its contract is the theorem.
+/// States what holds for every list of steps, by any number of parties, from any position at which the machine opens, with
+/// clears anywhere. The function does nothing: its contract is the theorem.
 ///
 /// A scene is the state in which a machine begins: its region, its opening and its parties. What holds for every list of steps
 /// holds for each beginning of one, and so at every step. A stretch is a list of steps that comes after a beginning. A step
-/// decides a call if it wins, if it refuses at a read or a loss, and if it clears. Nothing is said about who wins, or about
+/// decides a call if it wins, if it refuses at a read or a loss, and if it clears. Nothing is stated about who wins, or about
 /// time.
 pub fn bump_theorem()
     // Each opening up to the region's size stands for some live list.
@@ -60,14 +60,12 @@ pub fn bump_theorem()
         → OpensWith scene live
         → IsCallRun scene.region live (calls_of scene steps) (live_after scene live steps) }
 
-    // The calls of a beginning come first, so that what is said of every list of steps is said of every
-    // step of one run.
+    // The calls of a beginning come first, so that what holds for every list of steps holds for every step of one run.
     ensures beginning { (scene : BumpScene) (before stretch : List BumpStep)
         → calls_of scene (before ++ stretch)
         ≡ calls_of scene before ++ calls_after scene before stretch }
 
-    // Such a run has a list at every step: those of the beginning lead to it, and the others are a run
-    // from it.
+    // Each such run has a list at every step: the steps of the beginning lead to it, and the others are a run from it.
     ensures every_step { (scene : BumpScene) (live : List Chunk) (before stretch : List BumpStep)
         → OpensWith scene live
         → IsCallRun scene.region (live_after scene live before) (calls_after scene before stretch)
@@ -83,7 +81,7 @@ pub fn bump_theorem()
         → OpensWith scene live
         → (left_by scene steps).position ≡ used_space scene.region (live_after scene live steps) }
 
-    // That is what a load finds.
+    // A load finds that number.
     ensures load { (scene : BumpScene) (live : List Chunk) (steps : List BumpStep) (party : ℕ)
         → OpensWith scene live → IsIdle (left_by scene steps) party
         → outcome_after scene steps (Load party)

@@ -1,4 +1,4 @@
-//! A bump machine that can be run: a region, a position, and of each party the call that it is in.
+//! A bump machine that can be run: a region, a position, and for each party the call that it is in.
 ghost use Rattle.bb_memory_bump_machine.specs.BumpMachine.{Exchange, IsFitting, Load, OngoingCall, PartyMove, Read, ending, exchange_move, read_move, seeing};
 ghost use Rattle.bb_memory_bump_machine.specs.BumpWorld.{BumpWorld, IsBumpWorld, IsMove, IsPositionIn, Replays, Steps, opened, world_of};
 ghost use Rattle.bb_memory_traits.specs.Chunk.{IsRegion, Region};
@@ -9,7 +9,7 @@ use bb_memory_traits::layout::{Chunk, Layout};
 use std::alloc::{AllocError, Global};
 use std::marker::Model;
 
-/// A call that a party is in: what it requested, and the position that it has seen.
+/// A call that a party is in: the layout that it requested, and the position that it has seen.
 #[derive(Clone, Copy)]
 struct OngoingCall {
     layout: Layout,
@@ -78,7 +78,7 @@ impl PartyMove {
     }
 }
 
-/// The bump machine over a region, with its parties. No step takes memory.
+/// The bump machine over a region, with its parties. No step allocates memory.
 ///
 /// Example: `comments::bump_world` of `crates/examples`.
 #[derive(Drop)]
@@ -100,7 +100,7 @@ impl Model for BumpWorld {
 
 impl BumpWorld {
     /// Makes the machine over the region of `size` bytes at `start`, at position 0, with that many parties, all idle. The start
-    /// has to be greater than 0, and start plus size at most `usize::MAX`. It fails only if memory ran out.
+    /// has to be greater than 0, and start plus size at most `usize::MAX`. Fails only if memory ran out.
     pub fn new(
         alloc: Global,
         start: usize,
@@ -121,7 +121,7 @@ impl BumpWorld {
         })
     }
 
-    /// Takes one atomic step, and returns what it found. It doesn't allocate.
+    /// Takes one atomic step, and returns what it found. The call allocates no memory.
     pub fn step(&mut self, step: BumpStep) -> BumpOutcome
         ensures { Steps self.old step result self.new }
     {
@@ -156,7 +156,7 @@ impl BumpWorld {
         self.position
     }
 
-    /// Returns the call of a party, as [`call_at`] has it.
+    /// Returns the call of a party, as [`call_at`] does.
     fn call_of(&self, party: usize) -> Option<Option<OngoingCall>>
         ensures value { result ≡ slice_get self.now.state.calls party }
         ensures fitting { (call : OngoingCall) → result ≡ Some (Some call)
@@ -166,7 +166,7 @@ impl BumpWorld {
         call_at(&self.calls, party)
     }
 
-    /// An idle party reads the position.
+    /// Reads the position for an idle party, which begins a call.
     fn read(&mut self, party: usize, layout: Layout) -> BumpOutcome
         ensures { Steps self.old (Read party layout) result self.new }
     {
@@ -180,7 +180,8 @@ impl BumpWorld {
         }
     }
 
-    /// A party in a call puts the end of its chunk in the position's place.
+    /// Makes an exchange for a party in a call: if the position is the one that the call has seen, the end of the call's chunk
+    /// replaces it.
     fn exchange(&mut self, party: usize) -> BumpOutcome
         ensures { Steps self.old (Exchange party) result self.new }
     {
@@ -195,7 +196,7 @@ impl BumpWorld {
         }
     }
 
-    /// An idle party reads how much is used.
+    /// Reads how much is used, for an idle party.
     fn load(&self, party: usize) -> BumpOutcome
         ensures { Steps self.now (Load party) result self.now }
     {
@@ -206,7 +207,8 @@ impl BumpWorld {
     }
 }
 
-/// Returns the call of a party, if there is such a party and it is in a call.
+/// Returns `Some(None)` for an idle party, `Some(Some(call))` for one in a call, and `None` if the machine has no party of this
+/// number.
 fn call_at(calls: &[Option<OngoingCall>], party: usize) -> Option<Option<OngoingCall>>
     ensures { result ≡ slice_get calls.now party }
 {

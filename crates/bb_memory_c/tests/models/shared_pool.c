@@ -28,8 +28,6 @@ typedef struct {
     a_state state;
     // The party that holds, caches or has detached it.
     uint32_t party;
-    // Whether the `bb_detached` that had it was destroyed.
-    bool lost;
 } a_bucket;
 
 typedef struct {
@@ -508,9 +506,10 @@ static void make_detached(uint32_t at) {
         of->made = true;
         return;
     }
+    // Seldom with a bucket in it, which then stays detached for good.
+    if (of->pool != NONE && below(16) > 0)
+        return;
     EXPECT(is_code(bb_detached_destroy(&detached[at]), of->made ? BB_OK : BB_UNINITIALIZED));
-    if (of->pool != NONE)
-        all[of->pool].bucket[of->bucket].lost = true;
     of->made = false;
     of->pool = NONE;
 }
@@ -547,7 +546,6 @@ static void detach(uint32_t handle, uint32_t at) {
         into->bucket = (uint32_t)number_at(&pool->of, place);
         into->len = len;
         pool->bucket[into->bucket].state = IN_DETACHED;
-        pool->bucket[into->bucket].lost = false;
     }
 }
 
@@ -616,29 +614,6 @@ static void attach_number(uint32_t handle) {
     }
 }
 
-// Recovers a bucket. The host's word is true: no `bb_detached` that is left has the bucket.
-static void recover(uint32_t handle) {
-    a_pool *pool = pool_of_party(handle);
-    uint32_t number = below(8) == 0 ? (uint32_t)edge() : below(MOST);
-    bb_lost lost = BB_LOST;
-    uint32_t expected = BB_OK;
-    if (below(8) == 0)
-        lost.made = false;
-    if (pool == NULL || !lost.made)
-        expected = BB_UNINITIALIZED;
-    else if (number >= pool->of.count)
-        expected = BB_NOT_A_BUCKET;
-    else if (pool->bucket[number].state != IN_DETACHED)
-        expected = BB_NOT_HELD;
-    else if (!pool->bucket[number].lost)
-        return;
-    bool was_made = lost.made;
-    EXPECT(is_code(bb_pool_party_recover(&parties[handle], number, &lost), expected));
-    EXPECT(lost.made == (expected == BB_UNINITIALIZED && was_made));
-    if (expected == BB_OK && pool != NULL)
-        pool->bucket[number].state = FREE;
-}
-
 static void a_round(void) {
     uint32_t pool = below(POOLS);
     uint32_t party = below(PARTIES);
@@ -685,7 +660,6 @@ static void a_round(void) {
     case 29:
     case 30:
     case 31: attach_number(party); break;
-    case 32: recover(party); break;
     default:
         if (below(2) == 0)
             allocate(party);

@@ -8,6 +8,7 @@
 #include <sched.h>
 #include <signal.h>
 #include <spawn.h>
+#include <stdarg.h>
 #include <stdio.h>
 #include <stdlib.h>
 #include <string.h>
@@ -58,6 +59,22 @@ int posix_fallocate(int fd, off_t at, off_t length) {
     if (requested > most)
         return ENOSPC;
     return fallocate(fd, 0, at, length) == 0 ? 0 : errno;
+}
+
+// Whether the system maps pages a second time.
+static bool maps_again = true;
+
+void *mremap(void *old, size_t old_size, size_t size, int flags, ...) {
+    va_list more;
+    va_start(more, flags);
+    void *to = va_arg(more, void *);
+    va_end(more);
+    if (!maps_again) {
+        errno = EINVAL;
+        return MAP_FAILED;
+    }
+    // A pointer is as long as the result of a call of the system.
+    return (void *)syscall(SYS_mremap, old, old_size, size, flags, to);
 }
 
 static bb_pool_file *open_it(void) {
@@ -464,19 +481,34 @@ static void layouts(void) {
 }
 
 static size_t memory_requests;
+static size_t memory_size;
 static size_t to_refuse;
 static size_t blocks;
 
-static void *allocate(size_t size) {
+static void *allocate(void *context, size_t size, size_t align) {
+    EXPECT(context == &blocks && align == 16);
     memory_requests++;
+    memory_size += size;
     if (memory_requests == to_refuse)
         return NULL;
     blocks++;
     return malloc(size);
 }
 
-static void release(void *block) {
-    blocks -= block != NULL;
+static void release(void *context, void *block) {
+    EXPECT(context == &blocks && block != NULL);
+    blocks--;
+    free(block);
+}
+
+static void *allocate_plainly(void *context, size_t size, size_t align) {
+    (void)context;
+    (void)align;
+    return malloc(size);
+}
+
+static void release_plainly(void *context, void *block) {
+    (void)context;
     free(block);
 }
 
@@ -486,7 +518,7 @@ static void refused_memory(void) {
     bb_pool_file *file = NULL;
     bb_pool_party *party = NULL;
     uint32_t code = BB_MALLOC_REFUSED;
-    bb_use_memory(allocate, realloc, release);
+    bb_use_memory(allocate, release, &blocks);
     for (to_refuse = 1; code != BB_OK; to_refuse++) {
         memory_requests = 0;
         code = bb_pool_file_open(&file, path, &OPTIONS);
@@ -511,8 +543,64 @@ static void refused_memory(void) {
     EXPECT(reap(file, false) == 2);
     close_it(file);
     EXPECT(blocks == 0);
-    bb_use_memory(malloc, realloc, free);
+    bb_use_memory(allocate_plainly, release_plainly, NULL);
     remove_it();
+}
+
+static size_t page_faults(void) {
+    struct rusage usage;
+    EXPECT(getrusage(RUSAGE_SELF, &usage) == 0);
+    return (size_t)usage.ru_minflt;
+}
+
+// Returns whether the system maps many pages at once. Linux before 5.14 doesn't.
+static bool maps_at_once(void) {
+    void *page = mmap(NULL, PAGE, PROT_READ, MAP_PRIVATE | MAP_ANONYMOUS, -1, 0);
+    EXPECT(page != MAP_FAILED);
+    const bool maps = madvise(page, PAGE, 22) == 0;  // MADV_POPULATE_READ
+    EXPECT(munmap(page, PAGE) == 0);
+    return maps;
+}
+
+// Many buckets: opening a file again changes no flag, and requests as much memory as if there were
+// few. It has fewer page faults than half of the flags' pages, if the system maps pages again.
+static void many(bool again) {
+    const uint32_t numbers[] = {1000, 32760, 32761, 100000, 2200000};
+    size_t few = 0;
+    maps_again = again;
+    bb_use_memory(allocate, release, &blocks);
+    for (int at = 0; at < 5; at++) {
+        const bb_pool_file_options options = {
+            .bucket_size = 1, .bucket_align = 1, .buckets = numbers[at], .parties = 3, .slots = 1};
+        bb_pool_file *one;
+        bb_pool_file *two;
+        requested = 0;
+        EXPECT(bb_pool_file_open(&one, path, &options) == BB_OK);
+        bb_pool_party *party = join_it(one);
+        bb_place first = take_one(party);
+        take_one(party);
+        memory_size = 0;
+        const size_t faults = page_faults();
+        EXPECT(bb_pool_file_open(&two, path, &options) == BB_OK);
+        if (at == 4 && again && maps_at_once())
+            EXPECT(page_faults() - faults < numbers[at] * sizeof(uint64_t) / PAGE / 2);
+        if (at == 0)
+            few = memory_size;
+        EXPECT(memory_size == few);
+        bb_holder last;
+        EXPECT(info_of(two).held == 2 && info_of(two).wrong == 0);
+        EXPECT(bb_pool_file_holder(two, numbers[at] - 1, &last) == BB_OK && last.state == BB_FREE);
+        EXPECT(bb_pool_party_deallocate(party, first) == BB_OK && info_of(two).held == 1);
+        take_one(join_it(two));
+        EXPECT(info_of(one).held == 2 && info_of(one).wrong == 0);
+        close_it(one);
+        EXPECT(info_of(two).held == 1);
+        close_it(two);
+        remove_it();
+    }
+    EXPECT(blocks == 0);
+    bb_use_memory(allocate_plainly, release_plainly, NULL);
+    maps_again = true;
 }
 
 // Two opens of one process are as those of two processes.
@@ -1248,6 +1336,8 @@ int main(int argc, char **argv) {
         stale();
         layouts();
         refused_memory();
+        many(true);
+        many(false);
         parties();
         cached();
         slots();

@@ -1,16 +1,16 @@
-//! A set of numbers as an array of flags, with an array of the numbers that aren't in it, which takes no memory.
+//! A set of numbers as an array of flags, with an array of the numbers that aren't in it. The set allocates no memory.
 ghost use Rattle.bb_memory_index_set.specs.IndexSets.{AreFlags, IsTally, NumberSet, fresh_set, number_set};
 ghost use Rattle.std.specs.Prelude.{min, take, ◌-◌, ◌≡◌, ◌≤◌};
 
 use crate::index_set::{Counter, IndexSet};
 use std::marker::Model;
 
-/// A flag for each number, and the numbers below the bound that aren't in the set, in the first entries of an array. The rest of
-/// the entries are never read.
+/// A flag for each number. The first entries of an array are the numbers below the bound that aren't in the set; the other
+/// entries are never read.
 ///
 /// A taking returns the number that was given back last, which no clause promises, and sets its flag. It doesn't search.
 ///
-/// `left` numbers aren't in the set, and never were fewer than `least`.
+/// `left` numbers aren't in the set, and at all times at least `least` numbers weren't.
 #[derive(Drop)]
 #[derive_where(Debug)]
 pub struct Flags<const N: usize> {
@@ -80,7 +80,7 @@ impl<const N: usize> IndexSet for Flags<N> {
         Some(number)
     }
 
-    /// The next taking returns this number.
+    /// Makes the next taking return this number.
     #[inline(always)]
     fn release(&mut self, number: usize) {
         let left = self.left;

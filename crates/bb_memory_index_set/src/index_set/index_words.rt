@@ -38,8 +38,8 @@ impl Counter {
     }
 }
 
-/// Words, and after them, in the same memory, a list with an entry for each word but one. Number n is bit n % 64 of word n / 64,
-/// counted from the lowest.
+/// Words, and after them, in the same memory, a list with an entry for each word except one. Number n is bit n % 64 of word n /
+/// 64, counted from the lowest.
 ///
 /// A search reads a word only by [`IndexWords::word`]. A release changes a bit in place, and `has` reads one.
 #[derive(Drop)]
@@ -57,7 +57,7 @@ impl<A: Allocator> Model for IndexWords<A> {
 }
 
 impl<A: Allocator> IndexWords<A> {
-    /// Makes `len` words, all zero, and room for the list: eight bytes for each. It fails only if memory ran out.
+    /// Makes `len` words, all zero, and room for the list: eight bytes for each. Fails only if memory ran out.
     pub fn new(alloc: A, len: usize) -> Result<Self, AllocError>
         requires { len < 2 ^ 32 }
         ensures zero { IfOk result (λ slots. slots.words ≡ replicate len 0) }
@@ -89,7 +89,7 @@ impl<A: Allocator> IndexWords<A> {
         self.slots[i] = word;
     }
 
-    /// Tests the bit of a number. It is read in place, and isn't counted.
+    /// Returns the bit of a number. The word is read in place, and not counted.
     #[inline(always)]
     pub fn has(&self, number: usize) -> bool
         requires { number / 64 < length self.now.words }
@@ -98,7 +98,7 @@ impl<A: Allocator> IndexWords<A> {
         self.slots[number / 64] >> (number % 64) & 1 == 1
     }
 
-    /// Tests that a word isn't full. It is read in place, and isn't counted.
+    /// Returns whether a word isn't full. The word is read in place, and not counted.
     #[inline(always)]
     pub fn is_open(&self, at: usize) -> bool
         requires { at < length self.now.words }
@@ -109,7 +109,7 @@ impl<A: Allocator> IndexWords<A> {
         self.slots[at] != u64::MAX
     }
 
-    /// Clears the bit of a number, and no other, and says whether its word was full.
+    /// Clears the bit of a number, and no other. Returns whether its word was full.
     #[inline(always)]
     pub fn clear(&mut self, number: usize) -> bool
         requires { number / 64 < length self.old.words }
@@ -125,7 +125,7 @@ impl<A: Allocator> IndexWords<A> {
         word == u64::MAX
     }
 
-    /// Entry k of the list.
+    /// Returns entry k of the list.
     #[inline(always)]
     pub fn listed(&self, k: usize) -> usize
         requires { k < length self.now.listed }

@@ -7,20 +7,20 @@ use crate::index_set::{Counter, IndexSet};
 use std::alloc::{AllocError, Allocator};
 use std::marker::Model;
 
-/// Stands for no number, since it is above each bound.
+/// Represents no number, since it is above each bound.
 const NONE: usize = usize::MAX;
 
 /// A bit for each number below the bound. The bits from the bound on are set for good, so that a word with a clear bit has a
 /// number to give.
 ///
-/// `last_freed` is the number that came back last: it isn't in the set, though its bit stays set until another number comes back.
-/// A taking gives that number first, and reads only its word.
+/// `last_freed` is the number that came back last: it isn't in the set, though its bit stays set until another number comes
+/// back. A taking gives that number first, and reads only its word.
 ///
-/// `open_count` words aren't full: one is current, and the others are listed, each once. If `last_freed` is no number, a taking
-/// reads only the current word, however many words are full. If all of them are full, the taking is refused.
+/// `open_count` words aren't full: one is current, and the others are listed, each once. If `last_freed` isn't a number, a
+/// taking reads only the current word, however many words are full. If all of them are full, the taking is refused.
 ///
-/// `count` bits below the bound are set, and never were more than `most`. A taking sets a bit only if `last_freed` is no number.
-/// So the set has `count` members then, `most` is the greatest number of members, and `last_freed` costs no counting.
+/// `count` bits below the bound are set, and at most `most` were at any time. A taking sets a bit only if `last_freed` isn't a
+/// number. So the set has `count` members then, `most` is the greatest number of members, and `last_freed` costs no counting.
 #[derive(Drop)]
 pub struct Words<A: Allocator> {
     words: IndexWords<A>,
@@ -43,7 +43,7 @@ impl<A: Allocator> Model for Words<A> {
 }
 
 impl<A: Allocator> Words<A> {
-    /// Makes the empty set of numbers below a bound: eight bytes for each word, and eight for each word but one. It fails only
+    /// Makes the empty set of numbers below a bound: eight bytes for each word, and eight for each word except one. Fails only
     /// if memory ran out.
     pub fn new(alloc: A, bound: u32) -> Result<Self, AllocError>
         ensures { IfOk result (λ set. set ≡ fresh_set bound) }
@@ -68,8 +68,8 @@ impl<A: Allocator> Words<A> {
         })
     }
 
-    /// Clears the bit of a number of the set, and leaves `last_freed`. If the number's word was full, it is the current one from
-    /// then on, and the word that was current is listed.
+    /// Clears the bit of a number of the set, and doesn't change `last_freed`. If the number's word was full, it is the current
+    /// one from then on, and the word that was current is listed.
     #[inline(always)]
     fn put_back(&mut self, number: usize)
         requires { Has self.old.numbers number }
@@ -95,8 +95,8 @@ impl<A: Allocator> IndexSet for Words<A> {
 
     ghost words = { index_words };
 
-    /// Gives the number that came back last, whose bucket is in the cache. Otherwise the lowest clear bit of the current word is
-    /// set. If that fills the word, the word that is listed last is current from then on.
+    /// Gives the number that came back last, whose bucket is in the cache. Otherwise sets the lowest clear bit of the current
+    /// word. If that fills the word, the word that is listed last is current from then on.
     #[inline(always)]
     #[tactic(auto, using(crate::proofs::OpenWords::of_a_taking))]
     fn take(&mut self, counter: &mut Counter) -> Option<usize> {
@@ -107,7 +107,7 @@ impl<A: Allocator> IndexSet for Words<A> {
             return Some(number);
         }
         if self.open_count == 0 {
-            // A refusal counts one read, too, if there is a word.
+            // A refusal also counts one read, if there is a word.
             if self.bound > 0 {
                 let _ = self.words.word(0, counter);
             }
@@ -128,7 +128,7 @@ impl<A: Allocator> IndexSet for Words<A> {
         Some(current * 64 + word.trailing_ones() as usize)
     }
 
-    /// Keeps the number as `last_freed`, and puts the one that was back into the words.
+    /// Keeps the number as `last_freed`, and puts the number that was there before back into the words.
     #[inline(always)]
     #[tactic(auto, using(crate::proofs::LastFreed::swapped, crate::proofs::LastFreed::less_none))]
     fn release(&mut self, number: usize) {

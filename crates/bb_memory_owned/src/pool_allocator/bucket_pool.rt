@@ -38,7 +38,7 @@ impl<S: IndexSet> Model for BucketPool<S> {
 }
 
 impl<S: IndexSet> BucketPool<S> {
-    /// Returns the number of buckets. Its clause `is_pool` says what holds of every pool.
+    /// Returns the number of buckets. The clause `is_pool` states what holds for every pool.
     #[inline]
     pub fn number_of_buckets(&self) -> u32
         ensures value { result ≡ self.now.pool.geometry.buckets }
@@ -47,7 +47,7 @@ impl<S: IndexSet> BucketPool<S> {
         self.geometry.count()
     }
 
-    /// Returns the layout of each bucket, as it was passed.
+    /// Returns the layout of each bucket, as passed to the maker.
     #[inline]
     pub fn bucket_layout(&self) -> Layout
         ensures { result ≡ self.now.pool.geometry.bucket }
@@ -55,7 +55,7 @@ impl<S: IndexSet> BucketPool<S> {
         self.geometry.bucket()
     }
 
-    /// Returns the size of a bucket in bytes, as it was passed. The buckets are at least that far apart.
+    /// Returns the size of a bucket in bytes, as passed to the maker. Two buckets begin at least that far apart.
     #[inline]
     pub fn bucket_size(&self) -> usize
         ensures { result ≡ self.now.pool.geometry.bucket.size }
@@ -63,7 +63,7 @@ impl<S: IndexSet> BucketPool<S> {
         self.geometry.bucket().size()
     }
 
-    /// Returns the greatest alignment that a request may have, of which each bucket's place is a multiple.
+    /// Returns the greatest alignment that a request may have. Each bucket's place is a multiple of it.
     #[inline]
     pub fn max_alignment(&self) -> usize
         ensures { result ≡ self.now.pool.geometry.bucket.align }
@@ -71,7 +71,7 @@ impl<S: IndexSet> BucketPool<S> {
         self.geometry.bucket().align()
     }
 
-    /// Returns the size of the region in bytes, as it was passed.
+    /// Returns the size of the region in bytes, as passed to the maker.
     #[inline]
     pub fn size(&self) -> usize
         ensures { result ≡ self.now.pool.geometry.region.size }
@@ -79,7 +79,7 @@ impl<S: IndexSet> BucketPool<S> {
         self.geometry.region_size()
     }
 
-    /// Returns the place of the bucket of this number, held or not, or `None` if there is no such bucket.
+    /// Returns the place of the bucket of this number, held or not, or `None` if there is no bucket of this number.
     pub fn place_at(&self, number: u32) -> Option<usize>
         ensures { TellsPlace self.now.pool.geometry number result }
     {
@@ -93,8 +93,8 @@ impl<S: IndexSet> BucketPool<S> {
         self.geometry.number_at(place)
     }
 
-    /// Returns the number of held buckets: those that were given and not given back. No bucket is looked at, and no read is
-    /// counted.
+    /// Returns the number of held buckets: those that were given and not given back. The call looks at no bucket, and counts no
+    /// read.
     #[inline]
     pub fn held_buckets(&self) -> u32
         ensures { result ≡ held_count self.now.pool }
@@ -103,7 +103,7 @@ impl<S: IndexSet> BucketPool<S> {
     }
 
     /// Returns the greatest number of buckets that were held at one time since the pool was made. A refused request doesn't
-    /// change it, nor does a bucket that is given back. No bucket is looked at, and no read is counted.
+    /// change it, nor does a bucket that is given back. The call looks at no bucket, and counts no read.
     ///
     /// Example: `pools::greatest_kept` of `crates/examples`.
     #[inline]
@@ -115,8 +115,8 @@ impl<S: IndexSet> BucketPool<S> {
         self.held.greatest_len()
     }
 
-    /// Tests that a bucket is free, so that a request that is no greater than a bucket, in size and alignment, is accepted.
-    /// Nothing is searched, and no read is counted.
+    /// Returns whether a bucket is free, so that a request whose size and alignment are at most a bucket's succeeds. The call
+    /// doesn't search, and counts no read.
     ///
     /// Example: `pools::room_told` of `crates/examples`.
     #[inline(always)]
@@ -126,7 +126,7 @@ impl<S: IndexSet> BucketPool<S> {
         self.held.has_room()
     }
 
-    /// Takes any whole bucket that isn't held, as `allocate` does for the bucket's own layout. It fails with `OutOfMemory` if
+    /// Takes any whole bucket that isn't held, as `allocate` does for the bucket's own layout. Fails with `OutOfMemory` if
     /// every bucket is held.
     ///
     /// Example: `pools::taken_whole` of `crates/examples`.
@@ -141,7 +141,7 @@ impl<S: IndexSet> BucketPool<S> {
     }
 
     /// Returns whether this is the place of a held bucket, which may be given back: true exactly if `deallocate` may be called
-    /// with the place. It doesn't search, and counts no read.
+    /// with the place. The call doesn't search, and counts no read.
     ///
     /// Example: `comments::pool_held` of `crates/examples`.
     #[inline(always)]
@@ -153,9 +153,9 @@ impl<S: IndexSet> BucketPool<S> {
         self.held_number(place).is_some()
     }
 
-    /// Gives back the bucket at this place if a held one begins there, and returns whether one did. Otherwise it changes
-    /// nothing. It is for places about which nothing is known, such as those from another process: `deallocate` requires that
-    /// the bucket is held, and doesn't look.
+    /// Gives back the bucket at this place if a held one begins there, and returns whether one did. Otherwise nothing changes.
+    /// The call is for places about which nothing is known, such as those from another process: `deallocate` requires that the
+    /// bucket is held, and doesn't check.
     ///
     /// Example: `pools::back_if_held` of `crates/examples`.
     #[inline(always)]
@@ -181,7 +181,7 @@ impl<S: IndexSet> BucketPool<S> {
         true
     }
 
-    /// Returns the number of the held bucket at this place, or `None` if no held one begins there.
+    /// Returns the number of the held bucket at this place, or `None` if no held bucket begins there.
     #[inline(always)]
     fn held_number(&self, place: usize) -> Option<usize>
         ensures held { IsSome result ↔ HoldsPlace self.now.pool place }
@@ -255,10 +255,10 @@ impl<S: IndexSet> BaseAllocator for BucketPool<S> {
 
     ghost frees = { λ old place _ new. FreesBucket old place new };
 
-    /// Allocates a chunk of `layout.size()` bytes in any bucket that isn't held. It fails, in this order, with `SizeTooLarge` if
+    /// Allocates a chunk of `layout.size()` bytes in any bucket that isn't held. Fails, in this order, with `SizeTooLarge` if
     /// the size is greater than the bucket's, with `AlignmentFailure` if the alignment is greater than the bucket's, and with
-    /// `OutOfMemory` if every bucket is held. A refusal leaves the pool as it was, except what `last_reads` returns, if there is
-    /// one.
+    /// `OutOfMemory` if every bucket is held. A refusal leaves the pool unchanged, except for the result of `last_reads`, if
+    /// there is one.
     #[inline(always)]
     fn allocate(&mut self, layout: Layout) -> Result<Chunk, AllocationError> {
         let mut counter = Counter::new();
@@ -315,10 +315,13 @@ impl<S: IndexSet> Allocator for BucketPool<S> {
         self.bucket_size()
     }
 
-    /// Gives the chunk the new size, in its bucket. It fails, in this order, with `GrowWouldShrink` if the new size isn't greater
-    /// than the old one, with `AlignmentFailure` if the new alignment is greater than the bucket's, and with `OutOfMemory` if
-    /// the new size is greater than the bucket's. The pool doesn't change. The place has to be a held bucket's and a multiple of
-    /// the old alignment.
+    /// Gives the chunk the new size, in its bucket. Fails with the first of these errors that applies:
+    ///
+    /// - `GrowWouldShrink` if the new size isn't greater than the old one.
+    /// - `AlignmentFailure` if the new alignment is greater than the bucket's.
+    /// - `OutOfMemory` if the new size is greater than the bucket's.
+    ///
+    /// The pool doesn't change. The place has to be a held bucket's and a multiple of the old alignment.
     #[inline]
     fn grow(
         &mut self,
@@ -329,7 +332,7 @@ impl<S: IndexSet> Allocator for BucketPool<S> {
         self.geometry.grow(place, old, new)
     }
 
-    /// Gives the chunk exactly the new size. It fails, in this order, with `ShrinkWouldGrow` if the new size isn't smaller than
+    /// Gives the chunk exactly the new size. Fails, in this order, with `ShrinkWouldGrow` if the new size isn't smaller than
     /// the old one, and with `AlignmentFailure` if the new alignment is greater than the bucket's. The pool doesn't change. The
     /// place has to be a held bucket's and a multiple of the old alignment, and the old size at most the bucket's.
     #[inline]

@@ -1,4 +1,4 @@
-//! A pool that keeps which of its buckets are held in an array of its own.
+//! A pool that records in an array of its own which of its buckets are held.
 ghost use Rattle.bb_memory_owned.specs.Pool.{StandsFor, counted, fresh_pool};
 ghost use Rattle.bb_memory_traits.specs.Chunk.{region_at};
 ghost use Rattle.bb_memory_traits.specs.Geometry.{MayBeCut};
@@ -13,8 +13,8 @@ use bb_memory_traits::geometry::Geometry;
 use bb_memory_traits::layout::Layout;
 use std::fmt;
 
-/// Gives buckets of one layout, at most `MAX_NUMBER_OF_BUCKETS` of them. Which are held is kept in an array of its own: it
-/// never takes memory.
+/// Gives buckets of one layout, at most `MAX_NUMBER_OF_BUCKETS` of them. An array in the pool records which buckets are held:
+/// the pool never allocates memory.
 ///
 /// Example: `comments::fixed_pool` of `crates/examples`.
 pub type FixedSizePoolAllocator<const MAX_NUMBER_OF_BUCKETS: usize> = BucketPool<
@@ -23,9 +23,9 @@ pub type FixedSizePoolAllocator<const MAX_NUMBER_OF_BUCKETS: usize> = BucketPool
 
 impl<const MAX_NUMBER_OF_BUCKETS: usize> FixedSizePoolAllocator<MAX_NUMBER_OF_BUCKETS> {
     /// Makes a pool over the region of `size` bytes at `start`, cut into buckets of this layout, with no bucket held. The start
-    /// has to be greater than 0; start plus size, and the start rounded up to the bucket's alignment, at most `usize::MAX`; the
-    /// bucket's size greater than 0; and the buckets that there is room for fewer than `u32::MAX`, as the constant.
-    /// [`FixedSizePoolAllocator::can_make`] tests all of it.
+    /// and the bucket's size have to be greater than 0. The start plus the size, and the start rounded up to the bucket's
+    /// alignment, have to be at most `usize::MAX`. The region has to have room for fewer than `u32::MAX` buckets, and the
+    /// constant has to be less than that, too. [`FixedSizePoolAllocator::can_make`] tests all of it.
     pub fn new(bucket_layout: Layout, start: usize, size: usize) -> Self
         requires cut { MayBeCut (region_at start size) bucket_layout }
         requires most { MAX_NUMBER_OF_BUCKETS < 2 ^ 32 - 1 }
@@ -43,7 +43,7 @@ impl<const MAX_NUMBER_OF_BUCKETS: usize> FixedSizePoolAllocator<MAX_NUMBER_OF_BU
         }
     }
 
-    /// Tests that `new` may be called with these.
+    /// Returns whether `new` may be called with these arguments.
     pub fn can_make(bucket_layout: Layout, start: usize, size: usize) -> bool
         ensures { IsTrue result ↔ (MayBeCut (region_at start size) bucket_layout
             × (MAX_NUMBER_OF_BUCKETS < 2 ^ 32 - 1)) }

@@ -1,4 +1,4 @@
-//! Laws that say in plain words what the definitions of the pool object and of its geometry come to.
+//! Laws that state in plain words what the definitions of the pool object and of its geometry mean.
 ghost use Rattle.bb_memory_index_set.specs.IndexSets.{Has};
 ghost use Rattle.bb_memory_owned.specs.Pool.{HoldsPlace, IsPool, Pool, StandsFor, fresh_pool};
 ghost use Rattle.bb_memory_traits.specs.Chunk.{Chunk, IsInside, IsRegion, Region, first_place, region_end};
@@ -13,7 +13,7 @@ ghost use Rattle.bb_memory_traits.specs.declared.allocator.Reply.{Reply};
 ghost use Rattle.bb_memory_traits.specs.declared.layout.Layout.{Layout};
 ghost use Rattle.std.specs.Prelude.{All, AllPairs, Err, IsOk, List, Ok, Result, Some, [], length, remove, slice_get, ℕ, ◌%◌, ◌+◌, ◌-◌, ◌/◌, ◌<◌, ◌^◌, ◌≡◌, ◌≢◌, ◌≤◌};
 
-/// Says what the definition of a pool's geometry means for every region and every layout of a bucket. A region is cut in only
+/// States what the definition of a pool's geometry means for every region and every layout of a bucket. A region is cut in only
 /// one way, and into buckets of at least one byte it can always be cut. Each bucket begins at a multiple of its alignment, and
 /// ends, with its whole stride, at or before the beginning of the next one. The function does nothing: its contract is the law.
 pub fn pool_geometry_law()
@@ -36,12 +36,12 @@ pub fn pool_geometry_law()
     ensures wide_enough { (bucket : Layout) → bucket.size ≤ stride bucket }
 {}
 
-/// Says what the definition of the pool object means for every geometry and every list of commands. There is an answer to each
-/// request: a chunk, or only one refusal. A chunk that is given begins at a multiple of the requested alignment and of the
-/// bucket's, has exactly the requested size, and no live chunk has its place. There is exactly one answer to each resize. After a
-/// chunk was given back, the next request that fits a bucket isn't refused. In each live list that a pool stands for, every chunk
-/// begins at a multiple of the bucket's alignment, and no two begin less than a stride apart. Each run from such a list, with
-/// resizes or without, leads to such a list again, which is sound. The function does nothing: its contract is the law.
+/// States what the definition of the pool object means for every geometry and every list of commands. There is an answer to
+/// each request: a chunk, or only one refusal. A chunk that is given begins at a multiple of the requested alignment and of the
+/// bucket's, has exactly the requested size, and no live chunk has its place. There is exactly one answer to each resize. After
+/// a chunk was given back, the next request that fits a bucket isn't refused. In each live list that a pool stands for, every
+/// chunk begins at a multiple of the bucket's alignment, and no two begin less than a stride apart. Each run from such a list,
+/// with resizes or without, leads to another such list, which is sound. The function does nothing: its contract is the law.
 pub fn pool_object_law()
     // Answers to requests.
     ensures some_answer { (geometry : PoolGeometry) → AnswersAll (pool_object geometry).base }
@@ -108,7 +108,7 @@ pub fn pool_object_law()
         → (left : Pool) × IsPool left × (left.geometry ≡ pool.geometry) × StandsFor left new }
 {}
 
-/// Says that each chunk of a list that a pool stands for may be given back. A place is held exactly if a held bucket begins
+/// States that each chunk of a list that a pool stands for may be given back. A place is held exactly if a held bucket begins
 /// there. The function does nothing: its contract is the law.
 pub fn pool_held_law()
     ensures listed { (pool : Pool) (live : List Chunk) (position : ℕ) (chunk : Chunk)
@@ -120,7 +120,8 @@ pub fn pool_held_law()
         → place ≡ bucket_place pool.geometry i → HoldsPlace pool place }
 {}
 
-/// The law of the number of buckets of a region, as a quotient, and so of when it may be cut. It does nothing.
+/// States the number of buckets of a region as a quotient, and so when the region may be cut. The function does nothing: its
+/// contract is the law.
 pub fn pool_count_law()
     ensures count { (region : Region) (bucket : Layout) (geometry : PoolGeometry) → 0 < bucket.size
         → IsCut region bucket geometry

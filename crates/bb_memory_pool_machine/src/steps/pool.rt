@@ -1,4 +1,4 @@
-//! The pool machine's steps, and what holds of every list of them.
+//! The pool machine's steps, and the theorem about every list of them.
 ghost use Rattle.bb_memory_pool_machine.specs.PoolLogs.{AreAsked, AttachesFromAt, FoundHeld, IsCallRun, IsHeldAfter, IsHeldInRun, IsPoolRun, IsRefusedAt, Layout, LosesAt, MissesAt, WasDetached, history_of, log_of};
 ghost use Rattle.bb_memory_pool_machine.specs.PoolMachine.{Attach, Attaches, Detach, DetachedBy, Detaches, GiveBack, Gives, IsDetached, IsFlag, IsHolder, IsTaken, Misses, PoolScene, PoolStep, Takes, Try, TryAt, left_by};
 ghost use Rattle.bb_memory_traits.specs.Chunk.{Chunk, IsSound, Region};
@@ -12,21 +12,21 @@ pub enum Flag {
     Free,
     /// This party holds the bucket.
     HeldBy(u32),
-    /// The bucket is on its way: this party has detached it, and no party has attached it or given it back since.
+    /// The bucket is in transit: this party has detached it, and no party has attached it or given it back since.
     DetachedBy(u32),
 }
 
 /// One atomic step over the pool's flags, one for each bucket.
 #[derive(Debug, Clone, Copy, PartialEq, Eq)]
 pub enum PoolStep {
-    /// The party tries to take the next bucket of its pass, or begins a pass at bucket 0 if it is idle. It isn't allowed if
-    /// there is no bucket.
+    /// The party tries to take the next bucket of its pass, or begins a pass at bucket 0 if it is idle. The step isn't allowed
+    /// if there is no bucket.
     Try { party: u32 },
-    /// The party gives back a bucket, as only its holder may.
+    /// The party gives back a bucket, which only its holder may do.
     GiveBack { party: u32, bucket: u32 },
     /// The party, which is in no pass, tries to take one bucket of its choice.
     TryAt { party: u32, bucket: u32 },
-    /// The party detaches a bucket, as only its holder may, and only if there is another party. No party holds the bucket
+    /// The party detaches a bucket, which only its holder may do, and only if there is another party. No party holds the bucket
     /// then, and its flag stays taken.
     Detach { party: u32, bucket: u32 },
     /// The party, which is in no pass, attaches a detached bucket, and holds it then.
@@ -48,9 +48,9 @@ pub enum PoolOutcome {
     RefusedAtLoss(u32),
     /// The bucket's holder gave it back, or it was detached and a party gave it back. Its flag is free.
     Gives(u32),
-    /// The step isn't allowed, or names a party or a bucket that isn't there. It changed nothing.
+    /// The step isn't allowed, or names a party or a bucket that isn't there. Nothing changed.
     Passed,
-    /// The bucket's flag was taken, and the party, which is in no pass, stays so. It changed nothing.
+    /// The bucket's flag was taken, and the party, which is in no pass, stays so. Nothing changed.
     Misses(u32),
     /// The bucket's holder detached it. Its flag stays taken.
     Detaches(u32),
@@ -58,29 +58,29 @@ pub enum PoolOutcome {
     Attaches(u32),
 }
 
-/// The law of each list of steps that any number of parties take over the flags of a pool, from the opening with all flags free.
-/// It does nothing: its contract is the theorem.
+/// States what holds for each list of steps that any number of parties take over the flags of a pool, from the opening with all
+/// flags free. The function does nothing: its contract is the theorem.
 ///
-/// As each clause holds of every list of steps, it holds of each beginning of a list. So what is said of the list that a
-/// run leaves is said, by `every_step`, of a run's list at every step.
+/// As each clause holds for every list of steps, it holds for each beginning of a list. So what holds for the list that a run
+/// leaves holds, by `every_step`, for a run's list at every step.
 pub fn pool_theorem()
     // Each region has a geometry for each layout of at least one byte, with exactly the buckets that it has room for.
     ensures some_geometry { (region : Region) (bucket : Layout) → 0 < bucket.size
         → (buckets : ℕ) × FillsRegion (pool_geometry region bucket buckets) }
 
-    // What is said of every pool geometry is said of this one, and of it with fewer buckets.
+    // What holds for every pool geometry holds for this one, and for this one with fewer buckets.
     ensures all_buckets { (geometry : PoolGeometry) → 0 < geometry.bucket.size
         → FillsRegion geometry → IsPoolGeometry geometry }
     ensures fewer_buckets { (geometry : PoolGeometry) (constant : ℕ)
         → IsPoolGeometry geometry → IsPoolGeometry (at_most constant geometry) }
 
-    // The takings and returns are a run of the pool object from the empty list, whichever layouts within the bucket's
-    // size and alignment are requested.
+    // The takings and returns are a run of the pool object from the empty list, for any requested layouts within the bucket's
+    // size and alignment.
     ensures run { (scene : PoolScene) (steps : List PoolStep) (layouts : List Layout)
         → IsPoolGeometry scene.geometry → AreAsked scene.geometry steps layouts
         → (live : List Chunk) × IsPoolRun scene steps layouts live }
 
-    // Such a run has a list at every step: a run of the steps before leaves it, and the others are a run from it.
+    // Each such run has a list at every step: a run of the steps before leaves it, and the others are a run from it.
     ensures every_step { (scene : PoolScene) (steps : List PoolStep) (layouts : List Layout)
         (live : List Chunk) (k : ℕ) → IsPoolRun scene steps layouts live
         → (there : List Chunk) × IsPoolRun scene (take k steps) (take k layouts) there
@@ -137,7 +137,7 @@ pub fn pool_theorem()
     ensures was_detached { (scene : PoolScene) (steps : List PoolStep) (bucket : ℕ)
         → IsDetached (left_by scene steps) bucket → WasDetached (history_of scene steps) bucket }
 
-    // A bucket that is attached from a sender is then detached by that sender, whose log says so.
+    // A bucket that is attached from a sender is then detached by that sender, as its log shows.
     ensures attached_from { (scene : PoolScene) (steps : List PoolStep) (party bucket from k : ℕ)
         → AttachesFromAt (history_of scene steps) party bucket from k
         → IsFlag (left_by scene (take k steps)) bucket (DetachedBy from)

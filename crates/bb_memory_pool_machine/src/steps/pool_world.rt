@@ -1,4 +1,4 @@
-//! A pool machine that can be run: of each bucket its flag, and of each party the bucket that its pass tries next.
+//! A pool machine that can be run: for each bucket its flag, and for each party the bucket that its pass tries next.
 ghost use Rattle.bb_memory_pool_machine.specs.PoolMachine.{Attach, AttachFrom, Detach, GiveBack, GiveBackDetached, Try, TryAt, all_free, holder_of};
 ghost use Rattle.bb_memory_pool_machine.specs.PoolWorld.{IsPoolWorld, PoolWorld, Replays, Steps, world_of};
 ghost use Rattle.std.specs.Prelude.{IfOk, IsSome, length, slice_get, ◌<◌, ◌≡◌};
@@ -7,7 +7,7 @@ use super::{Flag, PoolOutcome, PoolStep};
 use std::alloc::{AllocError, Global};
 use std::marker::Model;
 
-/// The pool machine over some buckets, with its parties. No step takes memory.
+/// The pool machine over some buckets, with its parties. No step allocates memory.
 ///
 /// Example: `comments::pool_world` of `crates/examples`.
 #[derive(Drop)]
@@ -26,8 +26,8 @@ impl Model for PoolWorld {
 }
 
 impl PoolWorld {
-    /// Makes the machine over that many buckets, all flags free, with that many parties, all idle. It fails only if memory
-    /// ran out.
+    /// Makes the machine over that many buckets, all flags free, with that many parties, all idle. Fails only if memory ran
+    /// out.
     pub fn new(alloc: Global, buckets: u32, parties: u32) -> Result<PoolWorld, AllocError>
         ensures opened { IfOk result (λ world. world ≡ all_free buckets parties) }
     {
@@ -40,7 +40,7 @@ impl PoolWorld {
         })
     }
 
-    /// Takes one atomic step, and returns what it found. It doesn't allocate.
+    /// Takes one atomic step, and returns what it found. The call allocates no memory.
     pub fn step(&mut self, step: PoolStep) -> PoolOutcome
         ensures { Steps self.old step result self.new }
     {
@@ -79,7 +79,8 @@ impl PoolWorld {
         self.flags.len() as u32
     }
 
-    /// Returns the party that holds the bucket: `None` if its flag is free, if it is detached, or if there is no such bucket.
+    /// Returns the party that holds the bucket, or `None` if its flag is free, if it is detached, or if the machine has no
+    /// bucket of this number.
     pub fn holder(&self, bucket: u32) -> Option<u32>
         ensures { result ≡ holder_of self.now bucket }
     {
@@ -89,7 +90,7 @@ impl PoolWorld {
         }
     }
 
-    /// A party tries the next bucket of its pass.
+    /// Makes a party try the next bucket of its pass.
     fn try_next(&mut self, party: u32) -> PoolOutcome
         ensures { Steps self.old (Try party) result self.new }
     {
@@ -116,7 +117,7 @@ impl PoolWorld {
         }
     }
 
-    /// A party gives back a bucket.
+    /// Makes a party give back a bucket.
     fn give_back(&mut self, party: u32, bucket: u32) -> PoolOutcome
         ensures { Steps self.old (GiveBack party bucket) result self.new }
     {
@@ -129,7 +130,7 @@ impl PoolWorld {
         }
     }
 
-    /// A party tries one bucket, as it may if it is in no pass.
+    /// Makes a party try one bucket, which it may if it is in no pass.
     fn try_at(&mut self, party: u32, bucket: u32) -> PoolOutcome
         ensures { Steps self.old (TryAt party bucket) result self.new }
     {
@@ -147,7 +148,7 @@ impl PoolWorld {
         }
     }
 
-    /// A party detaches a bucket, as it may if it holds it and there is another party.
+    /// Makes a party detach a bucket, which it may if it holds the bucket and there is another party.
     fn detach(&mut self, party: u32, bucket: u32) -> PoolOutcome
         ensures { Steps self.old (Detach party bucket) result self.new }
     {
@@ -160,7 +161,7 @@ impl PoolWorld {
         }
     }
 
-    /// A party attaches a bucket, as it may if it is in no pass and the bucket is detached.
+    /// Makes a party attach a bucket, which it may if it is in no pass and the bucket is detached.
     fn attach(&mut self, party: u32, bucket: u32) -> PoolOutcome
         ensures { Steps self.old (Attach party bucket) result self.new }
     {
@@ -176,7 +177,7 @@ impl PoolWorld {
         }
     }
 
-    /// A party attaches a bucket that the party `from` has detached, as it may if it is in no pass.
+    /// Makes a party attach a bucket that the party `from` has detached, which it may if it is in no pass.
     fn attach_from(&mut self, party: u32, bucket: u32, from: u32) -> PoolOutcome
         ensures { Steps self.old (AttachFrom party bucket from) result self.new }
     {
@@ -192,7 +193,7 @@ impl PoolWorld {
         }
     }
 
-    /// A party gives back a detached bucket, as it may if it is in no pass.
+    /// Makes a party give back a detached bucket, which it may if it is in no pass.
     fn give_detached(&mut self, party: u32, bucket: u32) -> PoolOutcome
         ensures { Steps self.old (GiveBackDetached party bucket) result self.new }
     {
@@ -209,7 +210,7 @@ impl PoolWorld {
     }
 }
 
-/// Returns the flag of a bucket, or the pass of a party, if there is such a bucket or party.
+/// Returns the flag of a bucket, or the pass of a party, if the list has one of this number.
 fn found_at<T: Copy>(all: &[T], number: usize) -> Option<T>
     ensures value { result ≡ slice_get all.now number }
     ensures within { IsSome result → number < length all.now }

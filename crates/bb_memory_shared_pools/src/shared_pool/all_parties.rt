@@ -8,14 +8,14 @@ ghost use Rattle.bb_memory_traits.specs.PoolObject.{IsHeld};
 ghost use Rattle.bb_memory_traits.specs.declared.layout.Layout.{Layout};
 ghost use Rattle.std.specs.Prelude.{All, Any, Contains, List, Some, [], length, slice_get, true, ℕ, ◌<◌, ◌↔◌, ◌≡◌, ◌≢◌};
 
-/// Says what follows for parties of a shared pool that met ([`meet_all`](super::SharedPoolAllocator::meet_all)), and above all of
-/// all its parties, whatever the threads did. It does nothing: its contract is the law.
+/// States what holds for parties of a shared pool that met ([`meet_all`](super::SharedPoolAllocator::meet_all)), above all if
+/// these are all parties of the pool, whatever the threads did. The function does nothing: its contract is the law.
 ///
-/// A meeting has one list of steps from the opening, each of which the machine allows (`met.1.agree.steps`), in which the steps
-/// of each party that met are exactly its log. Where as many parties met as the pool has, it has no other steps.
+/// A meeting has one list of steps from the opening, each of which the machine allows (`met.1.agree.steps`). In it, the steps
+/// of each party that met are exactly its log. If all parties of the pool met, the list has no other steps.
 pub fn shared_pool_meeting_law()
-    // The takings and returns in that list are a run of the pool object from the empty list,
-    // whichever layouts within the bucket's size and alignment were asked for.
+    // The takings and returns in that list are a run of the pool object from the empty list, for any requested layouts that fit
+    // the bucket's size and alignment.
     ensures run { (scene : PoolScene) (parties : List PoolParty) (met : HaveMet scene parties)
         (layouts : List Layout) → let steps = met.1.agree.steps in
         IsSharedScene scene → AreAsked scene.geometry steps layouts
@@ -26,13 +26,13 @@ pub fn shared_pool_meeting_law()
         (layouts : List Layout) (live : List Chunk) → IsSharedScene scene
         → IsPoolRun scene met.1.agree.steps layouts live → IsSound scene.geometry.region live }
 
-    // It holds a bucket exactly where the bucket's flag was taken when they met.
+    // The list of chunks has a bucket exactly if the bucket's flag was taken when they met.
     ensures flags { (scene : PoolScene) (parties : List PoolParty) (met : HaveMet scene parties)
         (layouts : List Layout) (live : List Chunk) (bucket : ℕ) → IsSharedScene scene
         → IsPoolRun scene met.1.agree.steps layouts live → bucket < scene.geometry.buckets
         → (slice_get met.0 bucket ≡ Some true ↔ IsHeld scene.geometry live bucket) }
 
-    // Where all have met, it holds a bucket exactly where one of them does, or the bucket is detached.
+    // If all parties met, the list of chunks has a bucket exactly if one of them holds it or it is detached.
     ensures held { (scene : PoolScene) (parties : List PoolParty) (met : HaveMet scene parties)
         (layouts : List Layout) (live : List Chunk) (bucket : ℕ) → IsSharedScene scene
         → length parties ≡ scene.parties
@@ -40,8 +40,8 @@ pub fn shared_pool_meeting_law()
         → (IsHeld scene.geometry live bucket
         ↔ IsHeldOrDetached scene met.1.agree.steps parties bucket) }
 
-    // No party that met holds a detached bucket, and where all have met, one of them has detached it. So where none has
-    // detached a bucket, its flag is taken exactly where one of them holds it.
+    // No party that met holds a detached bucket. If all parties met, one of them has detached it. So if none of them has
+    // detached a bucket, its flag is taken exactly if one of them holds it.
     ensures detached { (scene : PoolScene) (parties : List PoolParty) (met : HaveMet scene parties)
         (bucket : ℕ) → IsDetached (left_by scene met.1.agree.steps) bucket
         → ¬ IsHeldByOne parties bucket }
@@ -49,13 +49,14 @@ pub fn shared_pool_meeting_law()
         (bucket : ℕ) → length parties ≡ scene.parties
         → IsDetached (left_by scene met.1.agree.steps) bucket → WasDetachedByOne parties bucket }
 
-    // If one of them attached a bucket by its number from another one of them, then this one's log has detached the bucket.
+    // If one of these parties attached a bucket by its number from another one, then the other one's log has detached the
+    // bucket.
     ensures sent { (scene : PoolScene) (parties : List PoolParty) (met : HaveMet scene parties)
         (receiver sender : PoolParty) (bucket : ℕ) → Contains parties receiver
         → Contains parties sender → WasAttachedFrom receiver.log bucket sender.number
         → WasDetached sender.log bucket }
 
-    // Each party's steps in the list of steps are its log.
+    // The steps of each party in the list of steps are its log.
     ensures logged { (scene : PoolScene) (parties : List PoolParty) (met : HaveMet scene parties)
         → All (λ party. log_of scene met.1.agree.steps party.number ≡ party.log) parties }
 
@@ -63,13 +64,13 @@ pub fn shared_pool_meeting_law()
     ensures apart { (scene : PoolScene) (parties : List PoolParty) → HaveMet scene parties
         → HoldApart parties }
 
-    // Where all have met, each step stands in the log of one of them: it was nobody else's.
+    // If all parties met, each step is in the log of one of them: nobody else made a step.
     ensures nobody_else { (scene : PoolScene) (parties : List PoolParty)
         (met : HaveMet scene parties) → length parties ≡ scene.parties
         → All (λ entry. Any (λ party. Contains party.log entry) parties)
         (history_of scene met.1.agree.steps) }
 
-    // Where one of them has made a step, one of them has taken a bucket.
+    // If one of these parties has made a step, one of them has taken a bucket.
     ensures one_took { (scene : PoolScene) (parties : List PoolParty) (one : PoolParty)
         → HaveMet scene parties → length parties ≡ scene.parties → Contains parties one
         → one.log ≢ [] → HasTaker scene parties }

@@ -7,9 +7,9 @@ use super::flags::Flags;
 use bb_memory_traits::layout::Chunk;
 use std::marker::Model;
 
-/// A token for a bucket that a party took of a shared pool, which it borrows. A return spends it. While the party's log holds the
-/// bucket, `by_number::bucket` makes another token for it, so a party may have several; after a return by one of them the others
-/// are stale. The bucket of a dropped token stays held until it is returned by another.
+/// The token of a bucket that a party took from a shared pool. The token borrows the pool, and a return spends the token. While
+/// the party's log holds the bucket, `by_number::bucket` makes further tokens for it, so a party may have several. After a
+/// return by one of them, the others are stale. If a token is dropped, its bucket stays held until another token returns it.
 #[derive(Drop)]
 pub struct Bucket<'a> {
     pub(super) flags: &'a Flags,
@@ -38,8 +38,8 @@ impl<'a> Bucket<'a> {
         self.number
     }
 
-    /// Returns the chunk in the bucket: it begins at the bucket's place, and has the token's length, which a request, `bucket` or
-    /// a resize gave it.
+    /// Returns the chunk in the bucket. It begins at the bucket's place, and has the token's length, which comes from a
+    /// request, `bucket` or a resize.
     pub fn chunk(&self) -> Chunk
         ensures value { result ≡ chunk_of self.now }
         ensures short { result.len ≤ self.now.allocator.scene.geometry.bucket.size }

@@ -1,4 +1,4 @@
-//! The shared pools: buckets with a flag each, on which any number of threads step.
+//! Shared pools: buckets with one flag each, on which any number of threads make atomic steps.
 ghost use Rattle.bb_memory_pool_machine.specs.PoolLogs.{IsHeldAfter};
 ghost use Rattle.bb_memory_seats.specs.Seats.{HasNow, HasRoomFor, Stays, number_of, view_log};
 ghost use Rattle.bb_memory_shared_pools.specs.SharedPool.{AreFresh, IsAlignedTo, IsResizedTo, IsSameParty, IsSharedScene, MayTake, ServesAlone, chunk_of, refused_pass, return_entry, with_entries};
@@ -19,7 +19,7 @@ use bb_memory_traits::layout::{Chunk, Layout};
 use std::alloc::Global;
 use std::marker::Model;
 
-/// Buckets with a flag each: all that the region has room for where `CAPPED` is 0, and at most `MOST` of them where it is 1.
+/// Buckets with one flag each: if `CAPPED` is 0, all for which the region has room; if it is 1, at most `MOST` of them.
 pub struct SharedBucketPool<const CAPPED: usize, const MOST: usize> {
     pub(super) flags: Flags,
 }
@@ -85,7 +85,7 @@ impl<const CAPPED: usize, const MOST: usize> SharedBucketPool<CAPPED, MOST> {
         }
     }
 
-    /// One whole pass: an exchange on each flag from bucket 0 up, until one is taken.
+    /// Makes one whole pass: an exchange on each flag from bucket 0 up, until one is taken.
     fn pass(&self, party: u32, seat: &mut Seat<u8, View>) -> Option<u32>
         requires party { number_of seat.old.me.0 ≡ party }
         requires seat { IsIdleAt self.now seat.old.table_id seat.old.me }
@@ -104,11 +104,12 @@ impl<const CAPPED: usize, const MOST: usize> SharedBucketPool<CAPPED, MOST> {
         None
     }
 
-    /// Takes a bucket for the party, with a chunk of `layout.size()` bytes. It is refused in this order: with `SizeTooLarge`
-    /// where the size is greater than the bucket's, and with `AlignmentFailure` where the alignment is greater than the
-    /// bucket's, both without a step. Then it makes one pass: one exchange on each flag from bucket 0 up, until one is taken.
-    /// It is refused with `OutOfMemory` where all are lost. Where other parties step meanwhile, that doesn't mean that all
-    /// buckets were held at one moment. The party has to be this pool's.
+    /// Takes a bucket for the party, with a chunk of `layout.size()` bytes. The call makes one pass: one exchange on each flag
+    /// from bucket 0 up, until one is taken.
+    ///
+    /// Fails, in this order, with `SizeTooLarge` if the size is greater than the bucket's, and with `AlignmentFailure` if the
+    /// alignment is greater than the bucket's, both without a step; and with `OutOfMemory` if all exchanges are lost. If other
+    /// parties step meanwhile, that doesn't mean that all buckets were held at one moment. The party has to be this pool's.
     pub fn allocate(
         &self,
         party: &mut PoolParty,
@@ -135,8 +136,8 @@ impl<const CAPPED: usize, const MOST: usize> SharedBucketPool<CAPPED, MOST> {
         }
     }
 
-    /// Takes a whole bucket for the party: it answers as `allocate` does to the bucket's own layout. It is refused with
-    /// `OutOfMemory`, where all exchanges are lost. The party has to be this pool's.
+    /// Takes a whole bucket for the party: the result is that of `allocate` for the bucket's own layout. Fails with
+    /// `OutOfMemory` if all exchanges are lost. The party has to be this pool's.
     pub fn take(&self, party: &mut PoolParty) -> Result<Bucket<'_>, AllocationError>
         requires party { party.old.allocator ≡ self.now }
         ensures answer { MayTake party.old self.now.scene.geometry.bucket result party.new }
@@ -171,8 +172,8 @@ impl<const CAPPED: usize, const MOST: usize> SharedBucketPool<CAPPED, MOST> {
         party.hint.follow_return(bucket.number);
     }
 
-    /// Two parties meet: no bucket is held by both. A meeting loads words, which is in no log, and changes nothing. The parties
-    /// have to be this pool's.
+    /// Makes two parties meet: no bucket is held by both. A meeting loads words, which is in no log, and changes nothing. The
+    /// parties have to be this pool's.
     ///
     /// Example: `comments::shared_pool_left` of `crates/examples`.
     pub fn meet(&self, a: &mut PoolParty, b: &mut PoolParty)
@@ -187,11 +188,11 @@ impl<const CAPPED: usize, const MOST: usize> SharedBucketPool<CAPPED, MOST> {
         self.flags.meet(&mut a.seat, &mut b.seat);
     }
 
-    /// All these parties meet: no bucket is held by two of them. One interleaving has all their logs. Where these are all the
-    /// pool's parties, it has no other steps, and a flag is taken exactly where one of them holds the bucket, or it is detached.
-    /// Where each of them has made a step, too, one of them has taken a bucket: not all were refused by what somebody else held,
-    /// as there is nobody else. A meeting loads words, which is in no log, and changes nothing. The parties have to be this
-    /// pool's.
+    /// Makes all these parties meet: no bucket is held by two of them, and one interleaving has all their logs. If these are
+    /// all parties of the pool, it has no other steps, and a flag is taken exactly if one of them holds the bucket or the
+    /// bucket is detached. If each of them has also made a step, one of them has taken a bucket: they can't all have been
+    /// refused because of somebody else, since there is nobody else. A meeting loads words, which is in no log, and changes
+    /// nothing. The parties have to be this pool's.
     pub fn meet_all(&self, parties: &mut Vec<PoolParty>)
         requires parties { All (λ party. party.allocator ≡ self.now) parties.old.items }
         ensures kept { parties.new.items ≡ parties.old.items }
@@ -214,8 +215,8 @@ impl<const CAPPED: usize, const MOST: usize> SharedBucketPool<CAPPED, MOST> {
         }
     }
 
-    /// Returns whether a bucket is detached, for a user that has all the pool's parties, so that no flag can change meanwhile. It
-    /// loads each flag once, up to the first one of a detached bucket. The parties meet for that, and are as they were.
+    /// Returns whether a bucket is detached, for a user that has all parties of the pool, so that no flag can change meanwhile.
+    /// The call loads each flag once, up to the first one of a detached bucket. The parties meet for that, and don't change.
     pub fn has_detached(&self, parties: &mut Vec<PoolParty>) -> bool
         requires parties { All (λ party. party.allocator ≡ self.now) parties.old.items }
         requires all { length parties.old.items ≡ self.now.scene.parties }
@@ -239,11 +240,15 @@ impl<const CAPPED: usize, const MOST: usize> SharedBucketPool<CAPPED, MOST> {
         told
     }
 
-    /// Gives the bucket's chunk the new size, in its bucket and without a step. It is refused in this order: with
-    /// `GrowWouldShrink` where the new size isn't greater than the old one, with `AlignmentFailure` where the new alignment is
-    /// greater than the bucket's, and with `OutOfMemory` where the new size is greater than the bucket's. A refusal changes
-    /// nothing. The bucket has to be this pool's, and its place a multiple of the old alignment.
-    /// The old size is the one that is handed in: the token's own length isn't compared with it.
+    /// Gives the bucket's chunk the new size, in its bucket and without a step. Fails with the first of these errors that
+    /// applies:
+    ///
+    /// - `GrowWouldShrink` if the new size isn't greater than the old one.
+    /// - `AlignmentFailure` if the new alignment is greater than the bucket's.
+    /// - `OutOfMemory` if the new size is greater than the bucket's.
+    ///
+    /// A failure changes nothing. The bucket has to be this pool's, and its place a multiple of the old alignment. The old size
+    /// is the caller's: the token's own length isn't compared with it.
     pub fn grow(
         &self,
         bucket: &mut Bucket<'_>,
@@ -262,11 +267,13 @@ impl<const CAPPED: usize, const MOST: usize> SharedBucketPool<CAPPED, MOST> {
         Ok(grown)
     }
 
-    /// Gives the bucket's chunk exactly the new size, without a step. It is refused in this order: with `ShrinkWouldGrow` where
-    /// the new size isn't smaller than the old one, and with `AlignmentFailure` where the new alignment is greater than the
-    /// bucket's. A refusal changes nothing. The bucket has to be this pool's, its place a multiple of the old alignment, and the
-    /// old size at most the bucket's. The old size is the one that is handed in: the token's own length isn't compared
-    /// with it.
+    /// Gives the bucket's chunk exactly the new size, without a step.
+    ///
+    /// Fails, in this order, with `ShrinkWouldGrow` if the new size isn't smaller than the old one, and with `AlignmentFailure`
+    /// if the new alignment is greater than the bucket's. A failure changes nothing.
+    ///
+    /// The bucket has to be this pool's, its place a multiple of the old alignment, and the old size at most the bucket's. The
+    /// old size is the caller's: the token's own length isn't compared with it.
     pub fn shrink(
         &self,
         bucket: &mut Bucket<'_>,
@@ -286,7 +293,7 @@ impl<const CAPPED: usize, const MOST: usize> SharedBucketPool<CAPPED, MOST> {
         Ok(shrunk)
     }
 
-    /// Returns the number of buckets: at most the constant of a fixed-size pool. Its clauses also state the pool's invariant.
+    /// Returns the number of buckets: in a fixed-size pool, at most its constant. The clauses also state the pool's invariant.
     pub fn number_of_buckets(&self) -> u32
         ensures value { result ≡ self.now.scene.geometry.buckets }
         ensures region { IsRegion self.now.scene.geometry.region }
@@ -296,35 +303,36 @@ impl<const CAPPED: usize, const MOST: usize> SharedBucketPool<CAPPED, MOST> {
         self.flags.geometry().count()
     }
 
-    /// Returns the number of parties that the pool was made for. With two at least, a party may detach a bucket for another.
+    /// Returns the number of parties that the pool was made for. If there are at least two, a party may detach a bucket for
+    /// another.
     pub fn number_of_parties(&self) -> u32
         ensures value { result ≡ self.now.scene.parties }
     {
         self.flags.parties()
     }
 
-    /// Returns the layout of each bucket, as it was asked for.
+    /// Returns the layout of each bucket, as passed to `new`.
     pub fn bucket_layout(&self) -> Layout
         ensures { result ≡ self.now.scene.geometry.bucket }
     {
         self.flags.geometry().bucket()
     }
 
-    /// Returns the size of a bucket in bytes, as it was asked for. The buckets are at least that far apart.
+    /// Returns the size of a bucket in bytes, as passed to `new`. Two buckets begin at least that far apart.
     pub fn bucket_size(&self) -> usize
         ensures value { result ≡ self.now.scene.geometry.bucket.size }
     {
         self.flags.geometry().bucket().size()
     }
 
-    /// Returns the greatest alignment that a request may have, of which each bucket's place is a multiple.
+    /// Returns the greatest alignment that a request may have. Each bucket's place is a multiple of it.
     pub fn max_alignment(&self) -> usize
         ensures value { result ≡ self.now.scene.geometry.bucket.align }
     {
         self.flags.geometry().bucket().align()
     }
 
-    /// Returns the size of the region in bytes, as it was handed in.
+    /// Returns the size of the region in bytes, as passed to `new`.
     pub fn size(&self) -> usize
         ensures value { result ≡ self.now.scene.geometry.region.size }
     {

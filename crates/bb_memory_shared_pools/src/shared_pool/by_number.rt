@@ -1,4 +1,5 @@
-//! Buckets by their numbers and places, for a user that keeps numbers where it can't keep a [`Bucket`], which borrows its pool.
+//! Buckets by their numbers and places, for a user that keeps numbers because it can't keep a [`Bucket`], which borrows its
+//! pool.
 ghost use Rattle.bb_memory_pool_machine.specs.PoolLogs.{IsHeldAfter, MayBeFound};
 ghost use Rattle.bb_memory_shared_pools.specs.SharedPool.{chunk_of, taken_bucket};
 ghost use Rattle.bb_memory_shared_pools.specs.SharedPoolLeaving.{GivesAllBack};
@@ -12,7 +13,7 @@ use super::party::PoolParty;
 pub use bb_memory_pool_machine::steps::Flag;
 
 impl<const CAPPED: usize, const MOST: usize> SharedBucketPool<CAPPED, MOST> {
-    /// Returns the number of the bucket at this place, or `None` where no bucket begins there.
+    /// Returns the number of the bucket that begins at this place, or `None` if none does.
     pub fn number_at(&self, place: usize) -> Option<u32>
         ensures below { IfSome result (λ number. number < self.now.scene.geometry.buckets) }
         ensures there { IfSome result (λ number.
@@ -24,15 +25,15 @@ impl<const CAPPED: usize, const MOST: usize> SharedBucketPool<CAPPED, MOST> {
         self.flags.geometry().number_at(place)
     }
 
-    /// Returns where the bucket of this number begins, or `None` where there is no such bucket.
+    /// Returns where the bucket of this number begins, or `None` if the pool has no bucket of this number.
     pub fn place_at(&self, number: u32) -> Option<usize>
         ensures { TellsPlace self.now.scene.geometry number result }
     {
         self.flags.geometry().place_at(number)
     }
 
-    /// Tells whether the party holds the bucket of this number, by one load of its flag, which is in no log. The party has to be
-    /// this pool's.
+    /// Returns whether the party holds the bucket of this number, by one load of its flag, which is in no log. The party has to
+    /// be this pool's.
     ///
     /// Example: `comments::shared_pool_holder` of `crates/examples`.
     pub fn is_held_by(&self, party: &mut PoolParty, number: u32) -> bool
@@ -44,8 +45,8 @@ impl<const CAPPED: usize, const MOST: usize> SharedBucketPool<CAPPED, MOST> {
         self.flags.is_held(party.number, &mut party.seat, number)
     }
 
-    /// Tells who holds the bucket of this number, or has detached it, for any thread and while parties call: its flag, as one
-    /// load found it.
+    /// Returns who holds the bucket of this number, or has detached it: its flag, as one load found it. Any thread may call
+    /// this while parties step.
     pub fn holder(&self, number: u32) -> Flag
         requires { number < self.now.scene.geometry.buckets }
         ensures found { MayBeFound self.now.scene number result }
@@ -53,16 +54,16 @@ impl<const CAPPED: usize, const MOST: usize> SharedBucketPool<CAPPED, MOST> {
         self.flags.found(number)
     }
 
-    /// Returns how many buckets are held, cached or detached, for any thread and while parties call. It loads each flag once, at
-    /// a moment of its own, so the clause says only that no more are held than there are.
+    /// Returns how many buckets are held, cached or detached. Any thread may call this while parties step. The call loads each
+    /// flag once, each at another moment, so the clause says only that no more are held than there are.
     pub fn held_buckets(&self) -> u32
         ensures at_most { result ≤ self.now.scene.geometry.buckets }
     {
         self.flags.count_taken().min(self.number_of_buckets())
     }
 
-    /// Gives back each bucket that the party holds, as its flag says, in order of their numbers: by one load of each flag, and one
-    /// store where it is the party's. The party has to be this pool's.
+    /// Gives back each bucket that the party holds according to its flag, in order of the numbers: one load of each flag, and
+    /// one store on each that names the party. The party has to be this pool's.
     pub fn give_all_back(&self, party: &mut PoolParty)
         requires { party.old.allocator ≡ self.now }
         ensures { GivesAllBack party.old party.new }
@@ -79,14 +80,16 @@ impl<const CAPPED: usize, const MOST: usize> SharedBucketPool<CAPPED, MOST> {
     }
 }
 
-/// Returns the bucket of this number again, with a chunk of `len` bytes, without a step. It is for a user that can keep no
-/// [`Bucket`], which borrows its pool, and kept the number in its place, as an interface for C does. So it is no call of the
-/// pool: it has to be imported. The party has to be this pool's, and its log has to hold the bucket: this party took it, and it
-/// wasn't given back since. The length has to be at most the bucket's size. Tokens that there are already stay: a return by one
-/// leaves the others stale, which still answer the bucket's number and chunk when another party has taken it.
+/// Returns a token for the bucket of this number, with a chunk of `len` bytes, without a step. It is for a user that can't keep
+/// a [`Bucket`], which borrows its pool, and keeps the number instead, as an interface for C does. So it is a function to
+/// import, and not a call of the pool.
 ///
-/// A caching party also holds the buckets that it caches, and its next requests take those. So of a caching party's buckets only
-/// one that is out may be passed. No condition requires this, and a caching party lends none that it caches by a call of its own.
+/// The party has to be this pool's, and its log has to hold the bucket: this party took the bucket, and it wasn't given back
+/// since. The length has to be at most the bucket's size. Earlier tokens stay. After a return by one token the others are
+/// stale: they still return the bucket's number and chunk when another party has taken it.
+///
+/// A caching party also holds the buckets that it caches, and its next requests take those. So pass only a bucket that is in
+/// use, if the party caches. No condition requires this, and no call of a caching party lends a bucket that it caches.
 ///
 /// Example: `comments::shared_pool_by_number` of `crates/examples`.
 pub fn bucket<'a, const CAPPED: usize, const MOST: usize>(

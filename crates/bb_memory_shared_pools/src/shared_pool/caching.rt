@@ -1,6 +1,6 @@
 //! Parties that cache the buckets that they gave back last: a layer over the shared pools.
 ghost use Rattle.bb_memory_pool_machine.specs.PoolLogs.{IsHeldAfter};
-ghost use Rattle.bb_memory_shared_pools.specs.SharedPool.{HasAttached, HasDetached, HasReturned, IsSameParty, attach_entry, detach_entry, return_detached_entry, taken_bucket, with_entries};
+ghost use Rattle.bb_memory_shared_pools.specs.SharedPool.{HasAttached, HasDetached, HasReturned, IsSameParty, attach_entry, detach_entry, return_detached_entry, with_entries};
 ghost use Rattle.bb_memory_shared_pools.specs.SharedPoolCaching.{AreCached, AttachesCaching, IsOut, ReturnsCaching, ServesCaching, returns_of};
 ghost use Rattle.bb_memory_shared_pools.specs.SharedPoolLeaving.{GivesAllBack};
 ghost use Rattle.bb_memory_shared_pools.specs.SharedPoolMeetings.{AreBothOf, AreInterleaved};
@@ -9,7 +9,7 @@ ghost use Rattle.std.specs.Prelude.{Contains, IfErr, IfOk, IsFalse, IsTrue, Ok, 
 use super::bucket::Bucket;
 use super::buckets::SharedBucketPool;
 use super::by_number;
-use super::detached::{DetachedBucket, LostBucket};
+use super::detached::DetachedBucket;
 use super::party::PoolParty;
 use bb_memory_traits::allocator::AllocationError;
 use bb_memory_traits::layout::Layout;
@@ -19,8 +19,8 @@ use std::marker::Model;
 /// The number of `u32` that fill two cache lines.
 const GAP: usize = 32;
 
-/// Returns an empty list with room for `most` numbers, and for a gap behind them: each call writes its party's list, which
-/// shares no cache line with what another thread's calls write. For no numbers it takes no memory.
+/// Returns an empty list with room for `most` numbers and a gap after them. Each call of a party writes the party's list, and
+/// the gap keeps it off the cache lines that other threads' calls write. If `most` is 0, the list takes no memory.
 fn list_of(alloc: Global, most: u32) -> Result<Vec<u32>, AllocError>
     ensures items { IfOk result (λ list. list.items ≡ []) }
     ensures room { IfOk result (λ list. most ≤ vec_capacity list) }
@@ -30,11 +30,13 @@ fn list_of(alloc: Global, most: u32) -> Result<Vec<u32>, AllocError>
 }
 
 /// A party of a shared pool that caches at most `most` of the buckets that it gave back last. Its next requests take the cached
-/// buckets first, without a step. Each call takes the party's pool by `&`: a [`SharedPoolAllocator`](super::SharedPoolAllocator)
-/// or a [`SharedFixedSizePoolAllocator`](super::SharedFixedSizePoolAllocator).
+/// buckets first, without a step. Each call takes the party's pool by `&`: a
+/// [`SharedPoolAllocator`](super::SharedPoolAllocator) or a
+/// [`SharedFixedSizePoolAllocator`](super::SharedFixedSizePoolAllocator).
 ///
-/// A cached bucket stays held, so the other parties are refused where each bucket is cached or out. Give a pool more buckets than
-/// all its parties together may cache. Dropping a caching party leaks the buckets that it caches; `into_party` gives them back.
+/// A cached bucket stays held, so the other parties' requests fail if each bucket is cached or in use. Give a pool more buckets
+/// than all its parties together may cache. Dropping a caching party leaks the buckets that it caches; `into_party` gives them
+/// back.
 ///
 /// Example: `comments::shared_pool_caching` of `crates/examples`.
 #[derive(Drop)]
@@ -58,9 +60,9 @@ impl Model for CachingParty {
 }
 
 impl CachingParty {
-    /// Makes a caching party of this party. Each bucket that the party holds is out, as none is cached yet. At most `most`
-    /// buckets will be cached; with 0 each call does what the pool's call does. The list of cached buckets takes memory here and
-    /// in `cache_at_most`; no other call takes any. A refusal, for want of memory, hands the party back unchanged.
+    /// Makes this party a caching party. Each bucket that the party holds is in use, as none is cached yet. At most `most`
+    /// buckets will be cached; with 0, each call does what the pool's call does. The list of cached buckets takes memory here
+    /// and in `cache_at_most`; no other call allocates. If memory runs out, the party is returned unchanged.
     #[inline(always)]
     #[tactic(auto, unfolding(crate::specs::SharedPoolCaching::IsOut))]
     pub fn new(alloc: Global, party: PoolParty, most: u32) -> Result<Self, PoolParty>
@@ -89,21 +91,21 @@ impl CachingParty {
         self.cached.len() as u32
     }
 
-    /// Returns the numbers of the buckets that are cached, the one that was cached last behind the others.
+    /// Returns the numbers of the buckets that are cached. The one that was cached last is the last.
     pub fn cached(&self) -> &[u32]
         ensures { result.now ≡ self.now.cached }
     {
         self.cached.as_slice()
     }
 
-    /// Returns the party. It holds the buckets that are out and those that are cached.
+    /// Returns the party. It holds the buckets that are in use and those that are cached.
     pub fn party(&self) -> &PoolParty
         ensures { result.now ≡ self.now.party }
     {
         &self.party
     }
 
-    /// Returns the party as it is, without a step: it holds the buckets that are out and those that were cached.
+    /// Returns the party as it is, without a step: it holds the buckets that are in use and those that were cached.
     pub fn into_inner(self) -> PoolParty
         ensures { result ≡ self.party }
     {
@@ -115,7 +117,7 @@ impl CachingParty {
         party
     }
 
-    /// Tells whether the party holds the bucket of this number, out or cached, as
+    /// Returns whether the party holds the bucket of this number, in use or cached, as
     /// [`SharedPoolAllocator::is_held_by`](super::SharedPoolAllocator::is_held_by) does. The party has to be this pool's.
     pub fn is_held<const CAPPED: usize, const MOST: usize>(
         &mut self,
@@ -130,10 +132,12 @@ impl CachingParty {
         pool.is_held_by(&mut self.party, number)
     }
 
-    /// Takes a bucket, with a chunk of `layout.size()` bytes: the one that was cached last, without a step. Where none is cached,
-    /// it searches the pool as `allocate_next_fit` does. It is refused in this order: with `SizeTooLarge` where the size is
-    /// greater than the bucket's, and with `AlignmentFailure` where the alignment is greater than the bucket's, both without a
-    /// step; and with `OutOfMemory` where none is cached and each probe of the search misses. The party has to be this pool's.
+    /// Takes a bucket, with a chunk of `layout.size()` bytes: the one that was cached last, without a step. If none is cached,
+    /// the call searches the pool as `allocate_next_fit` does.
+    ///
+    /// Fails, in this order, with `SizeTooLarge` if the size is greater than the bucket's, and with `AlignmentFailure` if the
+    /// alignment is greater than the bucket's, both without a step; and with `OutOfMemory` if none is cached and each probe of
+    /// the search misses. The party has to be this pool's.
     #[inline(always)]
     #[tactic(auto, unfolding(crate::specs::SharedPoolCaching::IsOut))]
     pub fn allocate<'p, const CAPPED: usize, const MOST: usize>(
@@ -156,8 +160,8 @@ impl CachingParty {
         }
     }
 
-    /// Takes a whole bucket: it answers as `allocate` does to the bucket's own layout. It is refused with `OutOfMemory`, where
-    /// none is cached and each probe of the search misses. The party has to be this pool's.
+    /// Takes a whole bucket: the result is that of `allocate` for the bucket's own layout. Fails with `OutOfMemory` if none is
+    /// cached and each probe of the search misses. The party has to be this pool's.
     #[inline(always)]
     pub fn take<'p, const CAPPED: usize, const MOST: usize>(
         &mut self,
@@ -171,8 +175,8 @@ impl CachingParty {
         self.allocate(pool, bucket)
     }
 
-    /// Gives back a bucket. Where fewer than `most` are cached, the bucket is cached without a step. Otherwise it goes back to
-    /// the pool by one store. The party and the bucket have to be this pool's, and the bucket has to be out: the party holds it,
+    /// Gives back a bucket. If fewer than `most` are cached, the bucket is cached without a step. Otherwise it goes back to the
+    /// pool by one store. The party and the bucket have to be this pool's, and the bucket has to be in use: the party holds it,
     /// and doesn't cache it.
     #[tactic(auto, unfolding(crate::specs::SharedPoolCaching::IsOut))]
     pub fn deallocate<const CAPPED: usize, const MOST: usize>(
@@ -192,7 +196,7 @@ impl CachingParty {
         ensures is_party { IsSameParty self.old.party self.new.party }
         ensures most { self.new.most ≡ self.old.most }
     {
-        // Proof hint: brings the party's invariant into scope where the bucket is cached.
+        // Proof hint: brings the party's invariant into scope if the bucket is cached.
         let _ = self.party.number();
         if self.cached.len() < self.most as usize {
             self.cached.push_reserved(bucket.number());
@@ -201,8 +205,8 @@ impl CachingParty {
         }
     }
 
-    /// Detaches a bucket that is out, as [`SharedPoolAllocator::detach`](super::SharedPoolAllocator::detach) does. The pool needs
-    /// two parties at least. The party and the bucket have to be this pool's.
+    /// Detaches a bucket that is in use, as [`SharedPoolAllocator::detach`](super::SharedPoolAllocator::detach) does. The pool
+    /// needs at least two parties. The party and the bucket have to be this pool's.
     #[tactic(auto, unfolding(crate::specs::SharedPoolCaching::IsOut))]
     pub fn detach<const CAPPED: usize, const MOST: usize>(
         &mut self,
@@ -227,8 +231,8 @@ impl CachingParty {
         pool.detach(&mut self.party, bucket)
     }
 
-    /// Attaches a detached bucket, as [`SharedPoolAllocator::attach`](super::SharedPoolAllocator::attach) does. It is out then.
-    /// The party and the bucket have to be this pool's.
+    /// Attaches a detached bucket, as [`SharedPoolAllocator::attach`](super::SharedPoolAllocator::attach) does. Afterwards the
+    /// bucket is in use. The party and the bucket have to be this pool's.
     #[tactic(auto, unfolding(crate::specs::SharedPoolCaching::IsOut))]
     pub fn attach<'p, const CAPPED: usize, const MOST: usize>(
         &mut self,
@@ -252,9 +256,9 @@ impl CachingParty {
         pool.attach(&mut self.party, detached)
     }
 
-    /// Detaches a bucket that is out, and returns its number, as
-    /// [`SharedPoolAllocator::detach_number`](super::SharedPoolAllocator::detach_number) does. The pool needs two parties at
-    /// least. The party and the bucket have to be this pool's.
+    /// Detaches a bucket that is in use, and returns its number, as
+    /// [`SharedPoolAllocator::detach_number`](super::SharedPoolAllocator::detach_number) does. The pool needs at least two
+    /// parties. The party and the bucket have to be this pool's.
     #[tactic(auto, unfolding(crate::specs::SharedPoolCaching::IsOut))]
     pub fn detach_number<const CAPPED: usize, const MOST: usize>(
         &mut self,
@@ -279,9 +283,9 @@ impl CachingParty {
         pool.detach_number(&mut self.party, bucket)
     }
 
-    /// Attaches the bucket of this number where the party of number `from` has detached it by `detach_number`, and returns
-    /// whether that won, as [`SharedPoolAllocator::attach_number`](super::SharedPoolAllocator::attach_number) does. It is out
-    /// then. A loss changes nothing. The party has to be this pool's.
+    /// Attaches the bucket of this number if the party of number `from` has detached it by `detach_number`, and returns whether
+    /// that succeeded, as [`SharedPoolAllocator::attach_number`](super::SharedPoolAllocator::attach_number) does. Afterwards
+    /// the bucket is in use. A loss changes nothing. The party has to be this pool's.
     #[tactic(auto, unfolding(crate::specs::SharedPoolCaching::IsOut))]
     pub fn attach_number<const CAPPED: usize, const MOST: usize>(
         &mut self,
@@ -298,8 +302,8 @@ impl CachingParty {
     }
 
     /// Gives back a detached bucket to the pool by one store, as
-    /// [`SharedPoolAllocator::return_detached`](super::SharedPoolAllocator::return_detached) does. It isn't cached. The party and
-    /// the bucket have to be this pool's.
+    /// [`SharedPoolAllocator::return_detached`](super::SharedPoolAllocator::return_detached) does. The bucket isn't cached. The
+    /// party and the bucket have to be this pool's.
     #[tactic(auto, unfolding(crate::specs::SharedPoolCaching::IsOut))]
     pub fn return_detached<const CAPPED: usize, const MOST: usize>(
         &mut self,
@@ -318,31 +322,6 @@ impl CachingParty {
         ensures others { (other : ℕ) → IsOut self.new other → IsOut self.old other }
     {
         pool.return_detached(&mut self.party, detached)
-    }
-
-    /// Gives back the detached bucket of this number, whose token was lost, as
-    /// [`SharedPoolAllocator::recover`](super::SharedPoolAllocator::recover) does. It isn't cached. The party and the token have
-    /// to be this pool's.
-    #[tactic(auto, unfolding(crate::specs::SharedPoolCaching::IsOut))]
-    pub fn recover<const CAPPED: usize, const MOST: usize>(
-        &mut self,
-        pool: &SharedBucketPool<CAPPED, MOST>,
-        number: u32,
-        lost: LostBucket,
-    ) -> bool
-        requires party { self.old.party.allocator ≡ pool.now }
-        requires bucket { lost ≡ taken_bucket pool.now number 0 }
-        ensures recovered { result ≡ true }
-        ensures logged { self.new ≡ record self.old {
-          party = with_entries self.old.party
-              (return_detached_entry self.old.party.number number);
-        } }
-        ensures party { HasReturned pool.now self.old.party lost self.new.party }
-        ensures not_out { ¬ IsOut self.old number }
-        ensures others_kept { (other : ℕ) → IsOut self.old other → IsOut self.new other }
-        ensures others { (other : ℕ) → IsOut self.new other → IsOut self.old other }
-    {
-        pool.recover(&mut self.party, number, lost)
     }
 
     /// Gives all cached buckets back to the pool, as `flush` does, and caches at most `most` from then on. It takes memory for
@@ -375,8 +354,8 @@ impl CachingParty {
         Ok(())
     }
 
-    /// Gives all cached buckets back to the pool, each by one store, from the one that was cached last. Then the party holds just
-    /// the buckets that are out. The party has to be this pool's.
+    /// Gives all cached buckets back to the pool, each by one store, beginning with the one that was cached last. Then the
+    /// party holds only the buckets that are in use. The party has to be this pool's.
     #[tactic(auto, unfolding(crate::specs::SharedPoolCaching::IsOut))]
     pub fn flush<const CAPPED: usize, const MOST: usize>(
         &mut self,
@@ -397,9 +376,9 @@ impl CachingParty {
         return_all(pool, &mut self.party, &mut self.cached);
     }
 
-    /// Gives back each bucket that the party holds, out or cached, as
-    /// [`SharedPoolAllocator::give_all_back`](super::SharedPoolAllocator::give_all_back) does. None is cached then. The party has
-    /// to be this pool's.
+    /// Gives back each bucket that the party holds, in use or cached, as
+    /// [`SharedPoolAllocator::give_all_back`](super::SharedPoolAllocator::give_all_back) does. Afterwards none is cached. The
+    /// party has to be this pool's.
     pub fn give_all_back<const CAPPED: usize, const MOST: usize>(
         &mut self,
         pool: &SharedBucketPool<CAPPED, MOST>,
@@ -413,8 +392,9 @@ impl CachingParty {
         pool.give_all_back(&mut self.party);
     }
 
-    /// Two parties meet, as [`SharedPoolAllocator::meet`](super::SharedPoolAllocator::meet) has it: no bucket is held by both. So
-    /// none that is out at one of them is out or cached at the other. Nothing changes. The parties have to be this pool's.
+    /// Makes two parties meet, as [`SharedPoolAllocator::meet`](super::SharedPoolAllocator::meet) does: no bucket is held by
+    /// both. So a bucket that is in use at one of them is neither in use nor cached at the other. Nothing changes. The parties
+    /// have to be this pool's.
     #[tactic(auto, unfolding(crate::specs::SharedPoolCaching::IsOut))]
     pub fn meet<const CAPPED: usize, const MOST: usize>(
         &mut self,
@@ -433,8 +413,8 @@ impl CachingParty {
         pool.meet(&mut self.party, &mut other.party);
     }
 
-    /// Gives all cached buckets back to the pool, as `flush` does, and returns the party, which holds just the buckets that are
-    /// out. The party has to be this pool's.
+    /// Gives all cached buckets back to the pool, as `flush` does, and returns the party, which holds only the buckets that are
+    /// in use. The party has to be this pool's.
     #[tactic(auto, unfolding(crate::specs::SharedPoolCaching::IsOut))]
     pub fn into_party<const CAPPED: usize, const MOST: usize>(
         mut self,
@@ -478,7 +458,7 @@ fn return_all<const CAPPED: usize, const MOST: usize>(
     ensures given_back { (other : ℕ) → IsHeldAfter party.new.log other
         → ¬ Contains cached.old.items other }
 {
-    // Proof hint: brings the party's invariant into scope where none is cached.
+    // Proof hint: brings the party's invariant into scope if none is cached.
     let _ = party.number();
     while let Some(number) = cached.pop() {
         let bucket = by_number::bucket(pool, party, number, 0);

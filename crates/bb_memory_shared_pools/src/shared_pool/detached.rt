@@ -1,6 +1,6 @@
-//! Buckets on their way from one party of a shared pool to another.
+//! Buckets in transit from one party of a shared pool to another.
 ghost use Rattle.bb_memory_shared_pools.specs.SharedPool.{AreOf, HasAttached, HasAttachedFrom, HasDetached, HasReturned, MayDetach};
-ghost use Rattle.std.specs.Prelude.{IsFalse, IsTrue, true, ◌<◌, ◌≡◌, ◌≤◌};
+ghost use Rattle.std.specs.Prelude.{IsFalse, IsTrue, ◌<◌, ◌≡◌, ◌≤◌};
 
 use super::bucket::Bucket;
 use super::buckets::SharedBucketPool;
@@ -10,9 +10,9 @@ use atomic_table::Seat;
 use std::marker::Model;
 
 /// The token of a detached bucket, which [`SharedPoolAllocator::attach`](super::SharedPoolAllocator::attach) and
-/// [`SharedPoolAllocator::return_detached`](super::SharedPoolAllocator::return_detached) spend. It borrows nothing, so it can go
-/// to another thread with a message, or lie in a struct. Meanwhile no party holds the bucket, and its flag stays taken. There is
-/// one token for each detached bucket. Dropping the token leaks the bucket: its flag stays taken for good.
+/// [`SharedPoolAllocator::return_detached`](super::SharedPoolAllocator::return_detached) spend. The token borrows nothing, so
+/// it can go to another thread in a message, or be stored in a struct. Meanwhile no party holds the bucket, and its flag stays
+/// taken. Each detached bucket has one token. Dropping the token leaks the bucket: its flag stays taken for good.
 #[derive(Drop)]
 pub struct DetachedBucket {
     number: u32,
@@ -32,25 +32,6 @@ impl Model for DetachedBucket {
     ghost invariant = { λ b. IsDetachedSeat b.number b.len b.seat.me };
 }
 
-/// The token of a detached bucket without the number and the length, and so of no bytes. Nothing here makes one. A host whose
-/// process died with a [`DetachedBucket`] has the bucket's number from its flag, and knows that nobody else has the token: so it
-/// may hand this one over, at an interface for C.
-#[derive(Drop)]
-pub struct LostBucket {
-    seat: Seat<u8, View>,
-}
-
-impl Model for LostBucket {
-    ghost use Rattle.bb_memory_shared_pools.specs.SharedPool.{TakenBucket, taken_bucket};
-    ghost use Rattle.bb_memory_shared_pools.specs.SharedPoolRule.{IsDetachedSeat, carried, pool_in};
-
-    ghost Value = { TakenBucket };
-
-    ghost view = { λ b. taken_bucket (pool_in b.seat.table_id b.seat.me.0) (carried b.seat.me) 0 };
-
-    ghost invariant = { λ b. IsDetachedSeat (carried b.seat.me) 0 b.seat.me };
-}
-
 impl DetachedBucket {
     /// Returns the bucket's number in its pool, from 0.
     pub fn number(&self) -> u32
@@ -60,7 +41,7 @@ impl DetachedBucket {
         self.number
     }
 
-    /// Returns the length in bytes of the chunk in the bucket, as it was when the bucket was detached.
+    /// Returns the length in bytes of the chunk that was in the bucket when it was detached.
     pub fn len(&self) -> usize
         ensures value { (result ≡ self.now.len)
             × (result ≤ self.now.allocator.scene.geometry.bucket.size) }
@@ -71,10 +52,12 @@ impl DetachedBucket {
 
 impl<const CAPPED: usize, const MOST: usize> SharedBucketPool<CAPPED, MOST> {
     /// Detaches a bucket from the party that holds it, so that another party can attach it, in any thread. The party's log gets
-    /// this step, a store, and the flag stays taken. Detaching loads one word more, takes no memory and waits for nothing.
-    /// Conditions: the pool was made for two parties at least, as `number_of_parties` returns; the party and the bucket are this
-    /// pool's; and the party's log holds the bucket: this party took or attached it, and hasn't given it back or detached it
-    /// since.
+    /// this step, a store, and the flag stays taken. The call also loads one more word. It allocates no memory and waits for
+    /// nothing.
+    ///
+    /// The pool has to have at least two parties, as `number_of_parties` returns. The party and the bucket have to be this
+    /// pool's, and the party's log has to hold the bucket: this party took or attached it, and hasn't given it back or detached
+    /// it since.
     ///
     /// Example: `comments::shared_pool_detached` of `crates/examples`.
     pub fn detach(&self, party: &mut PoolParty, bucket: Bucket<'_>) -> DetachedBucket
@@ -91,9 +74,9 @@ impl<const CAPPED: usize, const MOST: usize> SharedBucketPool<CAPPED, MOST> {
         DetachedBucket { number, len, seat }
     }
 
-    /// Attaches a detached bucket: the party holds it from then on, with the number and the length that it had, and can give it
-    /// back. The party's log gets this step, a store. Attaching loads one word more, takes no memory and waits for nothing.
-    /// Condition: the party and the bucket are this pool's. There is no refusal.
+    /// Attaches a detached bucket: the party holds it from then on, with its number and length unchanged, and can give it back.
+    /// The party's log gets this step, a store. The call also loads one more word. It allocates no memory, waits for nothing
+    /// and can't fail. The party and the bucket have to be this pool's.
     pub fn attach(&self, party: &mut PoolParty, detached: DetachedBucket) -> Bucket<'_>
         requires same_pool { AreOf self.now party.old detached }
         ensures bucket { result ≡ detached }
@@ -109,8 +92,8 @@ impl<const CAPPED: usize, const MOST: usize> SharedBucketPool<CAPPED, MOST> {
         }
     }
 
-    /// Gives back a detached bucket by one store, which makes its flag free, as a party may that needs the bucket no more. The
-    /// party's log gets this step. Condition: the party and the bucket are this pool's. There is no refusal.
+    /// Gives back a detached bucket by one store, which makes its flag free, if a party doesn't need the bucket any more. The
+    /// party's log gets this step. The call can't fail. The party and the bucket have to be this pool's.
     pub fn return_detached(&self, party: &mut PoolParty, detached: DetachedBucket)
         requires same_pool { AreOf self.now party.old detached }
         ensures { HasReturned self.now party.old detached party.new }
@@ -124,9 +107,9 @@ impl<const CAPPED: usize, const MOST: usize> SharedBucketPool<CAPPED, MOST> {
         party.hint.follow_return(number);
     }
 
-    /// Detaches a bucket as `detach` does, but makes no token: the bucket's number, which is returned, goes to the other party by
-    /// any way, as a file that processes share, and that party attaches it by `attach_number`. The conditions are those of
-    /// `detach`.
+    /// Detaches a bucket as `detach` does, but makes no token. The bucket's number, which is returned, can go to the other
+    /// party in any way, for example through a file that processes share. That party attaches the bucket by `attach_number`.
+    /// The conditions are those of `detach`.
     pub fn detach_number(&self, party: &mut PoolParty, bucket: Bucket<'_>) -> u32
         requires allowed { MayDetach self.now party.old bucket }
         ensures number { result ≡ bucket.entry.number }
@@ -138,11 +121,13 @@ impl<const CAPPED: usize, const MOST: usize> SharedBucketPool<CAPPED, MOST> {
         number
     }
 
-    /// Attaches the bucket of this number where the party of number `from` has detached it by `detach_number`, by one exchange
-    /// of its flag, and returns whether that won. It wins only where the flag says at the exchange that exactly this party has
-    /// detached the bucket, without a token: so of any number of callers at most one wins. A loss changes nothing, and is no
-    /// step of the log. [`by_number::bucket`](super::by_number::bucket) makes the token of a bucket that was won. The party has
-    /// to be this pool's. `from` may be any number.
+    /// Attaches the bucket of this number if the party of number `from` has detached it by `detach_number`, by one exchange of
+    /// its flag. Returns whether that succeeded: only if the flag says at the exchange that exactly this party has detached the
+    /// bucket, without a token. So of any number of callers at most one succeeds. A loss changes nothing, and is not a step of
+    /// the log.
+    ///
+    /// [`by_number::bucket`](super::by_number::bucket) makes the token of a bucket that was attached. The party has to be this
+    /// pool's. `from` may be any number.
     pub fn attach_number(&self, party: &mut PoolParty, number: u32, from: u32) -> bool
         requires party { party.old.allocator ≡ self.now }
         requires below { number < self.now.scene.geometry.buckets }
@@ -151,26 +136,5 @@ impl<const CAPPED: usize, const MOST: usize> SharedBucketPool<CAPPED, MOST> {
     {
         self.flags
             .attach_number(party.number, &mut party.seat, number, from)
-    }
-
-    /// Gives back the detached bucket of this number, whose token was lost, by one store. It is refused where the bucket's flag
-    /// doesn't say that it is detached with a token, which the token rules out. The party and the token have to be this pool's.
-    pub fn recover(&self, party: &mut PoolParty, number: u32, lost: LostBucket) -> bool
-        requires same_pool { AreOf self.now party.old lost }
-        requires number { lost.number ≡ number }
-        ensures recovered { result ≡ true }
-        ensures party { HasReturned self.now party.old lost party.new }
-    {
-        let LostBucket { mut seat } = lost;
-        if !self.flags.is_detached(&mut seat, number) {
-            return false;
-        }
-        let detached = DetachedBucket {
-            number,
-            len: 0,
-            seat,
-        };
-        self.return_detached(party, detached);
-        true
     }
 }

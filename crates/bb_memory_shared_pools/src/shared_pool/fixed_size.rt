@@ -1,4 +1,4 @@
-//! A shared pool of at most a constant of buckets.
+//! A shared pool with at most a constant number of buckets.
 ghost use Rattle.bb_memory_shared_pools.specs.SharedPool.{AreFresh};
 ghost use Rattle.bb_memory_traits.specs.Chunk.{region_at};
 ghost use Rattle.bb_memory_traits.specs.Geometry.{IsCutAtMost, MayBeCut};
@@ -21,12 +21,15 @@ pub type SharedFixedSizePoolAllocator<const MAX_NUMBER_OF_BUCKETS: usize> = Shar
 >;
 
 impl<const MAX_NUMBER_OF_BUCKETS: usize> SharedFixedSizePoolAllocator<MAX_NUMBER_OF_BUCKETS> {
-    /// Makes a pool over the region of `size` bytes at `start`, cut into buckets of this layout, with no bucket held, and its
-    /// parties, numbered from 0. The start has to be greater than 0; start plus size, and the start rounded up to the bucket's
-    /// alignment, at most `usize::MAX`; the bucket's size greater than 0; the buckets that there is room for fewer than
-    /// `u32::MAX`, as the constant, and the parties at least 1.
-    /// `FixedSizePoolAllocator::can_make` of `bb_memory_owned` tests all but the parties.
-    /// Its only refusal is `OutOfMemory`, where a request for memory was refused.
+    /// Makes a pool over the region of `size` bytes at `start`, cut into buckets of this layout. No bucket is held. Returns the
+    /// pool and its parties, numbered from 0.
+    ///
+    /// The start and the bucket's size have to be greater than 0. The start plus the size, and the start rounded up to the
+    /// bucket's alignment, have to be at most `usize::MAX`. The region has to have room for fewer than `u32::MAX` buckets, and
+    /// the constant has to be less than that, too. There has to be at least one party. `FixedSizePoolAllocator::can_make` of
+    /// `bb_memory_owned` tests all but the parties.
+    ///
+    /// Fails only with `OutOfMemory`, if memory for the pool or its parties can't be allocated.
     pub fn new(
         alloc: Global,
         bucket_layout: Layout,

@@ -1,10 +1,12 @@
-//! The flags that threads share, one a bucket: their words, and the only calls that touch them.
+//! The flags that threads share, one for each bucket: their words, and the only calls that touch them.
 //!
-//! `try_flag`, `try_at`, `probe`, `give_back` and `detach_number` make one logged step each, by the seat of the party whose step
-//! it is. That party's log then ends with the step and what it found. So does `attach_number` where it wins, and so do `detach`,
-//! `attach` and `return_detached`, each of which loads a word more for the seat of what is detached. `split_first`, `merge`, `load_for_meeting`, `meet`, `is_held`, `is_detached`,
-//! `is_detached_when_met` and `found` only load words, and are in no log; nor is the load with which `probe` begins, where it finds the flag free. `open` is
-//! before all sharing, and `geometry` touches no word.
+//! - `try_flag`, `try_at`, `probe`, `give_back` and `detach_number` make one logged step each, by the seat of the party whose
+//!   step it is. That party's log then ends with the step and what it found.
+//! - So does `attach_number` if it succeeds, and so do `detach`, `attach` and `return_detached`. Each of these three also loads
+//!   one more word, for the seat of the detached bucket.
+//! - `split_first`, `merge`, `load_for_meeting`, `meet`, `is_held`, `is_detached_when_met` and `found` only load words, and are
+//!   in no log. Nor is the load with which `probe` begins, if it finds the flag free.
+//! - `open` runs before anything is shared, and `geometry` touches no word.
 ghost use Rattle.bb_memory_pool_machine.specs.PoolLogs.{IsHeldAfter, MayBeFound, next_bucket};
 ghost use Rattle.bb_memory_pool_machine.specs.PoolMachine.{NamesMade};
 ghost use Rattle.bb_memory_pool_machine.specs.declared.steps.pool.Flag.{Flag};
@@ -68,11 +70,11 @@ fn flag_of(word: u64) -> Flag
     }
 }
 
-/// The word of the first flag. The eight words before it, a cache line of them, are no flag: word 0 is loaded by meetings.
+/// The word of the first flag. The eight words before it, one cache line, are not flags: meetings load word 0.
 const FIRST: usize = 8;
 
-/// Returns the word of a bucket's flag. Flags stand in the order of their buckets: neighbours of one party's part of the pool
-/// share a cache line, and different parties' parts lie on different lines but at their borders.
+/// Returns the word of a bucket's flag. The flags are in the order of their buckets: neighbours in one party's part of the pool
+/// share a cache line, and different parties' parts are on different lines, except at their borders.
 fn word_of(bucket: u32) -> usize
     ensures { result ≡ word_of bucket }
 {
@@ -115,7 +117,7 @@ impl Play<u8, View> for Returns {
     ghost then = { returns };
 }
 
-/// A load by a seat that stands for any number of parties.
+/// A load by a seat that represents any number of parties.
 struct Meets;
 
 impl Play<u8, View> for Meets {
@@ -124,7 +126,7 @@ impl Play<u8, View> for Meets {
     ghost then = { meets };
 }
 
-/// A load of a flag by a seat that stands for any number of parties.
+/// A load of a flag by a seat that represents any number of parties.
 struct LooksMet;
 
 impl Play<u8, View> for LooksMet {
@@ -149,15 +151,6 @@ impl Play<u8, View> for Finds {
     ghost use Rattle.bb_memory_shared_pools.specs.SharedPoolRule.{finds};
 
     ghost then = { finds };
-}
-
-/// A load of a flag by a seat at which the bucket is detached.
-struct SeesDetached;
-
-impl Play<u8, View> for SeesDetached {
-    ghost use Rattle.bb_memory_shared_pools.specs.SharedPoolRule.{sees_detached};
-
-    ghost then = { sees_detached };
 }
 
 /// A store by a party after whose log the bucket is held, which detaches it.
@@ -205,7 +198,7 @@ impl Play<u8, View> for ReturnsDetached {
     ghost then = { returns_detached };
 }
 
-/// The first bucket that is detached goes to the new seat.
+/// Moves the first bucket that is detached to the new seat.
 struct GiveDetached;
 
 impl Split<View> for GiveDetached {
@@ -216,7 +209,7 @@ impl Split<View> for GiveDetached {
     ghost right = { first_detached };
 }
 
-/// Detached buckets of one seat come to another.
+/// Moves detached buckets from one seat to another.
 struct TakeIn;
 
 impl Join<View> for TakeIn {
@@ -228,7 +221,7 @@ impl Join<View> for TakeIn {
     ghost spent = { nobody };
 }
 
-/// The first party goes to the new seat.
+/// Moves the first party to the new seat.
 struct GiveFirst;
 
 impl Split<View> for GiveFirst {
@@ -239,7 +232,7 @@ impl Split<View> for GiveFirst {
     ghost right = { first_of };
 }
 
-/// One seat stands for the parties of two.
+/// Makes one seat represent the parties of two.
 struct Merge;
 
 impl Join<View> for Merge {
@@ -251,7 +244,7 @@ impl Join<View> for Merge {
     ghost spent = { nobody };
 }
 
-/// The words that have the flags, and the buckets that these are of.
+/// The words of the flags, and the buckets that they belong to.
 #[derive(Drop)]
 pub(super) struct Flags {
     table: Table<u8, View, Scene, Agreement, Global>,
@@ -275,7 +268,7 @@ impl Model for Flags {
 }
 
 impl Flags {
-    /// Makes the flags at a scene's opening, all free, and a seat that stands for all its parties.
+    /// Makes the flags at a scene's opening, all free, and a seat that represents all its parties.
     pub(super) fn open(alloc: Global, scene: Scene) -> Result<(Flags, Seat<u8, View>), AllocError>
         requires { 1 ≤ scene.parties }
         ensures scene { IfOk result (λ made. made.0.scene ≡ scene) }
@@ -290,7 +283,7 @@ impl Flags {
         Ok((flags, seat))
     }
 
-    /// Returns a seat of its own for the first party that a seat stands for.
+    /// Returns a seat of its own for the first party that a seat represents.
     pub(super) fn split_first(&self, rest: &mut Seat<u8, View>) -> Seat<u8, View>
         requires { rest.old.table_id ≡ self.now.table }
         ensures { IsSplit rest.old.table_id rest.old.me rest.new.table_id rest.new.me
@@ -332,8 +325,8 @@ impl Flags {
         flag == FREE
     }
 
-    /// Tries this bucket as `try_at` does, but makes the exchange only where a load finds the flag free, since an exchange takes
-    /// the flag's cache line from all other threads, also where it is lost.
+    /// Tries this bucket as `try_at` does, but makes the exchange only if a load finds the flag free: even an exchange that
+    /// loses takes the flag's cache line away from all other threads.
     pub(super) fn probe(&self, party: u32, seat: &mut Seat<u8, View>, bucket: u32) -> bool
         requires party { number_of seat.old.me.0 ≡ party }
         requires seat { IsIdleAt self.now seat.old.table_id seat.old.me }
@@ -348,7 +341,7 @@ impl Flags {
         self.try_at(party, seat, bucket)
     }
 
-    /// A store of free on the flag of a bucket that is held after the party's log.
+    /// Stores free in the flag of a bucket that is held after the party's log.
     pub(super) fn give_back(&self, seat: &mut Seat<u8, View>, bucket: u32)
         requires seat { IsSeatAt self.now seat.old.table_id seat.old.me }
         requires held { IsHeldAt self.now seat.old.me bucket }
@@ -384,18 +377,6 @@ impl Flags {
         flag_of(word)
     }
 
-    /// Loads the flag of `bucket` by a seat at which the bucket is detached. Returns whether the flag says so: a bucket that was
-    /// detached without a token isn't taken for one that has it.
-    pub(super) fn is_detached(&self, seat: &mut Seat<u8, View>, bucket: u32) -> bool
-        requires { IsDetachedAt self.now seat.old.table_id seat.old.me bucket }
-        ensures seat { Stays seat.old.table_id seat.new.table_id (seat.new.me ≡ seat.old.me) }
-        ensures value { result ≡ true }
-    {
-        let shared = &self.table.shared;
-        let found = shared.load::<SeesDetached>(seat, word_of(bucket));
-        found > 2 * WITH_TOKEN && found % 2 == 0
-    }
-
     /// A store by the party after whose log this bucket is held, and which isn't the only one. What is returned has the bucket
     /// detached.
     pub(super) fn detach(
@@ -417,7 +398,7 @@ impl Flags {
         shared.split_seat::<GiveDetached>(seat)
     }
 
-    /// The seat of a detached bucket joins that of an idle party.
+    /// Joins the seat of a detached bucket to that of an idle party.
     fn take_in(&self, seat: &mut Seat<u8, View>, detached: Seat<u8, View>, bucket: u32)
         requires seat { IsIdleAt self.now seat.old.table_id seat.old.me }
         requires detached { IsDetachedAt self.now detached.table_id detached.me bucket }
@@ -431,7 +412,7 @@ impl Flags {
         self.table.shared.join_seat::<TakeIn>(seat, detached);
     }
 
-    /// A store by an idle party, to whose seat this detached bucket comes, and which then holds the bucket.
+    /// Makes a store by an idle party, to whose seat this detached bucket comes, and which then holds the bucket.
     pub(super) fn attach(
         &self,
         party: u32,
@@ -451,7 +432,7 @@ impl Flags {
         shared.store::<Attaches>(seat, word_of(bucket), held_by(party));
     }
 
-    /// A store of free by an idle party, to whose seat this detached bucket comes.
+    /// Makes a store of free by an idle party, to whose seat this detached bucket comes.
     pub(super) fn return_detached(
         &self,
         seat: &mut Seat<u8, View>,
@@ -469,8 +450,8 @@ impl Flags {
         shared.store::<ReturnsDetached>(seat, word_of(bucket), FREE);
     }
 
-    /// A store by the party after whose log this bucket is held, and which isn't the only one. The bucket is detached then, and
-    /// no seat has it.
+    /// Makes a store by the party after whose log this bucket is held, and which isn't the only one. Afterwards the bucket is
+    /// detached, and no seat has it.
     pub(super) fn detach_number(&self, party: u32, seat: &mut Seat<u8, View>, bucket: u32)
         requires party { number_of seat.old.me.0 ≡ party }
         requires others { 1 < self.now.scene.parties }
@@ -508,7 +489,7 @@ impl Flags {
         found == sent
     }
 
-    /// A guest's parties go to this seat, before its own.
+    /// Moves a guest's parties to this seat, before its own.
     pub(super) fn merge(&self, seat: &mut Seat<u8, View>, guest: Seat<u8, View>)
         requires { MayMerge self.now.table seat.old.table_id guest.table_id guest.me }
         ensures { Stays seat.old.table_id seat.new.table_id
@@ -517,7 +498,7 @@ impl Flags {
         self.table.shared.join_seat::<Merge>(seat, guest);
     }
 
-    /// A load where the parties of one seat have met.
+    /// Makes a load when the parties of one seat have met.
     pub(super) fn load_for_meeting(&self, seat: &mut Seat<u8, View>)
         requires { StandsAt self.now seat.old.table_id seat.old.me }
         ensures table { seat.new.table_id ≡ seat.old.table_id }
@@ -527,7 +508,8 @@ impl Flags {
         self.table.shared.load::<Meets>(seat, 0);
     }
 
-    /// Loads the flag of `bucket` where the parties of one seat have met, which is in no log. Returns whether the bucket is detached.
+    /// Loads the flag of `bucket` when the parties of one seat have met, which is in no log. Returns whether the bucket is
+    /// detached.
     pub(super) fn is_detached_when_met(&self, seat: &mut Seat<u8, View>, bucket: u32) -> bool
         requires seat { StandsAt self.now seat.old.table_id seat.old.me }
         requires below { bucket < self.now.scene.geometry.buckets }
@@ -542,7 +524,7 @@ impl Flags {
         found != FREE && found % 2 == 0
     }
 
-    /// Two parties meet at one seat, load a word there, and go back to their own.
+    /// Makes two parties meet at one seat, load a word there, and go back to their own seats.
     pub(super) fn meet(&self, a: &mut Seat<u8, View>, b: &mut Seat<u8, View>)
         requires a { IsSeatAt self.now a.old.table_id a.old.me }
         requires b { IsSeatAt self.now b.old.table_id b.old.me }
@@ -571,7 +553,7 @@ impl Flags {
         self.scene.parties
     }
 
-    /// Returns the buckets that the flags are of.
+    /// Returns the buckets that the flags belong to.
     pub(super) fn geometry(&self) -> &Geometry
         ensures value { result.now ≡ self.now.scene.geometry }
     {

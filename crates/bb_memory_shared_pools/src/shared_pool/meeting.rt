@@ -9,8 +9,8 @@ use super::rule::View;
 use atomic_table::Seat;
 
 impl Flags {
-    /// Loads the flags where the parties of one seat have met, each once, up to the first one of a detached bucket. Returns whether
-    /// there is one.
+    /// Loads the flags when the parties of one seat have met, each once, up to the first one of a detached bucket. Returns
+    /// whether there is one.
     fn have_detached(&self, seat: &mut Seat<u8, View>) -> bool
         requires { StandsAt self.now seat.old.table_id seat.old.me }
         ensures table { seat.new.table_id ≡ seat.old.table_id }
@@ -25,7 +25,7 @@ impl Flags {
         false
     }
 
-    /// These parties meet those of the seat, and go back to their own. Returns whether a bucket is detached then.
+    /// Makes these parties meet those of the seat, and go back to their own seats. Returns whether a bucket is detached then.
     pub(super) fn meet_detached(&self, seat: &mut Seat<u8, View>, rest: &mut Vec<PoolParty>) -> bool
         requires seat { StandsAt self.now seat.old.table_id seat.old.me }
         requires rest { All (λ party. party.allocator ≡ self.now) rest.old.items }
@@ -54,7 +54,7 @@ impl Flags {
         told
     }
 
-    /// These parties meet those of the seat, and go back to their own.
+    /// Makes these parties meet those of the seat, and go back to their own seats.
     pub(super) fn meet_rest(&self, seat: &mut Seat<u8, View>, rest: &mut Vec<PoolParty>)
         requires seat { StandsAt self.now seat.old.table_id seat.old.me }
         requires rest { All (λ party. party.allocator ≡ self.now) rest.old.items }

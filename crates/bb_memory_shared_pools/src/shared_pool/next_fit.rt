@@ -30,7 +30,7 @@ fn probed(buckets: u32, first: u32, probe: u32) -> u32
 }
 
 impl<const CAPPED: usize, const MOST: usize> SharedBucketPool<CAPPED, MOST> {
-    /// Returns the first bucket of a party's own part of the pool, which is cut into as many parts as it has parties.
+    /// Returns the first bucket of a party's own part of the pool. The pool is cut into one part for each party.
     pub(super) fn part_of(&self, number: u32) -> u32
         requires { number < self.now.scene.parties }
         ensures { result ≡ part_of self.now.scene number }
@@ -39,8 +39,8 @@ impl<const CAPPED: usize, const MOST: usize> SharedBucketPool<CAPPED, MOST> {
         (before / self.number_of_parties() as u64) as u32
     }
 
-    /// One whole search: a probe of each bucket from bucket `first` up, and then of each below it, until one is taken. The first
-    /// probe makes its exchange without a load before it: at the hint a bucket is mostly free.
+    /// Makes one whole search: a probe of each bucket from bucket `first` up, and then of each below it, until one is taken.
+    /// The first probe makes its exchange without a load before it, since the bucket at the hint is mostly free.
     fn next_fit(&self, party: u32, seat: &mut Seat<u8, View>, first: u32) -> Option<u32>
         requires party { number_of seat.old.me.0 ≡ party }
         requires seat { IsIdleAt self.now seat.old.table_id seat.old.me }
@@ -63,8 +63,9 @@ impl<const CAPPED: usize, const MOST: usize> SharedBucketPool<CAPPED, MOST> {
         self.later_probes(party, seat, first)
     }
 
-    /// The probes of a search behind its first, which missed: the clause holds for each log with which the search may have begun.
-    /// The loop stands apart, and isn't inlined, so that a search whose first probe takes a bucket is straight-line code.
+    /// Makes the probes of a search after its first, which missed. The clause holds for each log with which the search may have
+    /// begun. The loop is a function of its own, and isn't inlined, so that a search whose first probe takes a bucket is
+    /// straight-line code.
     #[inline(never)]
     fn later_probes(&self, party: u32, seat: &mut Seat<u8, View>, first: u32) -> Option<u32>
         requires party { number_of seat.old.me.0 ≡ party }
@@ -88,11 +89,15 @@ impl<const CAPPED: usize, const MOST: usize> SharedBucketPool<CAPPED, MOST> {
     }
 
     /// Takes a bucket for the party, as `allocate` does, but tries the buckets in another order: after the same tests of size and
-    /// alignment it probes each bucket once, until one is taken. The search begins at the party's hint: at the bucket that it
-    /// gave back last, or else at its rover; before its first step, at the first bucket of a part of the pool of its own. The
-    /// rover is behind the bucket that the party took last, or at one that it gave back before its last one. The search goes on
-    /// to the last bucket, and then from bucket 0 up. It is refused with `OutOfMemory` where each probe misses. Where other
-    /// parties step meanwhile, that doesn't mean that all buckets were held at one moment. The party has to be this pool's.
+    /// alignment it probes each bucket once, until one is taken.
+    ///
+    /// The search begins at the party's hint, goes on to the last bucket, and then from bucket 0 up. The hint is the bucket that
+    /// the party gave back last, or one at most 128 before it that it gave back earlier, or otherwise its rover. The rover is just
+    /// after the bucket that the party took last, or at one that it gave back before. Before the party's first step, it is the
+    /// first bucket of the party's own part of the pool.
+    ///
+    /// Fails with `OutOfMemory` if each probe misses. If other parties step meanwhile, that doesn't mean that all buckets were held
+    /// at one moment. The party has to be this pool's.
     #[inline(always)]
     pub fn allocate_next_fit(
         &self,

@@ -1,15 +1,15 @@
 //! Parties: each is one user's right to step on a shared pool.
 ghost use Rattle.bb_memory_pool_machine.specs.declared.steps.pool.PoolOutcome.TheVariants.{Gives, Takes};
 ghost use Rattle.bb_memory_shared_pools.specs.SharedPool.{IsParty};
-ghost use Rattle.bb_memory_shared_pools.specs.SharedPoolNextFit.{hint_after};
+ghost use Rattle.bb_memory_shared_pools.specs.SharedPoolNextFit.{hint_after, stays_at};
 ghost use Rattle.std.specs.Prelude.{◌+◌, ◌<◌, ◌^◌, ◌≡◌};
 
 use super::rule::View;
 use atomic_table::Seat;
 use std::marker::Model;
 
-/// A party's hint: the bucket at which its next search begins, and its rover, where a search begins that follows a taking. The
-/// two differ only where the party gave back a bucket since it took its last one.
+/// A party's hint: the bucket at which its next search begins, and its rover, at which a search begins that follows a taking.
+/// The two differ only if the party has given back a bucket since it took its last one.
 #[derive(Clone, Copy)]
 pub(super) struct Hint {
     pub(super) bucket: u32,
@@ -17,8 +17,8 @@ pub(super) struct Hint {
 }
 
 impl Hint {
-    /// Follows the taking of this bucket: the rover goes behind it, but stays where the bucket is the one that came back last, and
-    /// the rover is elsewhere. The next search begins at the rover.
+    /// Moves the hint after this bucket was taken. The rover moves to the bucket after it, unless this bucket is the one at which
+    /// the search began and the rover is elsewhere. The next search begins at the rover.
     pub(super) fn follow_taking(&mut self, bucket: u32)
         requires { bucket + 1 < 2 ^ 32 }
         ensures { self.new ≡ hint_after self.old (Takes bucket) }
@@ -29,11 +29,26 @@ impl Hint {
         self.bucket = self.rover;
     }
 
-    /// Follows a return of this bucket: the next search begins there. The rover goes to the bucket where it would have begun, but
-    /// stays where that lies at most 128 ahead of it.
+    /// Returns whether the next search stays where it would have begun if this bucket is given back. It stays if that place is a
+    /// bucket that came back since the party's last taking (it is before the rover), and is at most 128 before this bucket.
+    fn stays_at(&self, bucket: u32) -> bool
+        ensures { result ≡ stays_at self.now bucket }
+    {
+        self.bucket < self.rover && self.bucket < bucket && bucket - self.bucket <= 128
+    }
+
+    /// Moves the hint after this bucket was given back. If the next search stays where it would have begun, a rover after this
+    /// bucket moves to it. Otherwise the next search begins at this bucket, and the rover moves to where it would have begun,
+    /// unless that is at most 128 ahead of the rover.
     pub(super) fn follow_return(&mut self, bucket: u32)
         ensures { self.new ≡ hint_after self.old (Gives bucket) }
     {
+        if self.stays_at(bucket) {
+            if bucket < self.rover {
+                self.rover = bucket;
+            }
+            return;
+        }
         if self.bucket < self.rover || self.bucket - self.rover > 128 {
             self.rover = self.bucket;
         }
@@ -41,8 +56,8 @@ impl Hint {
     }
 }
 
-/// One user of a shared pool. It goes with its thread, and each call that takes or gives back a bucket asks for it. The list
-/// of its steps, its log, is known to contracts alone. A dropped party meets no more, so no later meeting is of all parties.
+/// One user of a shared pool. A party moves with its thread, and each call that takes or gives back a bucket needs it. Only
+/// contracts know the list of its steps, its log. A dropped party doesn't meet any more, so no later meeting is of all parties.
 #[derive(Drop)]
 pub struct PoolParty {
     pub(super) number: u32,
@@ -62,7 +77,7 @@ impl Model for PoolParty {
 }
 
 impl PoolParty {
-    /// Returns the party's number, from 0 and below how many parties there are.
+    /// Returns the party's number, from 0 and less than the number of parties.
     pub fn number(&self) -> u32
         ensures value { result ≡ self.now.number }
 

@@ -3,7 +3,7 @@ use atomic_table::TableRule;
 use bb_memory_traits::geometry::Geometry;
 use std::marker::Model;
 
-/// The scene of a shared pool's machine: where it begins.
+/// The scene of a shared pool's machine: the state in which it begins.
 #[derive(Drop)]
 pub(crate) struct Scene {
     pub(crate) geometry: Geometry,
@@ -19,7 +19,7 @@ impl Model for Scene {
     ghost view = { λ s. scene_at s.geometry s.parties };
 }
 
-/// Knowledge of a seat: the parties that it stands for, each with its log. No value of this type is made.
+/// The knowledge of a seat: the parties that it represents, each with its log. No value of this type is made.
 pub(crate) struct View {}
 
 impl Model for View {

@@ -1,4 +1,4 @@
-//! Chunks, which are what is given.
+//! Chunks, which allocators give.
 ghost use Rattle.bb_memory_traits.specs.BumpObject.{chunk_at_or_after};
 ghost use Rattle.bb_memory_traits.specs.Chunk.{AreApart, Chunk, IsChunk, IsInside, IsPart, IsSound, Region, chunk_end};
 ghost use Rattle.bb_memory_traits.specs.HeldBytes.{first_part, part_behind};
@@ -42,8 +42,8 @@ impl Chunk {
         Some(Chunk { place, len })
     }
 
-    /// Returns the chunk of a place and a length in bytes, without a test. The place isn't 0, and place plus length is at most
-    /// `usize::MAX`: [`Chunk::new`] tests both.
+    /// Returns the chunk of a place and a length in bytes, without a test. The place must not be 0, and place plus length has
+    /// to be at most `usize::MAX`: [`Chunk::new`] tests both.
     #[inline(always)]
     pub fn new_unchecked(place: usize, len: usize) -> Chunk
         requires { let chunk : Chunk = record { place = place; len = len } in IsChunk chunk }
@@ -53,7 +53,7 @@ impl Chunk {
     }
 
     /// Returns the chunk that a layout gets at or after `v`: `layout.size()` bytes at the least multiple of `layout.align()`
-    /// that is at least `v`. Returns `None` exactly if that chunk would end after `end`. `v` isn't 0.
+    /// that is at least `v`. Returns `None` exactly if that chunk would end after `end`. `v` must not be 0.
     #[inline(always)]
     pub fn at_or_after(v: usize, layout: Layout, end: usize) -> Option<Chunk>
         requires { 0 < v }
@@ -62,7 +62,7 @@ impl Chunk {
         ensures above { IfSome result (λ chunk. v ≤ chunk.place) }
         ensures aligned { IfSome result (λ chunk. chunk.place % layout.align ≡ 0) }
     {
-        // The address before the least place. By this mask a place takes fewer steps than by rounding `v` up.
+        // The address before the least place. With this mask, the place takes fewer instructions than rounding `v` up.
         let before = (v - 1) | (layout.align() - 1);
         if before.checked_add(layout.size())? >= end {
             return None;
@@ -95,7 +95,7 @@ impl Chunk {
         self.len == 0
     }
 
-    /// Place plus length.
+    /// Returns place plus length.
     #[inline(always)]
     pub fn end(&self) -> usize
         ensures { result ≡ chunk_end self.now }
@@ -103,7 +103,7 @@ impl Chunk {
         self.place + self.len
     }
 
-    /// Returns its first `size` bytes, which it has to have.
+    /// Returns the first `size` bytes of the chunk, which has to have that many.
     ///
     /// Example: `comments::parts_of_a_chunk` of `crates/examples`.
     #[inline]
@@ -117,7 +117,7 @@ impl Chunk {
         }
     }
 
-    /// Returns the part after the first `size` bytes, which the chunk has to have.
+    /// Returns the part after the first `size` bytes of the chunk, which has to have that many.
     #[inline]
     pub fn behind(&self, size: usize) -> Chunk
         requires { size ≤ self.now.len }
@@ -130,7 +130,7 @@ impl Chunk {
     }
 }
 
-/// Says that the last chunks of a sound list are apart from the others. It does nothing: its contract is the law.
+/// States that the last chunks of a sound list are apart from the others. The function does nothing: its contract is the law.
 pub fn given_law()
     ensures given { (region : Region) (live : List Chunk) (chunk : Chunk)
         → IsSound region (live ++ chunk ∷ []) → All (AreApart chunk) live }
@@ -138,7 +138,7 @@ pub fn given_law()
         → IsSound region ((live ++ one ∷ []) ++ other ∷ []) → AreApart one other }
 {}
 
-/// Parts of chunks. It does nothing: its contract is the law.
+/// States laws of the parts of chunks. The function does nothing: its contract is the law.
 pub fn parts_law()
     // The first bytes of a chunk and those after them are its parts, and they are apart.
     ensures first { (chunk : Chunk) (size : ℕ) → size ≤ chunk.len
@@ -148,7 +148,7 @@ pub fn parts_law()
     ensures cut { (chunk : Chunk) (size : ℕ)
         → AreApart (first_part size chunk) (part_behind size chunk) }
 
-    // Parts of chunks that are apart are apart, and a part lies where the chunk does.
+    // Parts of chunks that are apart are apart, and a part is inside the chunk.
     ensures apart { (one other part rest : Chunk) → IsPart part one → IsPart rest other
         → AreApart one other → AreApart part rest }
     ensures inside { (region : Region) (chunk part : Chunk) → IsPart part chunk

@@ -1,5 +1,5 @@
-//! The allocators of one owner, and how a test makes each. Calls of an allocator are in functions over all kinds: a proof at a
-//! pool's own type takes seconds for each of them.
+//! The allocators with one owner, and how a test makes each. Calls of an allocator are in functions over all kinds: a proof at
+//! a pool's own type takes seconds for each of them.
 ghost use Rattle.bb_memory_owned.specs.Pool.{StandsFor};
 ghost use Rattle.bb_memory_traits.specs.Chunk.{region_at};
 ghost use Rattle.std.specs.Prelude.{IfSome, [], ◌≡◌};
@@ -18,9 +18,9 @@ use test_marks::refuse_memory;
 /// The region's start and size, and a bucket's size and alignment.
 pub(super) type Of = [usize; 4];
 
-/// An allocator of one owner.
+/// An allocator with one owner.
 pub(super) trait Kind: BaseAllocator + Drop {
-    /// Makes a fresh allocator with its region, or `None` if there is no such allocator, or memory ran out.
+    /// Makes a fresh allocator with its region, or returns `None` if the numbers describe no allocator, or memory ran out.
     fn owner(alloc: Global, of: Of) -> Option<Owner<Self>>;
 }
 
@@ -104,7 +104,7 @@ pub(super) fn made<A: Kind>(rt: &(impl Abort + AllocGlobal), of: Of) -> Owner<A>
     A::owner(rt.alloc(), of).expect(rt, "there is memory for an owner")
 }
 
-/// Makes a fresh allocator with its region. Memory may be refused from here on.
+/// Makes a fresh allocator with its region. From here on, requests for memory may fail.
 pub(super) fn fresh<A: Kind>(rt: &(impl Abort + AllocGlobal), of: Of) -> Owner<A> {
     let owner = made::<A>(rt, of);
     refuse_memory(rt.alloc());

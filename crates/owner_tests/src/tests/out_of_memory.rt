@@ -1,5 +1,6 @@
-//! Calls that hold with any one request for memory refused, as `.ci/out-of-memory` runs them, one after the other. What a test
-//! makes may be refused, too: then it ends, or makes it again. An error for memory is accepted only if a request was refused.
+//! Calls that have to hold if any one request for memory fails. `.ci/out-of-memory` runs them with each request failing, one
+//! after the other. Making a test's values may fail, too: then the test ends, or makes them again. A call may report that
+//! memory ran out only if a request failed.
 mod after_making;
 mod blocks;
 mod init;

@@ -78,7 +78,7 @@ impl<A: BaseAllocator + Drop> Owner<A> {
         self.live.len()
     }
 
-    /// Returns whether just `count` chunks are live, at `place` and each `stride` bytes further on.
+    /// Returns whether exactly `count` chunks are live, at `place` and each `stride` bytes further on.
     pub(super) fn are_at(&self, place: usize, stride: usize, count: usize) -> bool {
         let mut place = place;
         for _ in 0..count {

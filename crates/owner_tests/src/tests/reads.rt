@@ -15,7 +15,7 @@ use std::cell::Cell;
 use std::process::Abort;
 use std::rc::Rc;
 
-/// An allocator that says how many index words its last request read.
+/// An allocator that reports how many index words its last request read.
 trait Reads: Allocator {
     fn last_reads(&self) -> u32;
 }
@@ -124,8 +124,8 @@ impl<A: Reads + Drop> Allocator for Counted<A> {
     ghost only_live = { λ c. A.only_live c.inner };
 }
 
-/// Makes calls of a loan book over an allocator of two buckets: a loan that this may serve reads one word, even if both buckets
-/// are held, and no other call reads any.
+/// Makes calls of a loan book over an allocator of two buckets. A loan that the allocator may serve reads one word, even if
+/// both buckets are held, and no other call reads any.
 fn calls<A: Reads + Drop>(rt: &(impl Abort + AllocGlobal), inner: A)
     requires { A.stands_for inner [] }
 {

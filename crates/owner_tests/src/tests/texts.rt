@@ -1,4 +1,4 @@
-//! Texts of what is displayed.
+//! Texts of `Display` and `Debug`.
 use super::checks::{check, layout};
 use super::kinds::fixed_over;
 use bb_memory_bump::bump_allocator::{BaseAllocator, BumpAllocator};
@@ -13,8 +13,8 @@ use std::process::Abort;
 
 /// Checks a value's Display text.
 fn has_text<D: Display>(rt: &(impl Abort + AllocGlobal), value: &D, text: &str) {
-    let told = format!(in rt.alloc(); "{value}").expect(rt, "there is memory for a text");
-    check(rt, told.as_str() == text);
+    let got = format!(in rt.alloc(); "{value}").expect(rt, "there is memory for a text");
+    check(rt, got.as_str() == text);
 }
 
 const ALIGNMENT: &str = "the requested alignment is not supported";

@@ -7,7 +7,7 @@ use std::io;
 use std::io::{ErrorKind, Read, Write};
 use std::process::Abort;
 
-/// The script of row `bump-first-path`, and what it writes.
+/// The script of row `bump-first-path`, and its output.
 const FIRST_PATH: &[u8] =
     b"bump 4096 1024\nalloc 48 4\nshow\nalloc 10 32\nalloc 950 1\nalloc 1 1\nshow\n";
 
@@ -20,7 +20,7 @@ OutOfMemory\n\
 BumpAllocator { start: 4096, size: 1024, current_position: 1024 }\n\
 used 1024 free 0 total 1024\n";
 
-/// A script, with its output, how many writes that takes, and its status.
+/// A script, with its output, the number of writes for that, and its status.
 type Row = (&'static [u8], &'static [u8], usize, Status);
 
 const SCRIPTS: [Row; 2] = [
@@ -48,8 +48,8 @@ impl Read for FailingReader<'_> {
     }
 }
 
-/// Keeps what it is given, at most five bytes for each write, and counts its calls. One of its writes may fail with an error,
-/// and so may its flushes.
+/// Stores what is written to it, at most five bytes for each write, and counts its calls. One of its writes may fail with an
+/// error, and so may its flushes.
 #[derive(Drop)]
 struct CountingWriter<'a> {
     kept: &'a mut Vec<u8>,
@@ -86,14 +86,18 @@ fn reads(
     ends: Status,
     lines: &[u8],
 ) {
-    let mut told = Vec::new(rt.alloc());
+    let mut output = Vec::new(rt.alloc());
     let reader = FailingReader {
         left: FIRST_PATH,
         reads: 0,
         fails_read,
     };
-    let ended = run(rt.alloc(), reader, &mut told);
-    check_at(rt, ended == ends && told.as_slice() == lines, fails_read.0);
+    let ended = run(rt.alloc(), reader, &mut output);
+    check_at(
+        rt,
+        ended == ends && output.as_slice() == lines,
+        fails_read.0,
+    );
 }
 
 /// Fails each read in turn. The script has 70 bytes: ten reads, and one that finds its end.
@@ -113,8 +117,8 @@ fn reader_fails_in_turn(rt: HostRuntime) {
     reads(&rt, interrupted, Done, FIRST_PATH_LINES);
 }
 
-/// Runs a script over a writer. Checks that it ends with this status after this many writes and flushes, and that the output
-/// begins the row's lines, and is these lines before a flush.
+/// Runs a script over a writer. Checks that the run ends with this status after this many writes and flushes, that the output
+/// is the beginning of the row's lines, and that it is all of these lines before a flush.
 fn writes(
     rt: &(impl Abort + AllocGlobal),
     row: &Row,
@@ -136,7 +140,7 @@ fn writes(
     check_at(rt, found == ends && begins, fails_write.0);
 }
 
-/// Fails the write of this number, and interrupts it.
+/// Makes the write of this number fail, and then makes it be interrupted.
 fn write_fails(rt: &(impl Abort + AllocGlobal), at: usize, row: &Row) {
     let failed = (Status::OutputFailed, at, 0);
     writes(rt, row, ((at, ErrorKind::Other), false), failed);
@@ -159,8 +163,8 @@ fn writer_fails_in_turn(rt: HostRuntime) {
     }
 }
 
-/// Cut in front of the bytes from the first number up to the second, the script has this line unreadable. So has `alloc 10 3`,
-/// as 3 is no power of two.
+/// If the script is cut before any of the bytes from the first number up to the second, this line is unreadable. So is `alloc
+/// 10 3`, since 3 isn't a power of two.
 const UNREADABLE_CUTS: [(usize, usize, &[u8]); 7] = [
     (0, 11, b"line 1: refused\n"),
     (16, 25, b"line 2: refused\n"),
@@ -171,8 +175,8 @@ const UNREADABLE_CUTS: [(usize, usize, &[u8]); 7] = [
     (66, 69, b"line 7: refused\n"),
 ];
 
-/// Cut before any byte from the first number up to the second, the script is done with this many bytes of the whole script's
-/// lines. So is `bump 4096 1`, as that is a region, too.
+/// If the script is cut before any byte from the first number up to the second, the run succeeds, with this many bytes of the
+/// whole script's lines. So does `bump 4096 1`, since that is a region, too.
 const DONE_CUTS: [(usize, usize, usize); 7] = [
     (11, 16, 0),
     (25, 27, 14),
@@ -183,7 +187,7 @@ const DONE_CUTS: [(usize, usize, usize); 7] = [
     (69, 71, FIRST_PATH_LINES.len()),
 ];
 
-/// Checks that the script, cut in front of each byte from `from` up to `to`, ends so.
+/// Checks that the script, cut before each byte from `from` up to `to`, ends with this status and these lines.
 fn cuts(rt: &(impl Abort + AllocGlobal), from: usize, to: usize, (status, lines): (Status, &[u8])) {
     for cut in from..to {
         let script = FIRST_PATH.get(..cut).unwrap_or(b"");

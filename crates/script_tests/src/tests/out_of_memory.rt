@@ -1,5 +1,5 @@
-//! Scripts and replays that hold with any one request for memory refused. `.ci/out-of-memory` runs each test with its first
-//! request refused, then its second, and so on, until none is left to refuse.
+//! Scripts and replays that have to hold if any one request for memory fails. `.ci/out-of-memory` runs each test with its first
+//! request failing, then its second, and so on, until none is left to fail.
 mod after_making;
 mod file_worlds;
 mod running;

@@ -1,4 +1,4 @@
-//! Scripts with what they write, each row by its name. The worked scripts of `docs/script-format.md` are rows, too.
+//! Scripts with their output, each row by its name. The worked scripts of `docs/script-format.md` are rows, too.
 use super::checks::check_at;
 use super::table::{check_rows, ends};
 use bb_memory_base::steps::{bump_theorem, pool_theorem};
@@ -101,7 +101,7 @@ fn unreadable_scripts(rt: HostRuntime) {
     check_rows(&rt, Unreadable, UNREADABLE);
 }
 
-/// Scripts that no row of a table can have, each with its status and its output.
+/// Scripts that can't be in a row of a table, each with its status and its output.
 const OTHER_BYTES: [(&[u8], Status, &[u8]); 3] = [
     (b"bump 4096 8\nalloc 1 1", Done, b"chunk 4096 1\n"),
     (b"", Unreadable, b"line 1: refused\n"),

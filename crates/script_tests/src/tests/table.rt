@@ -1,4 +1,4 @@
-//! Tables of scripts. Each line is a row: `NAME | SCRIPT | OUTPUT`, in which `; ` stands for a line feed.
+//! Tables of scripts. Each line is a row: `NAME | SCRIPT | OUTPUT`, in which `; ` means a line feed.
 use super::checks::check_at;
 use script_kinds::{Status, run};
 use std::alloc::{AllocError, Global};
@@ -18,13 +18,13 @@ pub(super) fn lines(alloc: Global, text: &str) -> Result<String, AllocError> {
     Ok(lines)
 }
 
-/// Returns whether a script ends with this status and writes just these lines.
+/// Returns whether a script ends with this status and writes exactly these lines.
 pub(super) fn ends(alloc: Global, script: &[u8], status: Status, lines: &[u8]) -> bool {
-    let mut told = Vec::new(alloc);
-    run(alloc, script, &mut told) == status && told.as_slice() == lines
+    let mut output = Vec::new(alloc);
+    run(alloc, script, &mut output) == status && output.as_slice() == lines
 }
 
-/// Returns whether a row's script ends with this status and writes just the row's output.
+/// Returns whether a row's script ends with this status and writes exactly the row's output.
 fn keeps_row(alloc: Global, status: Status, row: &str) -> bool {
     let (script, wrote) = field_and_rest(row);
     let (Ok(script), Ok(wrote)) = (lines(alloc, script), lines(alloc, wrote)) else {

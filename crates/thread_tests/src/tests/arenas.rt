@@ -1,4 +1,4 @@
-//! Arenas of two parties: each serves parts of its own chunk, and takes nothing more of the bump that they share.
+//! Arenas of two parties: each serves parts of its own chunk, and takes nothing else from the bump that they share.
 ghost use Rattle.std.specs.Prelude.{◌≡◌};
 
 use super::bumps::two;
@@ -23,7 +23,7 @@ fn arena(
     arena.expect(rt, "there is room for an arena")
 }
 
-/// Asks an arena for a chunk. Returns its place and length.
+/// Requests a chunk from an arena. Returns its place and length.
 fn take(
     rt: &impl Abort,
     arena: &mut ThreadArena,
@@ -36,7 +36,8 @@ fn take(
     Ok((chunk.place(), chunk.len()))
 }
 
-/// One arena is filled, reset and filled at once. The rest of the bump is an arena, too, and a byte more is refused.
+/// One arena is filled, reset and filled by one request. The rest of the bump makes another arena, and an arena one byte larger
+/// is refused.
 #[test]
 fn arenas_of_two_parties(rt: HostRuntime) {
     let (shared, one, other) = two(&rt, (4096, 1024, 0));

@@ -1,4 +1,4 @@
-//! Shared pools of buckets of 128 bytes at 4096, and calls that promise no more than a further call needs.
+//! Shared pools of buckets of 128 bytes at 4096, and calls that promise only what a further call needs.
 ghost use Rattle.bb_memory_pool_machine.specs.PoolLogs.{IsHeldAfter};
 ghost use Rattle.std.specs.Prelude.{All, IfOk, IfSome, ℕ, ◌<◌, ◌≡◌};
 
@@ -15,7 +15,7 @@ use test_marks::refuse_memory;
 /// A bucket's number, and its chunk's place and length.
 pub(super) type Found = (u32, usize, usize);
 
-/// Makes a pool over `size` bytes, or fails if there is no such pool, or memory was refused.
+/// Makes a pool over `size` bytes. Fails if these numbers describe no pool, or if memory ran out.
 pub(super) fn pool_of(
     alloc: Global,
     size: usize,
@@ -34,7 +34,7 @@ pub(super) fn pool_of(
     }
 }
 
-/// Makes a pool over `size` bytes, a second time where memory was refused. It may be refused from here on.
+/// Makes a pool over `size` bytes, a second time if memory ran out. From here on, requests for memory may fail.
 pub(super) fn pool_at_last(
     rt: &(impl Abort + AllocGlobal),
     size: usize,
@@ -51,7 +51,7 @@ pub(super) fn pool_at_last(
     pool_of(rt.alloc(), size, parties).expect(rt, "there is memory for a pool")
 }
 
-/// Takes the last of these parties out.
+/// Takes the last party out of `parties`.
 pub(super) fn last_of(
     rt: &impl Abort,
     pool: &SharedPoolAllocator,
@@ -65,7 +65,7 @@ pub(super) fn last_of(
     parties.pop().expect(rt, "there is a party")
 }
 
-/// Adds a party to these.
+/// Adds a party to `parties`.
 pub(super) fn add(
     rt: &impl Abort,
     pool: &SharedPoolAllocator,
@@ -97,8 +97,8 @@ pub(super) fn two(
     (pool, first, second)
 }
 
-/// Asks for a bucket by a next-fit search, or by a pass.
-pub(super) fn ask<'a>(
+/// Requests a bucket by a next-fit search, or by a pass.
+pub(super) fn request<'a>(
     pool: &'a SharedPoolAllocator,
     party: &mut PoolParty,
     layout: Layout,
@@ -129,7 +129,7 @@ pub(super) fn hold<'a>(
     ensures bucket { result.allocator ≡ pool.now }
     ensures held { IsHeldAfter party.new.log result.number }
 {
-    let bucket = ask(pool, party, layout, false).ok();
+    let bucket = request(pool, party, layout, false).ok();
     bucket.expect(rt, "a bucket is free")
 }
 
@@ -138,7 +138,7 @@ pub(super) fn found(bucket: &Bucket<'_>) -> Found {
     (bucket.number(), chunk.place(), chunk.len())
 }
 
-/// Asks for a bucket by a pass, and drops its token.
+/// Requests a bucket by a pass, and drops its token.
 pub(super) fn take(
     pool: &SharedPoolAllocator,
     party: &mut PoolParty,
@@ -148,10 +148,10 @@ pub(super) fn take(
     ensures party { party.new.allocator ≡ pool.now }
     ensures kept { (other : ℕ) → IsHeldAfter party.old.log other → IsHeldAfter party.new.log other }
 {
-    Ok(found(&ask(pool, party, layout, false)?))
+    Ok(found(&request(pool, party, layout, false)?))
 }
 
-/// Asks for a bucket by a next-fit search, and drops its token.
+/// Requests a bucket by a next-fit search, and drops its token.
 pub(super) fn fit(
     pool: &SharedPoolAllocator,
     party: &mut PoolParty,
@@ -160,5 +160,5 @@ pub(super) fn fit(
     requires { party.old.allocator ≡ pool.now }
     ensures { party.new.allocator ≡ pool.now }
 {
-    Ok(found(&ask(pool, party, layout, true)?))
+    Ok(found(&request(pool, party, layout, true)?))
 }

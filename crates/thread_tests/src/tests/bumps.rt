@@ -1,4 +1,4 @@
-//! Shared bumps, and calls that promise no more than a further call needs.
+//! Shared bumps, and calls that promise only what a further call needs.
 ghost use Rattle.std.specs.Prelude.{All, IfOk, ◌≡◌};
 
 use super::checks::{check, refused, same};
@@ -12,7 +12,7 @@ use test_marks::refuse_memory;
 /// A start, a size and the used space.
 pub(super) type Of = (usize, usize, usize);
 
-/// Makes a bump, if there is one such.
+/// Makes a bump, if these numbers describe one.
 fn bump_of((start, size, used): Of) -> Option<BumpAllocator> {
     if !BumpAllocator::can_make(start, size) {
         return None;
@@ -34,11 +34,12 @@ fn is_unchanged(rt: &(impl Abort + AllocGlobal), bump: &BumpAllocator, of: Of) {
     let text = format!(in rt.alloc();
         "BumpAllocator {{ start: {start}, size: {size}, current_position: {used} }}"
     );
-    let told = format!(in rt.alloc(); "{bump}").expect(rt, "there is memory for a text");
-    check(rt, told == text.expect(rt, "there is memory for a text"));
+    let got = format!(in rt.alloc(); "{bump}").expect(rt, "there is memory for a text");
+    check(rt, got == text.expect(rt, "there is memory for a text"));
 }
 
-/// Shares a bump, a second time where memory was refused: then it comes back unchanged. Memory may be refused from here on.
+/// Shares a bump, a second time if memory ran out: then the bump came back unchanged. From here on, requests for memory may
+/// fail.
 pub(super) fn share(
     rt: &(impl Abort + AllocGlobal),
     of: Of,
@@ -61,7 +62,7 @@ pub(super) fn share(
     }
 }
 
-/// Shares a bump. A refusal hands it back.
+/// Shares a bump. If that fails, the bump comes back.
 fn shared(
     alloc: Global,
     bump: BumpAllocator,
@@ -120,7 +121,7 @@ pub(super) fn two(
     (shared, first, second)
 }
 
-/// Asks for a chunk. Returns its place and length. Where there is no such layout the answer is one that no bump gives.
+/// Requests a chunk. Returns its place and length. If the numbers make no layout, it returns an answer that no bump gives.
 pub(super) fn take(
     shared: &SharedBumpAllocator,
     party: &mut BumpParty,
@@ -145,7 +146,7 @@ pub(super) fn spaces(shared: &SharedBumpAllocator, party: &mut BumpParty) -> (us
     (shared.used_space(party), shared.free_space(party))
 }
 
-/// Hands the bump back by one party.
+/// Ends the sharing by one party, and returns the bump.
 pub(super) fn end(shared: SharedBumpAllocator, party: BumpParty) -> Of
     requires { party.allocator ≡ shared }
 {

@@ -1,4 +1,4 @@
-//! Checks, proved once: a test's own proof carries no more of a check than its call.
+//! Checks, each proved once, so that a test's own proof carries only the call of a check.
 use bb_memory_traits::layout::{Chunk, Layout};
 use std::fmt::Debug;
 use std::process::Abort;
@@ -9,27 +9,27 @@ pub(super) fn check(rt: &impl Abort, found: bool) {
     assert!(rt; found);
 }
 
-/// Checks an answer. A failure says both.
+/// Checks that a result is the expected one. A failure prints both.
 pub(super) fn same<T: PartialEq + Debug + Copy>(rt: &impl Abort, found: T, wanted: T) {
     assert_eq!(rt; found, wanted);
 }
 
-/// Checks that memory was refused.
+/// Checks that a request for memory failed.
 pub(super) fn refused(rt: &(impl Abort + AllocGlobal)) {
     assert!(rt; some_was_refused(rt.alloc()), "no memory was refused");
 }
 
-/// Checks that no call asked for memory since the making, and ends the time in which it may be refused.
-pub(super) fn none_asked(rt: &(impl Abort + AllocGlobal)) {
-    assert!(rt; none_was_asked(rt.alloc()), "a call asked for memory");
+/// Checks that no call requested memory since the values were made, and ends the time in which requests may fail.
+pub(super) fn none_requested(rt: &(impl Abort + AllocGlobal)) {
+    assert!(rt; none_was_asked(rt.alloc()), "a call requested memory");
 }
 
-/// Makes a layout, which has to be there.
+/// Makes a layout. The numbers have to make one.
 pub(super) fn layout(rt: &impl Abort, size: usize, align: usize) -> Layout {
     Layout::from_size_align(size, align).expect(rt, "there is such a layout")
 }
 
-/// Makes a chunk, which has to be there.
+/// Makes a chunk. The numbers have to make one.
 pub(super) fn chunk(rt: &impl Abort, place: usize, len: usize) -> Chunk {
     Chunk::new(place, len).expect(rt, "there is such a chunk")
 }

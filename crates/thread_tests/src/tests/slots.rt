@@ -1,4 +1,4 @@
-//! A word for each of several things that threads take: 1 from a taking to its return.
+//! A word for each of several things that threads take: 1 from the taking to the return.
 use std::process::Abort;
 use std::sync::atomic::{AtomicU64, Ordering};
 
@@ -18,19 +18,19 @@ impl Slots {
         Slots { words }
     }
 
-    /// Marks this word. Returns whether it is there and wasn't marked.
+    /// Marks this word. Returns whether the word exists and wasn't marked.
     pub(super) fn mark(&self, at: usize) -> bool {
         self.words
             .get(at)
             .is_some_and(|word| word.swap(1, Ordering::SeqCst) == 0)
     }
 
-    /// Marks `count` words, from this one on. Returns whether all of them are there and weren't marked.
+    /// Marks `count` words, from this one on. Returns whether all of them exist and weren't marked.
     pub(super) fn mark_all(&self, from: usize, count: usize) -> bool {
         (from..from.saturating_add(count)).all(|at| self.mark(at))
     }
 
-    /// Watches a marked word for a while, and takes the mark back. Returns whether nobody else did meanwhile.
+    /// Watches a marked word for a while, and removes the mark. Returns whether nobody else did so meanwhile.
     pub(super) fn unmark(&self, at: usize) -> bool {
         let Some(word) = self.words.get(at) else {
             return false;

@@ -1,4 +1,4 @@
-//! Threads over one shared allocator. Each thread is handed a party, and hands it back.
+//! Threads over one shared allocator. Each thread gets a party, and returns it.
 mod bumps;
 mod pools;
 mod queues;

@@ -2,7 +2,7 @@ use Rattle.bb_memory_c.proofs.InUse.{joined-same}
 use Rattle.bb_memory_c.proofs.shared_pool.bb_pool_party_flush.Goals as goal
 use Rattle.bb_memory_c_calls.proofs.OpenHandles.{answers}
 use Rattle.bb_memory_shared_pools.specs.SharedPoolCaching.{CachingParty, IsOut}
-use Rattle.std.proofs.Common.{ap, rules, ℕ}
+use Rattle.std.proofs.Common.{ap, rules}
 
 pub invariant_of-joined : goal.invariant_of-joined
 unfolding IsOut

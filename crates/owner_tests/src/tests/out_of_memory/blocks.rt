@@ -7,24 +7,24 @@ use bb_memory_traits::layout::Layout;
 use std::alloc::Global;
 use std::process::Abort;
 
-/// A block, or the old one with the cause of a refusal.
+/// A block, or the old one with the error.
 type Resized<E> = Result<HeapBlock, (HeapBlock, E)>;
 
-fn allocate(alloc: Global, asked: Layout, zeroed: bool) -> Result<HeapBlock, AllocationError> {
+fn allocate(alloc: Global, requested: Layout, zeroed: bool) -> Result<HeapBlock, AllocationError> {
     let heap = HeapAllocator::new(alloc);
     if zeroed {
-        heap.allocate_zeroed(asked)
+        heap.allocate_zeroed(requested)
     } else {
-        heap.allocate(asked)
+        heap.allocate(requested)
     }
 }
 
-/// Makes a block, at a second trial if memory ran out.
-pub(super) fn made(rt: &(impl Abort + AllocGlobal), asked: Layout, zeroed: bool) -> HeapBlock {
-    match allocate(rt.alloc(), asked, zeroed) {
+/// Makes a block, in a second attempt if memory ran out.
+pub(super) fn made(rt: &(impl Abort + AllocGlobal), requested: Layout, zeroed: bool) -> HeapBlock {
+    match allocate(rt.alloc(), requested, zeroed) {
         Err(AllocationError::OutOfMemory) => {
             refused(rt);
-            allocate(rt.alloc(), asked, zeroed).expect(rt, "there is memory for a block")
+            allocate(rt.alloc(), requested, zeroed).expect(rt, "there is memory for a block")
         }
         other => other.expect(rt, "the block isn't empty"),
     }
@@ -61,7 +61,7 @@ fn grow(alloc: Global, block: HeapBlock, to: Layout, zeroed: bool) -> Resized<Al
     }
 }
 
-/// Grows a block, at a second trial if memory ran out: then the block is as before.
+/// Grows a block, in a second attempt if memory ran out: then the block was unchanged.
 fn grown(
     rt: &(impl Abort + AllocGlobal),
     block: HeapBlock,
@@ -94,7 +94,7 @@ pub(super) fn shrunk(rt: &(impl Abort + AllocGlobal), block: HeapBlock, new: Lay
     shrunk.expect(rt, "the block is shrunk")
 }
 
-/// Checks that a shrink is refused, and hands the block back unchanged.
+/// Checks that a shrink is refused, and returns the block unchanged.
 fn not_shrunk(
     rt: &(impl Abort + AllocGlobal),
     block: HeapBlock,

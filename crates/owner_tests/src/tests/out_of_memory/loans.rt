@@ -1,4 +1,4 @@
-//! Loan books. A refused loan leaves the book unchanged: exactly the samples of before are in use.
+//! Loan books. A failed loan leaves the book unchanged: exactly the same samples are in use.
 ghost use Rattle.std.specs.Prelude.{[]};
 
 use crate::tests::checks::{check, chunk, layout, refused, same};
@@ -12,14 +12,14 @@ use loan_book::{LoanBook, LoanError, run_loans};
 use std::alloc::Global;
 use std::process::Abort;
 
-/// Makes a book over a one chunk of 64 bytes at 4096.
+/// Makes a book over a one-chunk allocator of 64 bytes at 4096.
 pub(super) fn one_book(alloc: Global) -> LoanBook<OneChunkAllocator> {
     LoanBook::new(alloc, OneChunkAllocator::new(4096, 64))
 }
 
 /// Makes a call of a book, and returns its reply.
 pub(super) fn reply<A: Allocator + Drop>(book: &mut LoanBook<A>, call: LoanCall) -> LoanReply {
-    // This does nothing: it is a proof.
+    // Does nothing: the contract is a proof.
     book.law();
     match call {
         Loan(size) => match book.loan(size) {
@@ -39,22 +39,22 @@ pub(super) fn reply<A: Allocator + Drop>(book: &mut LoanBook<A>, call: LoanCall)
     }
 }
 
-/// The refusal for the record's memory.
+/// The refusal because memory for the record ran out.
 pub(super) const NO_MEMORY: LoanReply = Refused(LoanError::Memory);
 
 /// The refusal by a full allocator.
 pub(super) const FULL: LoanReply = Refused(LoanError::Allocation(AllocationError::OutOfMemory));
 
-/// Loans `size` bytes, a second time if memory ran out: then the samples of before are in use, and the next one isn't.
+/// Loans `size` bytes, a second time if memory ran out: then the same samples are in use, and the next one isn't.
 fn loan<A: Allocator + Drop>(
     rt: &(impl Abort + AllocGlobal),
     book: &mut LoanBook<A>,
     size: usize,
     next: u64,
 ) -> LoanReply {
-    let told = reply(book, Loan(size));
-    if told != NO_MEMORY {
-        return told;
+    let got = reply(book, Loan(size));
+    if got != NO_MEMORY {
+        return got;
     }
     refused(rt);
     same(rt, reply(book, IsOut(0)), Out(next > 0));
@@ -97,8 +97,8 @@ fn a_list_of_loans_keeps_the_book(rt: HostRuntime) {
 }
 
 /// Checks that a loan gave a chunk of 64 bytes under this number.
-fn is_loaned(rt: &impl Abort, told: LoanReply, wanted: u64) {
-    match told {
+fn is_loaned(rt: &impl Abort, got: LoanReply, wanted: u64) {
+    match got {
         Loaned(id, chunk) => same(rt, (id, chunk.len()), (wanted, 64)),
         _ => panic!(rt; "nothing is loaned"),
     }

@@ -1,5 +1,5 @@
-//! Layers. Their contracts say what they return; no contract can exclude an error for memory if no request was refused. A
-//! refused call changes nothing, so the same call is made again.
+//! Layers. Their contracts state what they return; no contract can exclude an error for memory if no request failed. A failed
+//! call changes nothing, so the same call is made again.
 ghost use Rattle.bb_memory_owned.specs.Pool.{StandsFor};
 ghost use Rattle.bb_memory_traits.specs.Chunk.{region_at};
 ghost use Rattle.bb_memory_traits.specs.HeldBytes.{held_region};

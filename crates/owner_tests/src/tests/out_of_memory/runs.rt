@@ -1,4 +1,4 @@
-//! Runs of commands. A refused run applies no command, and is made again.
+//! Runs of commands. If memory runs out, a run applies no command, and is made again.
 use super::after_making::held_buckets::Buckets;
 use crate::tests::checks::{check, chunk, layout, refused, same};
 use crate::tests::kinds::{Of, made};
@@ -97,11 +97,11 @@ fn one_chunk_is_resized(rt: HostRuntime) {
         Passed,
     ];
     let mut one = made::<OneChunkAllocator>(&rt, [4097, 1024, 0, 0]);
-    let told = replies(&rt, &mut one, &commands);
-    check(&rt, told.as_slice() == wanted.as_slice());
+    let got = replies(&rt, &mut one, &commands);
+    check(&rt, got.as_slice() == wanted.as_slice());
 }
 
-/// Takes two buckets, gives one back, and takes one more. Checks how many are held then, and how many were at most.
+/// Takes two buckets, gives one back, and takes one more. Checks how many are held then, and the greatest number so far.
 fn takes<A: Buckets>(
     rt: &(impl Abort + AllocGlobal),
     pool: &mut Owner<A>,
@@ -109,18 +109,18 @@ fn takes<A: Buckets>(
 ) -> Vec<Reply> {
     let take = Allocate(Layout::empty());
     let commands = [take, take, Release(0), take];
-    let told = replies(rt, pool, &commands);
-    same(rt, pool.allocator().told(0, 0).0, counts);
-    told
+    let got = replies(rt, pool, &commands);
+    same(rt, pool.allocator().figures(0, 0).0, counts);
+    got
 }
 
-/// Takes all buckets of a pool of four by two runs. A third one is refused a bucket.
+/// Takes all buckets of a pool of four by two runs. A third run's request is refused.
 fn fills<A: Buckets>(rt: &(impl Abort + AllocGlobal), of: Of) {
     let mut pool = made::<A>(rt, of);
     same(rt, takes(rt, &mut pool, (2, 2, true)).len(), 4);
     same(rt, takes(rt, &mut pool, (4, 4, false)).len(), 4);
-    let told = takes(rt, &mut pool, (4, 4, false));
-    same(rt, told.first().copied(), Some(Refused(OutOfMemory)));
+    let got = takes(rt, &mut pool, (4, 4, false));
+    same(rt, got.first().copied(), Some(Refused(OutOfMemory)));
 }
 
 /// The fixed pool's region has room for eight buckets.
@@ -137,9 +137,9 @@ fn a_fixed_pool_has_its_constant(rt: HostRuntime) {
     let mut pool = made::<FixedSizePoolAllocator<4>>(&rt, [4096, 1024, 128, 8]);
     same(&rt, pool.allocator().number_of_buckets(), 4);
     let commands = [Allocate(layout(&rt, 0, 1)); 5];
-    let told = replies(&rt, &mut pool, &commands);
-    same(&rt, (told.len(), chunks_of(&told, 0)), (5, 4));
-    same(&rt, told.last().copied(), Some(Refused(OutOfMemory)));
+    let got = replies(&rt, &mut pool, &commands);
+    same(&rt, (got.len(), chunks_of(&got, 0)), (5, 4));
+    same(&rt, got.last().copied(), Some(Refused(OutOfMemory)));
 }
 
 /// Returns how many of these replies are chunks of this length.
@@ -185,17 +185,17 @@ fn commands_of_eight(rt: &impl Abort) -> [Command; 14] {
 #[test]
 fn a_pool_of_eight_buckets(rt: HostRuntime) {
     let mut pool = made::<PoolAllocator<Global>>(&rt, [4096, 1024, 128, 8]);
-    let told = replies(&rt, &mut pool, &commands_of_eight(&rt));
-    same(&rt, (told.len(), chunks_of(&told, 48)), (14, 9));
-    same(&rt, reply_at(&told, 0), Some(Refused(SizeTooLarge)));
-    same(&rt, reply_at(&told, 1), Some(Refused(SizeTooLarge)));
+    let got = replies(&rt, &mut pool, &commands_of_eight(&rt));
+    same(&rt, (got.len(), chunks_of(&got, 48)), (14, 9));
+    same(&rt, reply_at(&got, 0), Some(Refused(SizeTooLarge)));
+    same(&rt, reply_at(&got, 1), Some(Refused(SizeTooLarge)));
     let misaligned = AllocationError::AlignmentFailure;
-    same(&rt, reply_at(&told, 2), Some(Refused(misaligned)));
+    same(&rt, reply_at(&got, 2), Some(Refused(misaligned)));
     for place in [4096, 4224, 4352, 4480, 4608, 4736, 4864, 4992] {
         let wanted = given(&rt, place, 48);
-        check(&rt, told.iter().any(|reply| *reply == wanted));
+        check(&rt, got.iter().any(|reply| *reply == wanted));
     }
-    same(&rt, reply_at(&told, 11), Some(Refused(OutOfMemory)));
-    same(&rt, reply_at(&told, 12), Some(Reply::Released));
-    same(&rt, reply_at(&told, 13), reply_at(&told, 3));
+    same(&rt, reply_at(&got, 11), Some(Refused(OutOfMemory)));
+    same(&rt, reply_at(&got, 12), Some(Reply::Released));
+    same(&rt, reply_at(&got, 13), reply_at(&got, 3));
 }

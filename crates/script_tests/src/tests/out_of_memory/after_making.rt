@@ -1,6 +1,6 @@
 //! Steps of both machines without memory, in worlds of more parties than a script has, or of steps that no script has.
 use super::worlds::made;
-use crate::tests::checks::{chunk, layout, none_asked, same};
+use crate::tests::checks::{chunk, layout, none_requested, same};
 use bb_memory_base::steps::PoolOutcome::{Attaches, Detaches, Gives, Misses, Passed, Takes};
 use bb_memory_base::steps::PoolStep::{Attach, AttachFrom, Detach, GiveBack, Try, TryAt};
 use bb_memory_base::steps::{
@@ -24,7 +24,7 @@ fn a_bump_of_a_thousand_parties(rt: HostRuntime) {
     let wins = world.step(BumpStep::Exchange { party });
     same(&rt, wins, BumpOutcome::Wins(chunk(&rt, 4096, 40)));
     same(&rt, world.used_space(), 40);
-    none_asked(&rt);
+    none_requested(&rt);
 }
 
 /// A held bucket is missed, and nobody holds a detached one.
@@ -48,7 +48,7 @@ fn a_bucket_is_detached_and_attached(rt: HostRuntime) {
     same(&rt, world.step(Attach { party, bucket }), Passed);
     same(&rt, world.step(GiveBack { party, bucket }), Gives(1));
     same(&rt, world.step(Try { party: 1000 }), Passed);
-    none_asked(&rt);
+    none_requested(&rt);
 }
 
 /// A bucket is attached only from the party that has detached it.
@@ -85,7 +85,7 @@ fn a_bucket_is_attached_from_its_sender(rt: HostRuntime) {
     same(&rt, world.step(from_sender), Attaches(1));
     same(&rt, world.holder(1), Some(0));
     same(&rt, world.step(from_sender), Passed);
-    none_asked(&rt);
+    none_requested(&rt);
 }
 
 /// The theorems do nothing.
@@ -96,5 +96,5 @@ fn the_theorems_do_nothing(rt: HostRuntime) {
     pool_theorem();
     file_theorem();
     file_variants_theorem();
-    none_asked(&rt);
+    none_requested(&rt);
 }

@@ -1,4 +1,4 @@
-//! Replays of steps of processes, one of which is killed. A refused replay leaves its world unchanged, and is made again.
+//! Replays of steps of processes, one of which is killed. A failed replay leaves its world unchanged, and is made again.
 use super::worlds::made;
 use crate::tests::checks::{check, refused, same};
 use bb_memory_base::steps::{Flag, PoolStep};
@@ -131,7 +131,7 @@ const OUTCOMES: [FileOutcome; 28] = [
     }),
 ];
 
-/// Replays the steps, at a second trial if memory was refused: then the world is still fresh.
+/// Replays the steps, in a second attempt if memory ran out: then the world is still fresh.
 fn replayed(rt: &(impl Abort + AllocGlobal), world: &mut FileWorld) -> Vec<FileOutcome> {
     if let Ok(told) = world.replay(&STEPS) {
         return told;

@@ -1,5 +1,5 @@
-//! Scripts that hold with any one request for memory refused: a run ends with status 4, and what it wrote is a beginning of what
-//! it writes if none is refused.
+//! Scripts that have to hold if any one request for memory fails: a run ends with status 4, and its output is the beginning of
+//! the output with ample memory.
 use crate::tests::checks::{check, refused, same};
 use crate::tests::table::{field_and_rest, lines};
 use script_kinds::{Status, run};
@@ -7,19 +7,19 @@ use std::process::Abort;
 
 /// Runs a script, a second time if memory ran out, and checks its status and its output.
 fn ends_with_status_4(rt: &(impl Abort + AllocGlobal), ends: Status, script: &[u8], lines: &[u8]) {
-    let mut told = Vec::new(rt.alloc());
-    if told.reserve(lines.len()).is_err() {
+    let mut output = Vec::new(rt.alloc());
+    if output.reserve(lines.len()).is_err() {
         return;
     }
-    let status = run(rt.alloc(), script, &mut told);
+    let status = run(rt.alloc(), script, &mut output);
     if status != ends {
         refused(rt);
         same(rt, (status, status.code()), (Status::OutOfMemory, 4));
-        check(rt, lines.starts_with(told.as_slice()));
-        told.clear();
-        check(rt, run(rt.alloc(), script, &mut told) == ends);
+        check(rt, lines.starts_with(output.as_slice()));
+        output.clear();
+        check(rt, run(rt.alloc(), script, &mut output) == ends);
     }
-    check(rt, told.as_slice() == lines);
+    check(rt, output.as_slice() == lines);
 }
 
 /// Runs a row's script. If memory for the test itself runs out, skips the row.
@@ -43,7 +43,7 @@ steps-pool 2; try 0; try 1; show; try 1; give 0 0 | takes 0; loses 0; held 0 -; 
 loan-pool 4096 128 128 8; out 0; loan 48; loan 1; publish 0 2; back 0; back 0; loan 7 | \
     no; loan 0 4096 48; OutOfMemory; published; kept; returned; loan 1 4096 7";
 
-/// The line about the first unreadable one takes memory, too.
+/// The line about the first unreadable line takes memory, too.
 // row: refused-program
 #[test]
 fn a_script_of_each_kind(rt: HostRuntime) {

@@ -1,4 +1,4 @@
-//! Replays of steps. A refused replay leaves its world unchanged, and is made again.
+//! Replays of steps. A failed replay leaves its world unchanged, and is made again.
 use crate::tests::checks::{check, chunk, layout, refused, same};
 use bb_memory_base::steps::PoolOutcome::{Gives, Loses, RefusedAtLoss, Takes};
 use bb_memory_base::steps::PoolStep::{GiveBack, Try};
@@ -17,14 +17,14 @@ pub(super) fn made<W: Drop>(
     world.ok()
 }
 
-/// Replays steps, at a second trial if memory ran out: then the bump is still fresh.
+/// Replays steps, in a second attempt if memory ran out: then the bump is still fresh.
 fn replayed_by_bump(
     rt: &(impl Abort + AllocGlobal),
     world: &mut BumpWorld,
     steps: &[BumpStep],
 ) -> Vec<BumpOutcome> {
-    if let Ok(told) = world.replay(steps) {
-        return told;
+    if let Ok(got) = world.replay(steps) {
+        return got;
     }
     refused(rt);
     let loaded = world.step(BumpStep::Load { party: 0 });
@@ -51,8 +51,8 @@ fn a_bump_is_raced_for(rt: HostRuntime) {
     let Some(mut world) = made(&rt, BumpWorld::new(rt.alloc(), 4096, 64, 64)) else {
         return;
     };
-    let told = replayed_by_bump(&rt, &mut world, &steps);
-    check(&rt, told.as_slice() == outcomes.as_slice());
+    let got = replayed_by_bump(&rt, &mut world, &steps);
+    check(&rt, got.as_slice() == outcomes.as_slice());
     same(&rt, world.used_space(), 40);
 }
 
@@ -79,10 +79,10 @@ const OUTCOMES: [PoolOutcome; 6] = [
     RefusedAtLoss(1),
 ];
 
-/// Replays the steps, at a second trial if memory ran out: then the pool is still fresh.
+/// Replays the steps, in a second attempt if memory ran out: then the pool is still fresh.
 fn replayed_by_pool(rt: &(impl Abort + AllocGlobal), world: &mut PoolWorld) -> Vec<PoolOutcome> {
-    if let Ok(told) = world.replay(&STEPS) {
-        return told;
+    if let Ok(got) = world.replay(&STEPS) {
+        return got;
     }
     refused(rt);
     same(rt, (world.holder(0), world.holder(1)), (None, None));
@@ -96,7 +96,7 @@ fn a_pool_is_never_full(rt: HostRuntime) {
     let Some(mut world) = made(&rt, PoolWorld::new(rt.alloc(), 2, 64)) else {
         return;
     };
-    let told = replayed_by_pool(&rt, &mut world);
-    check(&rt, told.as_slice() == OUTCOMES.as_slice());
+    let got = replayed_by_pool(&rt, &mut world);
+    check(&rt, got.as_slice() == OUTCOMES.as_slice());
     same(&rt, (world.holder(0), world.holder(1)), (None, Some(1)));
 }

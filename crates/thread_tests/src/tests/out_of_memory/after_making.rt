@@ -1,5 +1,5 @@
-//! Calls that take no memory, each on values that were made before. The sweep runs these tests with each request refused, too,
-//! that comes after the making, and every call has to answer as it does with memory, without a request.
+//! Calls that allocate no memory, each on values that were made before. The sweep also runs these tests with each request
+//! failing that comes after the making. Every call has to return what it returns with ample memory, without a request.
 //! row: calls-that-take-no-memory
 mod caching;
 mod fixed;

@@ -1,4 +1,4 @@
-//! Caching parties, with ample memory and with any one request refused: `new` and `cache_at_most` alone take memory.
+//! Caching parties, with ample memory and with any one failing request: only `new` and `cache_at_most` allocate memory.
 ghost use Rattle.std.specs.Prelude.{◌≡◌};
 
 use crate::tests::buckets::two;
@@ -65,7 +65,8 @@ fn keeps_two(
     Ok(())
 }
 
-/// Has a party that caches one bucket cache at most two from then on: the one is back then. A refusal changes nothing.
+/// Makes a party that caches one bucket cache at most two from then on, which gives back the cached one. A failure changes
+/// nothing.
 fn caches_two(
     rt: &(impl Abort + AllocGlobal),
     pool: &SharedPoolAllocator,

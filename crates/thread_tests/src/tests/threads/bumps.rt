@@ -2,7 +2,7 @@
 ghost use Rattle.std.specs.Arc.{arc_value};
 ghost use Rattle.std.specs.Prelude.{All, IfOk, ◌≡◌};
 
-use crate::tests::bumps::{Of, add, last_of, share, spaces, take as ask};
+use crate::tests::bumps::{Of, add, last_of, share, spaces, take as request};
 use crate::tests::checks::{check, layout, same};
 use crate::tests::slots::Slots;
 use bb_memory_bump::bump_allocator::AllocationError::OutOfMemory;
@@ -15,8 +15,8 @@ use std::sync::Arc;
 use std::thread;
 use std::thread::{Promise, PromisedHandle, Threads};
 
-/// The work of each thread: it asks so many times, or until it is refused, and then reads the used space until it is `until`.
-/// The party of number `i` asks for layout `i` of these, or `i - 3`.
+/// The work of each thread: it makes at most a fixed number of requests, until one is refused, and then reads the used space
+/// until that is `until`. The party of number `i` requests layout `i` of these, or `i - 3`.
 #[derive(Drop)]
 struct Work {
     layouts: [Layout; 3],
@@ -29,13 +29,13 @@ struct Work {
 /// The outcome of a request for a chunk.
 #[derive(Clone, Copy, PartialEq)]
 enum Found {
-    /// A chunk as asked, whose bytes are nobody else's, and used.
+    /// A chunk as requested. Its bytes belong to nobody else, and are used.
     Chunk,
     Refused,
     Wrong,
 }
 
-/// Asks for a chunk, and marks its bytes.
+/// Requests a chunk, and marks its bytes.
 fn take_one(
     shared: &SharedBumpAllocator,
     work: &Work,
@@ -72,7 +72,7 @@ fn watch(shared: &SharedBumpAllocator, party: &mut BumpParty, used: usize) -> bo
     false
 }
 
-/// Asks until it is refused, at most as often as the work says. Returns whether each chunk was as asked.
+/// Makes requests until one is refused, at most as often as the work says. Returns whether each chunk was as requested.
 fn take_all(shared: &SharedBumpAllocator, work: &Work, party: &mut BumpParty) -> bool
     requires { party.old.allocator ≡ shared.now }
     ensures { party.new.allocator ≡ shared.now }
@@ -88,7 +88,7 @@ fn take_all(shared: &SharedBumpAllocator, work: &Work, party: &mut BumpParty) ->
     true
 }
 
-/// Does the work of a thread. Returns its party, and whether all was as it has to be.
+/// Does the work of a thread. Returns its party, and whether all results were correct.
 fn take(shared: &SharedBumpAllocator, work: &Work, mut party: BumpParty) -> (BumpParty, bool)
     requires { party.allocator ≡ shared.now }
     ensures { result.0.allocator ≡ shared.entry.now }
@@ -184,8 +184,8 @@ fn in_threads(
     parties
 }
 
-/// Shares a bump of this start, size and used space, with a thread for each of its parties. Returns the bump, its parties after their work,
-/// and how many bytes are marked.
+/// Shares a bump of this start, size and used space, with a thread for each of its parties. Returns the bump, its parties after
+/// their work, and how many bytes are marked.
 fn worked(
     rt: &(impl Threads + Abort + AllocGlobal),
     of: Of,
@@ -217,11 +217,11 @@ fn four_take_ten_bytes(rt: HostRuntime) {
     same(rt, marked, 4000);
     let mut last = last_of(rt, &shared, &mut back);
     same(rt, spaces(&shared, &mut last), (4000, 96));
-    same(rt, ask(&shared, &mut last, 97, 1), Err(OutOfMemory));
-    same(rt, ask(&shared, &mut last, 96, 1), Ok((8096, 96)));
+    same(rt, request(&shared, &mut last, 97, 1), Err(OutOfMemory));
+    same(rt, request(&shared, &mut last, 96, 1), Ok((8096, 96)));
 }
 
-/// Each of three threads takes as long as there is room, by a layout of its own. Each pair of parties meets.
+/// Each of three threads takes chunks as long as there is room, by a layout of its own. Each pair of parties meets.
 // row: threads-bump-mixed-layouts
 #[test]
 fn three_take_all(rt: HostRuntime) {
@@ -236,9 +236,9 @@ fn three_take_all(rt: HostRuntime) {
     let mut a = last_of(rt, &shared, &mut back);
     let mut b = last_of(rt, &shared, &mut back);
     let mut c = last_of(rt, &shared, &mut back);
-    same(rt, ask(&shared, &mut a, 24, 16), Err(OutOfMemory));
-    same(rt, ask(&shared, &mut b, 5, 1), Err(OutOfMemory));
-    same(rt, ask(&shared, &mut c, 8, 8), Err(OutOfMemory));
+    same(rt, request(&shared, &mut a, 24, 16), Err(OutOfMemory));
+    same(rt, request(&shared, &mut b, 5, 1), Err(OutOfMemory));
+    same(rt, request(&shared, &mut c, 8, 8), Err(OutOfMemory));
     shared.meet(&mut a, &mut b);
     shared.meet(&mut b, &mut c);
     shared.meet(&mut a, &mut c);

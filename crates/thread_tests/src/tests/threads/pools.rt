@@ -2,7 +2,7 @@
 ghost use Rattle.std.specs.Arc.{arc_value};
 ghost use Rattle.std.specs.Prelude.{All, IfOk, ◌≡◌};
 
-use crate::tests::buckets::{add, ask, last_of, pool_at_last, take as found};
+use crate::tests::buckets::{add, last_of, pool_at_last, request, take as found};
 use crate::tests::checks::{check, layout, same};
 use crate::tests::slots::Slots;
 use bb_memory_shared_pools::shared_pool::AllocationError::OutOfMemory;
@@ -15,7 +15,8 @@ use std::sync::Arc;
 use std::thread;
 use std::thread::{Promise, PromisedHandle, Threads};
 
-/// The work of each thread: it takes a bucket so many times, by a next-fit search or by a pass, and goes on where it is refused.
+/// The work of each thread: it takes a bucket a fixed number of times, by a next-fit search or by a pass, and goes on after a
+/// refusal.
 #[derive(Drop)]
 struct Work {
     /// A word for each bucket.
@@ -23,16 +24,16 @@ struct Work {
     next_fit: bool,
     layout: Layout,
     times: u32,
-    /// True where each bucket is given back, false where its token is dropped.
+    /// True if each bucket is given back, false if its token is dropped.
     returns: bool,
 }
 
-/// Takes a bucket. Returns whether it is nobody else's until it is given back.
+/// Takes a bucket, if one is free. Returns false if somebody else marked it before it was given back.
 fn take_one(pool: &SharedPoolAllocator, work: &Work, party: &mut PoolParty) -> bool
     requires { party.old.allocator ≡ pool.now }
     ensures { party.new.allocator ≡ pool.now }
 {
-    let Ok(bucket) = ask(pool, party, work.layout, work.next_fit) else {
+    let Ok(bucket) = request(pool, party, work.layout, work.next_fit) else {
         return true;
     };
     let at = bucket.number() as usize;
@@ -45,7 +46,7 @@ fn take_one(pool: &SharedPoolAllocator, work: &Work, party: &mut PoolParty) -> b
     marked && unmarked
 }
 
-/// Does the work of a thread. Returns its party, and whether each bucket was nobody else's.
+/// Does the work of a thread. Returns its party, and whether each bucket belonged to nobody else.
 fn take(pool: &SharedPoolAllocator, work: &Work, mut party: PoolParty) -> (PoolParty, bool)
     requires { party.allocator ≡ pool.now }
     ensures { result.0.allocator ≡ pool.entry.now }
@@ -140,7 +141,7 @@ fn in_threads(
     parties
 }
 
-/// Moves the last `count` of these parties to others.
+/// Moves the last `count` parties from one list to another.
 fn move_parties(
     rt: &impl Abort,
     pool: &SharedPoolAllocator,
@@ -159,7 +160,7 @@ fn move_parties(
     }
 }
 
-/// Makes a pool of this size for four parties, of which `threads` do the work, each in a thread. Then all four meet, and one
+/// Makes a pool of this size for four parties. `threads` of them do the work, each in a thread. Then all four meet, and one
 /// takes all buckets that are left: those from `left` on. Returns how many buckets are marked.
 fn all_take(
     rt: &(impl Threads + Abort + AllocGlobal),
@@ -179,8 +180,8 @@ fn all_take(
     let mut party = last_of(rt, &pool, &mut parties);
     for number in left..pool.number_of_buckets() {
         let place = (number as usize).saturating_mul(128).saturating_add(4096);
-        let told = found(&pool, &mut party, work.layout);
-        same(rt, told, Ok((number, place, 48)));
+        let got = found(&pool, &mut party, work.layout);
+        same(rt, got, Ok((number, place, 48)));
     }
     same(rt, found(&pool, &mut party, work.layout), Err(OutOfMemory));
     work.buckets.count()
@@ -198,7 +199,7 @@ fn take_and_return(rt: &(impl Threads + Abort + AllocGlobal), size: usize, next_
     same(rt, all_take(rt, size, 4, work, 0), 0);
 }
 
-/// The searches go by next fit, too: over as many buckets as threads or fewer, so that they meet at each.
+/// The pools have as many buckets as there are threads, or fewer, so that next-fit searches collide at each bucket.
 // row: threads-pool-take-and-return
 #[test]
 fn four_take_and_return(rt: HostRuntime) {

@@ -17,10 +17,10 @@ use thread_layers::pool_messages::{receive, send};
 /// The number of messages that are sent.
 const MESSAGES: u32 = 1000;
 
-/// The number of times that an end looks whether it gets on, and lets others run where it doesn't.
+/// The number of times that an end tries to make progress, and lets others run if it can't.
 const TRIES: u32 = 10_000_000;
 
-/// The pool of a queue's messages, which a type names so.
+/// The pool of a queue's messages, which a type names.
 trait MessagePool {
     ghost use Rattle.bb_memory_shared_pools.specs.SharedPool.{SharedPool};
     ghost use Rattle.std.specs.Prelude.{Option};
@@ -45,19 +45,19 @@ impl<P: MessagePool> Protocol<DetachedBucket> for OfPool<P> {
     ghost allows = { λ before message. P.pool ≡ Some message.allocator };
 }
 
-/// Sends a message, if there is a bucket for it and room in the queue. The bucket of one that finds no room is given back.
+/// Sends a message, if there is a bucket for it and room in the queue. If the queue has no room, the bucket is given back.
 fn send_one<P: MessagePool>(
     pool: &SharedPoolAllocator,
     party: &mut PoolParty,
     queue: &mut Producer<DetachedBucket, Global, OfPool<P>>,
-    asked: Layout,
+    requested: Layout,
 ) -> bool
     requires pool { P.pool ≡ Some pool.now }
     requires others { 1 < pool.now.scene.parties }
     requires party { party.old.allocator ≡ pool.now }
     ensures { party.new.allocator ≡ pool.now }
 {
-    let Ok(message) = send(pool, party, asked) else {
+    let Ok(message) = send(pool, party, requested) else {
         return false;
     };
     match queue.push(message) {
@@ -74,7 +74,7 @@ fn send_all<P: MessagePool>(
     pool: &SharedPoolAllocator,
     mut party: PoolParty,
     mut queue: Producer<DetachedBucket, Global, OfPool<P>>,
-    asked: Layout,
+    requested: Layout,
 ) -> (PoolParty, u32)
     requires pool { P.pool ≡ Some pool.now }
     requires others { 1 < pool.now.scene.parties }
@@ -86,7 +86,7 @@ fn send_all<P: MessagePool>(
         if sent == MESSAGES {
             break;
         }
-        if send_one::<P>(pool, &mut party, &mut queue, asked) {
+        if send_one::<P>(pool, &mut party, &mut queue, requested) {
             sent = sent.saturating_add(1);
         } else {
             thread::yield_now();
@@ -121,19 +121,19 @@ fn receive_all<P: MessagePool>(
     (party, received)
 }
 
-/// One thread sends, while another receives. How many messages each counted, and the receiver's party.
+/// Makes one thread send while another receives. Returns how many messages each counted, and the receiver's party.
 fn send_and_receive<P: MessagePool + Send, R: Threads + Sync + AllocGlobal>(
     rt: &R,
     pool: &SharedPoolAllocator,
     sender: PoolParty,
     receiver: PoolParty,
-    asked: Layout,
+    requested: Layout,
 ) -> Result<(PoolParty, u32, u32), AllocError>
     requires pool { P.pool ≡ Some pool.now }
     requires others { 1 < pool.now.scene.parties }
     requires sender { sender.allocator ≡ pool.now }
     requires receiver { receiver.allocator ≡ pool.now }
-    ensures { IfOk result (λ told. told.0.allocator ≡ pool.entry.now) }
+    ensures { IfOk result (λ got. got.0.allocator ≡ pool.entry.now) }
 {
     let (producer, consumer) = RingBuffer::with_protocol::<Global, OfPool<P>>(rt.alloc(), 4)?;
     let ((_, sent), (receiver, received)) = thread::join(
@@ -141,7 +141,7 @@ fn send_and_receive<P: MessagePool + Send, R: Threads + Sync + AllocGlobal>(
         move || -> (PoolParty, u32)
             requires { (P.pool ≡ Some pool.now) × (sender.allocator ≡ pool.now)
                 × (1 < pool.now.scene.parties) }
-        { send_all::<P>(pool, sender, producer, asked) },
+        { send_all::<P>(pool, sender, producer, requested) },
         move || -> (PoolParty, u32)
             requires { (P.pool ≡ Some pool.now) × (receiver.allocator ≡ pool.now) }
             ensures { result.0.allocator ≡ pool.entry.now }
@@ -150,14 +150,14 @@ fn send_and_receive<P: MessagePool + Send, R: Threads + Sync + AllocGlobal>(
     Ok((receiver, sent, received))
 }
 
-/// Sends a thousand messages in two buckets: each arrives, both buckets are free in the end, and there is no third. The call's
-/// brand names the pool.
+/// Sends a thousand messages in two buckets: each arrives, both buckets are free in the end, and there is no third bucket. The
+/// call's brand names the pool.
 #[test]
 fn threads_pool_queue(rt: HostRuntime) {
     let (small, (pool, sender, receiver)) = (layout(&rt, 48, 4), two(&rt, 256));
     let (rt, pool) = (&rt, &pool);
-    let told = send_and_receive::<Brand, HostRuntime>(rt, pool, sender, receiver, small);
-    let (mut receiver, sent, received) = told.expect(rt, "there is memory for a queue");
+    let got = send_and_receive::<Brand, HostRuntime>(rt, pool, sender, receiver, small);
+    let (mut receiver, sent, received) = got.expect(rt, "there is memory for a queue");
     same(rt, (sent, received), (MESSAGES, MESSAGES));
     same(rt, take(pool, &mut receiver, small), Ok((0, 4096, 48)));
     same(rt, take(pool, &mut receiver, small), Ok((1, 4224, 48)));

@@ -1,4 +1,4 @@
-//! The workers of `thread_layers`, and the room that is left when all of them are back.
+//! The workers of `thread_layers`, and the room that is left when all of them have returned.
 use crate::tests::checks::same;
 use bb_memory_bump::bump_allocator::BumpAllocator;
 use bb_memory_traits::layout::Layout;
@@ -8,14 +8,15 @@ use std::thread::Threads;
 use thread_layers::bump_workers::carved_by_four;
 use thread_layers::pool_workers::four_workers;
 
-/// Returns how much of 1024 bytes is used when four threads have asked for so many each, or none where memory was refused.
+/// Returns how much of 1024 bytes is used when four threads have each requested `size` bytes, or `None` if memory ran out.
 fn used_by_four<R: Threads + Sync>(rt: &R, alloc: Global, size: usize) -> Option<usize> {
-    let asked = Layout::from_size_align(size, 4).ok()?;
-    let again = carved_by_four(rt, alloc, BumpAllocator::new(4096, 1024), asked).ok()?;
+    let requested = Layout::from_size_align(size, 4).ok()?;
+    let again = carved_by_four(rt, alloc, BumpAllocator::new(4096, 1024), requested).ok()?;
     Some(again.used_space())
 }
 
-/// Where four chunks fit all four are served, and else three, whichever of the four comes last. Each worker keeps a bucket.
+/// If four chunks fit, all four threads are served, and otherwise three, whichever of the four comes last. Each worker keeps a
+/// bucket.
 #[test]
 fn four_work(rt: HostRuntime) -> Result<(), Fail> {
     same(&rt, used_by_four(&rt, rt.alloc(), 100), Some(400));

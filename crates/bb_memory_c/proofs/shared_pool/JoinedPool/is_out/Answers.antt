@@ -1,8 +1,8 @@
 use Rattle.bb_memory_c.proofs.InUse.{caches-none, held-is-out, tells-in-use}
 use Rattle.bb_memory_c.proofs.shared_pool.JoinedPool.is_out.Goals as goal
-use Rattle.bb_memory_c.specs.SharedPools.{AreListed, geometry_of}
-use Rattle.bb_memory_shared_pools.specs.SharedPoolCaching.{CachingParty, IsOut}
-use Rattle.std.proofs.Common.{List, ap, subst, sym, ℕ, ◌∙◌, ◌≡◌}
+use Rattle.bb_memory_c.specs.SharedPools.{AreListed}
+use Rattle.bb_memory_shared_pools.specs.SharedPoolCaching.{CachingParty}
+use Rattle.std.proofs.Common.{List, ap, subst, sym, ◌∙◌}
 use Rattle.std.specs.Prelude.{Bool, slice_get}
 
 pub returns-in-Some-clause-value : goal.returns-in-Some-clause-value

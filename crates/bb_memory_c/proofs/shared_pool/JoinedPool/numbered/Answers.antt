@@ -7,7 +7,7 @@ use Rattle.bb_memory_traits.specs.Geometry.{IsPlaceOfBucket}
 use Rattle.std.proofs.Common.{None, Option, Some, ap, subst, sym, ℕ, ◌∙◌}
 use Rattle.std.specs.Prelude.{IfNone}
 
--- what follows from what holds where there is none
+-- what follows if there is none
 none-so : (told : Option ℕ) (A B : Type 0) → (A → B) → IfNone told A → IfNone told B
 none-so None A B so is = so is
 none-so (Some number) A B so is = tt

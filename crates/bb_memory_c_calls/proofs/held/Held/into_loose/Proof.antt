@@ -1,4 +1,4 @@
--- `into_loose` hands out the box that was owned.
+-- `into_loose` returns the box that was owned.
 use Rattle.bb_memory_c_calls.proofs.Repr.{ !, Al, Goes-blank, Goes-dropped, Good, Held, List, Loose, None, RattleType, SProp, Some, Some-of, Stays, Val, WpFn, [], a_type, after, agg, alloc_all, and_then, and_tt, at_ret, block_ptr, both, branches, by, dnil, emp, ent, enter, env, exec, fact, fact_i, false, first, fjoin, fld, flft, free_all, fsplit, ftrue, get, get_in, ghosts, handle_tells, held_out, id⊢, impl, inst_fn, keep, layout, layouts, leaves, lit, lit<, live, look_at, loose_good, loose_in, move, no, no_more, none_of, nothing, of_opd, owns, owns_either, param, pass_all, plain, proved_at, ptr_good, qed, raw, refl, returns, sets, sets_last, split, stay_dropped, stop, sub, subst, suffices, sym, tables, tnil, true, type_at, types_at, use0, use1, vcons, vnil, vptr, walk_of, whole, word, word_good, yes, ‵, ◌$◌, ◌++◌, ◌∙◌, ◌∵◌, ◌∷◌, ◌≡◌, ◌⊛◌}
 use Rattle.bb_memory_c_calls.proofs.held.Held.into_loose.Code as code
 use Rattle.bb_memory_c_calls.proofs.held.Held.into_loose.Statement.{statement}

@@ -1,4 +1,4 @@
--- `made_mut` lends what was made, where it lies. Assumes `Logic`.
+-- `made_mut` lends the value in its place. Assumes `Logic`.
 use Rattle.bb_memory_c_calls.proofs.Repr.{ !, Clauses, Env, Fml, Fn, GName, Goes-spent_ref, Held, Item, Lft, List, Logic, MatchOption, Model, MutBor, MutRef, None, Option, Part, RattleType, Running, SProp, Share, Some, Some-of, Stays, T, Ura, Val, WpFn, [], a_type, addr, after, agg, alloc_all, and_then, at_ret, await, block_ptr, blocks, branches, by, cell_at, closes, done, drop, emp, ent, enter, env, exec, fact, fact_i, false, first, fjoin, fld, flft, fobs, follows, fpack, free_all, fres, fsep, fsplit, fsplit3, fst∗, ftrue, full_share, get, ghosts, group, held_in, held_out, inst_fn, join, keep, later, layouts, leaves, lends_Part, lit, lit<, live, load, lone, look_at, look_in, mean, mem, move, mut_Tells, mut_ref_to, mut_vals, named, no, no_more, none_of, nothing, of_list, of_opd, on_entry, opens, owns, owns_either, param, part_at, pass_all, pick, plain, proved, qed, raw, refl, returns, returns_within, rewrite, sem, sep, sets, sets_last, skips, some, split, split3, stay_dropped, stop, sub, sym, tables, through, true, un, use0, use1, via, vptr, walk_of, whole, word, ‵, ℕ, ◌$◌, ◌∵◌, ◌∷◌, ◌≡◌, ◌⊛◌}
 use Rattle.bb_memory_c_calls.proofs.held.Held.made_mut.Code as code
 use Rattle.bb_memory_c_calls.proofs.held.Held.made_mut.Statement.{statement}

@@ -1,5 +1,5 @@
 //! A heap block.
-use crate::tests::checks::{check, layout, none_asked, same};
+use crate::tests::checks::{check, layout, none_requested, same};
 use crate::tests::out_of_memory::blocks::{counted, digits, made, shrunk};
 use bb_memory_heap::heap_allocator::HeapAllocator;
 use bb_memory_traits::layout::Layout;
@@ -14,5 +14,5 @@ fn a_heap_block(rt: HostRuntime) {
     same(&rt, digits(&block), (2, 12));
     HeapAllocator::new(rt.alloc()).deallocate(block, Layout::empty());
     check(&rt, some_was_freed(rt.alloc()));
-    none_asked(&rt);
+    none_requested(&rt);
 }

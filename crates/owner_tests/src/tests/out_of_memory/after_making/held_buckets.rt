@@ -1,5 +1,5 @@
 //! Held buckets: their count, the greatest one so far, buckets by number, and the reads of a request.
-use crate::tests::checks::{check, layout, none_asked, refused, same};
+use crate::tests::checks::{check, layout, none_requested, refused, same};
 use crate::tests::kinds::{Kind, Of, fixed_over, pool_over};
 use bb_memory_owned::pool_allocator::{
     AllocationError, Allocator, BaseAllocator, FixedSizePoolAllocator, PoolAllocator,
@@ -8,7 +8,7 @@ use std::alloc::Global;
 use std::process::Abort;
 use test_marks::refuse_memory;
 
-/// The buckets that are held, the most that were, and whether there is room for one more.
+/// The number of held buckets, the greatest number so far, and whether there is room for one more.
 type Counts = (u32, u32, bool);
 
 /// The place of a number, the number of a place, and whether the bucket there is held.
@@ -16,14 +16,14 @@ type At = (Option<usize>, Option<u32>, bool);
 
 /// A pool of either kind.
 pub(in crate::tests) trait Buckets: Kind + Allocator {
-    fn told(&self, number: u32, place: usize) -> (Counts, At);
+    fn figures(&self, number: u32, place: usize) -> (Counts, At);
 
     /// Calls `deallocate_if_held`.
     fn give(&mut self, place: usize) -> bool;
 }
 
 impl Buckets for PoolAllocator<Global> {
-    fn told(&self, number: u32, place: usize) -> (Counts, At) {
+    fn figures(&self, number: u32, place: usize) -> (Counts, At) {
         let counts = (self.held_buckets(), self.greatest_held(), self.has_room());
         let (at, number) = (self.place_at(number), self.number_at(place));
         (counts, (at, number, self.holds(place)))
@@ -35,7 +35,7 @@ impl Buckets for PoolAllocator<Global> {
 }
 
 impl<const N: usize> Buckets for FixedSizePoolAllocator<N> {
-    fn told(&self, number: u32, place: usize) -> (Counts, At) {
+    fn figures(&self, number: u32, place: usize) -> (Counts, At) {
         let counts = (self.held_buckets(), self.greatest_held(), self.has_room());
         let (at, number) = (self.place_at(number), self.number_at(place));
         (counts, (at, number, self.holds(place)))
@@ -47,18 +47,22 @@ impl<const N: usize> Buckets for FixedSizePoolAllocator<N> {
 }
 
 fn counts(rt: &impl Abort, pool: &impl Buckets, held: u32, greatest: u32, buckets: u32) {
-    same(rt, pool.told(0, 0).0, (held, greatest, held < buckets));
+    same(rt, pool.figures(0, 0).0, (held, greatest, held < buckets));
 }
 
-/// Allocates a bucket, whose place and number agree. By the count of held ones it is another one each time.
+/// Allocates a bucket, whose place and number agree. As the count of held buckets rises, it is another one each time.
 fn takes(rt: &impl Abort, pool: &mut impl Buckets, size: usize) {
     let Ok(chunk) = pool.allocate(layout(rt, size, size)) else {
         panic!(rt; "no bucket is free");
     };
     let place = chunk.place();
-    let (_, number, held) = pool.told(0, place).1;
+    let (_, number, held) = pool.figures(0, place).1;
     check(rt, held && number.is_some());
-    same(rt, pool.told(number.unwrap_or(0), place).1.0, Some(place));
+    same(
+        rt,
+        pool.figures(number.unwrap_or(0), place).1.0,
+        Some(place),
+    );
 }
 
 /// Returns the place of the bucket of 16 bytes with this number.
@@ -70,17 +74,17 @@ fn place_of(number: u32) -> usize {
 fn gives(rt: &impl Abort, pool: &mut impl Buckets, number: u32) {
     let place = place_of(number);
     let (at, found) = (Some(place), Some(number));
-    same(rt, pool.told(number, place).1, (at, found, true));
+    same(rt, pool.figures(number, place).1, (at, found, true));
     check(rt, pool.give(place) && !pool.give(place));
-    same(rt, pool.told(number, place).1, (at, found, false));
+    same(rt, pool.figures(number, place).1, (at, found, false));
 }
 
-/// Checks that nothing is held or given back at a place at which no bucket of 16 bytes begins.
+/// Checks that no bucket is held, or given back, at a place at which no bucket of 16 bytes begins.
 fn has_none_between(rt: &impl Abort, pool: &mut impl Buckets, buckets: u32) {
-    for wild in [0, 1, 4080, 4095, 4097, 4104, usize::MAX, place_of(buckets)] {
-        same(rt, pool.told(buckets, wild).1, (None, None, false));
-        same(rt, pool.told(u32::MAX, wild).1, (None, None, false));
-        check(rt, !pool.give(wild));
+    for arbitrary in [0, 1, 4080, 4095, 4097, 4104, usize::MAX, place_of(buckets)] {
+        same(rt, pool.figures(buckets, arbitrary).1, (None, None, false));
+        same(rt, pool.figures(u32::MAX, arbitrary).1, (None, None, false));
+        check(rt, !pool.give(arbitrary));
     }
 }
 
@@ -107,10 +111,10 @@ fn goes_round(rt: &(impl Abort + AllocGlobal), made: Option<impl Buckets>, bucke
         takes(rt, &mut pool, 16);
         counts(rt, &pool, 1, buckets, buckets);
     }
-    none_asked(rt);
+    none_requested(rt);
 }
 
-/// More buckets than a word has bits; one; and none.
+/// Pools with more buckets than a word has bits, with one, and with none.
 #[test]
 fn a_pool_counts_what_it_holds(rt: HostRuntime) {
     for buckets in [70u32, 64, 1, 0] {
@@ -120,7 +124,7 @@ fn a_pool_counts_what_it_holds(rt: HostRuntime) {
     }
 }
 
-/// A fixed pool has no more buckets than its constant.
+/// A fixed pool has at most as many buckets as its constant says.
 #[test]
 fn fixed_counts_what_it_holds(rt: HostRuntime) {
     for (size, buckets) in [(1120, 66u32), (1056, 66), (48, 3), (0, 0)] {
@@ -129,7 +133,7 @@ fn fixed_counts_what_it_holds(rt: HostRuntime) {
     }
 }
 
-/// Requests a byte, which reads one index word. It is given at `place`, or refused if this is `None`.
+/// Requests a byte, which reads one index word. The byte is at `place`, or the request fails if this is `None`.
 fn by_one_read(rt: &impl Abort, pool: &mut PoolAllocator<Global>, place: Option<usize>) {
     let given = pool.allocate(layout(rt, 1, 1));
     same(rt, pool.last_reads(), 1);
@@ -139,7 +143,7 @@ fn by_one_read(rt: &impl Abort, pool: &mut PoolAllocator<Global>, place: Option<
     }
 }
 
-/// Takes all buckets of one byte, by one read each. Then the bucket at `place` goes back, and is the one that is given next.
+/// Takes all buckets of one byte, by one read each. Then the bucket at `place` is given back, and the next request gets it.
 fn fills(rt: &(impl Abort + AllocGlobal), buckets: u32, place: usize) {
     let Some(mut pool) = pool_over(rt.alloc(), layout(rt, 1, 1), 4096, buckets as usize) else {
         return refused(rt);
@@ -156,7 +160,7 @@ fn fills(rt: &(impl Abort + AllocGlobal), buckets: u32, place: usize) {
     pool.deallocate_bucket(place);
     by_one_read(rt, &mut pool, Some(place));
     by_one_read(rt, &mut pool, None);
-    none_asked(rt);
+    none_requested(rt);
 }
 
 /// One read finds that all buckets are held, or finds the only free one, in words that are full or not.
@@ -199,7 +203,7 @@ fn numbers(rt: &(impl Abort + AllocGlobal), of: Of, stride: usize, buckets: u32)
         &pool,
         &[before, start.wrapping_sub(1), after, 0, usize::MAX],
     );
-    none_asked(rt);
+    none_requested(rt);
 }
 
 /// Odd strides, powers of two, and products of both; regions that begin at the least place, and that end at the greatest one.

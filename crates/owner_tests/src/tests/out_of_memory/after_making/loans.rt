@@ -1,7 +1,7 @@
 //! Loan books, of which only a loan allocates.
 ghost use Rattle.std.specs.Prelude.{[]};
 
-use crate::tests::checks::{check, layout, none_asked, refused, same};
+use crate::tests::checks::{check, layout, none_requested, refused, same};
 use crate::tests::kinds::pool_over;
 use crate::tests::out_of_memory::loans::{FULL, NO_MEMORY, one_book, reply};
 use bb_memory_traits::allocator::Allocator;
@@ -19,21 +19,21 @@ fn a_loan_book(rt: HostRuntime) {
         return refused(&rt);
     }
     refuse_memory(rt.alloc());
-    for (call, told) in [
+    for (call, got) in [
         (Publish(1, 2), Refused(LoanError::UnknownSample)),
         (Publish(0, 2), Published),
         (GiveBack(0), Kept),
         (IsOut(0), Out(true)),
         (GiveBack(0), Returned),
     ] {
-        same(&rt, reply(&mut book, call), told);
+        same(&rt, reply(&mut book, call), got);
     }
     same(&rt, reply(&mut one_book(rt.alloc()), IsOut(0)), Out(false));
-    none_asked(&rt);
+    none_requested(&rt);
 }
 
-/// Fills an allocator of sixteen chunks and the book's room for records. Without memory a further loan is refused for its
-/// record's, before the allocator gets a request; with memory the allocator refuses it.
+/// Fills an allocator of sixteen chunks and the book's room for records. If memory fails, a further loan fails because of its
+/// record, before the allocator gets a request; with memory the allocator refuses it.
 fn fills<A: Allocator + Drop>(rt: &(impl Abort + AllocGlobal), allocator: A)
     requires { A.stands_for allocator [] }
 {
@@ -44,14 +44,14 @@ fn fills<A: Allocator + Drop>(rt: &(impl Abort + AllocGlobal), allocator: A)
         }
     }
     let is_refused = refuse_memory(rt.alloc());
-    let told = reply(&mut book, Loan(64));
+    let got = reply(&mut book, Loan(64));
     check(rt, none_was_asked(rt.alloc()) != is_refused);
     let wanted = if some_was_refused(rt.alloc()) {
         NO_MEMORY
     } else {
         FULL
     };
-    same(rt, told, wanted);
+    same(rt, got, wanted);
     same(rt, reply(&mut book, Loan(64)), FULL);
 }
 

@@ -1,5 +1,5 @@
 //! Layouts, roundings, chunks and a region; and the laws.
-use crate::tests::checks::{check, layout, none_asked, refused, same};
+use crate::tests::checks::{check, layout, none_requested, refused, same};
 use crate::tests::kinds::{fixed_over, pool_over};
 use bb_memory_bump::bump_allocator::bump_object_law;
 use bb_memory_heap::heap_allocator::heap_law;
@@ -36,7 +36,7 @@ fn layouts_and_roundings(rt: HostRuntime) {
     same(&rt, round_up(4097, eight), Some(4104));
     same(&rt, round_up(0, eight), Some(0));
     same(&rt, round_up(usize::MAX, two), None);
-    none_asked(&rt);
+    none_requested(&rt);
 }
 
 /// Calls `memory_size`, if its conditions hold.
@@ -59,7 +59,7 @@ fn memory_sizes(rt: HostRuntime) {
     same(&rt, memory_size(large, 1024), Some(64));
     same(&rt, memory_size(small, 64), Some(40));
     same(&rt, memory_size(large, 100), Some(0));
-    none_asked(&rt);
+    none_requested(&rt);
 }
 
 // row: pool-odd-start-getters, fixed-constant-four
@@ -82,7 +82,7 @@ fn getters(rt: HostRuntime) {
     same(&rt, fixed.bucket_layout(), bucket);
     same(&rt, (one.start_address(), one.size()), (4097, 1024));
     check(&rt, one.has_chunk_available());
-    none_asked(&rt);
+    none_requested(&rt);
 }
 
 /// A region of eight bytes, call by call.
@@ -101,7 +101,7 @@ fn a_region(rt: HostRuntime) {
     check(&rt, region.bytes() == b"77153777".as_slice());
     region.zero(chunk);
     check(&rt, region.bytes() == b"77\0\0\0777".as_slice());
-    none_asked(&rt);
+    none_requested(&rt);
 }
 
 /// Laws do nothing, and each is called once.
@@ -123,5 +123,5 @@ fn laws_do_nothing(rt: HostRuntime) {
     split_bytes_law();
     loan_book::one_answer_law();
     loan_book::equality_law();
-    none_asked(&rt);
+    none_requested(&rt);
 }

@@ -2,7 +2,7 @@
 ghost use Rattle.bb_memory_traits.specs.Chunk.{region_at};
 ghost use Rattle.std.specs.Prelude.{[], ◌≡◌};
 
-use crate::tests::checks::{check, chunk, layout, none_asked, refused, same};
+use crate::tests::checks::{check, chunk, layout, none_requested, refused, same};
 use crate::tests::kinds::{Kind, Of, fixed_over, fresh};
 use crate::tests::owner::Owner;
 use bb_memory_bump::bump_allocator::BumpAllocator;
@@ -16,7 +16,7 @@ use std::alloc::Global;
 use std::process::Abort;
 use test_marks::refuse_memory;
 
-/// Asks for a chunk, and returns its place and its length.
+/// Requests a chunk, and returns its place and its length.
 fn takes<A: BaseAllocator + Drop>(
     rt: &impl Abort,
     owner: &mut Owner<A>,
@@ -38,12 +38,12 @@ fn resizes<A: Allocator + Drop>(
     zeroed: bool,
 ) {
     let (old, new) = (layout(rt, old, 4), layout(rt, new, 4));
-    let told = if new.size() > old.size() {
+    let got = if new.size() > old.size() {
         owner.grow(0, old, new, zeroed)
     } else {
         owner.shrink(0, old, new)
     };
-    same(rt, told, Reply::Chunk(chunk(rt, place, len)));
+    same(rt, got, Reply::Chunk(chunk(rt, place, len)));
 }
 
 /// Allocates the 64 bytes at 4096 that a fresh allocator has. Then a request is refused.
@@ -54,7 +54,7 @@ fn takes_all<A: BaseAllocator + Drop>(rt: &impl Abort, owner: &mut Owner<A>, zer
     same(rt, owner.allocate(all, zeroed), refused);
 }
 
-/// Makes each call that resizes, plainly and then by clearing bytes, between a request and a return.
+/// Makes each call that resizes, first plainly and then with cleared bytes, between a request and a return.
 fn each_call<A: Kind + Allocator>(rt: &(impl Abort + AllocGlobal), of: Of) {
     let mut owner = fresh::<A>(rt, of);
     for (zeroed, end) in [(false, 4096), (true, 4160)] {
@@ -65,7 +65,7 @@ fn each_call<A: Kind + Allocator>(rt: &(impl Abort + AllocGlobal), of: Of) {
         same(rt, owner.deallocate(0), Reply::Released);
         check(rt, owner.has_zeros(4096, end));
     }
-    none_asked(rt);
+    none_requested(rt);
 }
 
 #[test]
@@ -74,7 +74,7 @@ fn each_call_of_the_traits(rt: HostRuntime) {
     takes_all(&rt, &mut bump, false);
     same(&rt, bump.deallocate(0), Reply::Released);
     takes_all(&rt, &mut bump, true);
-    none_asked(&rt);
+    none_requested(&rt);
     each_call::<OneChunkAllocator>(&rt, [4096, 64, 0, 0]);
     each_call::<PoolAllocator<Global>>(&rt, [4096, 64, 64, 8]);
     each_call::<FixedSizePoolAllocator<4>>(&rt, [4096, 64, 64, 8]);
@@ -92,12 +92,12 @@ fn a_bump_clears_its_chunk(rt: HostRuntime) {
     let used = bump.allocator();
     same(&rt, (used.used_space(), used.free_space()), (32, 992));
     same(&rt, used.total_space(), 1024);
-    none_asked(&rt);
+    none_requested(&rt);
 }
 
 // row: one-zeroed-refused, one-grow-zeroed
 #[test]
-fn a_grown_chunk_is_cleared_behind_its_old_size(rt: HostRuntime) {
+fn a_grown_chunk_is_cleared_after_its_old_size(rt: HostRuntime) {
     let mut one = fresh::<OneChunkAllocator>(&rt, [4096, 1024, 0, 0]);
     let refused = Reply::Refused(AllocationError::OutOfMemory);
     same(&rt, one.allocate(layout(&rt, 1025, 1), true), refused);
@@ -105,7 +105,7 @@ fn a_grown_chunk_is_cleared_behind_its_old_size(rt: HostRuntime) {
     same(&rt, takes(&rt, &mut one, (48, 4), false), (4096, 1024));
     resizes(&rt, &mut one, (4096, 48, 64), 1024, true);
     check(&rt, one.has_zeros(4144, 5120));
-    none_asked(&rt);
+    none_requested(&rt);
 }
 
 // row: one-doc-example
@@ -122,7 +122,7 @@ fn one_chunk_is_shrunk_and_grown(rt: HostRuntime) {
     let back = one.allocator();
     check(&rt, back.has_chunk_available() && !back.holds(4096));
     check(&rt, one.has_zeros(4144, 5120));
-    none_asked(&rt);
+    none_requested(&rt);
 }
 
 /// Takes 48 bytes, which can't be grown to 129. They are grown, shrunk and given back: exactly the bytes by which they grew
@@ -140,7 +140,7 @@ fn is_grown_and_shrunk<A: Kind + Allocator>(rt: &(impl Abort + AllocGlobal), of:
     same(rt, owner.deallocate(0), Reply::Released);
     let cleared = place.saturating_add(48);
     check(rt, owner.has_zeros(cleared, cleared.saturating_add(16)));
-    none_asked(rt);
+    none_requested(rt);
 }
 
 // row: fixed-doc-example, fixed-grow-zeroed-refused
@@ -167,7 +167,7 @@ fn fills<A: Kind + Allocator>(
     let (place, len) = takes(rt, &mut pool, (9, 1), true);
     same(rt, len, 9);
     check(rt, pool.has_zeros(place, place.saturating_add(9)));
-    none_asked(rt);
+    none_requested(rt);
 }
 
 // row: pool-eight-buckets, pool-rounded-stride
@@ -177,7 +177,8 @@ fn each_bucket_has_its_place(rt: HostRuntime) {
     fills::<PoolAllocator<Global>>(&rt, [4096, 64, 12, 8], (16, 4));
 }
 
-/// Spends a budget of one chunk over a pool of buckets of 128 bytes, which then refuses before its pool. A resize spends nothing.
+/// Spends a budget of one chunk over a pool of buckets of 128 bytes. Then the budget refuses a request before the pool gets it.
+/// A resize spends nothing.
 fn spends<A: Allocator + Drop>(rt: &(impl Abort + AllocGlobal), pool: A)
     requires fresh { A.stands_for pool [] }
     requires region { A.region_of (A.geometry pool) ≡ region_at 4096 1024 }
@@ -196,7 +197,7 @@ fn spends<A: Allocator + Drop>(rt: &(impl Abort + AllocGlobal), pool: A)
     same(rt, budget.allocate(large, false), spent);
     same(rt, budget.deallocate(0), Reply::Released);
     same(rt, budget.allocator().out(), 0);
-    none_asked(rt);
+    none_requested(rt);
 }
 
 #[test]

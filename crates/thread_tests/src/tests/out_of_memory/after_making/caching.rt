@@ -3,13 +3,13 @@ ghost use Rattle.bb_memory_shared_pools.specs.SharedPoolCaching.{IsOut};
 ghost use Rattle.std.specs.Prelude.{IfSome, ◌<◌, ◌≡◌};
 
 use crate::tests::buckets::{last_of, pool_of};
-use crate::tests::checks::{check, none_asked, refused, same};
+use crate::tests::checks::{check, none_requested, refused, same};
 use bb_memory_shared_pools::shared_pool::{Bucket, CachingParty, SharedPoolAllocator, by_number};
 use std::alloc::Global;
 use std::process::Abort;
 use test_marks::refuse_memory;
 
-/// Makes the pool and its parties, or fails if memory was refused.
+/// Makes the pool and its parties. Fails if memory ran out.
 fn caching(
     rt: &impl Abort,
     alloc: Global,
@@ -37,7 +37,7 @@ fn hold<'p>(rt: &impl Abort, pool: &'p SharedPoolAllocator, party: &mut CachingP
     bucket.expect(rt, "a bucket is free or cached")
 }
 
-/// Takes bucket 0 and gives it back, and so caches it. The other party is refused then, and both meet.
+/// Takes bucket 0 and gives it back, which caches it. Then the other party's request is refused, and both meet.
 fn caches(rt: &impl Abort, pool: &SharedPoolAllocator, a: &mut CachingParty, b: &mut CachingParty)
     requires first { a.old.party.allocator ≡ pool.now }
     requires second { b.old.party.allocator ≡ pool.now }
@@ -63,8 +63,8 @@ fn caches(rt: &impl Abort, pool: &SharedPoolAllocator, a: &mut CachingParty, b: 
     same(rt, (a.party().number(), b.party().number()), (0, 1));
 }
 
-/// Takes the cached bucket, and hands it over by its token and by its number.
-fn hands_over(
+/// Takes the cached bucket, and passes it to the other party by its token and by its number.
+fn passes_on(
     rt: &impl Abort,
     pool: &SharedPoolAllocator,
     a: &mut CachingParty,
@@ -94,7 +94,7 @@ fn hands_over(
     same(rt, pool.held_buckets(), 0);
 }
 
-/// Caches a bucket each. One party flushes its own, and the other one ends with its own.
+/// Caches one bucket at each party. One party flushes its own, and the other one ends with its own.
 fn ends(rt: &impl Abort, pool: &SharedPoolAllocator, mut a: CachingParty, mut b: CachingParty)
     requires first { a.party.allocator ≡ pool.now }
     requires second { b.party.allocator ≡ pool.now }
@@ -121,7 +121,7 @@ fn parties_that_cache(rt: HostRuntime) {
     };
     refuse_memory(rt.alloc());
     caches(&rt, &pool, &mut a, &mut b);
-    hands_over(&rt, &pool, &mut a, &mut b);
+    passes_on(&rt, &pool, &mut a, &mut b);
     ends(&rt, &pool, a, b);
-    none_asked(&rt);
+    none_requested(&rt);
 }

@@ -1,7 +1,7 @@
 //! A shared pool of at most four buckets of 128 bytes.
 ghost use Rattle.std.specs.Prelude.{All, IfSome, ◌≡◌};
 
-use crate::tests::checks::{check, chunk, layout, none_asked, refused, same};
+use crate::tests::checks::{check, chunk, layout, none_requested, refused, same};
 use bb_memory_owned::pool_allocator::FixedSizePoolAllocator;
 use bb_memory_shared_pools::shared_pool::{Bucket, PoolParty, SharedFixedSizePoolAllocator};
 use bb_memory_traits::allocator::AllocationError::OutOfMemory;
@@ -13,7 +13,7 @@ use test_marks::refuse_memory;
 
 type Four = SharedFixedSizePoolAllocator<4>;
 
-/// Makes a pool over 1,024 bytes at 4096 for one party, or fails where memory was refused.
+/// Makes a pool over 1,024 bytes at 4096 for one party. Fails if memory ran out.
 fn four(alloc: Global) -> Option<(Four, Vec<PoolParty>)>
     ensures { IfSome result (λ made. All (λ party. party.allocator ≡ made.0) made.1.items) }
 {
@@ -32,11 +32,11 @@ fn takes_three(rt: &impl Abort, pool: &Four, party: &mut PoolParty, layout: Layo
     requires { party.old.allocator ≡ pool.now }
 {
     for wanted in [Ok(1), Ok(2), Ok(3), Err(OutOfMemory)] {
-        let told = match pool.allocate(party, layout) {
+        let got = match pool.allocate(party, layout) {
             Ok(bucket) => Ok(bucket.number()),
             Err(error) => Err(error),
         };
-        same(rt, told, wanted);
+        same(rt, got, wanted);
     }
 }
 
@@ -87,5 +87,5 @@ fn four_of_eight_buckets(rt: HostRuntime) {
     same(&rt, pool.bucket_layout(), layout(&rt, 128, 8));
     same(&rt, pool.number_of_parties(), 1);
     fills(&rt, &pool, parties);
-    none_asked(&rt);
+    none_requested(&rt);
 }

@@ -1,6 +1,6 @@
 //! Parties of one thread that share a bump.
 use crate::tests::bumps::{end, last_of, share, spaces, take, two};
-use crate::tests::checks::{none_asked, same};
+use crate::tests::checks::{none_requested, same};
 use bb_memory_bump::bump_allocator::AllocationError::{OutOfMemory, SizeIsZero};
 
 // row: share-two-parties
@@ -14,10 +14,10 @@ fn two_parties(rt: HostRuntime) {
     same(rt, take(&shared, &mut b, 40, 1), Err(OutOfMemory));
     same(rt, take(&shared, &mut b, 0, 1), Err(SizeIsZero));
     same(rt, end(shared, b), (4096, 64, 40));
-    none_asked(rt);
+    none_requested(rt);
 }
 
-/// Where a request for memory is refused, the bump comes back with its text.
+/// If a request for memory fails, the bump comes back with its text.
 // row: share-keeps-position, refused-share
 #[test]
 fn what_was_used_stays_used(rt: HostRuntime) {
@@ -28,10 +28,10 @@ fn what_was_used_stays_used(rt: HostRuntime) {
     same(rt, shared.start_address(), 4096);
     same(rt, shared.total_space(), 64);
     same(rt, end(shared, b), (4096, 64, 40));
-    none_asked(rt);
+    none_requested(rt);
 }
 
-/// A thousand parties meet. The last one has seen nothing of what another one took then.
+/// A thousand parties meet. The last one hasn't seen what another one took then.
 #[test]
 fn the_last_party_made_no_step(rt: HostRuntime) {
     let rt = &rt;
@@ -42,7 +42,7 @@ fn the_last_party_made_no_step(rt: HostRuntime) {
     same(rt, (last.number(), other.number()), (999, 998));
     same(rt, take(&shared, &mut other, 40, 1), Ok((4096, 40)));
     same(rt, end(shared, last), (4096, 64, 40));
-    none_asked(rt);
+    none_requested(rt);
 }
 
 #[test]
@@ -57,5 +57,5 @@ fn two_parties_meet(rt: HostRuntime) {
     same(rt, take(&shared, &mut b, 4, 4), Ok((4124, 4)));
     same(rt, spaces(&shared, &mut a), (32, 32));
     same(rt, end(shared, a), (4096, 64, 32));
-    none_asked(rt);
+    none_requested(rt);
 }

@@ -1,8 +1,8 @@
-//! Parties of one thread that share a pool of buckets of 128 bytes. A request answers a bucket's number, place and length.
+//! Parties of one thread that share a pool of buckets of 128 bytes. A request returns a bucket's number, place and length.
 ghost use Rattle.std.specs.Prelude.{All, ◌<◌, ◌≡◌};
 
 use crate::tests::buckets::{add, fit, found, hold, last_of, pool_at_last, take, two};
-use crate::tests::checks::{check, chunk, layout, none_asked, same};
+use crate::tests::checks::{check, chunk, layout, none_requested, same};
 use bb_memory_shared_pools::shared_pool::by_number::Flag;
 use bb_memory_shared_pools::shared_pool::{
     AllocationShrinkError, Bucket, PoolParty, SharedPoolAllocator, by_number,
@@ -24,7 +24,7 @@ fn a_dropped_token_leaves_its_bucket_held(rt: HostRuntime) {
     pool.deallocate_bucket(&mut party, first);
     same(rt, take(pool, &mut party, small), Ok((0, 4096, 48)));
     same(rt, take(pool, &mut party, small), Err(OutOfMemory));
-    none_asked(rt);
+    none_requested(rt);
 }
 
 #[test]
@@ -39,10 +39,10 @@ fn two_parties_of_one_bucket(rt: HostRuntime) {
     same(rt, fit(pool, &mut b, small), Err(OutOfMemory));
     pool.deallocate_bucket(&mut a, held);
     same(rt, take(pool, &mut b, small), Ok((0, 4096, 48)));
-    none_asked(rt);
+    none_requested(rt);
 }
 
-/// The last party's part of the pool is its last bucket, also when all parties have met.
+/// The last party's part of the pool is its last bucket, even after all parties met.
 #[test]
 fn as_many_parties_as_buckets(rt: HostRuntime) {
     let (pool, mut all) = pool_at_last(&rt, 65536, 512);
@@ -79,7 +79,7 @@ fn as_many_parties_as_buckets(rt: HostRuntime) {
     let whole = pool.take(&mut party).ok();
     let whole = whole.expect(rt, "a bucket is free");
     same(rt, found(&whole), (1, 4224, 128));
-    none_asked(rt);
+    none_requested(rt);
 }
 
 /// Detaches a bucket of the first party, and attaches it by the other one, which gives it back.
@@ -124,10 +124,11 @@ fn a_detached_bucket_is_nobodys(rt: HostRuntime) {
     let held = hold(rt, pool, &mut a, small);
     drop(pool.detach(&mut a, held));
     same(rt, take(pool, &mut b, small), Err(OutOfMemory));
-    none_asked(rt);
+    none_requested(rt);
 }
 
-/// Attaches the bucket of this number that `from` may have detached, and gives it back where that won, which is told.
+/// Attaches the bucket of this number, which `from` may have detached, and gives it back if that succeeded. Returns whether it
+/// did.
 fn attaches_number(
     pool: &SharedPoolAllocator,
     party: &mut PoolParty,
@@ -146,7 +147,8 @@ fn attaches_number(
     won
 }
 
-/// A bucket that was detached by its number is attached once, by the number of who detached it, and one with a token is not.
+/// A bucket that was detached by its number is attached once, by the number of the party that detached it. A bucket with a
+/// token is not.
 #[test]
 fn a_number_is_attached_once(rt: HostRuntime) {
     let (small, (pool, mut a, mut b)) = (layout(&rt, 48, 4), two(&rt, 128));
@@ -172,11 +174,11 @@ fn a_number_is_attached_once(rt: HostRuntime) {
     same(rt, found(&attached), (0, 4096, 48));
     pool.give_all_back(&mut b);
     same(rt, pool.holder(number), Flag::Free);
-    none_asked(rt);
+    none_requested(rt);
 }
 
-/// A search begins in the party's part. It goes on where the last one ended, or at the bucket that came back last, and then at
-/// bucket 0.
+/// A search begins in the party's part. The next one begins where the last one ended, or at the bucket that came back last, and
+/// goes on at bucket 0.
 #[test]
 fn a_search_goes_on(rt: HostRuntime) {
     let (small, (pool, mut a, mut b)) = (layout(&rt, 48, 4), two(&rt, 1024));
@@ -193,7 +195,7 @@ fn a_search_goes_on(rt: HostRuntime) {
     same(rt, fit(pool, &mut a, small), Ok((6, 4864, 48)));
     same(rt, fit(pool, &mut a, small), Ok((7, 4992, 48)));
     same(rt, fit(pool, &mut b, small), Err(OutOfMemory));
-    none_asked(rt);
+    none_requested(rt);
 }
 
 #[test]
@@ -205,7 +207,7 @@ fn a_meeting_keeps_where_a_search_begins(rt: HostRuntime) {
     pool.meet(&mut a, &mut b);
     same(rt, fit(pool, &mut b, small), Ok((5, 4736, 48)));
     same(rt, fit(pool, &mut a, small), Ok((1, 4224, 48)));
-    none_asked(rt);
+    none_requested(rt);
 }
 
 /// Returns whether a bucket of the pool is detached, if all its parties are here.
@@ -219,7 +221,7 @@ fn detached(rt: &impl Abort, pool: &SharedPoolAllocator, all: &mut Vec<PoolParty
     pool.has_detached(all)
 }
 
-/// A bucket is detached from its detaching to its return, and no other is.
+/// A bucket is detached from its detaching to its return, and no other bucket is.
 #[test]
 fn a_detached_bucket_is_found(rt: HostRuntime) {
     let (small, (pool, mut all)) = (layout(&rt, 48, 4), pool_at_last(&rt, 384, 2));
@@ -237,10 +239,10 @@ fn a_detached_bucket_is_found(rt: HostRuntime) {
     pool.return_detached(&mut b, token);
     add(rt, pool, &mut all, b);
     check(rt, !detached(rt, pool, &mut all));
-    none_asked(rt);
+    none_requested(rt);
 }
 
-/// A bucket is held from its taking to its return, also while it is detached. A refusal changes nothing.
+/// A bucket is held from its taking to its return, even while it is detached. A refusal changes nothing.
 #[test]
 fn held_buckets_are_counted(rt: HostRuntime) {
     let (small, (pool, mut a, mut b)) = (layout(&rt, 48, 4), two(&rt, 256));
@@ -262,7 +264,7 @@ fn held_buckets_are_counted(rt: HostRuntime) {
     same(rt, pool.held_buckets(), 2);
     pool.deallocate_bucket(&mut a, first);
     same(rt, pool.held_buckets(), 1);
-    none_asked(rt);
+    none_requested(rt);
 }
 
 fn shrink(
@@ -281,7 +283,7 @@ fn shrink(
     pool.shrink(bucket, old, new)
 }
 
-/// A chunk is shrunk. Then its bucket is made again by its number, and given back.
+/// A chunk is shrunk. Then a token of its bucket is made from the bucket's number, and the bucket is given back.
 #[test]
 fn a_bucket_by_its_number(rt: HostRuntime) {
     let (small, (pool, mut party, _)) = (layout(&rt, 48, 4), two(&rt, 128));
@@ -289,14 +291,14 @@ fn a_bucket_by_its_number(rt: HostRuntime) {
     let mut held = hold(rt, pool, &mut party, small);
     let number = held.number();
     let (shorter, wanted) = (layout(rt, 16, 4), chunk(rt, 4096, 16));
-    let told = shrink(rt, pool, &mut held, shorter, small);
-    same(rt, told, Err(AllocationShrinkError::ShrinkWouldGrow));
-    let told = shrink(rt, pool, &mut held, small, shorter);
-    same(rt, told, Ok(wanted));
+    let got = shrink(rt, pool, &mut held, shorter, small);
+    same(rt, got, Err(AllocationShrinkError::ShrinkWouldGrow));
+    let got = shrink(rt, pool, &mut held, small, shorter);
+    same(rt, got, Ok(wanted));
     same(rt, found(&held), (0, 4096, 16));
     let again = by_number::bucket(pool, &party, number, 0);
     same(rt, found(&again), (0, 4096, 0));
     pool.deallocate_bucket(&mut party, again);
     same(rt, take(pool, &mut party, small), Ok((0, 4096, 48)));
-    none_asked(rt);
+    none_requested(rt);
 }

@@ -8,7 +8,7 @@ use Rattle.std.proofs.Common.{Bool, [], ap, arith, subst, sym, ℕ, ◌+◌, ◌
 use Rattle.std.proofs.lemmas.Bool.{false≢true}
 use Rattle.std.specs.Prelude.{if◌then◌else◌}
 
--- the return of the bucket of this number, where the party comes to it
+-- the return of the bucket of this number, when the party comes to it
 next : (initial party : PoolParty) (number : ℕ) → party ≡ with_entries initial (returns_of initial number) →
     with_entries party (return_of party number) ≡ with_entries initial (returns_of initial (number + 1))
 next initial party number returned =

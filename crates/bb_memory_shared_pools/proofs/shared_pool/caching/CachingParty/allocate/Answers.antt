@@ -97,7 +97,7 @@ returns-in-Some g c =
       most = most;
     }
 
--- a search, where none is cached
+-- a search, if none is cached
 pub invariant_of-self-in-None : goal.invariant_of-self-in-None
 invariant_of-self-in-None g c =
     let now : c.pop.new.self.items ≡ [] = search rules in

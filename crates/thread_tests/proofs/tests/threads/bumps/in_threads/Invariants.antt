@@ -9,7 +9,7 @@ invariant-loop g l = record {
   run : All (λ thread. arc_value thread.promise.0.value ≡ arc_value l.shared) l.threads.items;
 }
 
--- the same of the parties that came back, and of the threads that are left
+-- the same for the parties that came back, and for the threads that are left
 abbrev pub invariant-loop-2 : goal.invariant-loop-2
 invariant-loop-2 g l = record {
   back : All (λ party. party.allocator ≡ arc_value l.shared) l.parties.items;

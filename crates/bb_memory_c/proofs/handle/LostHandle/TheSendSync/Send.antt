@@ -1,6 +1,0 @@
-use Rattle.bb_memory_c.proofs.SentHandles.{IsSend, owned, owning_send, two_send}
-use Rattle.bb_memory_c.specs.contracts.handle.LostHandle.{the_row, the_type}
-use Rattle.bb_memory_shared_pools.proofs.shared_pool.detached.LostBucket.TheSendSync.{the_send}
-
-pub send : IsSend the_row
-send = owning_send the_type two_send (λ d. owned _ the_send d.made d.at d.value) (λ k x w. tt)
