@@ -1,4 +1,5 @@
-// bb_memory: allocators over a region of the host's own memory.
+// bb_memory: allocators over a region of memory that the host owns. The host is the program that
+// uses this library.
 
 // For C99 or later and C++11 or later, on Linux with an x86-64-v2 processor. bb_memory.hpp has
 // owners for C++17. The contract of each exported function but `bb_use_memory` is proved, for every
@@ -47,33 +48,36 @@
 
 // RULES
 //
-// No function tests these rules. Breaking one may give a chunk to two holders, or corrupt the
+// No function checks these rules. Breaking one may give a chunk to two holders, or corrupt the
 // library's memory. The most dangerous ones come first.
 
 //  1. Only one call at a time uses a handle. A data race on a handle is undefined behaviour, and
-//     may give one chunk twice. Threads that call at once have a party each, or a lock.
+//     may give one chunk twice. Threads that call at the same time each have a party, or use a
+//     lock.
 
-//  2. A handle goes to another thread by a lock, an atomic, or the start or join of a thread.
+//  2. Pass a handle to another thread only with synchronization: by a lock, an atomic, or the start
+//     or join of a thread.
 
-//  3. Return each chunk once. A second return is refused until the place is given again; from then
+//  3. Free each chunk once. A second free is refused until the place is allocated again; from then
 //     on it takes the chunk from its new holder.
 
 //  4. A region serves one allocator at a time. The host keeps the region while a chunk in it is in
 //     use. A region may be a chunk of another allocator. That chunk then serves nothing else, and
-//     is returned after the inner allocator is destroyed.
+//     is freed only after the inner allocator is destroyed.
 
-//  5. While a shared pool or bump exists, no other one has the same start, not even one that lies
-//     in a chunk of the first. Parties and detached buckets are known by that start. It is
-//     `start_address` of the figures. `bb_shared_pool_abandon` and `bb_shared_bump_abandon` say
-//     how long an abandoned one exists.
+//  5. While a shared pool or bump exists, no other one may have the same start, not even one that
+//     lies in a chunk of the first. Parties and detached buckets are recognized by that start,
+//     which is `start_address` of the figures. `bb_shared_pool_abandon` and
+//     `bb_shared_bump_abandon` say how long an abandoned one exists.
 
 //  6. A handle is a variable with both fields zero before its first use: `bb_pool pool =
 //     BB_EMPTY;`. It is passed by its address, which is never null.
 
-//  7. Only these functions write a handle, and it keeps its kind. A compiler refuses a handle of
-//     another kind, unless the host casts. A handle may be moved; its old copy is not used again.
+//  7. Only the functions of this library write a handle, and it keeps its kind. A compiler refuses
+//     a handle of another kind, unless the host casts. A handle may be moved; its old copy is not
+//     used again.
 
-//  8. Two handles that are passed to one call are different ones.
+//  8. Two handles that are passed to one call are different variables.
 
 //  9. No function is called in a signal handler. The handler may have interrupted a call with the
 //     handle, or `malloc`.
@@ -85,17 +89,18 @@
 // 11. `malloc` and `free` are those of C, or two functions of the host with the same meaning. The
 //     comment of `bb_use_memory` says what the functions that it names have to do.
 
-// Functions with a `const` handle are the exception to rule 1: they may run beside other calls with
-// their handle, except those that make it or empty it. That is tested (examples/c/places.c) and
-// not proved, since the proofs are of one call at a time.
+// Functions with a `const` handle are the exception to rule 1: they may run at the same time as
+// other calls with their handle, except those that make it or empty it. That is tested
+// (examples/c/places.c) and not proved, since the proofs are of one call at a time.
 
 // CHECKERS
 //
 // If AddressSanitizer or ThreadSanitizer is on, or if BB_VALGRIND is defined before the first
 // include, bb_memory_sanitize.h reports to the checker what is in use. BB_NO_SANITIZE turns that
-// off. Either macro is defined for all files of a program, or for none.
+// off. Define each of these two macros for all files of a program, or for none.
 
-// MemorySanitizer needs `__msan_unpoison` of each struct that a call filled.
+// With MemorySanitizer, call `__msan_unpoison` on each struct that one of these functions has
+// filled.
 
 #ifndef BB_MEMORY_H
 #define BB_MEMORY_H
@@ -131,9 +136,9 @@ extern "C" {
 // The version as one number, for `#if`. It grows with each version.
 #define BB_VERSION_NUMBER (BB_VERSION_MAJOR * 10000 + BB_VERSION_MINOR * 100 + BB_VERSION_PATCH)
 
-// The number in the shared library's SONAME. It grows if a function goes, or if a type, a struct's
-// fields or a code's number changes. It stays if functions or codes are added. A program runs with
-// any library of this number that is at least as new as the one that it was linked with.
+// The number in the shared library's SONAME. It grows if a function is removed, or if a type, a
+// struct's fields or a code's number changes. It stays if functions or codes are added. A program
+// runs with any library of this number that is at least as new as the one that it was linked with.
 #define BB_ABI 4
 
 //
@@ -141,12 +146,12 @@ extern "C" {
 //
 
 // A place is where a region, a bucket or a chunk begins. The functions compute with its number, and
-// never read or write there. A host whose places are numbers, such as offsets, defines
+// never read or write the memory there. A host whose places are numbers, such as offsets, defines
 // BB_PLACES_ARE_NUMBERS before the first include.
 
 #ifdef BB_PLACES_ARE_NUMBERS
 
-// Where a region begins, or a chunk that a call gives.
+// The place where a region begins, or a chunk that a call allocates.
 typedef size_t bb_place;
 
 // A place that is only passed to a call.
@@ -154,7 +159,7 @@ typedef size_t bb_address;
 
 #else
 
-// Where a region begins, or a chunk that a call gives.
+// The place where a region begins, or a chunk that a call allocates.
 typedef void *bb_place;
 
 // A place that is only passed to a call.
@@ -176,14 +181,15 @@ enum {
     // Done.
     BB_OK = 0,
 
-    // 0 bytes were requested of a bump. A pool gives a bucket for 0 bytes, and a one chunk gives
-    // what is left of its region.
+    // 0 bytes were requested from a bump. A pool allocates a bucket for 0 bytes, and a one-chunk
+    // allocator allocates all that it would for any size.
     BB_SIZE_IS_ZERO = 1,
 
     // The size is greater than a bucket's.
     BB_SIZE_TOO_LARGE = 2,
 
-    // The alignment is greater than a bucket's; in a resize of one chunk, greater than the old one.
+    // The alignment is greater than a bucket's; in a resize of the one chunk, greater than the old
+    // alignment.
     BB_ALIGNMENT_FAILURE = 3,
 
     // No room is left in the region for a request.
@@ -202,8 +208,9 @@ enum {
     // A handle that must not be empty is empty.
     BB_UNINITIALIZED = 8,
 
-    // No chunk in use begins at the place; for a party, no bucket that it holds and doesn't cache.
-    // For `attach_number`: that party hasn't detached the bucket by its number.
+    // No chunk in use begins at the place. For a party: no bucket that it holds and doesn't cache
+    // begins there. For `attach_number`: the party of number `from` hasn't detached the bucket by
+    // its number, or another party has attached it since.
     BB_NOT_HELD = 9,
 
     // A handle that must be empty is not.
@@ -218,7 +225,7 @@ enum {
     BB_NO_PARTY = 12,
 
     // The place is not a multiple of the old alignment, or the old size of a shrink is greater than
-    // what is reserved.
+    // what is reserved for the chunk.
     BB_LAYOUT_MISMATCH = 13,
 
     // `malloc` failed. Only calls that take memory return it: MEMORY lists them.
@@ -227,13 +234,13 @@ enum {
     // The new size of a grow is greater than what is reserved for the chunk.
     BB_MORE_THAN_RESERVED = 15,
 
-    // The region has no room for one bucket, or for the number of buckets that is required.
+    // The region has no room for one bucket, or not for the required number of buckets.
     BB_NO_BUCKET = 16,
 
     // A bucket of the pool is detached.
     BB_BUCKET_DETACHED = 17,
 
-    // A party has joined and not left, or was abandoned.
+    // A party has joined and not left, or a party was abandoned.
     BB_PARTIES_JOINED = 18,
 
     // The pool has only one party, so no other one could attach the bucket.
@@ -255,8 +262,8 @@ enum {
     BB_LAST_CODE = BB_OTHER_POOL
 };
 
-// Returns the name of `code`, as "BB_NOT_HELD", or "an unknown code" if this version has no such
-// code. The text is never freed.
+// Returns the name of `code`, such as "BB_NOT_HELD", or "an unknown code" if this version has no
+// such code. The text is static: don't free it.
 static inline const char *bb_name(uint32_t code) {
     switch (code) {
     case BB_OK: return "BB_OK";
@@ -288,7 +295,7 @@ static inline const char *bb_name(uint32_t code) {
 }
 
 // Returns a sentence on `code` for a log, in lower case and without a full stop, or "not a code of
-// bb_memory" if this version has no such code. The text is never freed.
+// bb_memory" if this version has no such code. The text is static: don't free it.
 static inline const char *bb_text(uint32_t code) {
     switch (code) {
     case BB_OK: return "done";
@@ -328,7 +335,7 @@ static inline const char *bb_text(uint32_t code) {
 
 #ifdef __cplusplus
 
-// A null pointer of C++.
+// The null pointer, as C++ writes it.
 #define BB_NULL nullptr
 
 // The alignment of a type, as C++ writes it.
@@ -339,7 +346,7 @@ static inline const char *bb_text(uint32_t code) {
 
 #else
 
-// A null pointer of C.
+// The null pointer, as C writes it.
 #define BB_NULL NULL
 
 // The alignment of a type, as C writes it.
@@ -365,8 +372,8 @@ static inline const char *bb_text(uint32_t code) {
 // TYPES
 //
 
-// A handle is a variable of the host's, of a type for each kind. Its fields `at` and `made` are
-// read and written only by these functions. An empty handle has both fields zero.
+// A handle is a variable of the host. Each kind of handle has a type of its own. Only the functions
+// of this library read and write its fields `at` and `made`. An empty handle has both fields zero.
 
 // A bump: one chunk after another.
 typedef struct bb_bump {
@@ -374,7 +381,7 @@ typedef struct bb_bump {
     bool made;
 } bb_bump;
 
-// A one chunk: its whole region is one chunk.
+// A one-chunk allocator: its whole region is one chunk.
 typedef struct bb_one_chunk {
     void *at;
     bool made;
@@ -410,7 +417,7 @@ typedef struct bb_pool_party {
     bool made;
 } bb_pool_party;
 
-// A `bb_detached`: no bucket, or one that goes from one party to another.
+// A carrier of one bucket at a time, which goes from one party to another.
 typedef struct bb_detached {
     void *at;
     bool made;
@@ -426,7 +433,7 @@ typedef struct bb_chunk {
     bb_place place;
 } bb_chunk;
 
-// The result of a question: a code, and with BB_OK a number. It is returned in registers.
+// The result of a query: a code, and with BB_OK a number. It is returned in registers.
 typedef struct bb_number {
     // BB_OK, or why there is no number.
     uint32_t code;
@@ -439,8 +446,8 @@ typedef struct bb_number {
 // MEMORY
 //
 
-// Only `init`, `join`, `join_number`, `cache` and `reset` take memory, and always outside the
-// region. They request at most this many bytes of `malloc` in all:
+// Only `init`, `join`, `join_number`, `cache` and `reset` take memory, which is never in the
+// region. For each handle they request at most this many bytes from `malloc` in all:
 
 //     bb_bump, bb_one_chunk    64
 //     bb_pool                  256, and 16 for each 64 buckets
@@ -451,12 +458,13 @@ typedef struct bb_number {
 //     bb_detached              128
 
 // `destroy` frees that memory, and `leave`, `forget` and `abandon` free a party's. The handle is
-// empty then, and may be used again. The bytes of chunks that are still in use stay the host's.
+// empty then, and may be used again. The region stays the host's, with the chunks that are still in
+// use.
 
 // Has the library call `allocate` in place of `malloc`, and `release` in place of `free`. Each of
 // them gets `context` as its first parameter. So a host without `malloc` can give the library an
-// arena. Call this before any other function, or while every handle is empty and no pool's file is
-// open. No lock guards it.
+// arena. Call this before any other function, or while every handle is empty and no pool in a file
+// is open. No lock guards it.
 //
 // `allocate` returns a block of at least `size` bytes at a multiple of `align`, or NULL if it has
 // none. The block overlaps no other one, and nobody else writes it until it is released. `size` is
@@ -464,14 +472,14 @@ typedef struct bb_number {
 //
 // `release` gets a block that `allocate` returned, once. It is never NULL.
 //
-// Any thread that is in a call of the library may call either function, and several threads at
-// once. Neither function calls this library, and each returns to its caller: neither throws, and
-// neither calls `longjmp`.
+// Any thread that is in a call of the library may call either function, and several threads may do
+// so at once. Neither function calls this library, and each returns to its caller: neither throws,
+// and neither calls `longjmp`.
 void bb_use_memory(void *(*allocate)(void *context, size_t size, size_t align),
                    void (*release)(void *context, void *block), void *context);
 
 //
-// BUMP: chunks of any size, one after another, all given back at once.
+// BUMP: chunks of any size, one after another, all freed at once.
 //
 
 // Makes a bump in an empty handle, over the region of `size` bytes at `start`.
@@ -493,7 +501,7 @@ uint32_t bb_bump_destroy(bb_bump *bump);
 // Codes, in order: BB_UNINITIALIZED, BB_INVALID_LAYOUT, BB_SIZE_IS_ZERO, BB_OUT_OF_MEMORY.
 BB_MUST_USE bb_chunk bb_bump_allocate(bb_bump *bump, size_t size, size_t align);
 
-// Takes all chunks back. The next chunk is allocated from the start of the region on again.
+// Frees all chunks. The next chunk is allocated at the start of the region again.
 //
 // Codes, in order: BB_UNINITIALIZED.
 uint32_t bb_bump_deallocate(bb_bump *bump);
@@ -503,7 +511,8 @@ typedef struct bb_bump_figures {
     // Where the region begins.
     size_t start_address;
 
-    // The bytes from the start to the end of the last chunk, with the padding between chunks.
+    // The bytes from the start of the region to the end of the last chunk, with the padding between
+    // chunks.
     size_t used_space;
 
     // The bytes after the last chunk.
@@ -522,14 +531,14 @@ uint32_t bb_bump_info(bb_bump *bump, bb_bump_figures *figures);
 // ONE CHUNK: one request gets all of the region, from the first multiple of its alignment on.
 //
 
-// Makes a one chunk in an empty handle, over the region of `size` bytes at `start`.
+// Makes a one-chunk allocator in an empty handle, over the region of `size` bytes at `start`.
 //
 // BB_INVALID_ARGUMENT if `start` is 0, or if `start` plus `size` exceeds SIZE_MAX.
 //
 // Codes, in order: BB_ALREADY_INITIALIZED, BB_INVALID_ARGUMENT, BB_MALLOC_REFUSED.
 BB_MUST_USE uint32_t bb_one_chunk_init(bb_one_chunk *one, bb_place start, size_t size);
 
-// Frees the memory of the one chunk and empties the handle.
+// Frees the allocator's memory and empties the handle.
 //
 // Codes, in order: BB_UNINITIALIZED.
 uint32_t bb_one_chunk_destroy(bb_one_chunk *one);
@@ -542,9 +551,9 @@ uint32_t bb_one_chunk_destroy(bb_one_chunk *one);
 // Codes, in order: BB_UNINITIALIZED, BB_INVALID_LAYOUT, BB_OUT_OF_MEMORY.
 BB_MUST_USE bb_chunk bb_one_chunk_allocate(bb_one_chunk *one, size_t size, size_t align);
 
-// Takes back the chunk that begins at `place`. Any place may be passed.
+// Frees the chunk that begins at `place`. Any place may be passed.
 //
-// BB_NOT_HELD if no chunk is in use, or if it begins elsewhere.
+// BB_NOT_HELD if no chunk is in use, or if the chunk begins elsewhere.
 //
 // Codes, in order: BB_UNINITIALIZED, BB_NOT_HELD.
 uint32_t bb_one_chunk_deallocate(bb_one_chunk *one, bb_address place);
@@ -595,7 +604,7 @@ bb_number bb_one_chunk_holds(bb_one_chunk *one, bb_address place);
 // Codes, in order: BB_UNINITIALIZED, BB_NOT_HELD.
 bb_number bb_one_chunk_reserved(bb_one_chunk *one, bb_address place);
 
-// The figures of a one chunk.
+// The figures of a one-chunk allocator.
 typedef struct bb_one_chunk_figures {
     // Where the region begins.
     size_t start_address;
@@ -603,11 +612,11 @@ typedef struct bb_one_chunk_figures {
     // The bytes of the region.
     size_t size;
 
-    // Whether no chunk is in use.
+    // True if no chunk is in use.
     bool has_chunk_available;
 } bb_one_chunk_figures;
 
-// Stores the figures of the one chunk in `figures`, which stays as it was if the handle is empty.
+// Stores the figures of the allocator in `figures`, which stays as it was if the handle is empty.
 //
 // Codes, in order: BB_UNINITIALIZED.
 uint32_t bb_one_chunk_info(bb_one_chunk *one, bb_one_chunk_figures *figures);
@@ -620,14 +629,14 @@ uint32_t bb_one_chunk_info(bb_one_chunk *one, bb_one_chunk_figures *figures);
 // a stride after the one before it, and the region has a whole stride for the last one, too. A
 // chunk is at the start of its bucket.
 
-// The stride of buckets of `size` bytes at multiples of `align`: the size rounded up to the
-// alignment. Nothing is tested. With constants it is a constant.
+// The stride in bytes of buckets of `size` bytes at multiples of `align`: the size rounded up to
+// the alignment. The numbers are not checked. With constants the result is a constant.
 #define BB_STRIDE(size, align) \
     ((BB_SIZE(size) + (BB_SIZE(align) - 1)) / BB_SIZE(align) * BB_SIZE(align))
 
 // The bytes of a region for this number of buckets, if the region starts at a multiple of `align`;
-// for any other start add `align` less 1. Nothing is tested. With constants it is a constant, as
-// for `static unsigned char region[BB_BYTES_FOR(48, 8, 16)]`.
+// for any other start add `align` less 1. The numbers are not checked. With constants the result is
+// a constant, as in `static unsigned char region[BB_BYTES_FOR(48, 8, 16)]`.
 #define BB_BYTES_FOR(size, align, buckets) (BB_STRIDE(size, align) * BB_SIZE(buckets))
 
 // Returns BB_BYTES_FOR(size, align, buckets), for numbers that are known only at run time. Returns
@@ -661,7 +670,7 @@ BB_MUST_USE uint32_t bb_pool_init(bb_pool *pool, size_t bucket_size, size_t buck
 uint32_t bb_pool_destroy(bb_pool *pool);
 
 // Allocates `size` bytes at a multiple of `align`, in a bucket that isn't held. Any free bucket may
-// be taken.
+// be returned.
 //
 // Returns the place of the chunk. BB_SIZE_TOO_LARGE or BB_ALIGNMENT_FAILURE if a bucket can't have
 // such a chunk. BB_OUT_OF_MEMORY if every bucket is held.
@@ -670,14 +679,14 @@ uint32_t bb_pool_destroy(bb_pool *pool);
 // BB_OUT_OF_MEMORY.
 BB_MUST_USE bb_chunk bb_pool_allocate(bb_pool *pool, size_t size, size_t align);
 
-// Allocates a whole bucket. Any free bucket may be taken.
+// Allocates a whole bucket. Any free bucket may be returned.
 //
 // Returns the place of the bucket. BB_OUT_OF_MEMORY if every bucket is held.
 //
 // Codes, in order: BB_UNINITIALIZED, BB_OUT_OF_MEMORY.
 BB_MUST_USE bb_chunk bb_pool_take(bb_pool *pool);
 
-// Takes back the bucket that begins at `place`. Any place may be passed.
+// Frees the bucket that begins at `place`. Any place may be passed.
 //
 // BB_NOT_HELD if no held bucket begins there.
 //
@@ -709,7 +718,7 @@ typedef struct bb_pool_figures {
     // How many buckets are held now.
     size_t held_buckets;
 
-    // The greatest number of buckets that were held at one time so far.
+    // The greatest number of buckets that have been held at one time so far.
     size_t greatest_held;
 } bb_pool_figures;
 
@@ -745,10 +754,10 @@ bb_number bb_pool_number_at(const bb_pool *pool, bb_address place);
 // BB_INVALID_LAYOUT if these two are not a valid layout. BB_INVALID_ARGUMENT if `start` is 0, if
 // `start` plus `size`, or `start` rounded up to `bucket_align`, exceeds SIZE_MAX, if `bucket_size`
 // is 0, or if there is room for UINT32_MAX buckets or more. BB_NO_BUCKET if there is room for none,
-// or for less than `buckets`. An empty handle stays empty if the call is refused.
+// or for fewer than `buckets`. An empty handle stays empty if the call is refused.
 //
 // Codes, in order: BB_ALREADY_INITIALIZED, BB_INVALID_LAYOUT, BB_INVALID_ARGUMENT, BB_NO_BUCKET (no
-// room for one), BB_MALLOC_REFUSED, BB_NO_BUCKET (less than `buckets`).
+// room for one), BB_MALLOC_REFUSED, BB_NO_BUCKET (fewer than `buckets`).
 BB_MUST_USE static inline uint32_t bb_pool_init_at_least(bb_pool *pool, size_t bucket_size,
                                                          size_t bucket_align, bb_place start,
                                                          size_t size, uint32_t buckets) {
@@ -766,10 +775,10 @@ BB_MUST_USE static inline uint32_t bb_pool_init_at_least(bb_pool *pool, size_t b
 
 #ifndef BB_PLACES_ARE_NUMBERS
 
-// Allocates a whole bucket, for hosts that want only a pointer. Any free bucket may be taken.
+// Allocates a whole bucket, for hosts that want only a pointer. Any free bucket may be returned.
 //
 // Returns the place of the bucket, or NULL if every bucket is held or if the handle is empty.
-// `bb_pool_deallocate` returns the bucket. Compilers may assume that no pointer is stored in the
+// `bb_pool_deallocate` frees the bucket. Compilers may assume that no pointer is stored in the
 // bucket yet: a host that reads what an earlier holder left there calls `bb_pool_take`.
 BB_MUST_USE __attribute__((malloc)) static inline void *bb_pool_get(bb_pool *pool) {
     return bb_pool_take(pool).place;
@@ -782,11 +791,11 @@ BB_MUST_USE __attribute__((malloc)) static inline void *bb_pool_get(bb_pool *poo
 //
 
 // A shared bump or pool is made for some number of parties. `join` makes a party in a handle of its
-// own, for one thread at a time. `leave` ends it, and it can join again. No call of a party waits
-// for another thread.
+// own, for one thread at a time. `leave` ends the party, which can join again. No call of a party
+// waits for another thread.
 
 // Only one thread at a time calls `join`, `join_number`, `leave`, `forget`, `reset`, `destroy` or
-// `abandon` of what is shared. Parties may be used meanwhile.
+// `abandon` on a shared pool or bump. Other threads may use parties meanwhile.
 
 //
 // SHARED BUMP: a bump for threads.
@@ -804,20 +813,20 @@ BB_MUST_USE uint32_t bb_shared_bump_init(bb_shared_bump *bump, bb_place start, s
 
 // Frees the memory of the shared bump and empties the handle, if no party is joined.
 //
-// BB_PARTIES_JOINED if a party has joined and not left, and for good if one was abandoned. Then
-// nothing changes, and `bb_shared_bump_abandon` is the call that is left.
+// BB_PARTIES_JOINED if a party has joined and not left, or if one was ever abandoned. If the call
+// is refused, nothing changes. `bb_shared_bump_abandon` doesn't look at parties.
 //
 // Codes, in order: BB_UNINITIALIZED, BB_PARTIES_JOINED.
 uint32_t bb_shared_bump_destroy(bb_shared_bump *bump);
 
 // Empties the handle without looking at parties, for a host that gives up everything. Parties that
 // have joined stay usable, but can't leave. The bump exists, and its memory stays, until each of
-// them was abandoned: until then no other shared bump has the same start (rule 5).
+// them was abandoned. Until then no other shared bump may have the same start (rule 5).
 //
 // Codes, in order: BB_UNINITIALIZED.
 uint32_t bb_shared_bump_abandon(bb_shared_bump *bump);
 
-// Makes a party that hasn't joined join, in the empty handle `party`.
+// Joins as any party that hasn't joined, in the empty handle `party`.
 //
 // BB_ALREADY_INITIALIZED if `party` isn't empty, BB_UNINITIALIZED if `bump` is. BB_NO_PARTY if each
 // party has joined or was abandoned.
@@ -826,7 +835,7 @@ uint32_t bb_shared_bump_abandon(bb_shared_bump *bump);
 BB_MUST_USE uint32_t bb_shared_bump_join(bb_shared_bump *bump, bb_bump_party *party);
 
 // Ends a party of this bump and empties its handle. The party can join again. The chunks that it
-// allocated stay used.
+// allocated stay in use.
 //
 // BB_UNINITIALIZED if either handle is empty. BB_OTHER_POOL if the party belongs to another bump.
 //
@@ -834,16 +843,16 @@ BB_MUST_USE uint32_t bb_shared_bump_join(bb_shared_bump *bump, bb_bump_party *pa
 uint32_t bb_shared_bump_leave(bb_shared_bump *bump, bb_bump_party *party);
 
 // Starts again over the same region, with the same number of parties, none of which has joined. All
-// chunks are taken back: the host uses none that was allocated before.
+// chunks are freed: the host uses none of them any more.
 //
-// BB_PARTIES_JOINED if a party has joined and not left, and for good if one was abandoned. If the
-// call is refused, the bump stays as it was.
+// BB_PARTIES_JOINED if a party has joined and not left, or if one was ever abandoned. If the call
+// is refused, the bump stays as it was.
 //
 // Codes, in order: BB_UNINITIALIZED, BB_PARTIES_JOINED, BB_MALLOC_REFUSED.
 BB_MUST_USE uint32_t bb_shared_bump_reset(bb_shared_bump *bump);
 
 // Empties the handle of a party that hasn't left. The party can't join again, and the chunks that
-// it allocated stay used. The bump can be neither reset nor destroyed from then on.
+// it allocated stay in use. The bump can be neither reset nor destroyed from then on.
 //
 // Codes, in order: BB_UNINITIALIZED.
 uint32_t bb_bump_party_abandon(bb_bump_party *party);
@@ -856,7 +865,7 @@ uint32_t bb_bump_party_abandon(bb_bump_party *party);
 BB_MUST_USE bb_chunk bb_bump_party_allocate(bb_bump_party *party, size_t size, size_t align);
 
 // Stores the figures of the party's bump in `figures`, which stays as it was if the handle is
-// empty. One load finds what is used.
+// empty. `used_space` is what one atomic load finds.
 //
 // Codes, in order: BB_UNINITIALIZED.
 uint32_t bb_bump_party_info(bb_bump_party *party, bb_bump_figures *figures);
@@ -865,9 +874,9 @@ uint32_t bb_bump_party_info(bb_bump_party *party, bb_bump_figures *figures);
 // SHARED POOL: a pool for threads.
 //
 
-// A bucket is returned through the party that holds it, which took it or attached it. A return
-// comes before the bucket's next taking (the steps are sequentially consistent), so the bytes of a
-// bucket need no further lock.
+// A bucket is freed through the party that holds it: the one that allocated or attached it. The
+// free of a bucket happens before its next allocation (the steps are sequentially consistent), so
+// the bytes of a bucket need no further lock.
 
 // Each bucket has a flag, which says that it is free, or which party holds it or has detached it. A
 // bucket that a party caches counts as held. Calls that look at each bucket say that their time is
@@ -891,12 +900,12 @@ BB_MUST_USE uint32_t bb_shared_pool_init(bb_shared_pool *pool, size_t bucket_siz
                                          uint32_t parties);
 
 // Frees the memory of the shared pool and empties the handle, if no party is joined and no bucket
-// is detached. Its time is proportional to the number of buckets and of parties, and it takes some
-// 100 bytes of stack for each party.
+// is detached. The call's time is proportional to the number of buckets and of parties, and it uses
+// some 100 bytes of stack for each party.
 //
-// BB_PARTIES_JOINED if a party has joined and not left, and for good if one was abandoned.
-// BB_BUCKET_DETACHED if a bucket is detached; a party attaches it or returns it. If the call is
-// refused, nothing changes. `bb_shared_pool_abandon` looks at neither.
+// BB_PARTIES_JOINED if a party has joined and not left, or if one was ever abandoned.
+// BB_BUCKET_DETACHED if a bucket is detached: have a party attach it or free it first. If the call
+// is refused, nothing changes. `bb_shared_pool_abandon` looks at neither.
 //
 // Codes, in order: BB_UNINITIALIZED, BB_PARTIES_JOINED, BB_BUCKET_DETACHED.
 uint32_t bb_shared_pool_destroy(bb_shared_pool *pool);
@@ -906,7 +915,7 @@ uint32_t bb_shared_pool_destroy(bb_shared_pool *pool);
 // was abandoned.
 //
 // The pool exists as long as one of its parties, or a `bb_detached` with one of its buckets, may
-// still be used: until then no other shared pool has the same start (rule 5).
+// still be used. Until then no other shared pool may have the same start (rule 5).
 //
 // Codes, in order: BB_UNINITIALIZED.
 uint32_t bb_shared_pool_abandon(bb_shared_pool *pool);
@@ -932,10 +941,10 @@ typedef struct bb_shared_pool_figures {
     size_t held_buckets;
 } bb_shared_pool_figures;
 
-// Stores the figures of the pool in `figures`, which stays as it was if the handle is empty. Held
-// are all buckets that aren't free: held, cached or detached. Each bucket is looked at, at a moment
-// of its own, so the call's time is proportional to the number of buckets. Any thread may call this
-// while parties are used.
+// Stores the figures of the pool in `figures`, which stays as it was if the handle is empty.
+// `held_buckets` counts all buckets that aren't free: held, cached or detached. The call looks at
+// each bucket at a different moment, and its time is proportional to the number of buckets. Any
+// thread may call this while parties are used.
 //
 // Codes, in order: BB_UNINITIALIZED.
 uint32_t bb_shared_pool_info(const bb_shared_pool *pool, bb_shared_pool_figures *figures);
@@ -969,7 +978,7 @@ typedef struct bb_holder {
 // Codes, in order: BB_UNINITIALIZED, BB_NOT_A_BUCKET.
 uint32_t bb_shared_pool_holder(const bb_shared_pool *pool, uint32_t number, bb_holder *holder);
 
-// Makes a party that hasn't joined join, in the empty handle `party`.
+// Joins as any party that hasn't joined, in the empty handle `party`.
 //
 // BB_ALREADY_INITIALIZED if `party` isn't empty, BB_UNINITIALIZED if `pool` is. BB_NO_PARTY if each
 // party has joined or was abandoned.
@@ -977,7 +986,7 @@ uint32_t bb_shared_pool_holder(const bb_shared_pool *pool, uint32_t number, bb_h
 // Codes, in order: BB_ALREADY_INITIALIZED, BB_UNINITIALIZED, BB_NO_PARTY, BB_MALLOC_REFUSED.
 BB_MUST_USE uint32_t bb_shared_pool_join(bb_shared_pool *pool, bb_pool_party *party);
 
-// Makes the party of this number join, in the empty handle `party`. Parties count from 0, and
+// Joins as the party of this number, in the empty handle `party`. Parties count from 0, and
 // `bb_pool_party_number` returns a party's number.
 //
 // BB_ALREADY_INITIALIZED if `party` isn't empty, BB_UNINITIALIZED if `pool` is. BB_NO_PARTY if the
@@ -988,16 +997,16 @@ BB_MUST_USE uint32_t bb_shared_pool_join_number(bb_shared_pool *pool, uint32_t n
                                                 bb_pool_party *party);
 
 // Ends a party of this pool and empties its handle. The party can join again. Each bucket whose
-// flag says that the party holds it, cached or not, is taken back, in the order of their numbers.
-// The host uses none of them any more. Its time is proportional to the number of buckets.
+// flag says that the party holds it, cached or not, is freed, in the order of their numbers. The
+// host uses none of them any more. The call's time is proportional to the number of buckets.
 //
 // BB_UNINITIALIZED if either handle is empty. BB_OTHER_POOL if the party belongs to another pool.
 //
 // Codes, in order: BB_UNINITIALIZED, BB_OTHER_POOL.
 uint32_t bb_shared_pool_leave(bb_shared_pool *pool, bb_pool_party *party);
 
-// Ends a party of this pool and empties its handle, and takes no bucket back. No flag changes. So
-// the next party that joins by the same number holds what this one held, cached or not.
+// Ends a party of this pool and empties its handle, and frees no bucket. No flag changes. So the
+// next party that joins by the same number holds what this one held, cached or not.
 //
 // BB_UNINITIALIZED if either handle is empty. BB_OTHER_POOL if the party belongs to another pool.
 //
@@ -1015,14 +1024,14 @@ uint32_t bb_pool_party_abandon(bb_pool_party *party);
 // Codes, in order: BB_UNINITIALIZED.
 bb_number bb_pool_party_number(bb_pool_party *party);
 
-// Allocates `size` bytes at a multiple of `align`, in a bucket that isn't held. The bucket that the
-// party cached last is taken first. Without one, the call searches all buckets once, by next fit:
-// from the bucket that the party returned last, if it has taken none since; otherwise mostly from
-// the one after the bucket that it took last.
+// Allocates `size` bytes at a multiple of `align`, in the bucket that the party cached last. If the
+// party caches none, the call searches all buckets once for a free one, by next fit. If the party
+// has allocated none since it last freed one, the search mostly begins at the bucket that it freed
+// last; otherwise mostly at the one after the bucket that it allocated last.
 //
 // Returns the place of the chunk. BB_SIZE_TOO_LARGE or BB_ALIGNMENT_FAILURE if a bucket can't have
 // such a chunk. BB_OUT_OF_MEMORY if the search found each bucket held, one after the other. While
-// other threads take and return buckets, they need not all have been held at one moment.
+// other threads allocate and free buckets, they need not all have been held at one moment.
 //
 // Codes, in order: BB_UNINITIALIZED, BB_INVALID_LAYOUT, BB_SIZE_TOO_LARGE, BB_ALIGNMENT_FAILURE,
 // BB_OUT_OF_MEMORY.
@@ -1038,7 +1047,8 @@ BB_MUST_USE bb_chunk bb_pool_party_allocate(bb_pool_party *party, size_t size, s
 BB_MUST_USE bb_chunk bb_pool_party_take(bb_pool_party *party);
 
 // Allocates up to `count` whole buckets, as that many calls of `bb_pool_party_take` do, and stores
-// their places in `slots`, from the first one on. `slots` may be NULL if `count` is 0.
+// their places in the array `slots`, from its first element on. `slots` may be NULL if `count` is
+// 0.
 //
 // Returns how many were allocated. That is less than `count` if a further one would be refused with
 // BB_OUT_OF_MEMORY, and the code is BB_OK all the same.
@@ -1046,24 +1056,24 @@ BB_MUST_USE bb_chunk bb_pool_party_take(bb_pool_party *party);
 // Codes, in order: BB_UNINITIALIZED.
 BB_MUST_USE bb_number bb_pool_party_take_many(bb_pool_party *party, bb_place *slots, size_t count);
 
-// Takes back the bucket that begins at `place`. Any place may be passed.
+// Frees the bucket that begins at `place`. Any place may be passed.
 //
 // BB_NOT_HELD if this party doesn't hold a bucket there, or caches it.
 //
 // Codes, in order: BB_UNINITIALIZED, BB_NOT_HELD.
 uint32_t bb_pool_party_deallocate(bb_pool_party *party, bb_address place);
 
-// Takes back the buckets at the `count` places, in their order, as that many calls of
+// Frees the buckets at the `count` places, in their order, as that many calls of
 // `bb_pool_party_deallocate` do, up to the first one that is refused with BB_NOT_HELD. `places` may
 // be NULL if `count` is 0.
 //
-// Returns how many were taken back. The code is BB_OK, also if that is less than `count`.
+// Returns how many were freed. The code is BB_OK, even if that is less than `count`.
 //
 // Codes, in order: BB_UNINITIALIZED.
 bb_number bb_pool_party_deallocate_many(bb_pool_party *party, const bb_place *places, size_t count);
 
-// Takes back each bucket whose flag says that this party holds it, cached or not. The party stays,
-// with nothing cached, and goes on caching what it returns from now on. Its time is proportional to
+// Frees each bucket whose flag says that this party holds it, cached or not. The party stays, with
+// nothing cached, and goes on caching what it frees from now on. The call's time is proportional to
 // the number of buckets.
 //
 // Codes, in order: BB_UNINITIALIZED.
@@ -1075,8 +1085,8 @@ uint32_t bb_pool_party_give_all_back(bb_pool_party *party);
 bb_number bb_pool_party_holds(bb_pool_party *party, bb_address place);
 
 // Stores the figures of the party's pool in `figures`, which stays as it was if the handle is
-// empty. Held are only the buckets that this party holds and doesn't cache. Its time is
-// proportional to the number of buckets.
+// empty. `held_buckets` counts only the buckets that this party holds and doesn't cache. The call's
+// time is proportional to the number of buckets.
 //
 // Codes, in order: BB_UNINITIALIZED.
 uint32_t bb_pool_party_info(bb_pool_party *party, bb_shared_pool_figures *figures);
@@ -1099,16 +1109,16 @@ bb_chunk bb_pool_party_place_at(const bb_pool_party *party, uint32_t number);
 // Codes, in order: BB_UNINITIALIZED, BB_NOT_A_BUCKET.
 bb_number bb_pool_party_number_at(const bb_pool_party *party, bb_address place);
 
-// Has the party cache at most `most` of the buckets that it returns from now on, and never more
-// than the pool has. The party takes the one that it cached last without an atomic step. For other
+// Has the party cache at most `most` of the buckets that it frees from now on, and never more than
+// the pool has. The party allocates the one that it cached last without an atomic step. For other
 // parties a cached bucket is held, so give the pool more buckets than its parties may cache in all.
-// 0 ends caching. What the party cached before is given back first. Its time is proportional to the
-// number of buckets.
+// With 0 the party stops caching. What it cached before is freed first. The call's time is
+// proportional to the number of buckets.
 //
 // Codes, in order: BB_UNINITIALIZED, BB_MALLOC_REFUSED.
 BB_MUST_USE uint32_t bb_pool_party_cache(bb_pool_party *party, uint32_t most);
 
-// Gives back the buckets that the party caches. It goes on caching what it returns from now on.
+// Frees the buckets that the party caches. It goes on caching what it frees from now on.
 //
 // Codes, in order: BB_UNINITIALIZED.
 uint32_t bb_pool_party_flush(bb_pool_party *party);
@@ -1123,10 +1133,10 @@ uint32_t bb_pool_party_flush(bb_pool_party *party);
 // BB_INVALID_LAYOUT if these two are not a valid layout. BB_INVALID_ARGUMENT if `start` is 0, if
 // `start` plus `size`, or `start` rounded up to `bucket_align`, exceeds SIZE_MAX, if `bucket_size`
 // or `parties` is 0, or if there is room for UINT32_MAX buckets or more. BB_NO_BUCKET if there is
-// room for none, or for less than `buckets`. An empty handle stays empty if the call is refused.
+// room for none, or for fewer than `buckets`. An empty handle stays empty if the call is refused.
 //
 // Codes, in order: BB_ALREADY_INITIALIZED, BB_INVALID_LAYOUT, BB_INVALID_ARGUMENT, BB_NO_BUCKET (no
-// room for one), BB_MALLOC_REFUSED, BB_NO_BUCKET (less than `buckets`).
+// room for one), BB_MALLOC_REFUSED, BB_NO_BUCKET (fewer than `buckets`).
 BB_MUST_USE static inline uint32_t bb_shared_pool_init_at_least(bb_shared_pool *pool,
                                                                 size_t bucket_size,
                                                                 size_t bucket_align, bb_place start,
@@ -1150,7 +1160,7 @@ BB_MUST_USE static inline uint32_t bb_shared_pool_init_at_least(bb_shared_pool *
 // last, otherwise one that a search over all buckets finds, by next fit.
 //
 // Returns the place of the bucket, or NULL if the search found each bucket held, one after the
-// other, or if the handle is empty. `bb_pool_party_deallocate` returns the bucket. Compilers may
+// other, or if the handle is empty. `bb_pool_party_deallocate` frees the bucket. Compilers may
 // assume that no pointer is stored in the bucket yet: a host that reads what an earlier holder left
 // there calls `bb_pool_party_take`.
 BB_MUST_USE __attribute__((malloc)) static inline void *bb_pool_party_get(bb_pool_party *party) {
@@ -1163,13 +1173,14 @@ BB_MUST_USE __attribute__((malloc)) static inline void *bb_pool_party_get(bb_poo
 // DETACHED BUCKETS: a bucket that goes from one party to another.
 //
 
-// In a pool of two parties or more, a party detaches a bucket that it holds. No party holds the
-// bucket then. Any party of the same pool attaches it, in any thread, and holds it then. So the
-// receiver of a message returns its bucket (examples/c/returns.c).
+// In a pool of two parties or more, a party can detach a bucket that it holds. No party holds the
+// bucket then. Any party of the same pool, in any thread, can attach the bucket, and holds it from
+// then on. So the receiver of a message frees its bucket (examples/c/returns.c).
 
 // A bucket goes either in a `bb_detached`, which is itself a handle, or by its number, which the
 // host may pass in any way. Several threads may read a detached bucket; the host counts them, and
-// the last one attaches or returns it (examples/c/pubsub.c). Only `bb_detached_init` takes memory.
+// the last one attaches or frees it (examples/c/pubsub.c). Of the calls below, only
+// `bb_detached_init` takes memory.
 
 // Makes a `bb_detached` in an empty handle, with no bucket in it. It serves one bucket after
 // another, of any pool.
@@ -1178,17 +1189,17 @@ BB_MUST_USE __attribute__((malloc)) static inline void *bb_pool_party_get(bb_poo
 BB_MUST_USE uint32_t bb_detached_init(bb_detached *detached);
 
 // Frees the memory of the `bb_detached` and empties the handle. A bucket that is in it stays
-// detached for good, and its pool can only be abandoned. So attach or return the bucket first.
+// detached for good, and its pool can only be abandoned. So attach or free the bucket first.
 //
-// A `bb_detached` doesn't keep a pool. If the pool was abandoned and its parties are gone, this is
-// the only call that is left.
+// A `bb_detached` doesn't keep its pool alive. If the pool was abandoned and its parties are gone,
+// this is the only call that may still use the `bb_detached`.
 //
 // Codes, in order: BB_UNINITIALIZED.
 uint32_t bb_detached_destroy(bb_detached *detached);
 
-// Returns the bytes of the chunk with which the bucket that is in it was detached.
+// Returns the length in bytes of the chunk in `detached`: the `len` of the call that detached it.
 //
-// BB_DETACHED_EMPTY if no bucket is in it.
+// BB_DETACHED_EMPTY if no bucket is in `detached`.
 //
 // Codes, in order: BB_UNINITIALIZED, BB_DETACHED_EMPTY.
 bb_number bb_detached_len(bb_detached *detached);
@@ -1212,8 +1223,8 @@ BB_MUST_USE uint32_t bb_pool_party_detach(bb_pool_party *party, bb_address place
 // Codes, in order: BB_UNINITIALIZED, BB_DETACHED_EMPTY, BB_OTHER_POOL.
 BB_MUST_USE bb_chunk bb_pool_party_attach(bb_pool_party *party, bb_detached *detached);
 
-// Gives back the bucket that is in `detached`, which has none then. The call makes one store, and
-// no party holds the bucket in between.
+// Frees the bucket that is in `detached`, which has none then. The call makes one store, and no
+// party holds the bucket in between.
 //
 // BB_UNINITIALIZED if either handle is empty. BB_OTHER_POOL if the bucket belongs to another pool.
 //
@@ -1234,7 +1245,7 @@ BB_MUST_USE bb_number bb_pool_party_detach_number(bb_pool_party *party, bb_addre
 // call it, at most one gets the bucket. Any two numbers may be passed.
 //
 // Returns the place of the bucket. BB_NOT_A_BUCKET if the pool has no bucket of this number.
-// BB_NOT_HELD if the flag says anything else, also if the bucket is in a `bb_detached`.
+// BB_NOT_HELD if the flag says anything else, as it does if the bucket is in a `bb_detached`.
 //
 // Codes, in order: BB_UNINITIALIZED, BB_NOT_A_BUCKET, BB_NOT_HELD.
 BB_MUST_USE bb_chunk bb_pool_party_attach_number(bb_pool_party *party, uint32_t number,
@@ -1244,7 +1255,7 @@ BB_MUST_USE bb_chunk bb_pool_party_attach_number(bb_pool_party *party, uint32_t 
 }
 #endif
 
-// A checker that is on learns what is in use.
+// Reports to a checker that is on what is in use.
 #if !defined(BB_NO_SANITIZE) && !defined(BB_PLACES_ARE_NUMBERS)
 
 #if defined(__SANITIZE_ADDRESS__) || defined(__SANITIZE_THREAD__) || defined(BB_VALGRIND)

@@ -1,8 +1,8 @@
-// A shared pool in a file, for C (C99 or later) and C++ (C++11 or later), on Linux: any process
-// opens it by its path, and maps it at any address. Processes start, stop and die on their own,
-// with no parent, no daemon and no agreed address. A process that is killed at any instruction
-// loses neither a bucket nor a message: the next one that joins or reaps gives back exactly what
-// the dead one held.
+// A shared pool in a file, for C99 or later and C++11 or later, on Linux. Any process opens it by
+// its path, and maps it at any address. Processes start, stop and die independently, with no common
+// parent, no daemon and no agreed address. A process that is killed at any instruction loses
+// neither a bucket nor a message: the process that next joins with its number, or reaps, frees
+// exactly what the dead one held.
 
 // EXAMPLE
 //
@@ -29,48 +29,48 @@
 //     }
 
 // Each process has its own shared pool (bb_memory.h) in private memory, over the flags and the
-// region in the file. A party takes and gives back buckets by the calls of bb_memory.h, at the same
+// region in the file. A party allocates and frees buckets by the calls of bb_memory.h, at the same
 // cost.
 
 // WHO IS ALIVE
 //
-// A party that has joined has a lock on a byte of the file. The kernel drops the lock
-// once the process has neither a descriptor nor a mapping of the open file, so after its last
-// access. If nobody has the lock of a number, its party is dead. No process number is compared.
+// A party that has joined has a lock on a byte of the file. The kernel drops the lock once the
+// process has neither a descriptor nor a mapping of the open file, so after its last access. If
+// nobody has the lock of a party's number, that party is dead. Process ids are never compared.
 
 // RULES
 //
-// These come in addition to those of bb_memory.h. No function tests them.
+// These come in addition to those of bb_memory.h. No function checks them.
 
 //  1. One thread at a time uses a party; other threads join their own. All other calls with a
-//     `bb_pool_file` may run at once, but for `close`.
+//     `bb_pool_file` except `close` may run at the same time.
 
-//  2. A place is valid in one process. A bucket goes to another process by its number: in a slot,
-//     or by any channel of the host's.
+//  2. A place is valid in one process only. A bucket goes to another process by its number: in a
+//     slot, or by any channel of the host.
 
 //  3. Of bb_memory.h's calls of a party use only `allocate`, `take`, `get`, `deallocate`,
 //     `take_many`, `deallocate_many`, `cache`, `flush`, `info`, `holds`, `number`, `number_at`,
 //     `place_at` and `give_all_back`. Don't abandon it.
 
 //  4. A forked child has nothing of the file: its handles are empty, and it opens the file anew.
-//     That takes `pthread_atfork`, which a raw `clone` doesn't run. `exec` closes the file.
+//     This works by `pthread_atfork`, which a raw `clone` doesn't run. `exec` closes the file.
 
-//  5. Whoever may write the file is trusted. Wrong words can make two parties hold one bucket, but
-//     no call reads or writes outside the file's pages for them. Whoever truncates the file kills
-//     each process that uses it (SIGBUS). Whoever may only read it can lock its bytes, and so keep
-//     others from opening it and dead parties from being reaped.
+//  5. Whoever may write the file is trusted. Wrong words in it can make two parties hold one
+//     bucket, but no call reads or writes outside the file's pages because of them. Whoever
+//     truncates the file kills each process that uses it (SIGBUS). Whoever may only read it can
+//     lock its bytes, and so keep others from opening it and dead parties from being reaped.
 
-//  6. The file is on a file system of the machine (tmpfs, ext4), or is a memfd; never on NFS.
+//  6. The file is on a local file system (tmpfs, ext4), or is a memfd; it is never on NFS.
 
-//  7. All processes that open a file have one version of the library.
+//  7. All processes that open a file use the same version of the library.
 
 #ifndef BB_POOL_FILE_H
 #define BB_POOL_FILE_H
 
 #include <sys/types.h>
 
-// The reports to checkers of memory are of one process, and a bucket of a file comes from any. So a
-// checker gets none from a source that includes this file.
+// A checker of memory sees one process, and a bucket of a file may come from any. So a source that
+// includes this file reports nothing to a checker.
 #ifndef BB_NO_SANITIZE
 #define BB_NO_SANITIZE
 #endif
@@ -93,38 +93,39 @@ extern "C" {
 // did nothing, except that `open` may have made the file and `reap` may have given back some
 // buckets.
 enum {
-    // A call of the system failed: `errno` says why. ENOENT if there is no file and no options say
-    // what to make, ENOSPC if there is no room for it.
+    // A system call failed: `errno` says why. It is ENOENT if there is no file and no options say
+    // what to make, and ENOSPC if there is no room for the file.
     BB_FILE_SYSTEM = 26,
 
-    // The file is not a pool's. Nothing was written to it.
+    // The file exists, but has no pool. Nothing was written to it.
     BB_FILE_FOREIGN = 27,
 
-    // The file is a pool's, in the format of another version.
+    // The file has a pool in the format of another version of the library.
     BB_FILE_VERSION = 28,
 
-    // The file's figures aren't those of the options.
+    // The figures that the file was made with aren't those of the options.
     BB_FILE_MISMATCH = 29,
 
-    // The file's length isn't what its figures take, or its figures are impossible.
+    // The file doesn't have the length that its figures require, or its figures are impossible.
     BB_FILE_DAMAGED = 30,
 
-    // It isn't a regular file; others may write it though `mode` doesn't let them; or `mode` lets
-    // no others write, and it belongs neither to this user nor to root.
+    // The file isn't a regular one; or others may write it, although `mode` doesn't let them; or
+    // `mode` lets no others write, and the file belongs neither to this user nor to root.
     BB_FILE_UNSAFE = 31,
 
-    // The file was never finished, or is from before the machine's last start, and no options say
-    // to make it anew.
+    // The file was never finished, or is from before the machine's last boot, and there are no
+    // options by which to make it anew.
     BB_FILE_STALE = 32,
 
-    // The time is over.
+    // The time of the wait is over.
     BB_FILE_TIMED_OUT = 33,
 
     // The greatest code of this version.
     BB_FILE_LAST_CODE = BB_FILE_TIMED_OUT
 };
 
-// Returns what a code of these calls or of bb_memory.h says, for a log.
+// Returns a sentence on a code of these calls or of bb_memory.h, for a log. The text is static:
+// don't free it.
 static inline const char *bb_pool_file_text(uint32_t code) {
     switch (code) {
     case BB_FILE_SYSTEM: return "a call of the system failed";
@@ -139,7 +140,8 @@ static inline const char *bb_pool_file_text(uint32_t code) {
     }
 }
 
-// Returns the name of a code of these calls or of bb_memory.h, as "BB_FILE_FOREIGN".
+// Returns the name of a code of these calls or of bb_memory.h, such as "BB_FILE_FOREIGN". The text
+// is static: don't free it.
 static inline const char *bb_pool_file_name(uint32_t code) {
     switch (code) {
     case BB_FILE_SYSTEM: return "BB_FILE_SYSTEM";
@@ -158,7 +160,7 @@ static inline const char *bb_pool_file_name(uint32_t code) {
 // FILES AND PARTIES
 //
 
-// A pool's file that this process has opened.
+// A pool in a file that this process has opened.
 typedef struct bb_pool_file bb_pool_file;
 
 // The figures that a file is made with. A file that exists has to have the same, except for `mode`.
@@ -175,20 +177,22 @@ typedef struct bb_pool_file_options {
     // How many parties may have joined at one time, over all processes: at most 65,535.
     uint32_t parties;
 
-    // The number of mailboxes for messages, which may be 0.
+    // How many slots the file has: mailboxes for one message each. They count from 0. There may be
+    // none.
     uint32_t slots;
 
-    // The permissions of a file that is made, less the umask. 0 means 0600.
+    // The permissions of a file that is made, less the umask. With 0 they are 0600.
     mode_t mode;
 } bb_pool_file_options;
 
-// Opens the pool in the file at `path`, and makes it if there is no file, or an empty one. With
-// NULL for the options, or with no buckets, a file that exists is taken as it is, and none is made.
+// Opens the pool in the file at `path`, and makes it if there is no file, or an empty one. If the
+// options are NULL, or have 0 buckets, the call opens a file that exists, whatever its figures, and
+// makes none.
 //
-// Any number of processes may open a file at once, and be killed while they do. A file whose maker
-// was killed, or from before the machine's last start, is made anew, unless another process has it
-// open. An open waits while another process makes the file. All pages of a new file are allocated
-// before the call returns.
+// Any number of processes may open a file at the same time, and be killed meanwhile. A file whose
+// maker was killed, or that is from before the machine's last boot, is made anew, unless another
+// process has it open. The call waits while another process makes the file. All pages of a new file
+// are allocated before the call returns.
 //
 // Codes, in order: BB_INVALID_ARGUMENT if no pool has such options; BB_FILE_SYSTEM; BB_FILE_UNSAFE;
 // BB_FILE_FOREIGN; BB_FILE_VERSION; BB_FILE_STALE; BB_FILE_MISMATCH; BB_FILE_DAMAGED;
@@ -197,50 +201,52 @@ BB_MUST_USE uint32_t bb_pool_file_open(bb_pool_file **, const char *path,
                                        const bb_pool_file_options *);
 
 // Opens the pool in the open file `fd`, such as a memfd that came over a socket, as
-// `bb_pool_file_open` does. It opens the file anew by /proc/self/fd, and `fd` stays the caller's. A
-// file without a path is as safe as its descriptor: who owns it isn't tested.
+// `bb_pool_file_open` does, with the same codes. It opens the file anew by /proc/self/fd, and `fd`
+// stays the caller's. Who owns the file and who may write it isn't checked: a file without a path
+// is as safe as its descriptor.
 BB_MUST_USE uint32_t bb_pool_file_open_fd(bb_pool_file **, int fd, const bb_pool_file_options *);
 
-// Has all parties of this `bb_pool_file` leave, unmaps the file, and frees the `bb_pool_file`.
-// `unlink` removes the file itself.
+// Has all parties of this `bb_pool_file` leave, unmaps the file, and frees the `bb_pool_file`. It
+// always returns BB_OK. The file itself stays; `unlink` removes it.
 uint32_t bb_pool_file_close(bb_pool_file *);
 
-// Makes a party join that no living process uses, after what a dead process left in it is given
-// back. The party is the file's: `leave` or `close` ends it.
+// Joins as any party that no living process uses. What a dead process held by that party's number
+// is freed first. The `bb_pool_file` owns the party's handle: `leave` or `close` ends the party.
 //
 // Codes: BB_UNINITIALIZED in a forked child; BB_NO_PARTY if each party is in use or is being
 // reaped; BB_FILE_SYSTEM; BB_MALLOC_REFUSED.
 BB_MUST_USE uint32_t bb_pool_file_join(bb_pool_file *, bb_pool_party **);
 
-// Ends a party, and gives back what it holds, cached or not. A message that it took and isn't done
-// with can be taken again.
+// Ends a party, and frees what it holds, cached or not. A message that it took and isn't done with
+// can be taken again.
 //
-// Codes: BB_UNINITIALIZED if it isn't a party of this `bb_pool_file`.
+// Codes: BB_UNINITIALIZED if the handle isn't a party of this `bb_pool_file`.
 uint32_t bb_pool_file_leave(bb_pool_file *, bb_pool_party *);
 
-// Takes back the bucket at this place as `bb_pool_party_deallocate` does, and wakes who waits for a
-// bucket.
+// Frees the bucket at this place as `bb_pool_party_deallocate` does, with the same codes, and wakes
+// everyone that waits for a bucket.
 uint32_t bb_pool_file_deallocate(bb_pool_file *, bb_pool_party *, bb_address place);
 
 //
 // MESSAGES IN SLOTS: a killed process loses neither a message nor a bucket.
 //
 
-// Puts the bucket at `place`, with a message of `len` bytes, into an empty slot, and wakes who
-// waits for it. From then on the message is sent, even if the sender is killed in the call, and the
-// party doesn't hold the bucket.
+// Puts the bucket at `place`, with a message of `len` bytes, into an empty slot, and wakes everyone
+// that waits for a message. The message is sent as soon as it is in the slot, even if the sender is
+// killed later in the call. After the call the party doesn't hold the bucket.
 //
-// Codes: BB_UNINITIALIZED; BB_INVALID_ARGUMENT if there is no such slot; BB_NOT_HELD;
-// BB_SIZE_TOO_LARGE; BB_DETACHED_FULL if the slot is full.
+// Codes: BB_UNINITIALIZED; BB_INVALID_ARGUMENT if there is no such slot; BB_NOT_HELD if this party
+// doesn't hold a bucket at `place`, or caches it; BB_SIZE_TOO_LARGE if `len` is greater than a
+// bucket's size; BB_DETACHED_FULL if the slot is full.
 BB_MUST_USE uint32_t bb_pool_file_post(bb_pool_file *, bb_pool_party *, uint32_t slot,
                                        bb_address place, size_t len);
 
-// A code, and with BB_OK a message.
+// The result of a call that receives or looks at a message: a code, and with BB_OK a message.
 typedef struct bb_message {
     // BB_OK, or why there is no message.
     uint32_t code;
 
-    // The number of its bucket.
+    // The number of the message's bucket.
     uint32_t number;
 
     // Where the bucket is in this process.
@@ -251,84 +257,89 @@ typedef struct bb_message {
 } bb_message;
 
 // Takes the message in this slot: the party holds its bucket then. If several parties call this, at
-// most one gets the message. It stays in its slot until the party is done with it. If the party
-// dies or leaves before that, the message can be taken again.
+// most one gets the message. The message stays in its slot until the party is done with it
+// (`bb_pool_file_done`). If the party dies or leaves before that, the message can be taken again.
 //
 // Codes: BB_UNINITIALIZED; BB_INVALID_ARGUMENT if there is no such slot; BB_DETACHED_EMPTY if the
 // slot is empty; BB_NOT_HELD if a party has taken the message, or if its sender is still in
-// `bb_pool_file_post` or was killed there and isn't reaped yet; BB_NOT_A_BUCKET if the slot has no
-// bucket's number, or a length greater than a bucket's size.
+// `bb_pool_file_post` or was killed there and isn't reaped yet; BB_NOT_A_BUCKET if what is in the
+// slot names no bucket, or has a length greater than a bucket's size: somebody wrote wrong words
+// (rule 5).
 BB_MUST_USE bb_message bb_pool_file_take(bb_pool_file *, bb_pool_party *, uint32_t slot);
 
-// Empties the slot whose message this party has taken. The bucket stays the party's, to give back
-// or to post again. Call it right after `take` to process each message at most once, or after the
-// work to process it at least once. Give the bucket back, or post it again, only after this call.
-// To put a message back, `bb_pool_file_detach` its bucket.
+// Empties the slot whose message this party has taken. The party still holds the bucket, and frees
+// it or posts it again only after this call. To process each message at most once, call this right
+// after `bb_pool_file_take`; to process it at least once, call this after the work. To put a
+// message back instead, call `bb_pool_file_detach` for its bucket.
 //
-// Codes: BB_UNINITIALIZED; BB_INVALID_ARGUMENT if there is no such slot; BB_NOT_HELD if the party
-// doesn't hold the bucket in the slot.
+// Codes: BB_UNINITIALIZED; BB_INVALID_ARGUMENT if there is no such slot; BB_NOT_HELD if the slot is
+// empty, or if the party doesn't hold the bucket in it.
 uint32_t bb_pool_file_done(bb_pool_file *, bb_pool_party *, uint32_t slot);
 
-// Any slot, in a wait.
+// Stands for any slot, in a wait.
 #define BB_ANY_SLOT UINT32_MAX
 
-// No limit, for the time of a wait.
+// The milliseconds of a wait without a limit.
 #define BB_NO_TIMEOUT UINT32_MAX
 
 // Waits until a message can be taken from the slot, or from any slot with BB_ANY_SLOT, for at most
-// this many milliseconds. Another party may take it first. If a sender is killed in
-// `bb_pool_file_post`, its message is noticed within a tenth of a second, or only after its party
-// is reaped.
+// this many milliseconds. Another party may take the message first. If a sender is killed in
+// `bb_pool_file_post`, its message may be noticed only a tenth of a second later, or only after its
+// party is reaped.
 //
 // Codes: BB_UNINITIALIZED in a forked child; BB_INVALID_ARGUMENT if there is no such slot;
-// BB_FILE_TIMED_OUT; BB_FILE_SYSTEM.
+// BB_FILE_TIMED_OUT if the time is over; BB_FILE_SYSTEM.
 BB_MUST_USE uint32_t bb_pool_file_wait_full(bb_pool_file *, uint32_t slot, uint32_t milliseconds);
 
-// Waits until the slot is empty, or any slot with BB_ANY_SLOT, as `bb_pool_file_wait_full` does.
+// Waits until the slot is empty, or any slot with BB_ANY_SLOT, for at most this many milliseconds.
+// Another party may fill it first. The codes are those of `bb_pool_file_wait_full`.
 BB_MUST_USE uint32_t bb_pool_file_wait_empty(bb_pool_file *, uint32_t slot, uint32_t milliseconds);
 
-// Waits until a bucket is free, for at most this many milliseconds. Another party may be quicker to
-// take it. A bucket that was given back by `bb_pool_party_deallocate` is noticed within a tenth of
-// a second. What dead parties hold isn't free before a reap.
+// Waits until a bucket is free, for at most this many milliseconds. Another party may allocate it
+// first. A bucket that was freed by `bb_pool_party_deallocate` is noticed within a tenth of a
+// second; `bb_pool_file_deallocate` wakes the wait at once. What dead parties hold isn't free
+// before a reap.
 //
-// Codes: BB_UNINITIALIZED in a forked child; BB_FILE_TIMED_OUT; BB_FILE_SYSTEM.
+// Codes: BB_UNINITIALIZED in a forked child; BB_FILE_TIMED_OUT if the time is over; BB_FILE_SYSTEM.
 BB_MUST_USE uint32_t bb_pool_file_wait_bucket(bb_pool_file *, uint32_t milliseconds);
 
 //
-// MESSAGES BY ANY CHANNEL: the sender detaches, and sends the number; the receiver attaches by it.
+// MESSAGES BY ANY CHANNEL: a sender detaches a bucket and sends its number; a receiver attaches it.
 //
 
 // If either side is killed while it has the number, the bucket stays detached until a reap with
-// `detached`. If a party that takes from a slot in which the bucket was before is killed in that
-// call, a reap gives the bucket back, and the message is lost.
+// `detached`. If the bucket was in a slot before, a party that takes from that slot can hold it for
+// a moment. If the party is killed in that moment, a reap frees the bucket, and the message is
+// lost.
 
-// A number that comes late may name a newer message: write an identification into the bucket,
-// compare it, and detach a bucket that isn't yours.
+// A number that comes late may name a newer message. So write an identification into the bucket,
+// and send it along with the number. After the attach compare the two; if they differ, detach the
+// bucket again.
 
-// Detaches the bucket at this place, and returns its number.
+// Detaches the bucket at this place, and returns the bucket's number.
 //
 // Codes: BB_UNINITIALIZED; BB_NOT_HELD if this party doesn't hold the bucket, or caches it.
 BB_MUST_USE bb_number bb_pool_file_detach(bb_pool_file *, bb_pool_party *, bb_address place);
 
-// Attaches the bucket of this number, and returns its place: the party holds the bucket then. If
-// several parties call this, at most one gets the bucket.
+// Attaches the bucket of this number, and returns the bucket's place: the party holds the bucket
+// then. If several parties call this, at most one gets the bucket.
 //
-// Codes: BB_UNINITIALIZED; BB_NOT_A_BUCKET; BB_NOT_HELD if the bucket isn't detached. A
-// `bb_pool_file_take` of another party may hold it for a moment: if numbers can come late, or slots
-// are used too, try again.
+// Codes: BB_UNINITIALIZED; BB_NOT_A_BUCKET if the pool has no bucket of this number; BB_NOT_HELD if
+// the bucket isn't detached. A `bb_pool_file_take` of another party may hold the bucket for a
+// moment: if numbers can come late, or slots are used too, try again.
 BB_MUST_USE bb_chunk bb_pool_file_attach(bb_pool_file *, bb_pool_party *, uint32_t number);
 
 //
 // DEAD PARTIES
 //
 
-// Gives back what dead parties held, while others work; any number of processes may reap at once.
-// Messages in slots stay, and can be taken. `given_back` gets the number of buckets, and may be
-// NULL.
+// Frees what dead parties held, while others work. Any number of processes may reap at the same
+// time. Messages in slots stay, and can be taken. `given_back` gets the number of buckets that were
+// freed, and may be NULL.
 //
-// If `detached` is true, it also gives back buckets that dead parties detached and that are in no
-// slot: pass true only if their numbers can't arrive any more. Such a bucket stays detached while a
-// later party has the dead one's number.
+// If `detached` is true, the call also frees buckets that dead parties detached and that are in no
+// slot. Pass true only if their numbers can't arrive any more. Such a bucket stays detached while a
+// later party uses the dead one's number.
 //
 // Codes: BB_UNINITIALIZED in a forked child; BB_FILE_SYSTEM; BB_MALLOC_REFUSED.
 uint32_t bb_pool_file_reap(bb_pool_file *, bool detached, uint32_t *given_back);
@@ -345,7 +356,7 @@ typedef struct bb_pool_file_figures {
     // Where bucket 0 is in this process.
     bb_place start;
 
-    // How many parties have joined.
+    // How many parties are alive: they have joined, and their process lives.
     uint32_t alive;
 
     // How many buckets parties hold, cached or not.
@@ -354,7 +365,7 @@ typedef struct bb_pool_file_figures {
     // How many buckets are detached.
     uint32_t detached;
 
-    // How many of the held buckets have a dead party. A reap gives them back.
+    // How many of the held buckets are held by a dead party. A reap frees them.
     uint32_t lost;
 
     // How many slots have a message.
@@ -364,26 +375,28 @@ typedef struct bb_pool_file_figures {
     uint32_t wrong;
 } bb_pool_file_figures;
 
-// Fills in the figures of the file.
+// Stores the figures of the file in the last parameter.
 //
 // Codes: BB_UNINITIALIZED in a forked child; BB_MALLOC_REFUSED.
 uint32_t bb_pool_file_info(bb_pool_file *, bb_pool_file_figures *);
 
-// Fills in what the flag of the bucket of this number says, as `bb_shared_pool_holder` does. For a
-// message in a slot, `party` is mostly `options.parties`, a number that no party has.
+// Stores in the last parameter what the flag of the bucket of this number says, as
+// `bb_shared_pool_holder` does. For a message in a slot, `party` is mostly `options.parties`, a
+// number that no party has.
 //
-// Codes: BB_UNINITIALIZED in a forked child; BB_NOT_A_BUCKET.
+// Codes: BB_UNINITIALIZED in a forked child; BB_NOT_A_BUCKET if the pool has no bucket of this
+// number.
 uint32_t bb_pool_file_holder(bb_pool_file *, uint32_t number, bb_holder *);
 
 // Returns 1 if a living process uses the party of this number, otherwise 0.
 //
-// Codes: BB_UNINITIALIZED in a forked child; BB_NO_PARTY if there is no such number.
+// Codes: BB_UNINITIALIZED in a forked child; BB_NO_PARTY if no party has this number.
 bb_number bb_pool_file_is_alive(bb_pool_file *, uint32_t party);
 
-// Returns what is in this slot, and takes nothing: another party may have taken the message.
+// Returns the message in this slot without taking it: another party may have taken it already.
 //
-// Codes, in order: BB_UNINITIALIZED in a forked child; BB_INVALID_ARGUMENT; BB_DETACHED_EMPTY;
-// BB_NOT_A_BUCKET.
+// Codes, in order: BB_UNINITIALIZED in a forked child; BB_INVALID_ARGUMENT if there is no such
+// slot; BB_DETACHED_EMPTY if the slot is empty; BB_NOT_A_BUCKET as for `bb_pool_file_take`.
 bb_message bb_pool_file_look(bb_pool_file *, uint32_t slot);
 
 #ifdef __cplusplus
