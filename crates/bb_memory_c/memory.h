@@ -6,10 +6,10 @@
 #include <stdbool.h>
 #include <stddef.h>
 
-// Of this thread's next requests for memory, gives the library `block` for `count` of them, from the
-// one of number `first` on, counted from 1. Each of these has to be for exactly `size` bytes: one
-// that isn't fails. The library has the block several times then, so it must write the same bytes
-// by each. Until `memory_end_loan` this thread's releases of `block` free nothing.
+// Of this thread's next requests for memory, gives the library `block` for `count` of them, from
+// the one of number `first` on, counted from 1. Each of these has to be for exactly `size` bytes:
+// one that isn't fails. The library has the block several times then, so it must write the same
+// bytes by each. Until `memory_end_loan` this thread's releases of `block` free nothing.
 __attribute__((visibility("hidden"))) void memory_lend(void *block, size_t size, unsigned first,
                                                        unsigned count);
 
