@@ -34,14 +34,14 @@
 
 // HANDLES
 //
-// | Handle                            | Gives                            | Takes back        |
+// | Handle                            | Allocates                        | Frees             |
 // |-----------------------------------|----------------------------------|-------------------|
 // | `bb_bump`                         | one chunk after another          | all at once       |
 // | `bb_one_chunk`                    | its whole region; can be resized | that chunk        |
 // | `bb_pool`                         | a bucket of a fixed size         | each by its place |
-// | `bb_shared_bump`, `bb_bump_party` | as a bump, to threads            | all, by `reset`   |
-// | `bb_shared_pool`, `bb_pool_party` | as a pool, to threads            | each by its party |
-// | `bb_detached`                     | no bucket: it carries one        |                   |
+// | `bb_shared_bump`, `bb_bump_party` | as a bump, for threads           | all, by `reset`   |
+// | `bb_shared_pool`, `bb_pool_party` | as a pool, for threads           | each by its party |
+// | `bb_detached`                     | nothing: it carries a bucket     |                   |
 
 // Sizes and alignments are in bytes. No function reads or writes a byte of a region. Chunks that
 // are in use lie inside the region, at multiples of the requested alignment, and never overlap.

@@ -90,7 +90,7 @@ extern "C" {
 //
 
 // The codes of these calls, in addition to those of bb_memory.h. If the code isn't BB_OK, the call
-// did nothing, except that `open` may have made the file and `reap` may have given back some
+// did nothing, except that `open` may have made the file and `reap` may have freed some
 // buckets.
 enum {
     // A system call failed: `errno` says why. It is ENOENT if there is no file and no options say
