@@ -90,8 +90,9 @@ extern "C" {
 //
 
 // The codes of these calls, in addition to those of bb_memory.h. If the code isn't BB_OK, the call
-// did nothing, except that `open` may have made the file and `reap` may have freed some
-// buckets.
+// did nothing, except that `open` may have made the file and `reap` may have freed some buckets. A
+// call with a party, other than `deallocate`, returns BB_UNINITIALIZED if the handle isn't a party
+// of this `bb_pool_file`, as in a forked child.
 enum {
     // A system call failed: `errno` says why. It is ENOENT if there is no file and no options say
     // what to make, and ENOSPC if there is no room for the file.
@@ -276,10 +277,10 @@ BB_MUST_USE bb_message bb_pool_file_take(bb_pool_file *, bb_pool_party *, uint32
 // empty, or if the party doesn't hold the bucket in it.
 uint32_t bb_pool_file_done(bb_pool_file *, bb_pool_party *, uint32_t slot);
 
-// Stands for any slot, in a wait.
+// Any slot, as the `slot` of a wait.
 #define BB_ANY_SLOT UINT32_MAX
 
-// The milliseconds of a wait without a limit.
+// No limit, as the `milliseconds` of a wait.
 #define BB_NO_TIMEOUT UINT32_MAX
 
 // Waits until a message can be taken from the slot, or from any slot with BB_ANY_SLOT, for at most
@@ -318,7 +319,8 @@ BB_MUST_USE uint32_t bb_pool_file_wait_bucket(bb_pool_file *, uint32_t milliseco
 
 // Detaches the bucket at this place, and returns the bucket's number.
 //
-// Codes: BB_UNINITIALIZED; BB_NOT_HELD if this party doesn't hold the bucket, or caches it.
+// Codes: BB_UNINITIALIZED; BB_NOT_HELD if this party doesn't hold a bucket at `place`, or caches
+// it.
 BB_MUST_USE bb_number bb_pool_file_detach(bb_pool_file *, bb_pool_party *, bb_address place);
 
 // Attaches the bucket of this number, and returns the bucket's place: the party holds the bucket
