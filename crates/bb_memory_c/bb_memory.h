@@ -494,9 +494,10 @@ BB_MUST_USE uint32_t bb_bump_init(bb_bump *bump, bb_place start, size_t size);
 // Codes, in order: BB_UNINITIALIZED.
 uint32_t bb_bump_destroy(bb_bump *bump);
 
-// Allocates exactly `size` bytes at the least multiple of `align` after what is used.
+// Allocates exactly `size` bytes at the first multiple of `align` at or after the end of the used
+// space.
 //
-// Returns the place of the chunk. BB_OUT_OF_MEMORY if the chunk would end after the region.
+// Returns the place of the chunk. BB_OUT_OF_MEMORY if the chunk would end after the region's end.
 //
 // Codes, in order: BB_UNINITIALIZED, BB_INVALID_LAYOUT, BB_SIZE_IS_ZERO, BB_OUT_OF_MEMORY.
 BB_MUST_USE bb_chunk bb_bump_allocate(bb_bump *bump, size_t size, size_t align);
@@ -857,9 +858,10 @@ BB_MUST_USE uint32_t bb_shared_bump_reset(bb_shared_bump *bump);
 // Codes, in order: BB_UNINITIALIZED.
 uint32_t bb_bump_party_abandon(bb_bump_party *party);
 
-// Allocates exactly `size` bytes at the least multiple of `align` after what is used.
+// Allocates exactly `size` bytes at the first multiple of `align` at or after the end of the used
+// space.
 //
-// Returns the place of the chunk. BB_OUT_OF_MEMORY if the chunk would end after the region.
+// Returns the place of the chunk. BB_OUT_OF_MEMORY if the chunk would end after the region's end.
 //
 // Codes, in order: BB_UNINITIALIZED, BB_INVALID_LAYOUT, BB_SIZE_IS_ZERO, BB_OUT_OF_MEMORY.
 BB_MUST_USE bb_chunk bb_bump_party_allocate(bb_bump_party *party, size_t size, size_t align);
