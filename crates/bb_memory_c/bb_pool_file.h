@@ -98,27 +98,32 @@ enum {
     // what to make, and ENOSPC if there is no room for the file.
     BB_FILE_SYSTEM = 26,
 
-    // The file exists, but has no pool. Nothing was written to it.
+    // The file exists, but has no pool. Nothing was written to it. Name another file.
     BB_FILE_FOREIGN = 27,
 
-    // The file has a pool in the format of another version of the library.
+    // The file has a pool in the format of another version of the library. Use that version, or
+    // remove the file once no process uses it.
     BB_FILE_VERSION = 28,
 
-    // The figures that the file was made with aren't those of the options.
+    // The figures that the file was made with aren't those of the options. Pass the same ones, or
+    // NULL to take them from the file.
     BB_FILE_MISMATCH = 29,
 
     // The file doesn't have the length that its figures require, or its figures are impossible.
+    // Remove it once no process uses it.
     BB_FILE_DAMAGED = 30,
 
     // The file isn't a regular one; or others may write it, although `mode` doesn't let them; or
-    // `mode` lets no others write, and the file belongs neither to this user nor to root.
+    // `mode` lets no others write, and the file belongs neither to this user nor to root. Correct
+    // the file's permissions, or pass a `mode` that lets those write whom you trust.
     BB_FILE_UNSAFE = 31,
 
     // The file was never finished, or is from before the machine's last boot, and there are no
-    // options by which to make it anew.
+    // options by which to make it anew. Pass options.
     BB_FILE_STALE = 32,
 
-    // The time of the wait is over.
+    // The time of the wait is over. Reap, since a dead party may have what you wait for, and wait
+    // again.
     BB_FILE_TIMED_OUT = 33,
 
     // The greatest code of this version.
