@@ -187,7 +187,8 @@ typedef struct bb_pool_file_options {
     // none.
     uint32_t slots;
 
-    // The permissions of a file that is made, less the umask. With 0 they are 0600.
+    // The permissions of a file that is made, less the umask. They also say which others may write
+    // a file that exists (BB_FILE_UNSAFE). With 0, or without options, they are 0600.
     mode_t mode;
 } bb_pool_file_options;
 
