@@ -372,6 +372,9 @@ static void note_hands(void) {
 // Says through a pipe that this process has begun, and does nothing.
 static void idle(int ready) {
     alarm(120);
+    // Whoever reads what this program writes doesn't wait for this process.
+    close(STDOUT_FILENO);
+    close(STDERR_FILENO);
     EXPECT(write(ready, "", 1) == 1);
     for (;;)
         pause();
@@ -387,9 +390,10 @@ static void start_idle(void) {
     int pipes[2];
     EXPECT(pipe(pipes) == 0);
     snprintf(ready, sizeof ready, "%d", pipes[1]);
-    mine->idle[0] = fork();
-    if (mine->idle[0] == 0)
+    const pid_t forked = fork();
+    if (forked == 0)
         idle(pipes[1]);
+    mine->idle[0] = forked;
     EXPECT(posix_spawn(&mine->idle[1], "/proc/self/exe", NULL, NULL, argv, environ) == 0);
     for (int child = 0; child < 2; child++)
         EXPECT(read(pipes[0], &byte, 1) == 1);
