@@ -101,7 +101,8 @@ class Traces:
         """Has the machine allow all traces of the code."""
         steps: Counter[str] = Counter()
         for each in pool.map(lambda words: self.check_code(program, words), CODE):
-            steps += each
+            # A sum of two counters would forget a call that was never stepped.
+            steps.update(each)
         few = [call for call, count in steps.items() if count < LEAST]
         if few:
             raise Failed(f"trace: fewer than {LEAST} instructions of: {' '.join(few)}")

@@ -3,6 +3,7 @@
 import stat
 import tempfile
 import unittest
+from concurrent.futures import ThreadPoolExecutor
 from pathlib import Path
 
 from gate import pool_traces
@@ -49,6 +50,16 @@ class TracesOfPrograms(unittest.TestCase):
         self.assertEqual(traces.check_code(program, ["random", "5"]), {"post": 40})
         with self.assertRaises(Failed):
             traces.check_code(program, ["random", "6"])
+
+    def test_each_call_is_stepped(self) -> None:
+        for steps, is_enough in ((pool_traces.LEAST, True), (0, False)):
+            program = self.trace(f'echo "post 3 {pool_traces.LEAST}\ntake 1 {steps}" >&2')
+            with self.subTest(steps), ThreadPoolExecutor(2) as pool:
+                if is_enough:
+                    self.traces("exit 0").check_all(program, pool)
+                else:
+                    with self.assertRaisesRegex(Failed, "instructions of: take$"):
+                        self.traces("exit 0").check_all(program, pool)
 
     def test_a_trace_that_fails(self) -> None:
         with self.assertRaises(Failed):
