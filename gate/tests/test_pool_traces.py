@@ -40,6 +40,10 @@ class TracesOfPrograms(unittest.TestCase):
         text = "# function: f\n# no step: it sleeps\nfile: f.c\n"
         self.assertEqual(pool_traces.reason_for_no_step(text), "it sleeps")
         self.assertIsNone(pool_traces.reason_for_no_step("# function: f\nfile: f.c\n"))
+        refused = "# refused by: machine\n"
+        self.assertIsNone(pool_traces.reason_for_no_step(refused))
+        with self.assertRaises(Failed):
+            pool_traces.reason_for_no_step(f"{refused}{text}")
 
     def test_steps_of(self) -> None:
         self.assertEqual(pool_traces.steps_of("post 3 40\ntake 1 7\n"), {"post": 40, "take": 7})
