@@ -10,7 +10,8 @@ refused by the program that its file names:
     old: if (load_slot(file, slot) == word)
     new: if (word != 0)
 
-Last, gate/pool_traces.py compares the code with the proved machine.
+Last, gate/pool_traces.py compares the code with the proved machine. A mutant that no program refuses
+is `refused by: machine`.
 """
 
 import os
@@ -26,7 +27,7 @@ from pathlib import Path
 
 from gate import edits
 from gate.pool_messages import Messages, Program
-from gate.pool_traces import Traces
+from gate.pool_traces import MACHINE, Traces
 from gate.process import Failed, has, must_run, say
 
 CRATE = "crates/bb_memory_c"
@@ -258,7 +259,11 @@ class PoolFile:
 
     def check_mutants(self, pool: ThreadPoolExecutor) -> None:
         """Has each mutant be refused."""
-        files = self.mutants()
+        files = [
+            file
+            for file in self.mutants()
+            if refused_by(file.read_text(encoding="utf-8")) != [MACHINE]
+        ]
         for _ in pool.map(self.check_mutant, files):
             pass
         say(f"mutants of bb_pool_file.c: {len(files)} are refused")

@@ -38,13 +38,20 @@ OF_MUTANT = (
     ("duels", "13"),
     *(("random", str(seed), "400", str(seed % 2 * 8)) for seed in range(2, 10)),
 )
+# In place of the program that refuses a mutant: only the machine does.
+MACHINE = "machine"
 # At least this many instructions of each call are stepped and compared.
 LEAST = 5000
 
 
 def reason_for_no_step(text: str) -> str | None:
-    """Returns why the mutant in this text takes no step that the code doesn't, if it says so."""
+    """Returns why the mutant in this text takes no step that the code doesn't, if it says so.
+
+    Raises Failed if nothing but the machine could refuse it.
+    """
     match = re.search(r"^# no step: (.+)$", text, re.MULTILINE)
+    if match is not None and re.search(rf"^# refused by: {MACHINE}$", text, re.MULTILINE):
+        raise Failed("a mutant that the machine refuses takes another step")
     return None if match is None else match[1]
 
 
@@ -101,7 +108,8 @@ class Traces:
         """Has the machine allow all traces of the code."""
         steps: Counter[str] = Counter()
         for each in pool.map(lambda words: self.check_code(program, words), CODE):
-            steps += each
+            # A sum of two counters would forget a call that was never stepped.
+            steps.update(each)
         few = [call for call, count in steps.items() if count < LEAST]
         if few:
             raise Failed(f"trace: fewer than {LEAST} instructions of: {' '.join(few)}")

@@ -3,6 +3,7 @@
 import stat
 import tempfile
 import unittest
+from concurrent.futures import ThreadPoolExecutor
 from pathlib import Path
 
 from gate import pool_traces
@@ -39,6 +40,10 @@ class TracesOfPrograms(unittest.TestCase):
         text = "# function: f\n# no step: it sleeps\nfile: f.c\n"
         self.assertEqual(pool_traces.reason_for_no_step(text), "it sleeps")
         self.assertIsNone(pool_traces.reason_for_no_step("# function: f\nfile: f.c\n"))
+        refused = "# refused by: machine\n"
+        self.assertIsNone(pool_traces.reason_for_no_step(refused))
+        with self.assertRaises(Failed):
+            pool_traces.reason_for_no_step(f"{refused}{text}")
 
     def test_steps_of(self) -> None:
         self.assertEqual(pool_traces.steps_of("post 3 40\ntake 1 7\n"), {"post": 40, "take": 7})
@@ -49,6 +54,16 @@ class TracesOfPrograms(unittest.TestCase):
         self.assertEqual(traces.check_code(program, ["random", "5"]), {"post": 40})
         with self.assertRaises(Failed):
             traces.check_code(program, ["random", "6"])
+
+    def test_each_call_is_stepped(self) -> None:
+        for steps, is_enough in ((pool_traces.LEAST, True), (0, False)):
+            program = self.trace(f'echo "post 3 {pool_traces.LEAST}\ntake 1 {steps}" >&2')
+            with self.subTest(steps), ThreadPoolExecutor(2) as pool:
+                if is_enough:
+                    self.traces("exit 0").check_all(program, pool)
+                else:
+                    with self.assertRaisesRegex(Failed, "instructions of: take$"):
+                        self.traces("exit 0").check_all(program, pool)
 
     def test_a_trace_that_fails(self) -> None:
         with self.assertRaises(Failed):

@@ -8,8 +8,9 @@
 //         turns have random lengths. So calls interrupt each other anywhere, and some processes are
 //         killed anywhere.
 //     trace duels FOLDER STRIDE
-//         A take of a message, and a reap with detached buckets, are stopped after each STRIDE-th
-//         instruction, and another process takes the bucket and sends it elsewhere.
+//         A post is stopped after each instruction, and another process takes the message, or posts
+//         to the slot. A take of a message, and a reap with detached buckets, are stopped after each
+//         STRIDE-th instruction, and another process takes the bucket and sends it elsewhere.
 //
 // The lines, in which P is a process, K a party's number, B a bucket, S a slot and L a length:
 //
@@ -857,9 +858,38 @@ static bool duel_reap(uint32_t most, bool by_slot) {
     return !attached;
 }
 
+// Has the first process post a message. After that many instructions the second one takes it, or
+// posts another one to its slot. Returns whether the first one's call had ended before.
+static bool duel_post(uint32_t most) {
+    struct process *one = &living[0];
+    struct process *other = &living[1];
+    const struct turn part = {most, most};
+    const struct turn whole = {UINT32_MAX, UINT32_MAX};
+    const uint32_t bucket = allocate(one);
+    const uint32_t others = allocate(other);
+    order(one, POST, 0, bucket);
+    go(one, part);
+    const bool ended = !one->is_in_call;
+    const bool taken = make(other, TAKE, 0, 0);
+    const bool posted = !taken && make(other, POST, 0, others);
+    if (one->is_in_call)
+        go(one, whole);
+    if (shared[one->number].code != BB_OK)
+        make_unstepped(one, DEALLOCATE, bucket);
+    if (!posted)
+        make_unstepped(other, DEALLOCATE, others);
+    if (taken || make(other, TAKE, 0, 0)) {
+        make_unstepped(other, DONE, 0);
+        make_unstepped(other, DEALLOCATE, posted ? others : bucket);
+    }
+    return ended;
+}
+
 static void run_duels(uint32_t stride) {
     start_joined(&living[0]);
     start_joined(&living[1]);
+    for (uint32_t most = 1; !duel_post(most) && most < LONGEST_TURN; most++)
+        ;
     for (int by_slot = 0; by_slot < 2; by_slot++) {
         bool has_ended = false;
         for (uint32_t most = 1; !has_ended && most < LONGEST_TURN; most += stride)
