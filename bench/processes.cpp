@@ -7,6 +7,7 @@
 
 #include <atomic>
 #include <chrono>
+#include <csignal>
 #include <cstdint>
 #include <cstdio>
 #include <cstdlib>
@@ -18,6 +19,7 @@
 #include <mqueue.h>
 #include <string>
 #include <sys/mman.h>
+#include <sys/prctl.h>
 #include <sys/wait.h>
 #include <unistd.h>
 
@@ -61,10 +63,14 @@ struct shared {
 
 shared *common;
 
+// Ends the program if something failed, and leaves no file and no queue. What boost shares is the
+// file.
 void must(bool holds, const char *what) {
     if (holds)
         return;
     std::perror(what);
+    unlink(path.c_str());
+    mq_unlink(name.c_str());
     std::abort();
 }
 
@@ -92,6 +98,8 @@ double nanoseconds_of(unsigned processes, const preparation &prepare) {
         const pid_t child = fork();
         must(child >= 0, "fork");
         if (child == 0) {
+            // If another one fails, this one would wait for it forever.
+            prctl(PR_SET_PDEATHSIG, SIGKILL);
             run_one(number, processes, prepare);
             std::_Exit(0);
         }
