@@ -118,15 +118,18 @@ fn a_line_of_no_process_is_refused(rt: HostRuntime) {
 fn unreadable_lines(rt: HostRuntime) {
     same(&rt, end_of(rt.alloc(), b""), End::Unreadable(1));
     same(&rt, end_of(rt.alloc(), b"file 2 1 1\n"), End::Unreadable(1));
-    same(&rt, end_of(rt.alloc(), b"file 2 1 1 1\nfile 2 1 1 1\n"), End::Unreadable(2));
+    same(
+        &rt,
+        end_of(rt.alloc(), b"file 2 1 1 1\nfile 2 1 1 1\n"),
+        End::Unreadable(2),
+    );
 }
 
 /// Checks that the machine differs from a trace at this line.
-fn differs(
-    rt: &(impl Abort + AllocGlobal),
-    text: &[u8],
-    line: usize,
-    difference: Difference,
-) {
-    same(rt, end_of(rt.alloc(), text), End::Difference { line, difference });
+fn differs(rt: &(impl Abort + AllocGlobal), text: &[u8], line: usize, difference: Difference) {
+    same(
+        rt,
+        end_of(rt.alloc(), text),
+        End::Difference { line, difference },
+    );
 }
