@@ -16,7 +16,7 @@ const OPTIONS: PoolFileOptions = PoolFileOptions {
     mode: 0,
 };
 
-/// How the test's own program is told to be a sender.
+/// The environment variable that makes the test's own program a sender.
 const SENDER: &str = "BB_MEMORY_TEST_SENDER";
 
 /// A path whose file is removed in the end.

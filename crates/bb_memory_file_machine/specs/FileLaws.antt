@@ -65,8 +65,9 @@ ChangesNone (OnSlot slot) = ⊥
 ChangesNone (OnLock party) = ⊥
 ChangesNone _ = Unit {0}
 
--- What a step of this process does to the words and locks. It is one of these, and each changes one flag, slot or lock. A process
--- steps on flags and slots only by a number whose lock it has.
+-- What a step of this process does to the words and locks. It is one of these, and each changes at most one flag, slot or lock,
+-- and with a flag perhaps whether a channel outside knows the bucket's number. A process steps on flags and slots only by a
+-- number whose lock it has.
 pub data Effect (words : FileWords) (process : ℕ) : FileOutcome → FileWords → Type 0 where
   -- no word and no lock changes
   none : (outcome : FileOutcome) → ChangesNone outcome → Effect words process outcome words
@@ -78,7 +79,7 @@ pub data Effect (words : FileWords) (process : ℕ) : FileOutcome → FileWords 
   -- the party takes a free bucket
   takes : (party bucket : ℕ) → IsLock words party process → IsFlag words bucket Free →
       Effect words process (OnFlag (TryAt party bucket)) (with_flag words bucket (HeldBy party))
-  -- the party's bucket, which is in no slot, is given back: by itself, or by a settler if the party is dead
+  -- the party's bucket, which is in no slot, is given back: by the party, or by a settler of its number
   gives_back : (party bucket : ℕ) → IsLock words party process → IsHolder words bucket party → ¬ IsInSome words bucket →
       Effect words process (OnFlag (GiveBack party bucket)) (with_flag words bucket Free)
   -- the party's bucket is detached, and its number is known
@@ -90,10 +91,11 @@ pub data Effect (words : FileWords) (process : ℕ) : FileOutcome → FileWords 
   -- the party addresses a bucket that it has detached, and that some slot has, to the number that nobody joins
   addresses : (party bucket : ℕ) → IsLock words party process → IsFlag words bucket (DetachedBy party) → IsInSome words bucket →
       Effect words process (Addresses bucket party (nobody words)) (with_flag words bucket (DetachedBy (nobody words)))
-  -- the party attaches a bucket whose number it has from a slot
+  -- the party attaches a detached bucket, as a take does
   attaches : (party bucket from : ℕ) → IsLock words party process → IsFlag words bucket (DetachedBy from) →
       Effect words process (OnFlag (AttachFrom party bucket from)) (with_flag words bucket (HeldBy party))
-  -- the party attaches a bucket whose number it has from a channel outside
+  -- the party attaches a detached bucket, whose number no channel outside counts as knowing then: as an attach by number does, or
+  -- a settler
   attaches_number : (party bucket from : ℕ) → IsLock words party process → IsFlag words bucket (DetachedBy from) →
       Effect words process (OnFlag (AttachFrom party bucket from))
       (with_flag (with_outside words bucket false) bucket (HeldBy party))
@@ -106,7 +108,8 @@ pub data Effect (words : FileWords) (process : ℕ) : FileOutcome → FileWords 
 
 -- WHAT IS PROMISED
 
--- after the step the process has the slot's message: one of its parties holds the bucket, which is in the slot
+-- By the step, which changes no word, the process has received the slot's message: one of its parties holds the bucket, which is
+-- in the slot.
 pub record HasReceived (state : FileState) (step : FileStep) (slot : ℕ) : Type 0 where
   pub party : ℕ
   pub bucket : ℕ
@@ -115,7 +118,8 @@ pub record HasReceived (state : FileState) (step : FileStep) (slot : ℕ) : Type
   pub holder : IsHolder state.words bucket party
   pub message : IsSlot state.words slot (Message bucket size)
 
--- by the step a process says that it is done with the bucket in the slot, which one of its parties holds
+-- The process is at the end of a `done`, and by the step it says that it is done with the bucket in the slot, which one of its
+-- parties holds.
 pub record SaysDone (state : FileState) (step : FileStep) (slot bucket : ℕ) : Type 0 where
   pub party : ℕ
   pub done : IsPlace state (process_of step) (Ending party slot bucket)
@@ -126,7 +130,7 @@ pub record SaysDone (state : FileState) (step : FileStep) (slot bucket : ℕ) : 
 abbrev pub IsAlive : FileState → ℕ → Type 0
 IsAlive state party = (process : ℕ) × IsLock state.words party process × (¬ IsPlace state process Dead)
 
--- each number that holds a bucket is alive: those of dead parties are settled
+-- Each number that holds a bucket is alive: its own process has its lock, or a settler that may not have come to the bucket yet.
 abbrev pub AreSettled : FileState → Type 0
 AreSettled state = (bucket party : ℕ) → IsHolder state.words bucket party → IsAlive state party
 
@@ -162,7 +166,7 @@ settled_by _ = None
 abbrev pub IsSettling : FileState → ℕ → ℕ → Type 0
 IsSettling state process party = (place : Place) × IsPlace state process place × (settled_by place ≡ Some party)
 
--- the settler is done after some further steps of its own
+-- the settler is done after some further steps of its own, with none of another process in between
 abbrev pub CanSettle : FileState → ℕ → ℕ → Type 0
 CanSettle state process party =
     (steps : ℕ) × IsPlace (file_after state (replicate steps (Next process))) process (Settled party)

@@ -17,7 +17,8 @@ use Rattle.std.specs.Prelude.{Bool, List, None, Option, Some, [], false, if◌th
 -- WORDS
 
 -- The words and locks of the file: the flag of each bucket, the word of each slot, and the lock of each party number, which is
--- free or some process's. `outside` isn't in the file: it says of each bucket whether a channel outside knows its number.
+-- free or some process's. `outside` isn't in the file: it says of each bucket whether a channel outside knows its number. A
+-- detach by number sets it, and an attach by number or a settler's recovery clears it.
 pub record FileWords : Type 0 where
   pub flags : List Flag
   pub slots : List Slot
@@ -185,7 +186,8 @@ allocate words process place party bucket =
     then move_of (OnFlag (TryAt party bucket)) (with_flag words bucket (HeldBy party)) Outside
     else refused words place) else refused words place
 
--- a party gives back a bucket that it holds, and that is in no slot
+-- A party gives back a bucket that it holds, and that is in no slot. The look at all slots is part of this one step: it stands for
+-- a duty of the host.
 abbrev pub deallocate : FileWords → ℕ → Place → ℕ → ℕ → FileMove
 deallocate words process place party bucket =
     if may_call words process place party then (if is_flag words bucket (HeldBy party)
@@ -207,7 +209,8 @@ attach_number words process place party bucket from =
     then attaching (with_outside words bucket false) party bucket from Outside
     else refused words place) else refused words place
 
--- a party fills an empty slot with a bucket that it holds, and that is in no slot
+-- A party fills an empty slot with a bucket that it holds, and that is in no slot. The look at all slots is part of this one step:
+-- it stands for a duty of the host.
 abbrev pub post : FileWords → ℕ → Place → ℕ → ℕ → ℕ → ℕ → FileMove
 post words process place party slot bucket length =
     if may_call words process place party then (if is_flag words bucket (HeldBy party)
@@ -244,7 +247,7 @@ abbrev pub begin_done : FileWords → ℕ → Place → ℕ → ℕ → FileMove
 begin_done words process place party slot =
     if may_call words process place party then done_found words party slot (slice_get words.slots slot) else refused words place
 
--- a settler that has been over all slots attaches a bucket that the settled number had detached
+-- A settler that has been over all slots attaches a bucket that the settled number had detached, and goes over the flags again.
 abbrev pub recover : FileWords → Place → ℕ → FileMove
 recover words (Flags party next) bucket =
     if is_flag words bucket (DetachedBy party)
@@ -297,7 +300,8 @@ next words (Flags party bucket) =
     if nat_lt bucket (length words.flags) then settle_flag words party bucket else move_of Moves words (Settled party)
 next words (Settled party) = move_of Moves words Outside
 
--- a settler that is done, or that has not looked at a slot yet, frees the lock of the settled number
+-- A settler that is done, or that has not looked at a slot yet, frees the lock of the settled number. So may one that leaves: then
+-- its number isn't settled until a next process takes the lock.
 abbrev pub unlock : FileWords → Place → FileMove
 unlock words (Slots party zero) = move_of (OnLock party) (with_lock words party None) Outside
 unlock words (Settled party) = move_of (OnLock party) (with_lock words party None) Outside

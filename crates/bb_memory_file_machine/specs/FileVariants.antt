@@ -1,11 +1,16 @@
 -- Protocols that differ from the machine's at one step, and what goes wrong with each.
 use Rattle.bb_memory_file_machine.specs.FileLaws.{IsFlag, IsHolder, IsInCallBy, IsInSome, IsKnown, IsLock, IsSlot}
-use Rattle.bb_memory_file_machine.specs.FileMachine.{Addressing, Attached, DetachedBy, Empty, FileChange, FileMove, FileScene, FileState, FileStep, FileWords, Flag, Flags, Free, Leave, Lock, Moves, Next, OnLock, Outside, Place, Post, Receives, Recover, Refused, Slots, after_slot, attaching, change_by, detaching, finds_free, move_at, move_of, opening_state, process_of, with_lock, with_outside}
-use Rattle.std.specs.Prelude.{List, None, Option, Some, [], false, if◌then◌else◌, slice_get, ℕ, ◌∷◌, ◌≡◌, ◌≢◌}
+use Rattle.bb_memory_file_machine.specs.FileMachine.{Addressing, Attached, Dead, DetachedBy, Empty, FileChange, FileMove, FileOutcome, FileScene, FileState, FileStep, FileWords, Flag, Flags, Free, Leave, Lock, Moves, Next, OnLock, OnSlot, Outside, Place, Post, Receives, Recover, Refused, Slots, after_slot, attaching, change_by, detaching, finds_free, may_call, move_at, move_of, opening_state, post, process_of, with_lock, with_outside}
+use Rattle.std.specs.Prelude.{Bool, List, None, Option, Some, [], false, if◌then◌else◌, slice_get, true, ℕ, ◌∷◌, ◌≡◌, ◌≢◌}
 
 -- the moves in which a protocol differs from the machine, and None at all other steps
 abbrev pub Variant : Type 0
 Variant = FileWords → Place → FileStep → Option FileMove
+
+-- the outcome says that a slot was filled or emptied
+abbrev pub fills_slot : FileOutcome → Bool
+fills_slot (OnSlot slot) = true
+fills_slot outcome = false
 
 -- a settler that has been over all slots attaches a detached bucket, whoever has detached it
 abbrev pub attach_any : FileWords → ℕ → ℕ → Option Flag → Option FileMove
@@ -33,9 +38,16 @@ settle_addresses_not words (Addressing party slot bucket) (Next process) =
     Some (move_of Moves words (Slots party (after_slot words slot)))
 settle_addresses_not words place step = None
 
--- a post detaches the bucket before it fills the slot
+-- the first step of a post that detaches the bucket before it fills the slot, if its process is killed next; `filling` is the
+-- machine's move, whose tests stay
+abbrev pub detach_before : FileWords → ℕ → ℕ → FileMove → FileMove
+detach_before words party bucket filling =
+    if fills_slot filling.outcome then detaching words party bucket Dead else filling
+
+-- a post detaches the bucket before it fills the slot, and its process is killed in between
 abbrev pub detach_then_post : Variant
-detach_then_post words Outside (Post process party slot bucket size) = Some (detaching words party bucket Outside)
+detach_then_post words Outside (Post process party slot bucket size) =
+    Some (detach_before words party bucket (post words process Outside party slot bucket size))
 detach_then_post words place step = None
 
 -- a number is settled though another process has its lock
@@ -46,7 +58,8 @@ reaps_the_living words place step = None
 
 -- a process that leaves frees the lock before it settles the number
 abbrev pub unlock_before : Variant
-unlock_before words Outside (Leave process party) = Some (move_of (OnLock party) (with_lock words party None) (Slots party 0))
+unlock_before words Outside (Leave process party) =
+    if may_call words process Outside party then Some (move_of (OnLock party) (with_lock words party None) (Slots party 0)) else None
 unlock_before words place step = None
 
 -- the variant's move, or the machine's

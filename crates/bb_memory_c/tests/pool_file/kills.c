@@ -32,7 +32,7 @@ enum {
     SIZE = WORDS * 8,
     BUCKETS = 64,
     SLOTS = 8,
-    // Places where numbers of detached buckets are handed over.
+    // Places where one process leaves the number of a detached bucket for another.
     HANDS = 4,
     BURST = 6,
     // The most threads that live, over all, and the most messages that each posts.
@@ -342,7 +342,7 @@ static void map_counts(void) {
     counts = mapped;
 }
 
-// Moves what is mapped from now on, by up to so many pages of 64 KB.
+// Moves what is mapped from now on, by up to this many pages of 64 KB.
 static void move_mappings(uint32_t pages) {
     uint32_t own = (uint32_t)getpid();
     const size_t size = (size_t)(next(&own) % pages + 1) << 16;

@@ -14,7 +14,7 @@
 //
 // The lines, in which P is a process, K a party's number, B a bucket, S a slot and L a length:
 //
-//     file PROCESSES PARTIES BUCKETS SLOTS    the first line; there are at most so many processes
+//     file PROCESSES PARTIES BUCKETS SLOTS    the first line; at most this many processes
 //     open P, join P, show P, close P, reap P, recover P, leave P K, flush P K, allocate P K,
 //     deallocate P K B, detach P K B, attach P K B, post P K S B L, take P K S, done P K S
 //                         a call begins; `recover` is a reap with detached buckets, `show` any call

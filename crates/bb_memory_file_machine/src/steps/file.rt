@@ -226,7 +226,7 @@ pub fn file_theorem()
         let change = file_step state step in
         Effect state.words (process_of step) change.outcome change.state.words) }
 
-    // A bucket has one holder.
+    // A bucket has at most one holder.
     ensures one_holder { (scene : FileScene) (steps : List FileStep) (bucket party other : ℕ)
         → IsHolder (left_by scene steps).words bucket party
         → IsHolder (left_by scene steps).words bucket other → party ≡ other }
@@ -297,7 +297,7 @@ pub fn file_theorem()
         → IsAccountedFor (left_by scene steps) bucket }
 
     // Two processes are never in calls by one number: so no two settle one number, nor does one settle a number by which
-    // another steps.
+    // another is in a call.
     ensures one_process { (scene : FileScene) (steps : List FileStep) (process other party : ℕ)
         → IsInCallBy (left_by scene steps) process party
         → IsInCallBy (left_by scene steps) other party → process ≡ other }
@@ -313,7 +313,7 @@ pub fn file_theorem()
         → geometry.buckets ≡ scene.buckets → IsPool scene steps geometry }
 
     // The takings and returns are a run of the pool object from the empty list, whichever layouts within the bucket's
-    // size and alignment are requested.
+    // size and alignment are requested. They are the file's if the geometry has the scene's number of buckets (`pool`).
     ensures run { (scene : FileScene) (steps : List FileStep) (geometry : PoolGeometry) (layouts : List Layout)
         → IsPoolGeometry geometry → AreAsked geometry (flag_steps scene steps) layouts
         → (live : List Chunk) × IsPoolRun (pool_of scene geometry) (flag_steps scene steps) layouts live }
@@ -346,7 +346,7 @@ pub fn file_variants_theorem()
     // A settler that doesn't address the messages of the settled number gives back a bucket that is in a slot.
     ensures settle_addresses_not { FreesMessage settle_addresses_not }
 
-    // A post that detaches before it fills the slot loses the bucket if its process is killed.
+    // A post that detaches before it fills the slot loses the bucket if its process is killed in between.
     ensures detach_then_post { LosesBucket detach_then_post }
 
     // A process that settles a number whose lock another process has takes away that process's buckets.
