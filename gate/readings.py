@@ -13,7 +13,7 @@ from gate.code import UNREADABLE, sum_of
 LIST = "gate/readings.txt"
 BUMP = "crates/bb_memory_bump/src/shared_bump/"
 POOL = "crates/bb_memory_shared_pools/src/shared_pool/"
-# The files that PROMISES.md names in "Neither".
+# The files that PROMISES.md names in "Neither proved nor tested".
 READ = (
     BUMP + "position.rt",
     BUMP + "rule.rt",

@@ -67,7 +67,7 @@
 
 //  5. While a shared pool or bump exists, no other one may have the same start, not even one that
 //     lies in a chunk of the first. Parties and detached buckets are recognized by that start,
-//     which is `start_address` of the figures. `bb_shared_pool_abandon` and
+//     which `info` stores as `start_address`. `bb_shared_pool_abandon` and
 //     `bb_shared_bump_abandon` say how long an abandoned one exists.
 
 //  6. A handle is a variable with both fields zero before its first use: `bb_pool pool =
@@ -83,8 +83,8 @@
 //     handle, or `malloc`.
 
 // 10. After `fork`, only one of the two processes goes on using a handle. If the process had
-//     several threads, that is the parent: in the child `malloc` may be locked for good. Processes
-//     share a pool through bb_pool_file.h.
+//     several threads, it has to be the parent: in the child `malloc` may be locked for good.
+//     Processes share a pool through bb_pool_file.h.
 
 // 11. `malloc` and `free` are those of C, or two functions of the host with the same meaning. The
 //     comment of `bb_use_memory` says what the functions that it names have to do.
@@ -732,7 +732,7 @@ uint32_t bb_pool_info(bb_pool *pool, bb_pool_figures *figures);
 //
 // A process that maps the region at another address may read bucket n there: it begins n *
 // BB_STRIDE(bucket_size, bucket_align) bytes after bucket 0. If the alignment is greater than a
-// page, bucket 0 is as far after the mapping's start as it is in the process that has the pool.
+// page, bucket 0 has the same offset from the mapping's start as in the process that has the pool.
 //
 // BB_NOT_A_BUCKET if the pool has no bucket of this number.
 //
@@ -820,9 +820,9 @@ BB_MUST_USE uint32_t bb_shared_bump_init(bb_shared_bump *bump, bb_place start, s
 // Codes, in order: BB_UNINITIALIZED, BB_PARTIES_JOINED.
 uint32_t bb_shared_bump_destroy(bb_shared_bump *bump);
 
-// Empties the handle without looking at parties, for a host that gives up everything. Parties that
+// Empties the handle without looking at parties, for a host that gives up the bump. Parties that
 // have joined stay usable, but can't leave. The bump exists, and its memory stays, until each of
-// them was abandoned. Until then no other shared bump may have the same start (rule 5).
+// them has been abandoned. Until then no other shared bump may have the same start (rule 5).
 //
 // Codes, in order: BB_UNINITIALIZED.
 uint32_t bb_shared_bump_abandon(bb_shared_bump *bump);
@@ -912,9 +912,9 @@ BB_MUST_USE uint32_t bb_shared_pool_init(bb_shared_pool *pool, size_t bucket_siz
 // Codes, in order: BB_UNINITIALIZED, BB_PARTIES_JOINED, BB_BUCKET_DETACHED.
 uint32_t bb_shared_pool_destroy(bb_shared_pool *pool);
 
-// Empties the handle without looking at parties or buckets, for a host that gives up everything.
+// Empties the handle without looking at parties or buckets, for a host that gives up the pool.
 // Parties that have joined stay usable, but can't leave. The pool's memory stays until each of them
-// was abandoned.
+// has been abandoned.
 //
 // The pool exists as long as one of its parties, or a `bb_detached` with one of its buckets, may
 // still be used. Until then no other shared pool may have the same start (rule 5).
@@ -1007,7 +1007,7 @@ BB_MUST_USE uint32_t bb_shared_pool_join_number(bb_shared_pool *pool, uint32_t n
 // Codes, in order: BB_UNINITIALIZED, BB_OTHER_POOL.
 uint32_t bb_shared_pool_leave(bb_shared_pool *pool, bb_pool_party *party);
 
-// Ends a party of this pool and empties its handle, and frees no bucket. No flag changes. So the
+// Ends a party of this pool and empties its handle, but frees no bucket. No flag changes. So the
 // next party that joins by the same number holds what this one held, cached or not.
 //
 // BB_UNINITIALIZED if either handle is empty. BB_OTHER_POOL if the party belongs to another pool.
@@ -1028,8 +1028,8 @@ bb_number bb_pool_party_number(bb_pool_party *party);
 
 // Allocates `size` bytes at a multiple of `align`, in the bucket that the party cached last. If the
 // party caches none, the call searches all buckets once for a free one, by next fit. If the party
-// has allocated none since it last freed one, the search mostly begins at the bucket that it freed
-// last; otherwise mostly at the one after the bucket that it allocated last.
+// has allocated none since it last freed one, the search usually begins at the bucket that it freed
+// last; otherwise usually at the one after the bucket that it allocated last.
 //
 // Returns the place of the chunk. BB_SIZE_TOO_LARGE or BB_ALIGNMENT_FAILURE if a bucket can't have
 // such a chunk. BB_OUT_OF_MEMORY if the search found each bucket held, one after the other. While
@@ -1097,7 +1097,7 @@ uint32_t bb_pool_party_info(bb_pool_party *party, bb_shared_pool_figures *figure
 //
 // A process that maps the region at another address may read bucket n there: it begins n *
 // BB_STRIDE(bucket_size, bucket_align) bytes after bucket 0. If the alignment is greater than a
-// page, bucket 0 is as far after the mapping's start as it is in the process that has the pool.
+// page, bucket 0 has the same offset from the mapping's start as in the process that has the pool.
 //
 // BB_NOT_A_BUCKET if the pool has no bucket of this number.
 //
@@ -1234,7 +1234,7 @@ BB_MUST_USE bb_chunk bb_pool_party_attach(bb_pool_party *party, bb_detached *det
 uint32_t bb_pool_party_return_detached(bb_pool_party *party, bb_detached *detached);
 
 // Detaches the bucket at `place` by its number. The host passes the number to another party, with
-// the number of this party, and that one attaches the bucket by these two numbers.
+// the number of this party, and the other party attaches the bucket by these two numbers.
 //
 // Returns the bucket's number. BB_ONE_PARTY if the pool has no other party. BB_NOT_HELD if this
 // party doesn't hold a bucket at `place`, or caches it.
@@ -1257,7 +1257,7 @@ BB_MUST_USE bb_chunk bb_pool_party_attach_number(bb_pool_party *party, uint32_t 
 }
 #endif
 
-// Reports to a checker that is on what is in use.
+// If a checker is on, reports to it what is in use.
 #if !defined(BB_NO_SANITIZE) && !defined(BB_PLACES_ARE_NUMBERS)
 
 #if defined(__SANITIZE_ADDRESS__) || defined(__SANITIZE_THREAD__) || defined(BB_VALGRIND)

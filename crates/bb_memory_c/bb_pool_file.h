@@ -23,8 +23,8 @@
 //         if (chunk.code != BB_OK)
 //             return 1;
 //         memcpy(chunk.place, "hello", 6);
-//         if (bb_pool_file_post(file, mine, 0, chunk.place, 6) != BB_OK)  // it is full if you ran
-//             bb_pool_file_deallocate(file, mine, chunk.place);           // this once already
+//         if (bb_pool_file_post(file, mine, 0, chunk.place, 6) != BB_OK)  // full on a second run
+//             bb_pool_file_deallocate(file, mine, chunk.place);
 //         return bb_pool_file_close(file) == BB_OK ? 0 : 1;
 //     }
 
@@ -69,8 +69,8 @@
 
 #include <sys/types.h>
 
-// A checker of memory sees one process, and a bucket of a file may come from any. So a source that
-// includes this file reports nothing to a checker.
+// A checker of memory sees one process, and a bucket of a file may come from any process. So a
+// source that includes this file reports nothing to a checker.
 #ifndef BB_NO_SANITIZE
 #define BB_NO_SANITIZE
 #endif
@@ -194,7 +194,7 @@ typedef struct bb_pool_file_options {
 
 // Opens the pool in the file at `path`, and makes it if there is no file, or an empty one. If the
 // options are NULL, or have 0 buckets, the call opens a file that exists, whatever its figures, and
-// makes none.
+// makes none. Stores the opened pool in `*file`; a refused call stores nothing.
 //
 // Any number of processes may open a file at the same time, and be killed meanwhile. A file whose
 // maker was killed, or that is from before the machine's last boot, is made anew, unless another
@@ -204,14 +204,15 @@ typedef struct bb_pool_file_options {
 // Codes, in order: BB_INVALID_ARGUMENT if no pool has such options; BB_FILE_SYSTEM; BB_FILE_UNSAFE;
 // BB_FILE_FOREIGN; BB_FILE_VERSION; BB_FILE_STALE; BB_FILE_MISMATCH; BB_FILE_DAMAGED;
 // BB_MALLOC_REFUSED.
-BB_MUST_USE uint32_t bb_pool_file_open(bb_pool_file **, const char *path,
-                                       const bb_pool_file_options *);
+BB_MUST_USE uint32_t bb_pool_file_open(bb_pool_file **file, const char *path,
+                                       const bb_pool_file_options *options);
 
 // Opens the pool in the open file `fd`, such as a memfd that came over a socket, as
 // `bb_pool_file_open` does, with the same codes. It opens the file anew by /proc/self/fd, and `fd`
 // stays the caller's. Who owns the file and who may write it isn't checked: a file without a path
 // is as safe as its descriptor.
-BB_MUST_USE uint32_t bb_pool_file_open_fd(bb_pool_file **, int fd, const bb_pool_file_options *);
+BB_MUST_USE uint32_t bb_pool_file_open_fd(bb_pool_file **file, int fd,
+                                          const bb_pool_file_options *options);
 
 // Has all parties of this `bb_pool_file` leave, unmaps the file, and frees the `bb_pool_file`. It
 // always returns BB_OK. The file itself stays; `unlink` removes it.
@@ -219,10 +220,11 @@ uint32_t bb_pool_file_close(bb_pool_file *);
 
 // Joins as any party that no living process uses. What a dead process held by that party's number
 // is freed first. The `bb_pool_file` owns the party's handle: `leave` or `close` ends the party.
+// Stores the handle's address in `*party`; a refused call stores nothing.
 //
 // Codes: BB_UNINITIALIZED in a forked child; BB_NO_PARTY if each party is in use or is being
 // reaped; BB_FILE_SYSTEM; BB_MALLOC_REFUSED.
-BB_MUST_USE uint32_t bb_pool_file_join(bb_pool_file *, bb_pool_party **);
+BB_MUST_USE uint32_t bb_pool_file_join(bb_pool_file *file, bb_pool_party **party);
 
 // Ends a party, and frees what it holds, cached or not. A message that it took and isn't done with
 // can be taken again.
@@ -319,7 +321,7 @@ BB_MUST_USE uint32_t bb_pool_file_wait_bucket(bb_pool_file *, uint32_t milliseco
 // a moment. If the party is killed in that moment, a reap frees the bucket, and the message is
 // lost.
 
-// A number that comes late may name a newer message. So write an identification into the bucket,
+// A number that comes late may name a newer message. So write an identifier into the bucket,
 // and send it along with the number. After the attach compare the two; if they differ, detach the
 // bucket again.
 
@@ -353,7 +355,7 @@ BB_MUST_USE bb_chunk bb_pool_file_attach(bb_pool_file *, bb_pool_party *, uint32
 uint32_t bb_pool_file_reap(bb_pool_file *, bool detached, uint32_t *given_back);
 
 //
-// FIGURES: each flag, slot and lock is looked at once, while others work.
+// FIGURES: one look at each flag, slot and lock, while others work.
 //
 
 // The figures of a pool's file.
@@ -389,7 +391,7 @@ typedef struct bb_pool_file_figures {
 uint32_t bb_pool_file_info(bb_pool_file *, bb_pool_file_figures *);
 
 // Stores in the last parameter what the flag of the bucket of this number says, as
-// `bb_shared_pool_holder` does. For a message in a slot, `party` is mostly `options.parties`, a
+// `bb_shared_pool_holder` does. For a message in a slot, `party` is usually `options.parties`, a
 // number that no party has.
 //
 // Codes: BB_UNINITIALIZED in a forked child; BB_NOT_A_BUCKET if the pool has no bucket of this
