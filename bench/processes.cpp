@@ -120,7 +120,14 @@ void print(const char *call, unsigned processes, const char *size, const char *b
 // POOLS IN FILES
 
 bb_pool_file_options options_of(std::uint32_t count, std::size_t size) {
-    return {size, 64, count, parties, room, 0600};
+    bb_pool_file_options options{};
+    options.bucket_size = size;
+    options.bucket_align = 64;
+    options.buckets = count;
+    options.parties = parties;
+    options.slots = room;
+    options.mode = 0600;
+    return options;
 }
 
 // A file that a process has opened, and a party of it. They end with the process.
@@ -252,13 +259,13 @@ void receive_groups(const opened &own, std::size_t size) {
 preparation message_in_file(std::size_t size, bool in_groups) {
     return [size, in_groups](unsigned number) -> std::function<void()> {
         const opened own(size, 0);
+        if (number == 0 && in_groups)
+            return [own, size] { send_groups(own, size); };
         if (number == 0)
-            return [own, size, in_groups] {
-                in_groups ? send_groups(own, size) : send_each(own, size);
-            };
-        return [own, size, in_groups] {
-            in_groups ? receive_groups(own, size) : receive_each(own, size);
-        };
+            return [own, size] { send_each(own, size); };
+        if (in_groups)
+            return [own, size] { receive_groups(own, size); };
+        return [own, size] { receive_each(own, size); };
     };
 }
 
